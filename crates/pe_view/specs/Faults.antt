@@ -1,0 +1,37 @@
+-- Faults as ordered lists of tests. A table of faults is a list with a test for each, in the order in which they count,
+-- and a file is refused by the first that stands.
+use Rattle.std.specs.Prelude.{◌≡◌, ℕ, ◌<◌, Bool, true, false, List, [], ◌∷◌, slice_get, Option, None, Some, Result, Ok, Err, if◌then◌else◌}
+use Rattle.pe_view.specs.declared.fault.Fault.{Fault}
+use Rattle.pe_view.specs.declared.fault.Place.{Place}
+
+-- whether a fault stands
+pub record Test : Type 0 where
+  pub stands : Bool
+  pub fault : Fault
+
+-- a row of a table of faults: a number, a place of an image, and the condition
+abbrev pub test : ℕ → ℕ → Place → Bool → Test
+test number image place stands = record { stands = stands; fault = record { number = number; image = image; place = place } }
+
+-- the fault of the first test that stands
+abbrev pub first_standing : List Test → Option Fault
+first_standing [] = None
+first_standing (t ∷ ts) = if t.stands then Some t.fault else first_standing ts
+
+-- Ok, of a value with the property, exactly where no test stands; otherwise the first fault that does
+abbrev pub Answers : {X : Type 0} → List Test → (X → Type 0) → Result X Fault → Type 0
+Answers tests P (Ok x) = (first_standing tests ≡ None) × P x
+Answers tests P (Err fault) = first_standing tests ≡ Some fault
+
+-- the fault is that of a test that stands, and no test before it does
+pub record IsFirstStanding (tests : List Test) (fault : Fault) : Type 0 where
+  pub place : ℕ
+  pub test : Test
+  pub there : slice_get tests place ≡ Some test
+  pub stands : test.stands ≡ true
+  pub its_fault : test.fault ≡ fault
+  pub none_before : (k : ℕ) (before : Test) → k < place → slice_get tests k ≡ Some before → before.stands ≡ false
+
+-- no test stands
+abbrev pub NoneStands : List Test → Type 0
+NoneStands tests = (k : ℕ) (t : Test) → slice_get tests k ≡ Some t → t.stands ≡ false

@@ -1,0 +1,4 @@
+pub mod Faults
+pub mod Number
+pub mod Text
+pub mod View

@@ -1,0 +1,24 @@
+/// Where a fault stands.
+#[derive(Clone, Copy, Debug, PartialEq, Eq)]
+pub enum Place {
+    /// A file offset, in bytes.
+    File(u64),
+    /// An address relative to the image base, in bytes.
+    Rva(u32),
+    /// An address of the address space that images are mapped into, in bytes.
+    Address(u64),
+    /// The index of an item of a list.
+    Item(u32),
+}
+
+/// A rule of the format that does not hold: its number in docs/FAULTS.md, the image in which it does not hold, and
+/// the place.
+#[derive(Clone, Copy, Debug, PartialEq, Eq)]
+pub struct Fault {
+    /// The fault's number, from 1 to 85.
+    pub number: u16,
+    /// The number that the caller gave the image; 0 for objects and for calls that name no image.
+    pub image: u16,
+    /// Where the fault stands.
+    pub place: Place,
+}

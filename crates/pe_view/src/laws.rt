@@ -1,0 +1,27 @@
+//! What the definitions mean, as laws: each function has an empty body, and its contract is the law.
+
+ghost use Rattle.std.specs.Prelude.{◌≡◌, ℕ, ◌+◌, ◌<◌, ◌≤◌, List, length, drop, None, Some, ◌↔◌};
+ghost use Rattle.byteorder.specs.Endian.{little_number};
+ghost use Rattle.pe_view.specs.declared.fault.Fault.{Fault};
+ghost use Rattle.pe_view.specs.Number.{num, byte_of, digit};
+ghost use Rattle.pe_view.specs.Faults.{Test, first_standing, IsFirstStanding, NoneStands};
+
+/// The number at an offset is byteorder's little-endian number of the bytes from there on.
+pub fn num_is_little_endian()
+    ensures { (file : List ℕ) (offset width : ℕ) → num (byte_of file) offset width ≡ little_number width (drop offset file) }
+{}
+
+/// The digits of the number at a place are the bytes from there on.
+pub fn digits_are_bytes()
+    ensures { (byte : ℕ → ℕ) (place width k : ℕ) → ((i : ℕ) → byte i < 256) → k < width → digit (num byte place width) k ≡ byte (place + k) }
+{}
+
+/// The first fault of a table is that of a test that stands, and none before it does.
+pub fn first_standing_is_first()
+    ensures { (tests : List Test) (fault : Fault) → first_standing tests ≡ Some fault → IsFirstStanding tests fault }
+{}
+
+/// A table has no first fault exactly where none of its tests stands.
+pub fn no_first_where_none_stands()
+    ensures { (tests : List Test) → (first_standing tests ≡ None) ↔ NoneStands tests }
+{}

@@ -1,0 +1,18 @@
+//! Bounded views of a file's bytes, and the faults by which a file is refused.
+//!
+//! A [`View`] reads numbers, byte ranges and zero-ended texts at file offsets and answers `None` for whatever passes the
+//! end of the file; a [`Fault`] says which rule of the format a file breaks, in which image, and where:
+//!
+//! ```text
+//! let view = View::new(b"MZ\x90\x00");
+//! assert_eq!(view.u16_at(0), Some(0x5a4d));
+//! assert_eq!(view.u32_at(1), None);
+//! ```
+#![tactic(auto)]
+
+mod fault;
+pub mod laws;
+mod view;
+
+pub use fault::{Fault, Place};
+pub use view::View;
