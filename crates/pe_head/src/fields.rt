@@ -1,0 +1,254 @@
+ghost use Rattle.std.specs.Prelude.{◌≡◌, ℕ, ◌+◌, ◌≤◌, ◌*◌, ◌<◌, if◌then◌else◌, map};
+ghost use Rattle.std.specs.List.{range_with_len};
+ghost use Rattle.pe_view.specs.View.{bytes_of, size_of};
+ghost use Rattle.pe_view.specs.Number.{num, byte_of};
+ghost use Rattle.pe_head.specs.Head.{head_of, directory_count, pe_offset, optional_start, coff_field, field, either_field, magic_of, is_pe32, fixed_size, directory_at, section_at, section_start};
+
+use crate::directory::Directory;
+use crate::headers::Headers;
+use crate::optional::Magic;
+use crate::section::SectionHeader;
+use arrayvec::ArrayVec;
+use pe_view::View;
+
+/// The fields of the headers, each read by its offset, in a file that holds the whole optional header up to its
+/// directories.
+#[derive(Clone, Copy, Debug)]
+pub(crate) struct Fields<'a> {
+    view: View<'a>,
+    offset: u32,
+    magic: Magic,
+    ghost starts: { offset ≡ pe_offset (bytes_of view) },
+    ghost form: { magic ≡ magic_of (bytes_of view) },
+    ghost inside: { optional_start (bytes_of view) + fixed_size (bytes_of view) ≤ size_of view },
+}
+
+/// The number in 2 bytes that the file holds.
+pub(crate) fn u16_in(view: View, offset: u64) -> u16
+    requires { offset + 2 ≤ size_of view }
+    ensures { result ≡ num (byte_of (bytes_of view.entry)) offset 2 }
+{
+    view.u16_at(offset).unwrap()
+}
+
+/// The number in 4 bytes that the file holds.
+pub(crate) fn u32_in(view: View, offset: u64) -> u32
+    requires { offset + 4 ≤ size_of view }
+    ensures { result ≡ num (byte_of (bytes_of view.entry)) offset 4 }
+{
+    view.u32_at(offset).unwrap()
+}
+
+/// The number in 8 bytes that the file holds.
+fn u64_in(view: View, offset: u64) -> u64
+    requires { offset + 8 ≤ size_of view }
+    ensures { result ≡ num (byte_of (bytes_of view.entry)) offset 8 }
+{
+    view.u64_at(offset).unwrap()
+}
+
+impl<'a> Fields<'a> {
+    pub fn new(view: View<'a>, offset: u32, magic: Magic) -> Self
+        requires starts { offset ≡ pe_offset (bytes_of view) }
+        requires form { magic ≡ magic_of (bytes_of view) }
+        requires inside { optional_start (bytes_of view) + fixed_size (bytes_of view) ≤ size_of view }
+        ensures { result.view ≡ view.entry }
+    {
+        Fields {
+            view,
+            offset,
+            magic,
+        }
+    }
+
+    /// A field of 2 bytes of the COFF header.
+    pub fn coff_u16(&self, offset: u64) -> u16
+        requires { offset + 2 ≤ 20 }
+        ensures { result ≡ coff_field (bytes_of self.now.view) offset 2 }
+    {
+        u16_in(self.view, u64::from(self.offset) + 4 + offset)
+    }
+
+    /// A field of 4 bytes of the COFF header.
+    pub fn coff_u32(&self, offset: u64) -> u32
+        requires { offset + 4 ≤ 20 }
+        ensures { result ≡ coff_field (bytes_of self.now.view) offset 4 }
+    {
+        u32_in(self.view, u64::from(self.offset) + 4 + offset)
+    }
+
+    /// A field of 1 byte that stands at one offset in both forms of the optional header.
+    pub fn u8_at(&self, offset: u64) -> u8
+        requires { offset + 1 ≤ 96 }
+        ensures { result ≡ field (bytes_of self.now.view) offset 1 }
+    {
+        self.view
+            .slice(u64::from(self.offset) + 24 + offset, 1)
+            .unwrap()[0]
+    }
+
+    /// A field of 2 bytes that stands at one offset in both forms of the optional header.
+    pub fn u16_at(&self, offset: u64) -> u16
+        requires { offset + 2 ≤ 96 }
+        ensures { result ≡ field (bytes_of self.now.view) offset 2 }
+    {
+        u16_in(self.view, u64::from(self.offset) + 24 + offset)
+    }
+
+    /// A field of 4 bytes that stands at one offset in both forms of the optional header.
+    pub fn u32_at(&self, offset: u64) -> u32
+        requires { offset + 4 ≤ 96 }
+        ensures { result ≡ field (bytes_of self.now.view) offset 4 }
+    {
+        u32_in(self.view, u64::from(self.offset) + 24 + offset)
+    }
+
+    /// A field of 4 bytes at one of two offsets.
+    pub fn u32_either(&self, offset: u64, plus_offset: u64) -> u32
+        requires fits { offset + 4 ≤ 96 }
+        requires plus_fits { plus_offset + 4 ≤ 112 }
+        ensures { result ≡ either_field (bytes_of self.now.view) offset 4 plus_offset 4 }
+    {
+        match self.magic {
+            Magic::Pe32 => u32_in(self.view, u64::from(self.offset) + 24 + offset),
+            Magic::Pe32Plus => u32_in(self.view, u64::from(self.offset) + 24 + plus_offset),
+        }
+    }
+
+    /// A field of 4 bytes in PE32 and of 8 bytes in PE32+.
+    pub fn u64_either(&self, offset: u64, plus_offset: u64) -> u64
+        requires fits { offset + 4 ≤ 96 }
+        requires plus_fits { plus_offset + 8 ≤ 112 }
+        ensures { result ≡ either_field (bytes_of self.now.view) offset 4 plus_offset 8 }
+    {
+        match self.magic {
+            Magic::Pe32 => u64::from(u32_in(self.view, u64::from(self.offset) + 24 + offset)),
+            Magic::Pe32Plus => u64_in(self.view, u64::from(self.offset) + 24 + plus_offset),
+        }
+    }
+
+    /// BaseOfData, which PE32+ lacks.
+    pub fn base_of_data(&self) -> Option<u32>
+        ensures { result ≡ (if is_pe32 (bytes_of self.now.view) then Some (field (bytes_of self.now.view) 24 4) else None) }
+    {
+        match self.magic {
+            Magic::Pe32 => Some(self.u32_at(24)),
+            Magic::Pe32Plus => None,
+        }
+    }
+
+    /// Directory `index`, which the file holds.
+    fn directory(&self, index: u64) -> Directory
+        requires small { index < 16 }
+        requires held { optional_start (bytes_of self.now.view) + fixed_size (bytes_of self.now.view) + 8 * index + 8 ≤ size_of self.now.view }
+        ensures { result ≡ directory_at (bytes_of self.now.view) index }
+    {
+        let start = u64::from(self.offset) + 24 + self.magic.fixed_size() + 8 * index;
+        Directory {
+            rva: u32_in(self.view, start),
+            size: u32_in(self.view, start + 4),
+        }
+    }
+
+    /// The header of section `index`, which the file holds.
+    fn section(&self, index: u64) -> SectionHeader
+        requires small { index < 96 }
+        requires held { section_start (bytes_of self.now.view) (index + 1) ≤ size_of self.now.view }
+        ensures { result ≡ section_at (bytes_of self.now.view) index }
+    {
+        let start = u64::from(self.offset) + 24 + u64::from(self.coff_u16(16)) + 40 * index;
+        let mut name = [0; 8];
+        name.copy_from_slice(self.view.slice(start, 8).unwrap());
+        SectionHeader {
+            name,
+            virtual_size: u32_in(self.view, start + 8),
+            virtual_address: u32_in(self.view, start + 12),
+            size_of_raw_data: u32_in(self.view, start + 16),
+            pointer_to_raw_data: u32_in(self.view, start + 20),
+            pointer_to_relocations: u32_in(self.view, start + 24),
+            pointer_to_linenumbers: u32_in(self.view, start + 28),
+            number_of_relocations: u16_in(self.view, start + 32),
+            number_of_linenumbers: u16_in(self.view, start + 34),
+            characteristics: u32_in(self.view, start + 36),
+        }
+    }
+
+    /// The first `count` directories.
+    fn directories(&self, count: u64) -> ArrayVec<Directory, 16>
+        requires small { count ≤ 16 }
+        requires held { optional_start (bytes_of self.now.view) + fixed_size (bytes_of self.now.view) + 8 * count ≤ size_of self.now.view }
+        ensures { result.items ≡ map (directory_at (bytes_of self.now.view)) (range_with_len 0 count) }
+    {
+        let mut directories = ArrayVec::new();
+        for index in 0..count {
+            directories.push(self.directory(index));
+        }
+        directories
+    }
+
+    /// The headers of `count` sections.
+    fn sections(&self, count: u64) -> ArrayVec<SectionHeader, 96>
+        requires small { count ≤ 96 }
+        requires held { section_start (bytes_of self.now.view) count ≤ size_of self.now.view }
+        ensures { result.items ≡ map (section_at (bytes_of self.now.view)) (range_with_len 0 count) }
+    {
+        let mut sections = ArrayVec::new();
+        for index in 0..count {
+            sections.push(self.section(index));
+        }
+        sections
+    }
+
+    /// All the headers, where the file holds the directories and the section table.
+    pub fn headers(&self) -> Headers
+        requires directories { optional_start (bytes_of self.now.view) + fixed_size (bytes_of self.now.view) + 8 * directory_count (bytes_of self.now.view) ≤ size_of self.now.view }
+        requires few { coff_field (bytes_of self.now.view) 2 2 ≤ 96 }
+        requires sections { section_start (bytes_of self.now.view) (coff_field (bytes_of self.now.view) 2 2) ≤ size_of self.now.view }
+        ensures { result ≡ head_of (bytes_of self.now.view) }
+    {
+        let number_of_sections = self.coff_u16(2);
+        let number_of_rva_and_sizes = self.u32_either(92, 108);
+        Headers {
+            magic: self.magic,
+            pe_offset: self.offset,
+            machine: self.coff_u16(0),
+            number_of_sections,
+            time_date_stamp: self.coff_u32(4),
+            pointer_to_symbol_table: self.coff_u32(8),
+            number_of_symbols: self.coff_u32(12),
+            size_of_optional_header: self.coff_u16(16),
+            characteristics: self.coff_u16(18),
+            major_linker_version: self.u8_at(2),
+            minor_linker_version: self.u8_at(3),
+            size_of_code: self.u32_at(4),
+            size_of_initialized_data: self.u32_at(8),
+            size_of_uninitialized_data: self.u32_at(12),
+            address_of_entry_point: self.u32_at(16),
+            base_of_code: self.u32_at(20),
+            base_of_data: self.base_of_data(),
+            image_base: self.u64_either(28, 24),
+            section_alignment: self.u32_at(32),
+            file_alignment: self.u32_at(36),
+            major_operating_system_version: self.u16_at(40),
+            minor_operating_system_version: self.u16_at(42),
+            major_image_version: self.u16_at(44),
+            minor_image_version: self.u16_at(46),
+            major_subsystem_version: self.u16_at(48),
+            minor_subsystem_version: self.u16_at(50),
+            win32_version_value: self.u32_at(52),
+            size_of_image: self.u32_at(56),
+            size_of_headers: self.u32_at(60),
+            check_sum: self.u32_at(64),
+            subsystem: self.u16_at(68),
+            dll_characteristics: self.u16_at(70),
+            size_of_stack_reserve: self.u64_either(72, 72),
+            size_of_stack_commit: self.u64_either(76, 80),
+            size_of_heap_reserve: self.u64_either(80, 88),
+            size_of_heap_commit: self.u64_either(84, 96),
+            loader_flags: self.u32_either(88, 104),
+            number_of_rva_and_sizes,
+            directories: self.directories(u64::from(number_of_rva_and_sizes.min(16))),
+            sections: self.sections(u64::from(number_of_sections)),
+        }
+    }
+}

@@ -1,0 +1,25 @@
+//! The headers of an image: the COFF header, the optional header of PE32 and PE32+, the data directories and the section
+//! table.
+//!
+//! [`read_headers`] reads them all or answers the least of faults 1 to 12; it takes no memory:
+//!
+//! ```text
+//! let headers = read_headers(View::new(file), 0)?;
+//! let first = headers.sections.as_slice()[0];
+//! ```
+#![tactic(auto)]
+
+mod coff;
+mod directory;
+mod fields;
+mod headers;
+mod optional;
+mod reading;
+mod section;
+
+pub use coff::{characteristic, machine};
+pub use directory::{Directory, directory_index};
+pub use headers::Headers;
+pub use optional::Magic;
+pub use reading::read_headers;
+pub use section::{SectionHeader, section_flag};

@@ -1,0 +1,149 @@
+ghost use Rattle.std.specs.Prelude.{◌≡◌, ◌+◌, ◌≤◌, ◌*◌, take, drop, slice_range, OnOk, ⊤};
+ghost use Rattle.pe_view.specs.View.{bytes_of, size_of};
+ghost use Rattle.pe_view.specs.Faults.{Answers};
+ghost use Rattle.pe_head.specs.Head.{head_of, pe_offset, magic_of, fixed_size, table_start, directory_count, coff_field, section_start};
+ghost use Rattle.pe_head.specs.HeaderFaults.{head_tests};
+
+use crate::fields::{Fields, u16_in, u32_in};
+use crate::headers::Headers;
+use crate::optional::Magic;
+use pe_view::{Fault, Place, View};
+
+/// The most bytes that a file may have: 2^32.
+const FILE_LIMIT: u64 = 0x1_0000_0000;
+
+/// The most bytes that a laid-out image may have: 2^31.
+const IMAGE_LIMIT: u32 = 0x8000_0000;
+
+/// The most sections that an image may have.
+const SECTION_LIMIT: u16 = 96;
+
+/// `MZ`, which begins the file.
+const DOS_MAGIC: u16 = 0x5a4d;
+
+/// `PE\0\0`, which stands before the COFF header.
+const SIGNATURE: u32 = 0x4550;
+
+fn file_fault(number: u16, image: u16, offset: u64) -> Fault
+    ensures { result ≡ record { number = number; image = image; place = Place.File offset } }
+{
+    Fault {
+        number,
+        image,
+        place: Place::File(offset),
+    }
+}
+
+/// Where the signature stands, unless one of faults 1 to 5 does.
+#[tactic(auto, unfolding(crate::specs::HeaderFaults::head_tests))]
+fn signature(view: View, image: u16) -> Result<u32, Fault>
+    ensures exact { Answers (take 5 (head_tests image (bytes_of view.entry))) (λ offset. offset ≡ pe_offset (bytes_of view.entry)) result }
+    ensures fits { OnOk result (pe_offset (bytes_of view.entry) + 24 ≤ size_of view.entry) }
+{
+    let len = view.len();
+    if len > FILE_LIMIT {
+        return Err(file_fault(1, image, FILE_LIMIT));
+    }
+    if len < 64 {
+        return Err(file_fault(2, image, len));
+    }
+    if u16_in(view, 0) != DOS_MAGIC {
+        return Err(file_fault(3, image, 0));
+    }
+    let offset = u32_in(view, 0x3c);
+    let start = u64::from(offset);
+    if start + 24 > len {
+        return Err(file_fault(4, image, 60));
+    }
+    if u32_in(view, start) != SIGNATURE {
+        return Err(file_fault(5, image, start));
+    }
+    Ok(offset)
+}
+
+/// Which form the optional header has, unless one of faults 6 to 8 stands.
+#[tactic(auto, unfolding(crate::specs::HeaderFaults::head_tests))]
+fn form(view: View, image: u16, offset: u32) -> Result<Magic, Fault>
+    requires start { offset ≡ pe_offset (bytes_of view) }
+    requires fits { offset + 24 ≤ size_of view }
+    ensures exact { Answers (slice_range (head_tests image (bytes_of view.entry)) 5 8) (λ magic. magic ≡ magic_of (bytes_of view.entry)) result }
+    ensures table { OnOk result (table_start (bytes_of view.entry) ≤ size_of view.entry) }
+    ensures fields { OnOk result (fixed_size (bytes_of view.entry) + 8 * directory_count (bytes_of view.entry) ≤ coff_field (bytes_of view.entry) 16 2) }
+{
+    let offset = u64::from(offset);
+    let start = offset + 24;
+    let magic = match view.u16_at(start) {
+        Some(0x10b) => Magic::Pe32,
+        Some(0x20b) => Magic::Pe32Plus,
+        _ => return Err(file_fault(6, image, start)),
+    };
+    let fixed = magic.fixed_size();
+    let count = view.u32_at(start + fixed - 4).unwrap_or(0);
+    let size = u64::from(u16_in(view, offset + 20));
+    if size < fixed + 8 * u64::from(count.min(16)) {
+        return Err(file_fault(7, image, offset + 20));
+    }
+    if start + size > view.len() {
+        return Err(file_fault(8, image, offset + 20));
+    }
+    Ok(magic)
+}
+
+/// Where the section table ends, unless one of faults 9 and 10 stands.
+#[tactic(auto, unfolding(crate::specs::HeaderFaults::head_tests))]
+fn table_end(view: View, image: u16, offset: u32) -> Result<u64, Fault>
+    requires start { offset ≡ pe_offset (bytes_of view) }
+    requires table { table_start (bytes_of view) ≤ size_of view }
+    ensures exact { Answers (slice_range (head_tests image (bytes_of view.entry)) 8 10) (λ end. end ≡ section_start (bytes_of view.entry) (coff_field (bytes_of view.entry) 2 2)) result }
+    ensures most { OnOk result (coff_field (bytes_of view.entry) 2 2 ≤ 96) }
+    ensures fits { OnOk result (section_start (bytes_of view.entry) (coff_field (bytes_of view.entry) 2 2) ≤ size_of view.entry) }
+{
+    let offset = u64::from(offset);
+    let count = u16_in(view, offset + 6);
+    if count > SECTION_LIMIT {
+        return Err(file_fault(9, image, offset + 6));
+    }
+    let size = u64::from(u16_in(view, offset + 20));
+    let end = offset + 24 + size + 40 * u64::from(count);
+    if end > view.len() {
+        return Err(file_fault(10, image, offset + 6));
+    }
+    Ok(end)
+}
+
+/// That neither of faults 11 and 12 stands.
+#[tactic(auto, unfolding(crate::specs::HeaderFaults::head_tests))]
+fn check_sizes(view: View, image: u16, headers: &Headers, table_end: u64) -> Result<(), Fault>
+    requires end { table_end ≡ section_start (bytes_of view) (coff_field (bytes_of view) 2 2) }
+    requires head { headers.now ≡ head_of (bytes_of view) }
+    ensures { Answers (drop 10 (head_tests image (bytes_of view.entry))) (λ _. ⊤) result }
+{
+    let offset = u64::from(headers.pe_offset);
+    let size = headers.size_of_image;
+    if size == 0 || size > IMAGE_LIMIT {
+        return Err(file_fault(11, image, offset + 80));
+    }
+    let header_bytes = headers.size_of_headers;
+    if u64::from(header_bytes) < table_end
+        || u64::from(header_bytes) > view.len()
+        || header_bytes > size
+    {
+        return Err(file_fault(12, image, offset + 84));
+    }
+    Ok(())
+}
+
+/// The headers of a file, or the least of faults 1 to 12 that stands, named by the number `image`.
+///
+/// A fault is asked only where no fault of a smaller number stands. Takes no memory. ("PE Format": MS-DOS Stub, Signature,
+/// COFF File Header, Optional Header, Section Table.)
+pub fn read_headers(view: View, image: u16) -> Result<Headers, Fault>
+    ensures { Answers (head_tests image (bytes_of view.entry)) (λ headers. headers ≡ head_of (bytes_of view.entry)) result }
+{
+    let offset = signature(view, image)?;
+    let magic = form(view, image, offset)?;
+    let table_end = table_end(view, image, offset)?;
+    let headers = Fields::new(view, offset, magic).headers();
+    check_sizes(view, image, &headers, table_end)?;
+    Ok(headers)
+}

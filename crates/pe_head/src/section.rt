@@ -1,0 +1,70 @@
+/// A row of the section table ("PE Format", Section Table). Sizes count bytes.
+#[derive(Clone, Copy, Debug, Default, PartialEq, Eq)]
+pub struct SectionHeader {
+    /// The name, filled up with zero bytes.
+    pub name: [u8; 8],
+    /// The size in the laid-out image; 0 stands for SizeOfRawData.
+    pub virtual_size: u32,
+    /// The RVA of the first byte.
+    pub virtual_address: u32,
+    /// The size in the file.
+    pub size_of_raw_data: u32,
+    /// The file offset of the first byte; 0 where the file holds none.
+    pub pointer_to_raw_data: u32,
+    /// The file offset of the object's relocations; 0 in images.
+    pub pointer_to_relocations: u32,
+    /// The file offset of the line numbers.
+    pub pointer_to_linenumbers: u32,
+    /// How many relocations there are.
+    pub number_of_relocations: u16,
+    /// How many line numbers there are.
+    pub number_of_linenumbers: u16,
+    /// The section's flags.
+    pub characteristics: u32,
+}
+
+/// Flags of a section ("PE Format", Section Flags).
+pub mod section_flag {
+    /// The section has code.
+    pub const CODE: u32 = 0x0000_0020;
+    /// The section has initialized data.
+    pub const INITIALIZED_DATA: u32 = 0x0000_0040;
+    /// The section has uninitialized data.
+    pub const UNINITIALIZED_DATA: u32 = 0x0000_0080;
+    /// The number of relocations stands in the first of them.
+    pub const LNK_NRELOC_OVFL: u32 = 0x0100_0000;
+    /// The section can be run.
+    pub const EXECUTE: u32 = 0x2000_0000;
+    /// The section can be read.
+    pub const READ: u32 = 0x4000_0000;
+    /// The section can be written.
+    pub const WRITE: u32 = 0x8000_0000;
+}
+
+impl SectionHeader {
+    ghost use Rattle.std.specs.Prelude.{◌≡◌};
+    ghost use Rattle.pe_head.specs.Section.{extent, rawlen};
+
+    /// How many bytes of the laid-out image the section takes: VirtualSize, or SizeOfRawData where VirtualSize is 0.
+    pub fn extent(&self) -> u32
+        ensures { result ≡ extent self.now }
+    {
+        if self.virtual_size == 0 {
+            self.size_of_raw_data
+        } else {
+            self.virtual_size
+        }
+    }
+
+    /// How many of these bytes, from the first on, come from the file: none where PointerToRawData is 0, else as many as
+    /// both the extent and SizeOfRawData have.
+    pub fn rawlen(&self) -> u32
+        ensures { result ≡ rawlen self.now }
+    {
+        if self.pointer_to_raw_data == 0 {
+            0
+        } else {
+            self.extent().min(self.size_of_raw_data)
+        }
+    }
+}
