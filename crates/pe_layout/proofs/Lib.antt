@@ -1,0 +1,5 @@
+pub mod Finding
+pub mod OfLayout
+pub mod Pieces
+pub mod Placed
+pub mod SectionSteps

@@ -1,0 +1,42 @@
+use Rattle.std.proofs.Common.{◌≡◌, ◌∙◌, refl, length}
+use Rattle.std.proofs.lemmas.Result.{err_from_is_err_and}
+use Rattle.pe_view.specs.View.{bytes_of}
+use Rattle.pe_view.proofs.Standing.{first-past, first-in}
+use Rattle.pe_head.specs.Head.{head_of}
+use Rattle.pe_head.specs.HeaderFaults.{head_tests}
+use Rattle.pe_head.proofs.Accepted.{headers_inside, image_small}
+use Rattle.pe_layout.specs.SectionFaults.{placing_tests}
+use Rattle.pe_layout.proofs.layout.Layout.new.Goals as goal
+
+pub returns-in_err-headers : goal.returns-in_err-headers
+returns-in_err-headers c =
+    let file = bytes_of c.args.view in
+    let p = err_from_is_err_and c.from_residual.result c.from_residual.ensures.1 in
+    rw (p.1, p.2) (first-in (head_tests c.args.image file) (placing_tests c.args.image (head_of file) (length file)) _ c.in_err-headers.ensures)
+
+pub returns-in_err-check_sections : goal.returns-in_err-check_sections
+returns-in_err-check_sections c =
+    let file = bytes_of c.args.view in
+    let p = err_from_is_err_and c.from_residual-in_err-check_sections.result c.from_residual-in_err-check_sections.ensures.1 in
+    let e : c.in_ok-headers.headers ≡ head_of file = c.in_ok-headers.ensures.1 in
+    rw (p.1, p.2) (first-past (head_tests c.args.image file) (placing_tests c.args.image (head_of file) (length file)) c.in_ok-headers.ensures.0
+    ∙ rw (e, c.len.ensures) at c.in_err-check_sections.ensures)
+
+pub invariant_of-result : goal.invariant_of-result
+invariant_of-result c =
+    let file = bytes_of c.args.view in
+    let e : c.in_ok-headers.headers ≡ head_of file = c.in_ok-headers.ensures.1 in
+    record {
+      small = rw e (image_small c.args.image file c.in_ok-headers.ensures.0);
+      headers_inside = rw e (headers_inside c.args.image file c.in_ok-headers.ensures.0).0;
+      sections_placed = rw (← c.len.ensures) c.in_ok-check_sections.ensures.0;
+    }
+
+pub returns : goal.returns
+returns c =
+    let file = bytes_of c.args.view in
+    let e : c.in_ok-headers.headers ≡ head_of file = c.in_ok-headers.ensures.1 in (
+      first-past (head_tests c.args.image file) (placing_tests c.args.image (head_of file) (length file)) c.in_ok-headers.ensures.0
+          ∙ rw (e, c.len.ensures) at c.in_ok-check_sections.ensures.0,
+      record { headers = e; bytes = refl; number = refl },
+    )

@@ -1,0 +1,65 @@
+-- A laid-out image, as its tables see it: nothing here speaks of sections or of file offsets.
+use Rattle.std.specs.Prelude.{ℕ, ◌+◌, ◌%◌, ◌==◌, ◌&&◌, ◌||◌, Bool, nat_le, List, map, Option, None, Some, slice_get, option_and_then, if◌then◌else◌}
+use Rattle.std.specs.List.{range_with_len}
+use Rattle.pe_view.specs.declared.fault.Fault.{Fault}
+use Rattle.pe_view.specs.declared.fault.Place.TheVariants.{Rva}
+use Rattle.pe_view.specs.Number.{num}
+use Rattle.pe_head.specs.declared.optional.Magic.{Magic}
+use Rattle.pe_head.specs.declared.optional.Magic.TheVariants.{Pe32, Pe32Plus}
+use Rattle.pe_head.specs.declared.directory.Directory.{Directory}
+use Rattle.pe_head.specs.declared.headers.Headers.{Headers}
+use Rattle.pe_head.specs.Head.{head_of}
+use Rattle.pe_layout.specs.Plain.{plain}
+use Rattle.pe_layout.specs.PieceText.{text}
+
+pub record Image : Type 0 where
+  pub number : ℕ  -- the number that its faults bear
+  pub size : ℕ  -- SizeOfImage
+  pub byte : ℕ → ℕ  -- the laid-out byte at each RVA below the size
+  pub text : ℕ → Option (List ℕ)  -- the zero-ended text at an RVA, where there is one
+  pub directory : ℕ → Option Directory  -- the directory of an index, where it is present
+  pub slot_width : ℕ  -- how many bytes an import address takes
+  pub image_base : ℕ
+  pub is_stripped : Bool  -- RELOCS_STRIPPED: it must stand at its ImageBase
+
+-- The directory of an index, where it is present: one that the headers hold, whose RVA is not 0. That of the base
+-- relocations, number 5, is absent too where its Size is 0.
+abbrev pub directory_of : Headers → ℕ → Option Directory
+directory_of h i = option_and_then (λ d. if d.rva == 0 || (i == 5 && d.size == 0) then None else Some d) (slice_get h.directories.items i)
+
+abbrev pub slot_width_of : Magic → ℕ
+slot_width_of Pe32 = 4
+slot_width_of Pe32Plus = 8
+
+-- the image that headers and a file lay out, under a number
+abbrev pub image_from : ℕ → Headers → List ℕ → Image
+image_from number h file = record {
+  number = number;
+  size = h.size_of_image;
+  byte = plain h file;
+  text = text h file;
+  directory = directory_of h;
+  slot_width = slot_width_of h.magic;
+  image_base = h.image_base;
+  is_stripped = h.characteristics % 2 == 1;
+}
+
+-- the image of a file
+abbrev pub image_of_file : ℕ → List ℕ → Image
+image_of_file number file = image_from number (head_of file) file
+
+-- the `len` bytes from an RVA on
+abbrev pub bytes_at : Image → ℕ → ℕ → List ℕ
+bytes_at i rva len = map i.byte (range_with_len rva len)
+
+-- the number in the `width` bytes at an RVA
+abbrev pub number_at : ℕ → Image → ℕ → ℕ
+number_at width i rva = num i.byte rva width
+
+-- `len` bytes at an RVA are in the image
+abbrev pub is_inside : Image → ℕ → ℕ → Bool
+is_inside i rva len = nat_le (rva + len) i.size
+
+-- a fault of the image at an RVA
+abbrev pub fault_at : ℕ → Image → ℕ → Fault
+fault_at number i rva = record { number = number; image = i.number; place = Rva rva }

@@ -1,0 +1,25 @@
+-- What a layout shows.
+use Rattle.std.specs.Prelude.{◌≡◌, ℕ, List}
+use Rattle.pe_view.specs.View.{bytes_of}
+use Rattle.pe_head.specs.Head.{head_of}
+use Rattle.pe_head.specs.declared.headers.Headers.{Headers}
+use Rattle.pe_layout.specs.Image.{Image, image_from}
+use Rattle.pe_layout.specs.declared.layout.Layout.{Layout}
+
+-- its headers
+abbrev pub headers_of : Layout → Headers
+headers_of l = l.headers
+
+-- the bytes of its file
+abbrev pub file_of : Layout → List ℕ
+file_of l = bytes_of l.view
+
+-- its image, which is all that tables need
+abbrev pub image_of : Layout → Image
+image_of l = image_from l.image (headers_of l) (file_of l)
+
+-- the layout of a file, under a number
+pub record IsLayoutOf (file : List ℕ) (image : ℕ) (l : Layout) : Type 0 where
+  pub headers : headers_of l ≡ head_of file
+  pub bytes : file_of l ≡ file
+  pub number : (image_of l).number ≡ image

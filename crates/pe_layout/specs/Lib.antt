@@ -1,0 +1,15 @@
+pub use Rattle.pe_view.specs.Faults
+pub use Rattle.pe_view.specs.Number
+pub use Rattle.pe_view.specs.Text
+pub use Rattle.pe_view.specs.View
+pub use Rattle.pe_head.specs.Head
+pub use Rattle.pe_head.specs.HeaderFaults
+pub use Rattle.pe_head.specs.Section
+pub mod Image
+pub mod Layout
+pub mod Locating
+pub mod Piece
+pub mod PieceText
+pub mod Plain
+pub mod SectionFaults
+pub mod Sections

@@ -1,0 +1,33 @@
+-- How the sections of an image lie: what a search among them rests on, and what it finds.
+use Rattle.std.specs.Prelude.{◌≡◌, ℕ, ◌+◌, ◌<◌, ◌≤◌, List, length, slice_index_or, None, Some}
+use Rattle.pe_head.specs.declared.section.SectionHeader.{SectionHeader}
+use Rattle.pe_head.specs.declared.headers.Headers.{Headers}
+use Rattle.pe_head.specs.Section.{rawlen}
+use Rattle.pe_layout.specs.Piece.{end_of, section_of, section_index}
+use Rattle.pe_layout.specs.Plain.{IsIn}
+use Rattle.pe_layout.specs.declared.locate.Spot.{Spot}
+use Rattle.pe_layout.specs.declared.locate.Spot.TheVariants.{Section, Gap}
+
+-- no section ends before one that stands before it
+abbrev pub EndsAscend : List SectionHeader → Type 0
+EndsAscend ss = (i j : ℕ) (d : SectionHeader) → i ≤ j → j < length ss → end_of (slice_index_or ss i d) ≤ end_of (slice_index_or ss j d)
+
+-- an RVA lies in section i, which each other RVA of its extent finds too, and whose raw data a file of `size` bytes holds
+pub record IsInSection (h : Headers) (size r i : ℕ) (s : SectionHeader) : Type 0 where
+  pub index : section_index h r ≡ Some i
+  pub inside : IsIn r s
+  pub section : (k : ℕ) → IsIn k s → section_of h k ≡ Some s
+  pub raw : 0 < rawlen s → s.pointer_to_raw_data + rawlen s ≤ size
+  pub ends : end_of s ≤ h.size_of_image
+
+-- an RVA lies in a gap that goes on up to `end`
+pub record IsInGap (h : Headers) (r end : ℕ) : Type 0 where
+  pub index : section_index h r ≡ None
+  pub empty : (k : ℕ) → r ≤ k → k < end → section_of h k ≡ None
+  pub some : r < end
+  pub inside : end ≤ h.size_of_image
+
+-- where an RVA behind the headers lies
+abbrev pub IsSpot : Headers → ℕ → ℕ → Spot → Type 0
+IsSpot h size r (Section i s) = IsInSection h size r i s.now
+IsSpot h size r (Gap end) = IsInGap h r end

@@ -1,0 +1,68 @@
+ghost use Rattle.std.specs.Prelude.{◌≡◌, ◌≤◌, ◌^◌, None};
+ghost use Rattle.pe_view.specs.View.{size_of};
+ghost use Rattle.pe_view.specs.Faults.{first_standing};
+ghost use Rattle.pe_layout.specs.SectionFaults.{placing_tests};
+
+use crate::placing::check_sections;
+use pe_head::{Directory, Headers, read_headers};
+use pe_view::{Fault, View};
+
+/// An image as its headers and sections lay it out: SizeOfImage bytes, each of the headers, of a section's raw data, or 0.
+///
+/// RVAs count bytes from the image's beginning. No call takes memory.
+#[derive(Debug, Drop)]
+pub struct Layout<'a> {
+    pub(crate) view: View<'a>,
+    pub(crate) headers: Headers,
+    pub(crate) image: u16,
+    ghost small: { headers.size_of_image ≤ 2 ^ 31 },
+    ghost headers_inside: { headers.size_of_headers ≤ size_of view },
+    ghost sections_placed: { first_standing (placing_tests image headers (size_of view)) ≡ None },
+}
+
+impl<'a> Layout<'a> {
+    ghost use Rattle.pe_view.specs.View.{bytes_of};
+    ghost use Rattle.pe_view.specs.Faults.{Answers};
+    ghost use Rattle.pe_layout.specs.SectionFaults.{layout_tests};
+    ghost use Rattle.pe_layout.specs.Layout.{headers_of, image_of, IsLayoutOf};
+
+    /// The layout of a file, or the first of faults 1 to 15: of the headers, and then of each section in table order.
+    /// Faults name the image by the number `image`. ("PE Format": Optional Header, Section Table.)
+    pub fn new(view: View<'a>, image: u16) -> Result<Layout<'a>, Fault>
+        ensures { Answers (layout_tests image (bytes_of view.entry)) (IsLayoutOf (bytes_of view.entry) image) result }
+    {
+        let headers = read_headers(view, image)?;
+        check_sections(&headers, view.len(), image)?;
+        Ok(Layout {
+            view,
+            headers,
+            image,
+        })
+    }
+
+    /// The headers of the image's file.
+    pub fn headers(&self) -> &Headers
+        ensures { result.now ≡ headers_of self.now }
+    {
+        &self.headers
+    }
+
+    /// The number by which faults name the image.
+    pub fn image(&self) -> u16
+        ensures { result ≡ (image_of self.now).number }
+    {
+        self.image
+    }
+
+    /// The data directory of an index, where it is present: the headers hold it and its RVA is not 0. The base
+    /// relocation directory, number 5, is absent too where its Size is 0.
+    pub fn directory(&self, index: usize) -> Option<Directory>
+        ensures { result ≡ (image_of self.now).directory index }
+    {
+        let directory = *self.headers.directories.as_slice().get(index)?;
+        if directory.rva == 0 || (index == 5 && directory.size == 0) {
+            return None;
+        }
+        Some(directory)
+    }
+}

@@ -1,0 +1,18 @@
+//! An image laid out in memory: which byte stands at which RVA, and which zero-ended text.
+//!
+//! A [`Layout`] borrows the file and holds its headers. It copies nothing and takes no memory:
+//!
+//! ```text
+//! let layout = Layout::new(View::new(file), 0)?;
+//! let entry = layout.headers().address_of_entry_point;
+//! let first = layout.byte(entry);
+//! ```
+#![tactic(auto)]
+
+pub mod laws;
+mod layout;
+mod locate;
+mod placing;
+
+pub use layout::Layout;
+pub use locate::Located;

@@ -1,0 +1,112 @@
+ghost use Rattle.std.specs.Prelude.{◌≡◌, ◌≤◌, ◌<◌, ℕ, length, slice_index_or};
+ghost use Rattle.pe_view.specs.View.{size_of};
+ghost use Rattle.pe_head.specs.declared.section.SectionHeader.{SectionHeader};
+ghost use Rattle.pe_layout.specs.Piece.{end_of};
+ghost use Rattle.pe_layout.specs.Locating.{located_in};
+ghost use Rattle.pe_layout.specs.Sections.{EndsAscend};
+
+use crate::layout::Layout;
+use crate::placing::end_of;
+use pe_head::SectionHeader;
+
+/// What stands at an RVA of a laid-out image.
+#[derive(Clone, Copy, Debug, PartialEq, Eq)]
+pub enum Located {
+    /// A byte of the headers, at this offset of the file.
+    Header { file: u64 },
+    /// A byte of a section's raw data: the section's index from 0, and the byte's offset in the file.
+    Raw { section: u8, file: u64 },
+    /// A byte of a section past its raw data: the section's index from 0.
+    Zero { section: u8 },
+    /// A byte of no piece.
+    Gap,
+    /// No byte of the image.
+    Outside,
+}
+
+/// Where an RVA that is not the headers' lies.
+pub(crate) enum Spot<'s> {
+    /// In this section, of this index.
+    Section {
+        index: u8,
+        section: &'s SectionHeader,
+    },
+    /// In a gap, which goes on up to this RVA at least.
+    Gap {
+        end: u32,
+    },
+}
+
+/// The index of the first section that ends after an RVA, by a binary search, or the number of sections.
+fn first_ending_after(sections: &[SectionHeader], rva: u32) -> usize
+    requires { EndsAscend sections.now }
+    ensures bound { result ≤ length sections.now }
+    ensures before { (k : ℕ) (s : SectionHeader) → k < result → end_of (slice_index_or sections.now k s) ≤ rva }
+    ensures after { (k : ℕ) (s : SectionHeader) → result ≤ k → k < length sections.now → rva < end_of (slice_index_or sections.now k s) }
+{
+    sections.partition_point(|section| end_of(section) <= u64::from(rva))
+}
+
+impl<'a> Layout<'a> {
+    ghost use Rattle.pe_layout.specs.Layout.{headers_of};
+    ghost use Rattle.pe_layout.specs.Locating.{located};
+    ghost use Rattle.pe_layout.specs.Sections.{IsSpot};
+
+    /// Where an RVA of the image behind the headers lies.
+    pub(crate) fn spot(&self, rva: u32) -> Spot<'_>
+        requires { rva < (headers_of self.now).size_of_image }
+        ensures { IsSpot (headers_of self.now) (size_of self.now.view) rva result }
+    {
+        let sections = self.headers.sections.as_slice();
+        let index = first_ending_after(sections, rva);
+        if index >= sections.len() {
+            return Spot::Gap {
+                end: self.headers.size_of_image,
+            };
+        }
+        let section = &sections[index];
+        if rva < section.virtual_address {
+            return Spot::Gap {
+                end: section.virtual_address,
+            };
+        }
+        Spot::Section {
+            index: index as u8,
+            section,
+        }
+    }
+
+    /// What stands at an RVA: the piece that holds it, and the file offset of the byte where the file holds it.
+    pub fn locate(&self, rva: u32) -> Located
+        ensures { result ≡ located (headers_of self.now) rva }
+    {
+        if rva >= self.headers.size_of_image {
+            return Located::Outside;
+        }
+        if rva < self.headers.size_of_headers {
+            return Located::Header {
+                file: u64::from(rva),
+            };
+        }
+        match self.spot(rva) {
+            Spot::Gap { end: _ } => Located::Gap,
+            Spot::Section { index, section } => located_in(section, index, rva),
+        }
+    }
+}
+
+/// What stands at an RVA of section `index`.
+fn located_in(section: &SectionHeader, index: u8, rva: u32) -> Located
+    requires { section.now.virtual_address ≤ rva }
+    ensures { result ≡ located_in rva (Some index) (Some section.now) }
+{
+    let offset = rva - section.virtual_address;
+    if offset < section.rawlen() {
+        Located::Raw {
+            section: index,
+            file: u64::from(section.pointer_to_raw_data) + u64::from(offset),
+        }
+    } else {
+        Located::Zero { section: index }
+    }
+}
