@@ -1,5 +1,5 @@
 -- Which section a search among the sections finds.
-use Rattle.std.proofs.Common.{◌≡◌, ℕ, ◌+◌, ◌-◌, ◌<◌, ◌≤◌, Bool, true, false, ◌&&◌, List, length, get_or, Option, Some, None, refl, sym, ap, ◌∙◌, arith}
+use Rattle.std.proofs.Common.{◌≡◌, ℕ, ◌<◌, ◌≤◌, Bool, true, false, List, length, get_or, Some, None, refl, ap, ◌∙◌, arith}
 use Rattle.std.specs.Prelude.{nat_lt, nat_le, find, position, slice_get}
 use Rattle.std.specs.List.{position_or_len}
 use Rattle.std.proofs.Common.{inl, inr, ◌⊎◌}
@@ -11,7 +11,7 @@ use Rattle.pe_head.specs.declared.section.SectionHeader.{SectionHeader}
 use Rattle.pe_head.specs.declared.headers.Headers.{Headers}
 use Rattle.pe_layout.specs.Piece.{end_of, holds, section_of, section_index}
 use Rattle.pe_layout.specs.Plain.{IsIn}
-use Rattle.pe_layout.specs.Sections.{IsInSection, IsInGap}
+use Rattle.pe_layout.specs.Sections.{IsInSectionAt, IsInGap}
 use Rattle.pe_layout.proofs.Placed.{AllPlaced}
 
 module _ {X : Type 0} (p : X → Bool) (xs : List X) where
@@ -59,13 +59,15 @@ module _ (h : Headers) (size : ℕ) (placed : AllPlaced h size 0 h.sections.item
       (holds_in k (get_or h.sections.items i d) inside.low inside.high)
 
   -- an RVA lies in section i
-  pub in_section : (i r : ℕ) (d : SectionHeader) → i < length h.sections.items → IsIn r (get_or h.sections.items i d) → IsInSection h size r i (get_or h.sections.items i d)
+  pub in_section : (i r : ℕ) (d : SectionHeader) → i < length h.sections.items → IsIn r (get_or h.sections.items i d) → IsInSectionAt h size r i (get_or h.sections.items i d)
   in_section i r d lt inside = record {
     index = (section_at i r d lt inside).1;
-    inside = inside;
-    section = λ k there. (section_at i k d lt there).0;
-    raw = (placed.each i d lt).raw;
-    ends = (placed.each i d lt).ends;
+    found = record {
+      inside = inside;
+      section = λ k there. (section_at i k d lt there).0;
+      raw = (placed.each i d lt).raw;
+      ends = (placed.each i d lt).ends;
+    };
   }
 
   no_section : (i k : ℕ) (d : SectionHeader) → ((j : ℕ) → j < i → end_of (get_or h.sections.items j d) ≤ k) → ((j : ℕ) → i ≤ j → j < length h.sections.items → k < (get_or h.sections.items j d).virtual_address)

@@ -1,5 +1,9 @@
 pub mod Finding
 pub mod OfLayout
+pub mod Parts
 pub mod Pieces
 pub mod Placed
+pub mod Runs
 pub mod SectionSteps
+pub mod Texts
+pub mod Vectors

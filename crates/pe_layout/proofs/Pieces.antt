@@ -1,6 +1,6 @@
 -- The bytes of an image, piece by piece.
-use Rattle.std.proofs.Common.{◌≡◌, ℕ, ◌+◌, ◌-◌, ◌<◌, ◌≤◌, Bool, true, false, cond, inl, inr, ◌⊎◌, length, get_or, List, Option, Some, None, refl, sym, ap, ◌∙◌, arith, subst}
-use Rattle.std.specs.Prelude.{nat_lt, nat_le, slice_get, find, position}
+use Rattle.std.proofs.Common.{◌≡◌, ℕ, ◌+◌, ◌-◌, ◌<◌, ◌≤◌, Bool, true, false, cond, inl, inr, length, get_or, List, Option, Some, None, refl, ap, ◌∙◌, arith}
+use Rattle.std.specs.Prelude.{nat_lt, nat_le, slice_get}
 use Rattle.std.proofs.lemmas.Bool.{lt-ltb, le-ltb, lt-leb, leb-true, ltb-true, and_parts, cases_Bool}
 use Rattle.std.proofs.lemmas.Option.{get_or_from_slice_get, slice_get_within, slice_get-get_or}
 use Rattle.pe_view.specs.Number.{byte_of}
@@ -9,12 +9,11 @@ use Rattle.pe_head.specs.declared.section.SectionHeader.{SectionHeader}
 use Rattle.pe_head.specs.declared.headers.Headers.{Headers}
 use Rattle.pe_head.specs.Section.{rawlen}
 use Rattle.pe_layout.specs.declared.locate.Located.{Located}
-use Rattle.pe_layout.specs.declared.locate.Located.TheVariants.{Header, Raw, Zero, Gap, Outside}
-use Rattle.pe_layout.specs.Piece.{end_of, holds, section_of, section_index}
+use Rattle.pe_layout.specs.declared.locate.Located.TheVariants.{Header, Raw, Zero}
+use Rattle.pe_layout.specs.Piece.{holds, section_of, section_index}
 use Rattle.pe_layout.specs.SectionFaults.{placing_tests}
 use Rattle.pe_layout.specs.Plain.{plain, section_byte, IsIn, IsLaidOut}
 use Rattle.pe_layout.specs.Locating.{located, located_in, located_byte}
-use Rattle.pe_layout.specs.Sections.{IsInSection}
 use Rattle.pe_layout.proofs.Placed.{AllPlaced, all_placed, no_header}
 use Rattle.pe_layout.proofs.Finding.{in_section, none_passes, found_both}
 
@@ -33,7 +32,7 @@ section_found h size placed r k s at inside =
     let there : IsIn r (get_or h.sections.items k s) = rw same inside in
     let starts = (placed.each k s lt).starts in
     let low = there.low in
-    (omega arith, (in_section h size placed k r s lt there).section r there ∙ ap Some same)
+    (omega arith, (in_section h size placed k r s lt there).found.section r there ∙ ap Some same)
 
 not_in : (r : ℕ) (s : SectionHeader) → (IsIn r s → ⊥) → holds r s ≡ false
 not_in r s none = elim (cases_Bool (holds r s)) [

@@ -11,5 +11,6 @@ pub mod Locating
 pub mod Piece
 pub mod PieceText
 pub mod Plain
+pub mod Run
 pub mod SectionFaults
 pub mod Sections

@@ -1,5 +1,5 @@
 -- The pieces of a laid-out image: the headers, and the extent of each section. What lies in no piece is a gap.
-use Rattle.std.specs.Prelude.{ℕ, ◌+◌, ◌≤◌, ◌<◌, ◌&&◌, Bool, nat_lt, nat_le, find, position, Option}
+use Rattle.std.specs.Prelude.{ℕ, ◌+◌, ◌&&◌, Bool, nat_lt, nat_le, find, position, Option}
 use Rattle.pe_head.specs.declared.section.SectionHeader.{SectionHeader}
 use Rattle.pe_head.specs.declared.headers.Headers.{Headers}
 use Rattle.pe_head.specs.Section.{extent}

@@ -12,9 +12,8 @@ use Rattle.pe_layout.specs.declared.locate.Spot.TheVariants.{Section, Gap}
 abbrev pub EndsAscend : List SectionHeader → Type 0
 EndsAscend ss = (i j : ℕ) (d : SectionHeader) → i ≤ j → j < length ss → end_of (slice_index_or ss i d) ≤ end_of (slice_index_or ss j d)
 
--- an RVA lies in section i, which each other RVA of its extent finds too, and whose raw data a file of `size` bytes holds
-pub record IsInSection (h : Headers) (size r i : ℕ) (s : SectionHeader) : Type 0 where
-  pub index : section_index h r ≡ Some i
+-- an RVA lies in a section, which each other RVA of its extent finds too, and whose raw data a file of `size` bytes holds
+pub record IsInSection (h : Headers) (size r : ℕ) (s : SectionHeader) : Type 0 where
   pub inside : IsIn r s
   pub section : (k : ℕ) → IsIn k s → section_of h k ≡ Some s
   pub raw : 0 < rawlen s → s.pointer_to_raw_data + rawlen s ≤ size
@@ -27,7 +26,12 @@ pub record IsInGap (h : Headers) (r end : ℕ) : Type 0 where
   pub some : r < end
   pub inside : end ≤ h.size_of_image
 
+-- an RVA lies in section i
+pub record IsInSectionAt (h : Headers) (size r i : ℕ) (s : SectionHeader) : Type 0 where
+  pub index : section_index h r ≡ Some i
+  pub found : IsInSection h size r s
+
 -- where an RVA behind the headers lies
 abbrev pub IsSpot : Headers → ℕ → ℕ → Spot → Type 0
-IsSpot h size r (Section i s) = IsInSection h size r i s.now
+IsSpot h size r (Section i s) = IsInSectionAt h size r i s.now
 IsSpot h size r (Gap end) = IsInGap h r end

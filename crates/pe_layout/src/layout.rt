@@ -16,7 +16,8 @@ pub struct Layout<'a> {
     pub(crate) headers: Headers,
     pub(crate) image: u16,
     ghost small: { headers.size_of_image ≤ 2 ^ 31 },
-    ghost headers_inside: { headers.size_of_headers ≤ size_of view },
+    ghost headers_held: { headers.size_of_headers ≤ size_of view },
+    ghost headers_inside: { headers.size_of_headers ≤ headers.size_of_image },
     ghost sections_placed: { first_standing (placing_tests image headers (size_of view)) ≡ None },
 }
 

@@ -9,10 +9,12 @@
 //! ```
 #![tactic(auto)]
 
+mod fill;
 pub mod laws;
 mod layout;
 mod locate;
 mod placing;
+mod text;
 
 pub use layout::Layout;
 pub use locate::Located;

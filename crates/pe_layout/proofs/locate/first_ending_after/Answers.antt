@@ -1,10 +1,9 @@
 -- The sections that end by an RVA stand before all others.
-use Rattle.std.proofs.Common.{◌≡◌, ℕ, ◌≤◌, ◌<◌, true, length, get_or, arith, rules}
-use Rattle.std.specs.Prelude.{nat_le, slice_index_or}
+use Rattle.std.proofs.Common.{arith, rules}
+use Rattle.std.specs.Prelude.{nat_le}
 use Rattle.std.proofs.lemmas.Bool.{leb-true, leb-false, le-leb}
 use Rattle.std.proofs.lemmas.List.Sorted.{IsPartitionPoint-from_clause}
 use Rattle.std.specs.List.Sorted.{IsPartitionedBy}
-use Rattle.pe_head.specs.declared.section.SectionHeader.{SectionHeader}
 use Rattle.pe_layout.specs.Piece.{end_of}
 use Rattle.pe_layout.proofs.locate.first_ending_after.Goals as goal
 

@@ -1,4 +1,4 @@
-use Rattle.std.proofs.Common.{◌≡◌, ◌∙◌, ap, sym, refl, arith, drop}
+use Rattle.std.proofs.Common.{◌∙◌, sym}
 use Rattle.std.proofs.lemmas.Result.{err_from_is_err_and}
 use Rattle.pe_layout.proofs.SectionSteps.{goes_on, stops, ends}
 use Rattle.pe_layout.proofs.placing.check_sections.Goals as goal

@@ -28,7 +28,8 @@ invariant_of-result c =
     let e : c.in_ok-headers.headers ≡ head_of file = c.in_ok-headers.ensures.1 in
     record {
       small = rw e (image_small c.args.image file c.in_ok-headers.ensures.0);
-      headers_inside = rw e (headers_inside c.args.image file c.in_ok-headers.ensures.0).0;
+      headers_held = rw e (headers_inside c.args.image file c.in_ok-headers.ensures.0).0;
+      headers_inside = rw e (headers_inside c.args.image file c.in_ok-headers.ensures.0).1;
       sections_placed = rw (← c.len.ensures) c.in_ok-check_sections.ensures.0;
     }
 

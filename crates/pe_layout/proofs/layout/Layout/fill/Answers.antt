@@ -1,0 +1,14 @@
+-- One more run is written.
+use Rattle.std.proofs.Common.{length-take, length-drop, arith}
+use Rattle.pe_layout.specs.Layout.{image_of}
+use Rattle.pe_layout.proofs.Runs.{fill_step}
+use Rattle.pe_layout.proofs.layout.Layout.fill.Goals as goal
+
+pub loop-done-preserved : goal.loop-done-preserved
+loop-done-preserved c =
+    let same = c.loop-done.auto.buffer in
+    let le = c.loop-done.invariant.0 in
+    let fits = simp (length-take, length-drop) at c.fill_run-done.ensures.fits in (
+      omega arith,
+      fill_step (image_of c.args.self.now).byte c.args.rva c.loop-done.done c.fill_run-done.result c.args.buffer.now c.loop-done.buffer c.fill_run-done.new.buffer (omega arith) c.loop-done.invariant.1 c.fill_run-done.ensures.filled,
+    )

@@ -1,0 +1,146 @@
+ghost use Rattle.std.specs.Prelude.{◌≡◌, ◌+◌, ◌<◌, ◌≤◌, ◌↔◌, IsTrue, SomeIff, length, drop, ◌++◌};
+ghost use Rattle.std.specs.Bool.{OnTrue, OnFalse};
+ghost use Rattle.pe_layout.specs.Piece.{end_of};
+ghost use Rattle.pe_layout.specs.Run.{IsRun, rest_of};
+ghost use Rattle.pe_layout.specs.Image.{bytes_at, number_at};
+ghost use Rattle.pe_layout.specs.Layout.{headers_of, file_of, image_of};
+
+use crate::layout::Layout;
+use crate::locate::Spot;
+use pe_head::SectionHeader;
+
+/// Bytes of an image that come from one place.
+pub(crate) enum Run {
+    /// So many bytes of the file, from this offset on.
+    Raw { file: u64, len: u32 },
+    /// So many zeros.
+    Zeros { len: u32 },
+}
+
+/// What is left of a section at an RVA: of its raw data, or of the zeros behind them.
+pub(crate) fn rest_of(section: &SectionHeader, rva: u32) -> Run
+    requires low { section.now.virtual_address ≤ rva }
+    requires high { rva < end_of section.now }
+    ensures { result ≡ rest_of section.now rva }
+{
+    let offset = rva - section.virtual_address;
+    let rawlen = section.rawlen();
+    if offset < rawlen {
+        Run::Raw {
+            file: u64::from(section.pointer_to_raw_data) + u64::from(offset),
+            len: rawlen - offset,
+        }
+    } else {
+        Run::Zeros {
+            len: section.extent() - offset,
+        }
+    }
+}
+
+impl<'a> Layout<'a> {
+    /// The run that begins at an RVA of the image: it goes on to the end of its piece or gap, or to where zero fill begins.
+    fn run_at(&self, rva: u32) -> Run
+        requires { rva < (image_of self.now).size }
+        ensures { IsRun (headers_of self.now) (file_of self.now) rva result }
+    {
+        if rva < self.headers.size_of_headers {
+            return Run::Raw {
+                file: u64::from(rva),
+                len: self.headers.size_of_headers - rva,
+            };
+        }
+        match self.spot(rva) {
+            Spot::Gap { end } => Run::Zeros { len: end - rva },
+            Spot::Section { index: _, section } => rest_of(section, rva),
+        }
+    }
+
+    /// Fills the beginning of a buffer with what is left of the run at an RVA, and tells how many bytes these are.
+    fn fill_run(&self, rva: u32, buffer: &mut [u8]) -> usize
+        requires some { 0 < length buffer.old }
+        requires inside { rva + length buffer.old ≤ (image_of self.now).size }
+        ensures some { 0 < result }
+        ensures fits { result ≤ length buffer.old }
+        ensures filled { buffer.new ≡ bytes_at (image_of self.now) rva result ++ drop result buffer.old }
+    {
+        match self.run_at(rva) {
+            Run::Raw { file, len } => {
+                let count = buffer.len().min(len as usize);
+                let bytes = self.view.slice(file, count as u64).unwrap();
+                buffer[..count].copy_from_slice(bytes);
+                count
+            }
+            Run::Zeros { len } => {
+                let count = buffer.len().min(len as usize);
+                buffer[..count].fill(0);
+                count
+            }
+        }
+    }
+
+    /// Fills the buffer with the bytes from an RVA on and answers true, where they all lie inside the image; else answers
+    /// false and leaves the buffer as it was.
+    ///
+    /// Each run of the image is copied at once.
+    pub fn fill(&self, rva: u32, buffer: &mut [u8]) -> bool
+        ensures fits { IsTrue result ↔ (rva + length buffer.old ≤ (image_of self.now).size) }
+        ensures filled { OnTrue result (buffer.new ≡ bytes_at (image_of self.now) rva (length buffer.old)) }
+        ensures unchanged { OnFalse result (buffer.new ≡ buffer.old) }
+    {
+        let size = self.headers.size_of_image;
+        if rva > size || buffer.len() > (size - rva) as usize {
+            return false;
+        }
+        let mut done = 0;
+        while done < buffer.len() {
+            done += self.fill_run(rva + done as u32, &mut buffer[done..]);
+        }
+        true
+    }
+
+    /// The byte at an RVA, or `None` past the image.
+    pub fn byte(&self, rva: u32) -> Option<u8>
+        ensures { SomeIff result (rva < (image_of self.now).size) ((image_of self.now).byte rva) }
+    {
+        if rva >= self.headers.size_of_image {
+            return None;
+        }
+        match self.run_at(rva) {
+            Run::Raw { file, len: _ } => Some(self.view.slice(file, 1).unwrap()[0]),
+            Run::Zeros { len: _ } => Some(0),
+        }
+    }
+
+    /// The little-endian number in the 2 bytes at an RVA, or `None` where they pass the image.
+    pub fn u16_at(&self, rva: u32) -> Option<u16>
+        ensures { SomeIff result (rva + 2 ≤ (image_of self.now).size) (number_at 2 (image_of self.now) rva) }
+    {
+        let mut bytes = [0; 2];
+        if !self.fill(rva, &mut bytes) {
+            return None;
+        }
+        Some(u16::from_le_bytes(bytes))
+    }
+
+    /// The little-endian number in the 4 bytes at an RVA, or `None` where they pass the image.
+    pub fn u32_at(&self, rva: u32) -> Option<u32>
+        ensures { SomeIff result (rva + 4 ≤ (image_of self.now).size) (number_at 4 (image_of self.now) rva) }
+    {
+        let mut bytes = [0; 4];
+        if !self.fill(rva, &mut bytes) {
+            return None;
+        }
+        Some(u32::from_le_bytes(bytes))
+    }
+
+    /// The little-endian number in the 8 bytes at an RVA, or `None` where they pass the image.
+    pub fn u64_at(&self, rva: u32) -> Option<u64>
+        ensures { SomeIff result (rva + 8 ≤ (image_of self.now).size) (number_at 8 (image_of self.now) rva) }
+    {
+        let mut bytes = [0; 8];
+        if !self.fill(rva, &mut bytes) {
+            return None;
+        }
+        Some(u64::from_le_bytes(bytes))
+    }
+}
