@@ -1,5 +1,5 @@
 -- What is true of the headers of a file without a fault.
-use Rattle.std.proofs.Common.{◌≡◌, ℕ, ◌^◌, ◌≤◌, List, length, Option, Some, None, refl}
+use Rattle.std.proofs.Common.{◌≡◌, ℕ, ◌^◌, ◌≤◌, List, length, None, refl}
 use Rattle.std.proofs.lemmas.Bool.{or_parts, ltb-false}
 use Rattle.pe_view.specs.Faults.{first_standing}
 use Rattle.pe_view.proofs.Standing.{none_stands}

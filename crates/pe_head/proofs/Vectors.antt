@@ -1,9 +1,9 @@
 -- The definitions computed on a small file.
-use Rattle.std.proofs.Common.{◌≡◌, ℕ, zero, suc, ◌+◌, ◌^◌, List, [], ◌∷◌, ◌++◌, length, take, Option, Some, None, refl}
-use Rattle.std.specs.Prelude.{slice_set, slice_index}
+use Rattle.std.proofs.Common.{◌≡◌, ℕ, zero, suc, ◌+◌, List, [], ◌∷◌, ◌++◌, length, take, Option, Some, None, refl}
+use Rattle.std.specs.Prelude.{slice_set}
 use Rattle.std.specs.List.{range_with_len}
-use Rattle.pe_head.specs.Head.{head_of, pe_offset, section_at}
-use Rattle.pe_head.specs.Section.{extent, rawlen}
+use Rattle.pe_head.specs.Head.{head_of, section_at}
+use Rattle.pe_head.specs.Section.{rawlen}
 use Rattle.pe_view.specs.Faults.{first_standing}
 use Rattle.pe_head.specs.HeaderFaults.{head_tests}
 use Rattle.pe_view.specs.declared.fault.Fault.{Fault}

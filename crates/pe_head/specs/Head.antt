@@ -1,8 +1,7 @@
 -- The headers of an image ("PE Format": COFF File Header, Optional Header, Section Table) as functions of the file's
 -- bytes: each field is the number at an offset, of a width, which stand beside it.
-use Rattle.std.specs.Prelude.{ℕ, ◌+◌, ◌*◌, ◌==◌, Bool, min, map, List, length, None, Some, if◌then◌else◌}
+use Rattle.std.specs.Prelude.{ℕ, ◌+◌, ◌*◌, ◌==◌, Bool, min, map, List, None, Some, if◌then◌else◌}
 use Rattle.std.specs.List.{range_with_len}
-use Rattle.arrayvec.specs.ArrayVec.{ArrayVec}
 use Rattle.pe_view.specs.Number.{num, byte_of, part}
 use Rattle.pe_head.specs.declared.optional.Magic.{Magic}
 use Rattle.pe_head.specs.declared.optional.Magic.TheVariants.{Pe32, Pe32Plus}

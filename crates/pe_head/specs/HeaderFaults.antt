@@ -3,7 +3,7 @@ use Rattle.std.specs.Prelude.{ℕ, ◌+◌, ◌*◌, ◌^◌, ◌==◌, ◌&&◌
 use Rattle.pe_view.specs.declared.fault.Place.TheVariants.{File}
 use Rattle.pe_view.specs.Number.{num, byte_of}
 use Rattle.pe_view.specs.Faults.{Test, test}
-use Rattle.pe_head.specs.Head.{pe_offset, coff_field, field, either_field, fixed_size, optional_start, directory_count, table_start, section_start}
+use Rattle.pe_head.specs.Head.{pe_offset, coff_field, field, fixed_size, optional_start, directory_count, table_start, section_start}
 
 -- a field of the optional header lies inside the file
 abbrev pub has_field : List ℕ → ℕ → ℕ → Bool

@@ -16,3 +16,6 @@ mod view;
 
 pub use fault::{Fault, Place};
 pub use view::View;
+
+#[cfg(test)]
+mod tests;
