@@ -14,8 +14,8 @@ headers_of l = l.headers
 abbrev pub file_of : Layout → List ℕ
 file_of l = bytes_of l.view
 
--- its image, which is all that tables need
-abbrev pub image_of : Layout → Image
+-- its image, which is all that tables need; what it is made of stays hidden from the layers above
+unfoldable pub image_of : Layout → Image
 image_of l = image_from l.image (headers_of l) (file_of l)
 
 -- the layout of a file, under a number

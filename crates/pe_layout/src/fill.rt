@@ -39,6 +39,7 @@ pub(crate) fn rest_of(section: &SectionHeader, rva: u32) -> Run
 
 impl<'a> Layout<'a> {
     /// The run that begins at an RVA of the image: it goes on to the end of its piece or gap, or to where zero fill begins.
+    #[tactic(auto, unfolding(crate::specs::Layout::image_of))]
     fn run_at(&self, rva: u32) -> Run
         requires { rva < (image_of self.now).size }
         ensures { IsRun (headers_of self.now) (file_of self.now) rva result }
@@ -56,6 +57,7 @@ impl<'a> Layout<'a> {
     }
 
     /// Fills the beginning of a buffer with what is left of the run at an RVA, and tells how many bytes these are.
+    #[tactic(auto, unfolding(crate::specs::Layout::image_of))]
     fn fill_run(&self, rva: u32, buffer: &mut [u8]) -> usize
         requires some { 0 < length buffer.old }
         requires inside { rva + length buffer.old ≤ (image_of self.now).size }
@@ -82,6 +84,7 @@ impl<'a> Layout<'a> {
     /// false and leaves the buffer as it was.
     ///
     /// Each run of the image is copied at once.
+    #[tactic(auto, unfolding(crate::specs::Layout::image_of))]
     pub fn fill(&self, rva: u32, buffer: &mut [u8]) -> bool
         ensures fits { IsTrue result ↔ (rva + length buffer.old ≤ (image_of self.now).size) }
         ensures filled { OnTrue result (buffer.new ≡ bytes_at (image_of self.now) rva (length buffer.old)) }
@@ -99,6 +102,7 @@ impl<'a> Layout<'a> {
     }
 
     /// The byte at an RVA, or `None` past the image.
+    #[tactic(auto, unfolding(crate::specs::Layout::image_of))]
     pub fn byte(&self, rva: u32) -> Option<u8>
         ensures { SomeIff result (rva < (image_of self.now).size) ((image_of self.now).byte rva) }
     {
@@ -112,6 +116,7 @@ impl<'a> Layout<'a> {
     }
 
     /// The little-endian number in the 2 bytes at an RVA, or `None` where they pass the image.
+    #[tactic(auto, unfolding(crate::specs::Layout::image_of))]
     pub fn u16_at(&self, rva: u32) -> Option<u16>
         ensures { SomeIff result (rva + 2 ≤ (image_of self.now).size) (number_at 2 (image_of self.now) rva) }
     {
@@ -123,6 +128,7 @@ impl<'a> Layout<'a> {
     }
 
     /// The little-endian number in the 4 bytes at an RVA, or `None` where they pass the image.
+    #[tactic(auto, unfolding(crate::specs::Layout::image_of))]
     pub fn u32_at(&self, rva: u32) -> Option<u32>
         ensures { SomeIff result (rva + 4 ≤ (image_of self.now).size) (number_at 4 (image_of self.now) rva) }
     {
@@ -134,6 +140,7 @@ impl<'a> Layout<'a> {
     }
 
     /// The little-endian number in the 8 bytes at an RVA, or `None` where they pass the image.
+    #[tactic(auto, unfolding(crate::specs::Layout::image_of))]
     pub fn u64_at(&self, rva: u32) -> Option<u64>
         ensures { SomeIff result (rva + 8 ≤ (image_of self.now).size) (number_at 8 (image_of self.now) rva) }
     {

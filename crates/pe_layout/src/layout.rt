@@ -4,7 +4,7 @@ ghost use Rattle.pe_view.specs.Faults.{first_standing};
 ghost use Rattle.pe_layout.specs.SectionFaults.{placing_tests};
 
 use crate::placing::check_sections;
-use pe_head::{Directory, Headers, read_headers};
+use pe_head::{Directory, Headers, Magic, read_headers};
 use pe_view::{Fault, View};
 
 /// An image as its headers and sections lay it out: SizeOfImage bytes, each of the headers, of a section's raw data, or 0.
@@ -29,6 +29,7 @@ impl<'a> Layout<'a> {
 
     /// The layout of a file, or the first of faults 1 to 15: of the headers, and then of each section in table order.
     /// Faults name the image by the number `image`. ("PE Format": Optional Header, Section Table.)
+    #[tactic(auto, unfolding(crate::specs::Layout::image_of))]
     pub fn new(view: View<'a>, image: u16) -> Result<Layout<'a>, Fault>
         ensures { Answers (layout_tests image (bytes_of view.entry)) (IsLayoutOf (bytes_of view.entry) image) result }
     {
@@ -49,14 +50,36 @@ impl<'a> Layout<'a> {
     }
 
     /// The number by which faults name the image.
+    #[tactic(auto, unfolding(crate::specs::Layout::image_of))]
     pub fn image(&self) -> u16
         ensures { result ≡ (image_of self.now).number }
     {
         self.image
     }
 
+    /// How many bytes the image has: SizeOfImage.
+    #[tactic(auto, unfolding(crate::specs::Layout::image_of))]
+    pub fn size(&self) -> u32
+        ensures value { result ≡ (image_of self.now).size }
+        ensures small { result ≤ 2 ^ 31 }
+    {
+        self.headers.size_of_image
+    }
+
+    /// How many bytes a slot of the import address table has: 4 in PE32, 8 in PE32+.
+    #[tactic(auto, unfolding(crate::specs::Layout::image_of))]
+    pub fn slot_width(&self) -> u32
+        ensures { result ≡ (image_of self.now).slot_width }
+    {
+        match self.headers.magic {
+            Magic::Pe32 => 4,
+            Magic::Pe32Plus => 8,
+        }
+    }
+
     /// The data directory of an index, where it is present: the headers hold it and its RVA is not 0. The base
     /// relocation directory, number 5, is absent too where its Size is 0.
+    #[tactic(auto, unfolding(crate::specs::Layout::image_of))]
     pub fn directory(&self, index: usize) -> Option<Directory>
         ensures { result ≡ (image_of self.now).directory index }
     {

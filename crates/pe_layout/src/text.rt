@@ -32,6 +32,7 @@ impl<'a> Layout<'a> {
     ///
     /// A text ends inside the piece in which it begins, else there is `None`; in a gap and in zero fill it is empty; past
     /// the image there is none.
+    #[tactic(auto, unfolding(crate::specs::Layout::image_of))]
     pub fn name_at(&self, rva: u32) -> Option<&'a [u8]>
         ensures { option_map (λ text. text.now) result ≡ (image_of self.now).text rva }
     {

@@ -5,6 +5,7 @@ use Rattle.pe_layout.proofs.Runs.{fill_step}
 use Rattle.pe_layout.proofs.layout.Layout.fill.Goals as goal
 
 pub loop-done-preserved : goal.loop-done-preserved
+unfolding image_of
 loop-done-preserved c =
     let same = c.loop-done.auto.buffer in
     let le = c.loop-done.invariant.0 in

@@ -1,11 +1,12 @@
 -- What is written is the beginning of the run.
 use Rattle.std.proofs.Common.{◌≡◌, ◌∙◌, ◌++◌, ap, sym, take, drop, length, length-take, List, ℕ, arith}
 use Rattle.std.specs.Prelude.{replicate}
-use Rattle.pe_layout.specs.Layout.{file_of}
+use Rattle.pe_layout.specs.Layout.{file_of, image_of}
 use Rattle.pe_layout.proofs.Runs.{raw_beginning, zero_beginning}
 use Rattle.pe_layout.proofs.layout.Layout.fill_run.Goals as goal
 
 pub returns-in-Raw-clause-filled : goal.returns-in-Raw-clause-filled
+unfolding image_of
 returns-in-Raw-clause-filled c =
     let l = c.args.self.now in
     let bytes = rw c.unwrap-bytes.ensures at c.slice.ensures.value in
@@ -13,6 +14,7 @@ returns-in-Raw-clause-filled c =
     (c.copy_from_slice.ensures.after ∙ bytes ∙ sym (raw_beginning l.headers (file_of l) c.args.rva c.in-Raw.file c.in-Raw.len c.min-count.result c.in-Raw.ensures (omega arith)))
 
 pub returns-in-Zeros-clause-filled : goal.returns-in-Zeros-clause-filled
+unfolding image_of
 returns-in-Zeros-clause-filled c =
     let l = c.args.self.now in
     let count : length (take c.min-count-in-Zeros.result c.args.buffer.now) ≡ c.min-count-in-Zeros.result = simp length-take (omega arith) in

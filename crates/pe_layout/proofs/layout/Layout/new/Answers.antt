@@ -6,15 +6,18 @@ use Rattle.pe_head.specs.Head.{head_of}
 use Rattle.pe_head.specs.HeaderFaults.{head_tests}
 use Rattle.pe_head.proofs.Accepted.{headers_inside, image_small}
 use Rattle.pe_layout.specs.SectionFaults.{placing_tests}
+use Rattle.pe_layout.specs.Layout.{image_of}
 use Rattle.pe_layout.proofs.layout.Layout.new.Goals as goal
 
 pub returns-in_err-headers : goal.returns-in_err-headers
+unfolding image_of
 returns-in_err-headers c =
     let file = bytes_of c.args.view in
     let p = err_from_is_err_and c.from_residual.result c.from_residual.ensures.1 in
     rw (p.1, p.2) (first-in (head_tests c.args.image file) (placing_tests c.args.image (head_of file) (length file)) _ c.in_err-headers.ensures)
 
 pub returns-in_err-check_sections : goal.returns-in_err-check_sections
+unfolding image_of
 returns-in_err-check_sections c =
     let file = bytes_of c.args.view in
     let p = err_from_is_err_and c.from_residual-in_err-check_sections.result c.from_residual-in_err-check_sections.ensures.1 in
@@ -23,6 +26,7 @@ returns-in_err-check_sections c =
     ∙ rw (e, c.len.ensures) at c.in_err-check_sections.ensures)
 
 pub invariant_of-result : goal.invariant_of-result
+unfolding image_of
 invariant_of-result c =
     let file = bytes_of c.args.view in
     let e : c.in_ok-headers.headers ≡ head_of file = c.in_ok-headers.ensures.1 in
@@ -34,6 +38,7 @@ invariant_of-result c =
     }
 
 pub returns : goal.returns
+unfolding image_of
 returns c =
     let file = bytes_of c.args.view in
     let e : c.in_ok-headers.headers ≡ head_of file = c.in_ok-headers.ensures.1 in (
