@@ -1,0 +1,5 @@
+pub mod Adding
+pub mod Numbering
+pub mod Reports
+pub mod Token
+pub mod Widths

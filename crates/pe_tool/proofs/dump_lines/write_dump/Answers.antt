@@ -1,0 +1,10 @@
+use Rattle.pe_tool.specs.Dump.{dump_text}
+use Rattle.pe_tool.proofs.Adding.{◌then◌}
+use Rattle.pe_tool.proofs.dump_lines.write_dump.Goals as goal
+
+pub returns : goal.returns
+unfolding dump_text
+returns g c =
+    let directories = rw c.as_slice.ensures.value at c.write_directories.ensures in
+    let sections = rw c.as_slice-2.ensures.value at c.write_sections.ensures in
+    c.write_format.ensures then c.write_pe_offset.ensures then c.write_header_fields.ensures then directories then sections then c.text.ensures

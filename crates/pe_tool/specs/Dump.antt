@@ -1,0 +1,71 @@
+-- The lines of a dump: what the headers of an image hold.
+use Rattle.std.specs.Prelude.{ℕ, ◌==◌, if◌then◌else◌, List, ◌++◌, codes, decimal, flat_map, unwrap_or}
+use Rattle.pe_view.specs.Text.{zero_ended}
+use Rattle.pe_head.specs.declared.optional.Magic.{Magic}
+use Rattle.pe_head.specs.declared.directory.Directory.{Directory}
+use Rattle.pe_head.specs.declared.section.SectionHeader.{SectionHeader}
+use Rattle.pe_head.specs.declared.headers.Headers.{Headers}
+use Rattle.pe_head.specs.Section.{extent, rawlen}
+use Rattle.pe_tool.specs.Format.{format_name}
+use Rattle.pe_tool.specs.HeaderFields.{field_line, coff_fields, standard_fields, base_of_data_fields, windows_fields}
+use Rattle.pe_tool.specs.Text.{hex, quoted, numbered}
+
+-- the name of an image's form
+unfoldable pub format_line : Magic → List ℕ
+format_line magic = codes "format " ++ format_name magic ++ codes "\n"
+
+-- where the signature stands
+unfoldable pub pe_offset_line : ℕ → List ℕ
+pe_offset_line offset = codes "pe-offset 0x" ++ hex 8 offset ++ codes "\n"
+
+-- the Machine field's name
+abbrev pub machine_name : ℕ → List ℕ
+machine_name machine =
+    if machine == 0x14c then codes "I386"
+    else (if machine == 0x8664 then codes "AMD64"
+    else (if machine == 0xaa64 then codes "ARM64"
+    else (if machine == 0x1c0 then codes "ARM"
+    else (if machine == 0x1c4 then codes "ARMNT"
+    else codes "other"))))
+
+-- the Machine field, with its name
+unfoldable pub machine_line : ℕ → List ℕ
+machine_line machine = codes "Machine 0x" ++ hex 4 machine ++ codes " " ++ machine_name machine ++ codes "\n"
+
+-- a directory, with its index, RVA and size
+unfoldable pub directory_line : ℕ → Directory → List ℕ
+directory_line index d = codes "Directory " ++ decimal index ++ codes " 0x" ++ hex 8 d.rva ++ codes " 0x" ++ hex 8 d.size ++ codes "\n"
+
+-- a section's name, up to its first zero byte
+abbrev pub name_of : SectionHeader → List ℕ
+name_of s = unwrap_or (zero_ended s.name) s.name
+
+-- a section, with its index from 0
+unfoldable pub section_line : ℕ → SectionHeader → List ℕ
+section_line index s =
+    codes "section " ++ decimal index ++ codes " " ++ quoted (name_of s)
+    ++ codes " va 0x" ++ hex 8 s.virtual_address
+    ++ codes " extent 0x" ++ hex 8 (extent s)
+    ++ codes " raw 0x" ++ hex 8 s.pointer_to_raw_data
+    ++ codes " rawlen 0x" ++ hex 8 (rawlen s)
+    ++ codes " flags 0x" ++ hex 8 s.characteristics
+    ++ codes "\n"
+
+-- the fields of the headers, in the order of "PE Format"
+unfoldable pub field_lines : Headers → List ℕ
+field_lines h =
+    machine_line h.machine
+    ++ flat_map field_line (coff_fields h)
+    ++ flat_map field_line (standard_fields h)
+    ++ flat_map field_line (base_of_data_fields h.base_of_data)
+    ++ flat_map field_line (windows_fields h)
+
+-- the whole dump
+unfoldable pub dump_text : Headers → List ℕ
+dump_text h =
+    format_line h.magic
+    ++ pe_offset_line h.pe_offset
+    ++ field_lines h
+    ++ numbered directory_line 0 h.directories.items
+    ++ numbered section_line 0 h.sections.items
+    ++ codes "end\n"

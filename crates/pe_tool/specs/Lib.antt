@@ -1,0 +1,11 @@
+pub mod Counted
+pub mod Device
+pub mod Dump
+pub mod Engine
+pub mod FaultLine
+pub mod Field
+pub mod Format
+pub mod HeaderFields
+pub mod Outcome
+pub mod Text
+pub mod TextWriter

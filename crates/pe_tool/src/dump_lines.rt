@@ -1,0 +1,178 @@
+//! The dump of an image: what its headers hold, a line each.
+
+ghost use Rattle.std.specs.Prelude.{◌≡◌, flat_map, map};
+ghost use Rattle.pe_tool.specs.TextWriter.{IsReady, Adds};
+ghost use Rattle.pe_tool.specs.Field.{field_of};
+ghost use Rattle.pe_tool.specs.HeaderFields.{field_line, base_of_data_fields};
+ghost use Rattle.pe_tool.specs.Text.{numbered};
+ghost use Rattle.pe_tool.specs.Dump.{format_line, pe_offset_line, machine_name, machine_line, directory_line, name_of, section_line, field_lines, dump_text};
+
+use crate::device::Sink;
+use crate::field::Field;
+use crate::format::format_name;
+use crate::header_fields::{coff_fields, standard_fields, windows_fields};
+use crate::text_writer::TextWriter;
+use pe_head::{Directory, Headers, Magic, SectionHeader, machine};
+use pe_view::View;
+
+#[tactic(auto, unfolding(crate::specs::Dump::format_line))]
+fn write_format<W: Sink>(line: &mut TextWriter<W>, magic: Magic)
+    requires { IsReady W.failures line.old }
+    ensures { Adds W.taken W.failures line.old line.new (format_line magic) }
+{
+    line.text(b"format ");
+    line.text(format_name(magic));
+    line.text(b"\n");
+}
+
+#[tactic(auto, unfolding(crate::specs::Dump::pe_offset_line))]
+fn write_pe_offset<W: Sink>(line: &mut TextWriter<W>, offset: u32)
+    requires { IsReady W.failures line.old }
+    ensures { Adds W.taken W.failures line.old line.new (pe_offset_line offset) }
+{
+    line.text(b"pe-offset 0x");
+    line.hex(8, offset as u64);
+    line.text(b"\n");
+}
+
+/// The name of a machine, or `other`.
+fn machine_name(machine: u16) -> &'static [u8]
+    ensures { result.now ≡ machine_name machine }
+{
+    match machine {
+        machine::I386 => b"I386",
+        machine::AMD64 => b"AMD64",
+        machine::ARM64 => b"ARM64",
+        machine::ARM => b"ARM",
+        machine::ARMNT => b"ARMNT",
+        _ => b"other",
+    }
+}
+
+#[tactic(auto, unfolding(crate::specs::Dump::machine_line))]
+fn write_machine<W: Sink>(line: &mut TextWriter<W>, machine: u16)
+    requires { IsReady W.failures line.old }
+    ensures { Adds W.taken W.failures line.old line.new (machine_line machine) }
+{
+    line.text(b"Machine 0x");
+    line.hex(4, machine as u64);
+    line.text(b" ");
+    line.text(machine_name(machine));
+    line.text(b"\n");
+}
+
+fn write_fields<W: Sink>(text: &mut TextWriter<W>, fields: &[Field])
+    requires { IsReady W.failures text.old }
+    ensures { Adds W.taken W.failures text.old text.new (flat_map field_line (map field_of fields.now)) }
+{
+    for field in fields {
+        field.write(text);
+    }
+}
+
+fn write_base_of_data<W: Sink>(text: &mut TextWriter<W>, base_of_data: Option<u32>)
+    requires { IsReady W.failures text.old }
+    ensures { Adds W.taken W.failures text.old text.new (flat_map field_line (base_of_data_fields base_of_data)) }
+{
+    match base_of_data {
+        None => write_fields(text, &[]),
+        Some(base) => write_fields(
+            text,
+            &[Field {
+                name: b"BaseOfData",
+                width: 4,
+                value: base as u64,
+            }],
+        ),
+    }
+}
+
+/// Adds the fields of both headers, in their order.
+#[tactic(auto, unfolding(crate::specs::Dump::field_lines))]
+fn write_header_fields<W: Sink>(text: &mut TextWriter<W>, headers: &Headers)
+    requires { IsReady W.failures text.old }
+    ensures { Adds W.taken W.failures text.old text.new (field_lines headers.now) }
+{
+    write_machine(text, headers.machine);
+    write_fields(text, &coff_fields(headers));
+    write_fields(text, &standard_fields(headers));
+    write_base_of_data(text, headers.base_of_data);
+    write_fields(text, &windows_fields(headers));
+}
+
+#[tactic(auto, unfolding(crate::specs::Dump::directory_line))]
+fn write_directory<W: Sink>(line: &mut TextWriter<W>, index: usize, directory: &Directory)
+    requires { IsReady W.failures line.old }
+    ensures { Adds W.taken W.failures line.old line.new (directory_line index directory.now) }
+{
+    line.text(b"Directory ");
+    line.decimal(index as u64);
+    line.text(b" 0x");
+    line.hex(8, directory.rva as u64);
+    line.text(b" 0x");
+    line.hex(8, directory.size as u64);
+    line.text(b"\n");
+}
+
+fn write_directories<W: Sink>(text: &mut TextWriter<W>, directories: &[Directory])
+    requires { IsReady W.failures text.old }
+    ensures { Adds W.taken W.failures text.old text.new (numbered directory_line 0 directories.now) }
+{
+    for (index, directory) in directories.iter().enumerate() {
+        write_directory(text, index, directory);
+    }
+}
+
+/// A section's name, without the zero bytes that fill it up.
+fn name_of(section: &SectionHeader) -> &[u8]
+    ensures { result.now ≡ name_of section.now }
+{
+    View::new(&section.name)
+        .until_zero(0, 8)
+        .unwrap_or(&section.name)
+}
+
+#[tactic(auto, unfolding(crate::specs::Dump::section_line))]
+fn write_section<W: Sink>(line: &mut TextWriter<W>, index: usize, section: &SectionHeader)
+    requires { IsReady W.failures line.old }
+    ensures { Adds W.taken W.failures line.old line.new (section_line index section.now) }
+{
+    line.text(b"section ");
+    line.decimal(index as u64);
+    line.text(b" ");
+    line.quoted(name_of(section));
+    line.text(b" va 0x");
+    line.hex(8, section.virtual_address as u64);
+    line.text(b" extent 0x");
+    line.hex(8, section.extent() as u64);
+    line.text(b" raw 0x");
+    line.hex(8, section.pointer_to_raw_data as u64);
+    line.text(b" rawlen 0x");
+    line.hex(8, section.rawlen() as u64);
+    line.text(b" flags 0x");
+    line.hex(8, section.characteristics as u64);
+    line.text(b"\n");
+}
+
+fn write_sections<W: Sink>(text: &mut TextWriter<W>, sections: &[SectionHeader])
+    requires { IsReady W.failures text.old }
+    ensures { Adds W.taken W.failures text.old text.new (numbered section_line 0 sections.now) }
+{
+    for (index, section) in sections.iter().enumerate() {
+        write_section(text, index, section);
+    }
+}
+
+/// Adds the lines of a dump.
+#[tactic(auto, unfolding(crate::specs::Dump::dump_text))]
+pub(crate) fn write_dump<W: Sink>(text: &mut TextWriter<W>, headers: &Headers)
+    requires { IsReady W.failures text.old }
+    ensures { Adds W.taken W.failures text.old text.new (dump_text headers.now) }
+{
+    write_format(text, headers.magic);
+    write_pe_offset(text, headers.pe_offset);
+    write_header_fields(text, headers);
+    write_directories(text, headers.directories.as_slice());
+    write_sections(text, headers.sections.as_slice());
+    text.text(b"end\n");
+}

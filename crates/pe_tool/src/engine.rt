@@ -1,0 +1,75 @@
+ghost use Rattle.std.specs.Prelude.{◌≡◌, ◌-◌, ◌^◌, ◌<◌, ◌↔◌, IsErrOf};
+ghost use Rattle.pe_tool.specs.Engine.{Puts, Ran, IsCheckText, IsDumpText};
+
+use crate::device::{Failed, Sink, Source};
+use crate::outcome::{Outcome, ToolError};
+use crate::report::{Check, Dump, Report};
+use crate::text_writer::TextWriter;
+use crate::whole_file::read_whole;
+use std::alloc::Allocator;
+
+/// Judges a file, and writes its text.
+fn write_report<T: Report, W: Sink>(writer: &mut W, file: &[u8]) -> Result<Outcome, Failed>
+    requires { W.failures writer.old < 2 ^ 64 - 1 }
+    ensures { Puts (T.is_text file.now) (W.taken writer.old) (W.taken writer.new)
+        (W.failures writer.old) (W.failures writer.new) result }
+{
+    let mut text = TextWriter::new(writer);
+    let outcome = T::write(&mut text, file);
+    text.finish()?;
+    Ok(outcome)
+}
+
+/// Reads a file whole, judges it, and writes its text.
+fn run<T: Report, A: Allocator + Copy, R: Source, W: Sink>(
+    alloc: A,
+    reader: &mut R,
+    writer: &mut W,
+) -> Result<Outcome, ToolError>
+    requires reads { R.failures reader.old < 2 ^ 64 - 1 }
+    requires writes { W.failures writer.old < 2 ^ 64 - 1 }
+    ensures ran { Ran T.is_text (R.given reader.old) (R.given reader.new)
+        (W.taken writer.old) (W.taken writer.new) (R.ended reader.new) result }
+    ensures read { IsErrOf result ToolError.Read ↔ (R.failures reader.old < R.failures reader.new) }
+    ensures write { IsErrOf result ToolError.Write ↔ (W.failures writer.old < W.failures writer.new) }
+{
+    let file = read_whole(alloc, reader)?;
+    write_report::<T, W>(writer, &file).map_err(|_failed| ToolError::Write)
+}
+
+/// Judges the image whose file the reader gives, and writes one line: `accepted PE32 sections N` (or `PE32+`), or the
+/// image's first fault.
+///
+/// The reader is read to its end, or to 2^32 + 1 bytes; then all faults are asked, and only then the line is written.
+/// After `Write` a beginning of it was written, after `Read` and `Memory` nothing; `Memory` never comes where the reader
+/// gave no byte.
+pub fn check<A: Allocator + Copy, R: Source, W: Sink>(
+    alloc: A,
+    reader: &mut R,
+    writer: &mut W,
+) -> Result<Outcome, ToolError>
+    requires reads { R.failures reader.old < 2 ^ 64 - 1 }
+    requires writes { W.failures writer.old < 2 ^ 64 - 1 }
+    ensures ran { Ran IsCheckText (R.given reader.old) (R.given reader.new)
+        (W.taken writer.old) (W.taken writer.new) (R.ended reader.new) result }
+    ensures read { IsErrOf result ToolError.Read ↔ (R.failures reader.old < R.failures reader.new) }
+    ensures write { IsErrOf result ToolError.Write ↔ (W.failures writer.old < W.failures writer.new) }
+{
+    run::<Check, A, R, W>(alloc, reader, writer)
+}
+
+/// Writes what the headers of an image hold, a line each, or the image's first fault, in the way of [`check`].
+pub fn dump<A: Allocator + Copy, R: Source, W: Sink>(
+    alloc: A,
+    reader: &mut R,
+    writer: &mut W,
+) -> Result<Outcome, ToolError>
+    requires reads { R.failures reader.old < 2 ^ 64 - 1 }
+    requires writes { W.failures writer.old < 2 ^ 64 - 1 }
+    ensures ran { Ran IsDumpText (R.given reader.old) (R.given reader.new)
+        (W.taken writer.old) (W.taken writer.new) (R.ended reader.new) result }
+    ensures read { IsErrOf result ToolError.Read ↔ (R.failures reader.old < R.failures reader.new) }
+    ensures write { IsErrOf result ToolError.Write ↔ (W.failures writer.old < W.failures writer.new) }
+{
+    run::<Dump, A, R, W>(alloc, reader, writer)
+}

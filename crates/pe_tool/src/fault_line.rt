@@ -1,0 +1,49 @@
+//! The line that tells of a fault.
+
+ghost use Rattle.pe_tool.specs.TextWriter.{IsReady, Adds};
+ghost use Rattle.pe_tool.specs.FaultLine.{place_text, fault_line};
+
+use crate::device::Sink;
+use crate::text_writer::TextWriter;
+use pe_view::{Fault, Place};
+
+/// A place: `file 0x` and at least 8 digits, `rva 0x` and 8, `address 0x` and 16, or `item` and a decimal number.
+#[tactic(auto, unfolding(crate::specs::FaultLine::place_text))]
+fn write_place<W: Sink>(line: &mut TextWriter<W>, place: &Place)
+    requires { IsReady W.failures line.old }
+    ensures { Adds W.taken W.failures line.old line.new (place_text place.now) }
+{
+    match place {
+        Place::File(offset) => {
+            line.text(b"file 0x");
+            line.hex_8(*offset);
+        }
+        Place::Rva(rva) => {
+            line.text(b"rva 0x");
+            line.hex(8, *rva as u64);
+        }
+        Place::Address(address) => {
+            line.text(b"address 0x");
+            line.hex(16, *address);
+        }
+        Place::Item(item) => {
+            line.text(b"item ");
+            line.decimal(*item as u64);
+        }
+    }
+}
+
+/// Adds the line `fault N image I PLACE`.
+#[tactic(auto, unfolding(crate::specs::FaultLine::fault_line))]
+pub(crate) fn write_fault_line<W: Sink>(line: &mut TextWriter<W>, fault: &Fault)
+    requires { IsReady W.failures line.old }
+    ensures { Adds W.taken W.failures line.old line.new (fault_line fault.now) }
+{
+    line.text(b"fault ");
+    line.decimal(fault.number as u64);
+    line.text(b" image ");
+    line.decimal(fault.image as u64);
+    line.text(b" ");
+    write_place(line, &fault.place);
+    line.text(b"\n");
+}

@@ -1,0 +1,32 @@
+//! The form of an image, and the line of an accepted one.
+
+ghost use Rattle.std.specs.Prelude.{◌≡◌};
+ghost use Rattle.pe_tool.specs.TextWriter.{IsReady, Adds};
+ghost use Rattle.pe_tool.specs.Format.{format_name, accepted_line};
+
+use crate::device::Sink;
+use crate::text_writer::TextWriter;
+use pe_head::{Headers, Magic};
+
+/// `PE32` or `PE32+`.
+pub(crate) fn format_name(magic: Magic) -> &'static [u8]
+    ensures { result.now ≡ format_name magic }
+{
+    match magic {
+        Magic::Pe32 => b"PE32",
+        Magic::Pe32Plus => b"PE32+",
+    }
+}
+
+/// Adds the line `accepted PE32 sections N`, or `PE32+`.
+#[tactic(auto, unfolding(crate::specs::Format::accepted_line))]
+pub(crate) fn write_accepted_line<W: Sink>(line: &mut TextWriter<W>, headers: &Headers)
+    requires { IsReady W.failures line.old }
+    ensures { Adds W.taken W.failures line.old line.new (accepted_line headers.now) }
+{
+    line.text(b"accepted ");
+    line.text(format_name(headers.magic));
+    line.text(b" sections ");
+    line.decimal(headers.number_of_sections as u64);
+    line.text(b"\n");
+}

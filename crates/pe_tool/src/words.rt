@@ -1,0 +1,104 @@
+//! The words of the command line.
+
+use clap::error::ErrorKind;
+use clap::{Arg, ArgMatches, Command, Error};
+use std::alloc::{AllocError, Global};
+
+/// What the words ask for.
+#[derive(Debug, Drop, PartialEq, Eq)]
+pub enum Job {
+    /// `check FILE`: judge an image and write one line.
+    Check { file: String },
+    /// `dump FILE`: write what the headers of an image hold.
+    Dump { file: String },
+}
+
+/// Why there is no job to do, with the text that the program prints.
+#[derive(Debug, Drop, PartialEq, Eq)]
+pub enum WordsError {
+    /// The words are no command line of the program's: status 2, the text goes to standard error.
+    Bad(String),
+    /// The words ask for help: status 0, the text goes to standard output.
+    Help(String),
+    /// Memory was refused: status 4.
+    Memory,
+}
+
+impl From<AllocError> for WordsError {
+    fn from(_error: AllocError) -> WordsError {
+        WordsError::Memory
+    }
+}
+
+/// A subcommand that takes one file.
+fn file_command<'a>(
+    alloc: Global,
+    name: &'a str,
+    about: &'a str,
+) -> Result<Command<'a>, AllocError> {
+    let file = Arg::new(alloc, "FILE")
+        .required(true)
+        .help("The image's file");
+    Command::new(alloc, name).about(about).arg(file)
+}
+
+/// The program's command line.
+fn command<'a>(alloc: Global) -> Result<Command<'a>, AllocError> {
+    let check = file_command(
+        alloc,
+        "check",
+        "Prints one line: that the image is accepted, with its form and its number of sections, or its first fault",
+    )?;
+    let dump = file_command(
+        alloc,
+        "dump",
+        "Prints the fields of the image's headers, its directories and its sections, a line each, or its first fault",
+    )?;
+    Command::new(alloc, "petool")
+        .about("Reads PE images: judges them, and shows what they hold")
+        .bin_name("petool")?
+        .no_binary_name(true)
+        .subcommand_required(true)
+        .arg_required_else_help(true)
+        .subcommand(check)?
+        .subcommand(dump)
+}
+
+/// What the program prints where clap finds no job in the words.
+fn refusal(alloc: Global, error: Error) -> WordsError {
+    let kind = error.kind();
+    match error.to_string(alloc) {
+        Ok(_) if kind == ErrorKind::OutOfMemory => WordsError::Memory,
+        Ok(text) if error.use_stderr() => WordsError::Bad(text),
+        Ok(text) => WordsError::Help(text),
+        Err(_) => WordsError::Memory,
+    }
+}
+
+/// The file that a subcommand names.
+fn file_of(alloc: Global, found: &ArgMatches<'_>) -> Result<String, AllocError> {
+    String::from_str(alloc, found.get_str("FILE").unwrap_or(""))
+}
+
+/// What the words after the program's name ask for.
+///
+/// `Bad` and `Help` hold clap's own text. `Memory` comes only where an allocation was refused.
+pub fn parse_words(alloc: Global, words: &[String]) -> Result<Job, WordsError> {
+    let found = match command(alloc)?.try_get_matches_from(words) {
+        Ok(found) => found,
+        Err(error) => return Err(refusal(alloc, error)),
+    };
+    match found.subcommand() {
+        Some(("check", inner)) => Ok(Job::Check {
+            file: file_of(alloc, inner)?,
+        }),
+        Some(("dump", inner)) => Ok(Job::Dump {
+            file: file_of(alloc, inner)?,
+        }),
+        // clap has refused all other words
+        _ => Err(WordsError::Bad(String::from_str(alloc, "error: no command\n")?)),
+    }
+}
+
+#[cfg(test)]
+mod tests;
