@@ -1,0 +1,45 @@
+-- A table that lies in the image has the faults and the fixups of its blocks.
+use Rattle.std.proofs.Common.{◌≡◌, ◌∙◌, ◌+◌, ◌≤◌, ℕ, Option, Some, [], sym, ap, subst, arith}
+use Rattle.std.specs.Prelude.{map}
+use Rattle.std.proofs.lemmas.Result.{err_from_is_err_and}
+use Rattle.pe_view.specs.Faults.{first_standing}
+use Rattle.pe_head.specs.declared.directory.Directory.{Directory}
+use Rattle.pe_layout.specs.Layout.{image_of}
+use Rattle.pe_tables.specs.Ranges.{SameRanges}
+use Rattle.pe_tables.specs.Fixups.{blocks_of, fixups_at, slot_range}
+use Rattle.pe_tables.specs.FixupFaults.{fixup_tests, fixup_tests_at, blocks_tests}
+use Rattle.pe_tables.specs.Import.{slots_of}
+use Rattle.pe_tables.proofs.Blocks.{table-past}
+use Rattle.pe_tables.proofs.Refusing.{refuses-whole}
+use Rattle.pe_tables.proofs.fixups.read_fixups.Goals as goal
+
+pub returns-in_err-read_blocks-clause-exact : goal.returns-in_err-read_blocks-clause-exact
+returns-in_err-read_blocks-clause-exact g c =
+    let i = image_of c.args.layout.now in
+    let d = c.in-Some.directory in
+    let slots = c.in_ok-slots.slots.lens.entries in
+    let SameAs : ℕ → Type 0 = λ width. SameRanges slots (map (slot_range width) (slots_of c.args.imports.now)) in
+    let same : SameAs i.slot_width = subst SameAs c.slot_width.ensures c.in_ok-slots.ensures in
+    let size = c.size.ensures.value in
+    let inside : d.rva + d.size ≤ i.size = omega (arith, c.if-from.false) in
+    let whole = ap (λ (o : Option Directory). first_standing (fixup_tests_at i (map (slot_range i.slot_width) (slots_of c.args.imports.now)) o)) (sym c.in-Some.ensures)
+    ∙ table-past i slots (map (slot_range i.slot_width) (slots_of c.args.imports.now)) d same inside in
+    let p = err_from_is_err_and c.from_residual-in_err-read_blocks.result c.from_residual-in_err-read_blocks.ensures.1 in
+    rw (p.1, p.2)
+    (refuses-whole (blocks_tests i slots (d.rva + d.size) [] (blocks_of i d)) (fixup_tests i (slots_of c.args.imports.now))
+    (λ y some. whole ∙ some) c.in_err-read_blocks.field-0.0 c.in_err-read_blocks.ensures)
+
+pub returns-clause-exact : goal.returns-clause-exact
+returns-clause-exact g c =
+    let i = image_of c.args.layout.now in
+    let d = c.in-Some.directory in
+    let slots = c.in_ok-slots.slots.lens.entries in
+    let SameAs : ℕ → Type 0 = λ width. SameRanges slots (map (slot_range width) (slots_of c.args.imports.now)) in
+    let same : SameAs i.slot_width = subst SameAs c.slot_width.ensures c.in_ok-slots.ensures in
+    let size = c.size.ensures.value in
+    let inside : d.rva + d.size ≤ i.size = omega (arith, c.if-from.false) in
+    let whole = ap (λ (o : Option Directory). first_standing (fixup_tests_at i (map (slot_range i.slot_width) (slots_of c.args.imports.now)) o)) (sym c.in-Some.ensures)
+    ∙ table-past i slots (map (slot_range i.slot_width) (slots_of c.args.imports.now)) d same inside in (
+      whole ∙ c.in_ok-read_blocks.ensures.0,
+      c.in_ok-read_blocks.ensures.1 ∙ ap (fixups_at i) c.in-Some.ensures,
+    )

@@ -1,0 +1,16 @@
+-- What has been read of a base relocation table.
+use Rattle.std.specs.Prelude.{◌≡◌, ℕ, List, ◌++◌, map}
+use Rattle.pe_tables.specs.Ranges.{SameRanges}
+use Rattle.pe_tables.specs.Fixups.{range_of}
+use Rattle.pe_tables.specs.declared.ranges.Ranges.{Ranges}
+use Rattle.pe_tables.specs.declared.fixups.Fixup.{Fixup}
+use Rattle.pe_tables.specs.declared.fixups.Found.{Found}
+
+-- the ranges are those of the fixups
+abbrev pub IsIndexed : {A : Type 0} → Found A → Type 0
+IsIndexed found = SameRanges found.fields.lens.entries (map range_of found.fixups.items)
+
+-- some more fixups have been read
+pub record Reads {A : Type 0} (old new : Found A) (more : List Fixup) : Type 0 where
+  pub fixups : new.fixups.items ≡ old.fixups.items ++ more
+  pub indexed : IsIndexed new

@@ -1,0 +1,19 @@
+/// By what an export is looked up.
+#[derive(Clone, Copy, Debug)]
+pub enum Key<'a> {
+    /// Its ordinal.
+    Ordinal(u16),
+    /// Its name, without the zero byte that ends it.
+    Name(&'a [u8]),
+}
+
+/// An import of an image ("PE Format", The .idata Section).
+#[derive(Clone, Copy, Debug)]
+pub struct Import<'a> {
+    /// The name of the module that exports it, as it stands in the image.
+    pub module: &'a [u8],
+    /// By what the module's export is looked up.
+    pub key: Key<'a>,
+    /// The RVA of the import's slot in the import address table: 4 bytes in PE32, 8 bytes in PE32+.
+    pub slot: u32,
+}

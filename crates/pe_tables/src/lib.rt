@@ -1,0 +1,18 @@
+//! The tables of a laid-out image: base relocations.
+//!
+//! Every table is read through a [`pe_layout::Layout`], from the laid-out bytes, and either is what the format makes of
+//! them or is refused by the first fault of its phase:
+//!
+//! ```text
+//! let fixups = read_fixups(alloc, &layout, &[])?;
+//! ```
+#![tactic(auto)]
+
+mod error;
+mod fixups;
+mod import;
+mod ranges;
+
+pub use error::TableError;
+pub use fixups::{Fixup, FixupKind, read_fixups};
+pub use import::{Import, Key};
