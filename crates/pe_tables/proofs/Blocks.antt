@@ -1,5 +1,5 @@
 -- The blocks of a table, one after the other.
-use Rattle.std.proofs.Common.{◌≡◌, ℕ, zero, suc, ◌+◌, ◌-◌, ◌<◌, ◌≤◌, Bool, true, false, cond, ◌||◌, List, [], ◌∷◌, ◌++◌, Option, Some, None, refl, sym, ap, ◌∙◌, append_assoc, append-nil, arith, inl, inr, ◌⊎◌}
+use Rattle.std.proofs.Common.{◌≡◌, ℕ, zero, suc, ◌+◌, ◌-◌, ◌<◌, ◌≤◌, true, false, List, [], ◌∷◌, ◌++◌, Option, Some, None, refl, sym, ap, ◌∙◌, append_assoc, arith, inl, inr}
 use Rattle.std.specs.Prelude.{nat_lt, nat_le, not, ◌==◌, option_to_list}
 use Rattle.std.specs.List.{flat_map}
 use Rattle.std.proofs.lemmas.Bool.{lt-ltb, le-leb, ltb-false, or_parts, cases_Bool}
@@ -8,7 +8,7 @@ use Rattle.pe_view.specs.declared.fault.Fault.{Fault}
 use Rattle.pe_view.specs.Faults.{Test, first_standing}
 use Rattle.pe_view.proofs.Standing.{first-past, first-in}
 use Rattle.pe_head.specs.declared.directory.Directory.{Directory}
-use Rattle.pe_layout.specs.Image.{Image, number_at, is_inside, fault_at}
+use Rattle.pe_layout.specs.Image.{Image, is_inside, fault_at}
 use Rattle.pe_tables.specs.Ranges.{SameRanges, meets}
 use Rattle.pe_tables.specs.Fixups.{Block, Entry, block_at, blocks_from, blocks_of, ends_table, entries_of, fixup_of, fixups_in, width_of}
 use Rattle.pe_tables.specs.FixupFaults.{field_tests, entries_tests, blocks_tests, size_test, fixup_tests_at}
@@ -132,3 +132,6 @@ pub table-past : (i : Image) (slots others : List (ℕ × ℕ)) (d : Directory) 
 table-past i slots others d same le =
     first-later (record { stands = not (is_inside i d.rva d.size); fault = fault_at 34 i d.rva }) (blocks_tests i others (d.rva + d.size) [] (blocks_of i d)) (inside_test d.rva d.size i.size le)
     ∙ ap first_standing (sym (same_blocks i slots others same (d.rva + d.size) [] (blocks_of i d)))
+
+pub not_equal_zero : (n : ℕ) → 0 < n → (n == 0) ≡ false
+not_equal_zero n some = grind (arith, nat_tests)

@@ -1,5 +1,9 @@
 pub mod Beside
 pub mod Blocks
+pub mod Chain
+pub mod Decoded
 pub mod Entries
 pub mod Neighbours
+pub mod Pages
 pub mod Refusing
+pub mod Rising

@@ -1,5 +1,5 @@
 -- A refusal by the faults of a part is one by the faults of the whole.
-use Rattle.std.proofs.Common.{◌≡◌, List, Option, Some, None}
+use Rattle.std.proofs.Common.{◌≡◌, List, Some}
 use Rattle.pe_view.specs.declared.fault.Fault.{Fault}
 use Rattle.pe_view.specs.Faults.{Test, first_standing}
 use Rattle.pe_tables.specs.TableFaults.{Refuses}

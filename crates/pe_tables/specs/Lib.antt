@@ -1,8 +1,11 @@
 pub use Rattle.pe_layout.specs.Image
 pub use Rattle.pe_layout.specs.Layout
+pub mod Chain
+pub mod Encoded
 pub mod FixupFaults
 pub mod Fixups
 pub mod Import
 pub mod Ranges
 pub mod Reading
+pub mod Standing
 pub mod TableFaults

@@ -1,5 +1,5 @@
 -- Ranges of RVAs, each by its start and its length.
-use Rattle.std.specs.Prelude.{◌≡◌, ℕ, ◌+◌, ◌<◌, ◌≤◌, ◌&&◌, Bool, nat_lt, List, ◌∷◌, All, AllPairs}
+use Rattle.std.specs.Prelude.{◌≡◌, ℕ, ◌+◌, ◌<◌, ◌≤◌, ◌&&◌, Bool, nat_lt, List, ◌∷◌, AllPairs}
 use Rattle.std.specs.List.{list_any}
 
 -- two ranges have an RVA in common

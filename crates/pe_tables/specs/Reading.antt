@@ -1,8 +1,7 @@
 -- What has been read of a base relocation table.
-use Rattle.std.specs.Prelude.{◌≡◌, ℕ, List, ◌++◌, map}
+use Rattle.std.specs.Prelude.{◌≡◌, List, ◌++◌, map}
 use Rattle.pe_tables.specs.Ranges.{SameRanges}
 use Rattle.pe_tables.specs.Fixups.{range_of}
-use Rattle.pe_tables.specs.declared.ranges.Ranges.{Ranges}
 use Rattle.pe_tables.specs.declared.fixups.Fixup.{Fixup}
 use Rattle.pe_tables.specs.declared.fixups.Found.{Found}
 

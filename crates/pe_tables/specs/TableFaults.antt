@@ -1,5 +1,5 @@
 -- What a table answers.
-use Rattle.std.specs.Prelude.{◌≡◌, List, Option, Some, None, Result, Ok, Err}
+use Rattle.std.specs.Prelude.{◌≡◌, List, Some, None, Result, Ok, Err}
 use Rattle.pe_view.specs.Faults.{Test, first_standing}
 use Rattle.pe_tables.specs.declared.error.TableError.{TableError}
 use Rattle.pe_tables.specs.declared.error.TableError.TheVariants.{Fault, Memory}

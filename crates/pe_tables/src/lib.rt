@@ -8,11 +8,14 @@
 //! ```
 #![tactic(auto)]
 
+mod encode;
 mod error;
 mod fixups;
 mod import;
+pub mod laws;
 mod ranges;
 
+pub use encode::{ascending, encode_fixups};
 pub use error::TableError;
 pub use fixups::{Fixup, FixupKind, read_fixups};
 pub use import::{Import, Key};

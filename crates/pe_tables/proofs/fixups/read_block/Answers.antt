@@ -1,7 +1,7 @@
 -- One entry after the other.
-use Rattle.std.proofs.Common.{◌≡◌, ◌∙◌, ◌+◌, ◌-◌, ◌*◌, ◌/◌, ◌<◌, ◌≤◌, ◌++◌, ℕ, List, None, drop, sym, ap, subst, refl, arith}
-use Rattle.std.specs.Prelude.{map, option_to_list}
-use Rattle.std.specs.List.{filter_map, range_with_len}
+use Rattle.std.proofs.Common.{◌≡◌, ◌∙◌, ◌+◌, ◌-◌, ◌*◌, ◌/◌, ◌<◌, ◌≤◌, ◌++◌, ℕ, List, None, drop, sym, ap, subst}
+use Rattle.std.specs.Prelude.{option_to_list}
+use Rattle.std.specs.List.{filter_map}
 use Rattle.std.proofs.lemmas.Result.{err_from_is_err_and}
 use Rattle.pe_view.specs.Faults.{first_standing}
 use Rattle.pe_layout.specs.Layout.{image_of}

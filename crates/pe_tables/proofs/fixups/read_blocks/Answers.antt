@@ -1,11 +1,11 @@
 -- One block after the other.
-use Rattle.std.proofs.Common.{◌≡◌, ◌∙◌, ◌+◌, ◌-◌, ◌≤◌, ◌<◌, ◌++◌, ℕ, List, Some, None, true, false, [], sym, ap, subst, refl, append-nil, arith}
+use Rattle.std.proofs.Common.{◌≡◌, ◌∙◌, ◌+◌, ◌-◌, ◌≤◌, ◌++◌, ℕ, List, None, true, false, [], sym, ap, append-nil, arith}
 use Rattle.std.specs.List.{flat_map}
 use Rattle.std.proofs.lemmas.Bool.{ltb-false, or_parts}
 use Rattle.std.proofs.lemmas.Result.{err_from_is_err_and}
 use Rattle.pe_view.specs.Faults.{first_standing}
 use Rattle.pe_layout.specs.Layout.{image_of}
-use Rattle.pe_tables.specs.Fixups.{Block, block_at, blocks_from, blocks_of, ends_table, entries_of, fixups_in}
+use Rattle.pe_tables.specs.Fixups.{Block, block_at, blocks_from, blocks_of, entries_of, fixups_in}
 use Rattle.pe_tables.specs.FixupFaults.{is_bad_size, entries_tests, blocks_tests}
 use Rattle.pe_tables.specs.declared.fixups.Fixup.{Fixup}
 use Rattle.pe_tables.proofs.Blocks.{blocks-past, blocks-in, blocks-bad_size, blocks-fixups, blocks-end, blocks-none}

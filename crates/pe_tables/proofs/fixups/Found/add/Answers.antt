@@ -1,7 +1,6 @@
 -- The field fits beside the others.
-use Rattle.std.proofs.Common.{sym, ◌∙◌}
 use Rattle.pe_tables.proofs.Beside.{all_beside, fields_long, width_some}
-use Rattle.pe_tables.specs.Fixups.{range_of, width_of}
+use Rattle.pe_tables.specs.Fixups.{width_of}
 use Rattle.pe_tables.proofs.fixups.Found.add.Goals as goal
 
 pub add-requires : goal.add-requires

@@ -1,5 +1,5 @@
 -- The last range that begins before the bytes end decides.
-use Rattle.std.proofs.Common.{◌∙◌, ◌+◌, sym, ap, refl, arith}
+use Rattle.std.proofs.Common.{◌∙◌, ◌+◌, sym, refl}
 use Rattle.pe_tables.proofs.Neighbours.{meets_any-none, meets_any-last, filter-below}
 use Rattle.pe_tables.proofs.ranges.Ranges.meets.Goals as goal
 

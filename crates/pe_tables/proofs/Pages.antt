@@ -1,0 +1,81 @@
+-- The pages of fixups, from the first on.
+use Rattle.std.proofs.Common.{◌≡◌, ◌≢◌, ℕ, zero, suc, ◌+◌, ◌-◌, ◌<◌, ◌≤◌, Bool, true, false, List, [], ◌∷◌, length, take, drop, get_or, refl, sym, ap, ◌∙◌, arith}
+use Rattle.std.specs.Prelude.{◌==◌}
+use Rattle.std.proofs.lemmas.Bool.{eqb-true}
+use Rattle.std.proofs.lemmas.Bool.Decides.{nat_tests}
+use Rattle.std.proofs.lemmas.List.{get_or-drop, length-drop}
+use Rattle.pe_tables.specs.Encoded.{Page, FieldsAscend, page_of, before_pages, pages_of}
+use Rattle.pe_tables.specs.declared.fixups.Fixup.{Fixup}
+
+-- the first page is that of the first fixup
+pub record BeginsWith (f : Fixup) (ps : List Page) : Type 0 where
+  pub first : Page
+  pub rest : List Page
+  pub is : ps ≡ first ∷ rest
+  pub its_page : first.page ≡ page_of f
+
+equal_self : (n : ℕ) → (n == n) ≡ true
+equal_self n = grind (arith, nat_tests)
+
+unequal : (m n : ℕ) → m ≢ n → (m == n) ≡ false
+unequal m n ne = grind (arith, nat_tests)
+
+by_test : (f : Fixup) (p : Page) (ps : List Page) (b : Bool) → (p.page == page_of f) ≡ b → BeginsWith f (before_pages f (p ∷ ps))
+by_test f p ps true test = record { first = record { page = p.page; fixups = f ∷ p.fixups }; rest = ps; is = rw test refl; its_page = eqb-true _ _ test }
+by_test f p ps false test = record { first = record { page = page_of f; fixups = f ∷ [] }; rest = p ∷ ps; is = rw test refl; its_page = refl }
+
+begins_by : (f : Fixup) (ps : List Page) → BeginsWith f (before_pages f ps)
+begins_by f [] = record { first = record { page = page_of f; fixups = f ∷ [] }; rest = []; is = refl; its_page = refl }
+begins_by f (p ∷ ps) = by_test f p ps (p.page == page_of f) refl
+
+begins : (f : Fixup) (fs : List Fixup) → BeginsWith f (pages_of (f ∷ fs))
+begins f fs = begins_by f (pages_of fs)
+
+-- a fixup before one of another page
+alone : (f : Fixup) (fs : List Fixup) → ((d : Fixup) → 0 < length fs → page_of (get_or fs 0 d) ≢ page_of f) → pages_of (f ∷ fs) ≡ record { page = page_of f; fixups = f ∷ [] } ∷ pages_of fs
+alone f [] other = refl
+alone f (g ∷ fs) other =
+    let b = begins g fs in
+    let differs : b.first.page ≢ page_of f = λ e. other f (omega arith) (sym b.its_page ∙ e) in
+    let test : (b.first.page == page_of f) ≡ false = unequal b.first.page (page_of f) differs in
+    let step : before_pages f (b.first ∷ b.rest) ≡ record { page = page_of f; fixups = f ∷ [] } ∷ b.first ∷ b.rest = rw test refl in
+    ap (before_pages f) b.is ∙ step ∙ ap (λ (ps : List Page). record { page = page_of f; fixups = f ∷ [] } ∷ ps) (sym b.is)
+
+-- a fixup before others of its page
+joins : (f : Fixup) (page : ℕ) (fs : List Fixup) (ps : List Page) → page ≡ page_of f → before_pages f (record { page = page; fixups = fs } ∷ ps) ≡ record { page = page; fixups = f ∷ fs } ∷ ps
+joins f page fs ps e = let test : (page == page_of f) ≡ true = ap (λ (n : ℕ). n == page_of f) e ∙ equal_self (page_of f) in rw test refl
+
+-- the first n fixups, which are all those of the first page
+pub pages-span : (n : ℕ) (xs : List Fixup) (d : Fixup) → 0 < n → n ≤ length xs → ((k : ℕ) (f : Fixup) → k < n → page_of (get_or xs k f) ≡ page_of (get_or xs 0 f))
+    → ((f : Fixup) → n < length xs → page_of (get_or xs n f) ≢ page_of (get_or xs 0 f)) → pages_of xs ≡ record { page = page_of (get_or xs 0 d); fixups = take n xs } ∷ pages_of (drop n xs)
+pages-span zero xs d some le same other = absurd (omega arith)
+pages-span (suc n) [] d some le same other = absurd (omega arith)
+pages-span (suc zero) (f ∷ xs) d some le same other = alone f xs (λ e lt. other e (omega arith))
+pages-span (suc (suc n)) (f ∷ xs) d some le same other =
+    let second : page_of (get_or xs 0 d) ≡ page_of f = same 1 d (omega arith) in
+    let rest = pages-span (suc n) xs d (omega arith) (omega arith)
+    (λ k e lt. same (suc k) e (omega arith) ∙ sym (same 1 e (omega arith)))
+    (λ e lt eq. other e (omega arith) (eq ∙ same 1 e (omega arith))) in
+    ap (before_pages f) rest
+    ∙ joins f (page_of (get_or xs 0 d)) (take (suc n) xs) (pages_of (drop (suc n) xs)) second
+    ∙ ap (λ (page : ℕ). record { page = page; fixups = f ∷ take (suc n) xs } ∷ pages_of (drop (suc n) xs)) second
+
+-- fields rise by one at least
+rises : (xs : List Fixup) (k : ℕ) (d : Fixup) → FieldsAscend xs → k < length xs → (get_or xs 0 d).field + k ≤ (get_or xs k d).field
+rises xs zero d ascend lt = omega arith
+rises xs (suc k) d ascend lt =
+    let before = rises xs k d ascend (omega arith) in
+    let step = ascend k (suc k) d (omega arith) lt in
+    omega arith
+
+-- so a page has few
+pub few : (xs : List Fixup) (n : ℕ) (d : Fixup) → FieldsAscend xs → 0 < n → n ≤ length xs → page_of (get_or xs (n - 1) d) ≡ page_of (get_or xs 0 d) → n ≤ 4096
+few xs n d ascend some le same = let up = rises xs (n - 1) d ascend (omega arith) in omega arith
+
+pub ascend-drop : (xs : List Fixup) (n : ℕ) → FieldsAscend xs → FieldsAscend (drop n xs)
+ascend-drop xs n ascend = λ i j d lt below.
+    let inside : n + j < length xs = omega (arith, length-drop n xs) in
+    let step = ascend (n + i) (n + j) d (omega arith) inside in
+    let low : get_or (drop n xs) i d ≡ get_or xs (n + i) d = get_or-drop n xs i d in
+    let high : get_or (drop n xs) j d ≡ get_or xs (n + j) d = get_or-drop n xs j d in
+    rw (low, high) step

@@ -1,0 +1,13 @@
+-- Bytes of a table that stand in an image, and what a fixup is apart from where its entry stands.
+use Rattle.std.specs.Prelude.{◌≡◌, ℕ, ◌+◌, ◌<◌, List, length, slice_index_or}
+use Rattle.pe_layout.specs.Image.{Image}
+use Rattle.pe_tables.specs.declared.fixups.Fixup.{Fixup}
+use Rattle.pe_tables.specs.declared.fixups.FixupKind.{FixupKind}
+
+-- these bytes stand in the image at an RVA
+abbrev pub StandsAt : Image → ℕ → List ℕ → Type 0
+StandsAt i rva bytes = (k : ℕ) → k < length bytes → i.byte (rva + k) ≡ slice_index_or bytes k 0
+
+-- what a fixup relocates
+abbrev pub view : Fixup → ℕ × FixupKind
+view f = (f.field, f.kind)
