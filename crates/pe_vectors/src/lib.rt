@@ -1,0 +1,20 @@
+//! Small image files with known bytes, made field by field at the offsets of "PE Format"; a source and a sink over memory
+//! that work in steps and fail on demand; and the tests that run several crates over them.
+//!
+//! A builder uses none of the other crates, so that what they read is told apart from what they wrote:
+//!
+//! ```text
+//! let file = v1(alloc)?;
+//! assert_eq!(file.len(), 0x400);
+//! ```
+#![tactic(auto)]
+
+mod builder;
+mod devices;
+mod images;
+
+pub use devices::{StepReader, StepWriter};
+pub use images::{v1, v2, v3, va, vb, vc, vs};
+
+#[cfg(test)]
+mod tests;

@@ -1,0 +1,360 @@
+//! What `pe_tables` reads of base relocation tables, and what it writes.
+
+use super::files::{IMAGE, Piece, put, put_pieces};
+use crate::{v1, v2, v3, vc};
+use pe_layout::Layout;
+use pe_tables::{Fixup, FixupKind, Import, Key, TableError, ascending, encode_fixups, read_fixups};
+use pe_view::{Fault, Place, View};
+use std::alloc::Global;
+use std::process::Abort;
+use std::test::Fail;
+
+/// A fixup by the RVA of its entry, the RVA of its field and the field's bits.
+type Row = (u32, u32, u32);
+
+/// A file changed, the slots of its imports, and its fixups or the fault that stands, by number and RVA.
+type Case = (
+    &'static [Piece],
+    &'static [u32],
+    Result<&'static [Row], (u16, u32)>,
+);
+
+/// A fixup of a row.
+fn fixup((entry, field, bits): Row) -> Fixup {
+    Fixup {
+        entry,
+        field,
+        kind: if bits == 32 {
+            FixupKind::Bits32
+        } else {
+            FixupKind::Bits64
+        },
+    }
+}
+
+/// The fixups of rows, in their order.
+fn fixups(alloc: Global, rows: &[Row]) -> Result<Vec<Fixup>, Fail> {
+    let mut fixups = Vec::new(alloc);
+    for row in rows {
+        fixups.push(fixup(*row))?;
+    }
+    Ok(fixups)
+}
+
+/// Imports with these slots.
+fn imports(alloc: Global, slots: &[u32]) -> Result<Vec<Import<'static>>, Fail> {
+    let mut imports = Vec::new(alloc);
+    for slot in slots {
+        imports.push(Import {
+            module: b"a.dll",
+            key: Key::Ordinal(1),
+            slot: *slot,
+        })?;
+    }
+    Ok(imports)
+}
+
+/// Asserts what a file of at most 0x600 bytes is read as in each case.
+fn assert_fixups(rt: &impl Abort, alloc: Global, file: &[u8], cases: &[Case]) -> Result<(), Fail> {
+    for (index, (pieces, slots, expected)) in cases.iter().enumerate() {
+        let mut changed = [0; 0x600];
+        assert!(rt; file.len() <= 0x600);
+        put(&mut changed, 0, file);
+        put_pieces(rt, &mut changed, pieces);
+        let layout = Layout::new(View::new(&changed), IMAGE)?;
+        let found = read_fixups(alloc, &layout, &imports(alloc, slots)?);
+        match *expected {
+            Ok(rows) => {
+                let found = found?;
+                assert_eq!(rt; &found[..], &fixups(alloc, rows)?[..], "in case {index}");
+            }
+            Err((number, rva)) => {
+                let fault = Fault {
+                    number,
+                    image: IMAGE,
+                    place: Place::Rva(rva),
+                };
+                assert_eq!(rt;
+                    found.err(),
+                    Some(TableError::Fault(fault)),
+                    "in case {index}"
+                );
+            }
+        }
+    }
+    Ok(())
+}
+
+/// V2, whose table at 0x2000 stands at the file offset 0x400, in cases of its directory, blocks and entries.
+const ONE_BLOCK: &[Case] = &[
+    (&[], &[], Ok(&[(0x2008, 0x1008, 32)])),
+    // 34: the directory
+    (&[(0xe4, &[0xff, 0xff, 0xff, 0xff])], &[], Err((34, 0x2000))),
+    (&[(0xe4, &[0x01, 0x10])], &[], Err((34, 0x2000))),
+    (&[(0xe4, &[0x07])], &[], Ok(&[])),
+    // after the block 8 bytes remain, with a BlockSize of 0
+    (&[(0xe4, &[0x14])], &[], Ok(&[(0x2008, 0x1008, 32)])),
+    // 33: the block
+    (&[(0x404, &[0x08])], &[], Ok(&[])),
+    (&[(0x404, &[0x09])], &[], Err((33, 0x2000))),
+    (&[(0x404, &[0x0e])], &[], Err((33, 0x2000))),
+    (&[(0x404, &[0x06])], &[], Err((33, 0x2000))),
+    (
+        &[(0x404, &[0xfe, 0xff, 0xff, 0xff])],
+        &[],
+        Err((33, 0x2000)),
+    ),
+    (&[(0x404, &[0x00])], &[], Ok(&[])),
+    // 35: the types
+    (&[(0x408, &[0x00, 0x00])], &[], Ok(&[])),
+    (&[(0x408, &[0xff, 0x0f])], &[], Ok(&[])),
+    (&[(0x408, &[0x08, 0x10])], &[], Err((35, 0x2008))),
+    (&[(0x40a, &[0x00, 0xb0])], &[], Err((35, 0x200a))),
+    (&[(0x409, &[0xa0])], &[], Ok(&[(0x2008, 0x1008, 64)])),
+    // 36: the field in the image
+    (
+        &[(0x400, &[0x00, 0x20]), (0x408, &[0xfc, 0x3f])],
+        &[],
+        Ok(&[(0x2008, 0x2ffc, 32)]),
+    ),
+    (
+        &[(0x400, &[0x00, 0x20]), (0x408, &[0xfd, 0x3f])],
+        &[],
+        Err((36, 0x2008)),
+    ),
+    (
+        &[(0x400, &[0x00, 0x20]), (0x408, &[0xf8, 0xaf])],
+        &[],
+        Ok(&[(0x2008, 0x2ff8, 64)]),
+    ),
+    (
+        &[(0x400, &[0x00, 0x20]), (0x408, &[0xf9, 0xaf])],
+        &[],
+        Err((36, 0x2008)),
+    ),
+    // a field at 2^32 is not the field at 0
+    (
+        &[(0x400, &[0xff, 0xff, 0xff, 0xff]), (0x408, &[0x01, 0x30])],
+        &[],
+        Err((36, 0x2008)),
+    ),
+    // 37: fields that meet
+    (&[(0x40a, &[0x08, 0x30])], &[], Err((37, 0x200a))),
+    (&[(0x40a, &[0x0b, 0x30])], &[], Err((37, 0x200a))),
+    (&[(0x40a, &[0x05, 0x30])], &[], Err((37, 0x200a))),
+    (&[(0x40a, &[0x01, 0xa0])], &[], Err((37, 0x200a))),
+    (
+        &[(0x40a, &[0x0c, 0x30])],
+        &[],
+        Ok(&[(0x2008, 0x1008, 32), (0x200a, 0x100c, 32)]),
+    ),
+    (
+        &[(0x40a, &[0x00, 0xa0])],
+        &[],
+        Ok(&[(0x2008, 0x1008, 32), (0x200a, 0x1000, 64)]),
+    ),
+    // 38: slots, of 4 bytes
+    (&[], &[0x100b], Err((38, 0x2008))),
+    (&[], &[0x1005], Err((38, 0x2008))),
+    (&[], &[0x2000, 0x1008, 0x1800], Err((38, 0x2008))),
+    (&[], &[0x1004, 0x100c], Ok(&[(0x2008, 0x1008, 32)])),
+    (&[(0x40a, &[0x08, 0x30])], &[0x1008], Err((38, 0x2008))),
+];
+
+#[test]
+fn a_table_of_one_block(rt: HostRuntime) -> Result<(), Fail> {
+    assert_fixups(&rt, rt.alloc(), &v2(rt.alloc())?, ONE_BLOCK)
+}
+
+/// V2 with a directory and a section of 0x18 bytes, for two blocks.
+const TWO_BLOCKS: &[Case] = &[
+    (
+        &[
+            (0xe4, &[0x18]),
+            (0x168, &[0x18]),
+            (
+                0x40c,
+                &[
+                    0x00, 0x10, 0x00, 0x00, 0x0c, 0x00, 0x00, 0x00, 0x10, 0x30, 0x00, 0x00,
+                ],
+            ),
+        ],
+        &[],
+        Ok(&[(0x2008, 0x1008, 32), (0x2014, 0x1010, 32)]),
+    ),
+    (
+        &[
+            (0xe4, &[0x18]),
+            (0x168, &[0x18]),
+            (
+                0x40c,
+                &[
+                    0x00, 0x00, 0x00, 0x00, 0x0c, 0x00, 0x00, 0x00, 0xff, 0xaf, 0xf7, 0x3f,
+                ],
+            ),
+        ],
+        &[],
+        Ok(&[
+            (0x2008, 0x1008, 32),
+            (0x2014, 0x0fff, 64),
+            (0x2016, 0x0ff7, 32),
+        ]),
+    ),
+    (
+        &[
+            (0xe4, &[0x18]),
+            (0x168, &[0x18]),
+            (
+                0x40c,
+                &[
+                    0x09, 0x10, 0x00, 0x00, 0x0c, 0x00, 0x00, 0x00, 0x02, 0x30, 0x00, 0x00,
+                ],
+            ),
+        ],
+        &[],
+        Err((37, 0x2014)),
+    ),
+    (
+        &[
+            (0xe4, &[0x18]),
+            (0x168, &[0x18]),
+            (
+                0x40c,
+                &[
+                    0x00, 0x10, 0x00, 0x00, 0x0e, 0x00, 0x00, 0x00, 0x10, 0x30, 0x00, 0x00,
+                ],
+            ),
+        ],
+        &[],
+        Err((33, 0x200c)),
+    ),
+];
+
+#[test]
+fn a_table_of_two_blocks(rt: HostRuntime) -> Result<(), Fail> {
+    assert_fixups(&rt, rt.alloc(), &v2(rt.alloc())?, TWO_BLOCKS)
+}
+
+/// V3: its slots have 8 bytes.
+const WIDE_SLOTS: &[Case] = &[
+    (&[], &[0x1000, 0x1010], Ok(&[(0x2008, 0x1008, 64)])),
+    (&[], &[0x1001], Err((38, 0x2008))),
+    (&[], &[0x100f], Err((38, 0x2008))),
+];
+
+#[test]
+fn slots_of_pe32_plus_have_eight_bytes(rt: HostRuntime) -> Result<(), Fail> {
+    assert_fixups(&rt, rt.alloc(), &v3(rt.alloc())?, WIDE_SLOTS)
+}
+
+/// VC with V2's section `.reloc`, its directory and the entry of a field at 0x1033.
+const AN_IMPORT: &[Case] = &[(
+    &[
+        (0x46, &[0x02]),
+        (0xe0, &[0x00, 0x20, 0x00, 0x00, 0x0c]),
+        (0x160, &[0x2e, 0x72, 0x65, 0x6c, 0x6f, 0x63]),
+        (0x168, &[0x0c, 0x00, 0x00, 0x00, 0x00, 0x20]),
+        (0x170, &[0x00, 0x02, 0x00, 0x00, 0x00, 0x04]),
+        (0x184, &[0x40, 0x00, 0x00, 0xc0]),
+        (
+            0x400,
+            &[
+                0x00, 0x10, 0x00, 0x00, 0x0c, 0x00, 0x00, 0x00, 0x33, 0x30, 0x00, 0x00,
+            ],
+        ),
+    ],
+    &[0x1030],
+    Err((38, 0x2008)),
+)];
+
+#[test]
+fn a_field_in_the_slot_of_an_import(rt: HostRuntime) -> Result<(), Fail> {
+    assert_fixups(&rt, rt.alloc(), &vc(rt.alloc())?, AN_IMPORT)
+}
+
+#[test]
+fn an_image_without_the_table_has_no_fixups(rt: HostRuntime) -> Result<(), Fail> {
+    assert_fixups(
+        &rt,
+        rt.alloc(),
+        &v1(rt.alloc())?,
+        &[(&[], &[0x1000], Ok(&[]))],
+    )
+}
+
+/// Fixups, and the bytes of their table.
+const ENCODED: &[(&[Row], &[u8])] = &[
+    (&[], &[]),
+    (
+        &[(0, 0x1008, 32), (0, 0x1010, 32), (0, 0x3004, 32)],
+        &[
+            0x00, 0x10, 0x00, 0x00, 0x0c, 0x00, 0x00, 0x00, 0x08, 0x30, 0x10, 0x30, 0x00, 0x30,
+            0x00, 0x00, 0x0c, 0x00, 0x00, 0x00, 0x04, 0x30, 0x00, 0x00,
+        ],
+    ),
+    (
+        &[(0, 0x1ffc, 64), (0, 0x2004, 32)],
+        &[
+            0x00, 0x10, 0x00, 0x00, 0x0c, 0x00, 0x00, 0x00, 0xfc, 0xaf, 0x00, 0x00, 0x00, 0x20,
+            0x00, 0x00, 0x0c, 0x00, 0x00, 0x00, 0x04, 0x30, 0x00, 0x00,
+        ],
+    ),
+    (
+        &[(0, 0xffff_ffff, 32)],
+        &[
+            0x00, 0xf0, 0xff, 0xff, 0x0c, 0x00, 0x00, 0x00, 0xff, 0x3f, 0x00, 0x00,
+        ],
+    ),
+];
+
+#[test]
+fn tables_are_encoded(rt: HostRuntime) -> Result<(), Fail> {
+    for (rows, bytes) in ENCODED {
+        let fixups = fixups(rt.alloc(), rows)?;
+        assert!(rt; ascending(&fixups));
+        let encoded = encode_fixups(rt.alloc(), &fixups)?;
+        assert_eq!(rt; &encoded[..], *bytes);
+    }
+    Ok(())
+}
+
+#[test]
+fn fields_that_do_not_ascend(rt: HostRuntime) -> Result<(), Fail> {
+    let equal = fixups(rt.alloc(), &[(0, 0x1008, 32), (0, 0x1008, 64)])?;
+    assert!(rt; !ascending(&equal));
+    let falling = fixups(rt.alloc(), &[(0, 0, 32), (0, 0x1008, 32), (0, 0x1007, 32)])?;
+    assert!(rt; !ascending(&falling));
+    let from_zero = fixups(rt.alloc(), &[(9, 0, 32), (8, 1, 64)])?;
+    assert!(rt; ascending(&from_zero));
+    Ok(())
+}
+
+/// How many fixups the long table has.
+const MANY: u32 = 1_000_000;
+
+#[test]
+fn a_table_of_a_million_fixups(rt: HostRuntime) -> Result<(), Fail> {
+    let mut many = Vec::new(rt.alloc());
+    for index in 0..MANY {
+        many.push(fixup((0, 4 * index, 32)))?;
+    }
+    assert!(rt; ascending(&many));
+    let table = encode_fixups(rt.alloc(), &many)?;
+    let size = u32::try_from(table.len())?;
+    let mut file = v1(rt.alloc())?;
+    assert!(rt; file.len() == 0x400);
+    put(&mut file, 0x92, &[0x80]);
+    put(&mut file, 0xe0, &0x1000_u32.to_le_bytes());
+    put(&mut file, 0xe4, &size.to_le_bytes());
+    put(&mut file, 0x140, &size.to_le_bytes());
+    put(&mut file, 0x148, &size.to_le_bytes());
+    file.truncate(0x200);
+    file.extend_from_slice(&table)?;
+    let layout = Layout::new(View::new(&file), IMAGE)?;
+    let found = read_fixups(rt.alloc(), &layout, &[])?;
+    assert_eq!(rt; found.len(), many.len());
+    for (read, written) in found.iter().zip(many.iter()) {
+        assert_eq!(rt; (read.field, read.kind), (written.field, written.kind));
+    }
+    Ok(())
+}

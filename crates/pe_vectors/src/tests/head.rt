@@ -1,0 +1,614 @@
+//! What `pe_head` reads of headers.
+
+use super::files::{
+    Case, IMAGE, Piece, assert_cases, bytes_from, number, put, put_pieces, vectors,
+};
+use crate::{v1, v3};
+use pe_head::{Directory, Headers, Magic, SectionHeader, read_headers};
+use pe_view::{Fault, View};
+use std::process::Abort;
+use std::test::Fail;
+
+/// A field's offset and width.
+pub(super) type Field = (usize, usize);
+
+/// The COFF header, in the format's order.
+pub(super) const COFF_FIELDS: &[Field] = &[
+    (0, 2),
+    (2, 2),
+    (4, 4),
+    (8, 4),
+    (12, 4),
+    (16, 2),
+    (18, 2),
+];
+
+/// The optional header of PE32 behind Magic, in the format's order.
+pub(super) const PE32_FIELDS: &[Field] = &[
+    (2, 1),
+    (3, 1),
+    (4, 4),
+    (8, 4),
+    (12, 4),
+    (16, 4),
+    (20, 4),
+    (24, 4),
+    (28, 4),
+    (32, 4),
+    (36, 4),
+    (40, 2),
+    (42, 2),
+    (44, 2),
+    (46, 2),
+    (48, 2),
+    (50, 2),
+    (52, 4),
+    (56, 4),
+    (60, 4),
+    (64, 4),
+    (68, 2),
+    (70, 2),
+    (72, 4),
+    (76, 4),
+    (80, 4),
+    (84, 4),
+    (88, 4),
+    (92, 4),
+];
+
+/// The same of PE32+. BaseOfData, which it does not have, stands as a field of no bytes.
+pub(super) const PE32_PLUS_FIELDS: &[Field] = &[
+    (2, 1),
+    (3, 1),
+    (4, 4),
+    (8, 4),
+    (12, 4),
+    (16, 4),
+    (20, 4),
+    (24, 0),
+    (24, 8),
+    (32, 4),
+    (36, 4),
+    (40, 2),
+    (42, 2),
+    (44, 2),
+    (46, 2),
+    (48, 2),
+    (50, 2),
+    (52, 4),
+    (56, 4),
+    (60, 4),
+    (64, 4),
+    (68, 2),
+    (70, 2),
+    (72, 8),
+    (80, 8),
+    (88, 8),
+    (96, 8),
+    (104, 4),
+    (108, 4),
+];
+
+/// A section header behind its name, in the format's order.
+const SECTION_FIELDS: &[Field] = &[
+    (8, 4),
+    (12, 4),
+    (16, 4),
+    (20, 4),
+    (24, 4),
+    (28, 4),
+    (32, 2),
+    (34, 2),
+    (36, 4),
+];
+
+/// The COFF header as it was read.
+fn coff_values(headers: &Headers) -> [u64; 7] {
+    [
+        u64::from(headers.machine),
+        u64::from(headers.number_of_sections),
+        u64::from(headers.time_date_stamp),
+        u64::from(headers.pointer_to_symbol_table),
+        u64::from(headers.number_of_symbols),
+        u64::from(headers.size_of_optional_header),
+        u64::from(headers.characteristics),
+    ]
+}
+
+/// The optional header as it was read, with 0 for a BaseOfData that is not there.
+fn optional_values(headers: &Headers) -> [u64; 29] {
+    [
+        u64::from(headers.major_linker_version),
+        u64::from(headers.minor_linker_version),
+        u64::from(headers.size_of_code),
+        u64::from(headers.size_of_initialized_data),
+        u64::from(headers.size_of_uninitialized_data),
+        u64::from(headers.address_of_entry_point),
+        u64::from(headers.base_of_code),
+        u64::from(headers.base_of_data.unwrap_or(0)),
+        headers.image_base,
+        u64::from(headers.section_alignment),
+        u64::from(headers.file_alignment),
+        u64::from(headers.major_operating_system_version),
+        u64::from(headers.minor_operating_system_version),
+        u64::from(headers.major_image_version),
+        u64::from(headers.minor_image_version),
+        u64::from(headers.major_subsystem_version),
+        u64::from(headers.minor_subsystem_version),
+        u64::from(headers.win32_version_value),
+        u64::from(headers.size_of_image),
+        u64::from(headers.size_of_headers),
+        u64::from(headers.check_sum),
+        u64::from(headers.subsystem),
+        u64::from(headers.dll_characteristics),
+        headers.size_of_stack_reserve,
+        headers.size_of_stack_commit,
+        headers.size_of_heap_reserve,
+        headers.size_of_heap_commit,
+        u64::from(headers.loader_flags),
+        u64::from(headers.number_of_rva_and_sizes),
+    ]
+}
+
+/// A section header as it was read, behind its name.
+fn section_values(section: &SectionHeader) -> [u64; 9] {
+    [
+        u64::from(section.virtual_size),
+        u64::from(section.virtual_address),
+        u64::from(section.size_of_raw_data),
+        u64::from(section.pointer_to_raw_data),
+        u64::from(section.pointer_to_relocations),
+        u64::from(section.pointer_to_linenumbers),
+        u64::from(section.number_of_relocations),
+        u64::from(section.number_of_linenumbers),
+        u64::from(section.characteristics),
+    ]
+}
+
+/// Asserts that values are the numbers in the fields of a header.
+fn assert_values(rt: &impl Abort, values: &[u64], header: &[u8], fields: &[Field]) {
+    assert_eq!(rt; values.len(), fields.len());
+    for (value, (offset, width)) in values.iter().zip(fields) {
+        assert_eq!(rt; *value, number(rt, header, *offset, *width), "at {offset}");
+    }
+}
+
+/// Asserts that directories are those that begin at the first byte.
+fn assert_directories(rt: &impl Abort, directories: &[Directory], bytes: &[u8]) {
+    let mut rest = bytes;
+    for directory in directories {
+        assert_eq!(rt; u64::from(directory.rva), number(rt, rest, 0, 4));
+        assert_eq!(rt; u64::from(directory.size), number(rt, rest, 4, 4));
+        rest = bytes_from(rt, rest, 8);
+    }
+}
+
+/// Asserts that sections are those of the table that begins at the first byte.
+fn assert_sections(rt: &impl Abort, sections: &[SectionHeader], table: &[u8]) {
+    let mut rest = table;
+    for section in sections {
+        assert!(rt; rest.starts_with(&section.name));
+        assert_values(rt, &section_values(section), rest, SECTION_FIELDS);
+        rest = bytes_from(rt, rest, 40);
+    }
+}
+
+/// Asserts that each field of a file's headers was read from its place in the file.
+fn assert_headers(rt: &impl Abort, file: &[u8]) -> Result<Headers, Fail> {
+    let headers = read_headers(View::new(file), 0)?;
+    let signature = bytes_from(rt, file, headers.pe_offset as usize);
+    let coff = bytes_from(rt, signature, 4);
+    let optional = bytes_from(rt, signature, 24);
+    assert_eq!(rt; u64::from(headers.pe_offset), number(rt, file, 0x3c, 4));
+    assert_values(rt, &coff_values(&headers), coff, COFF_FIELDS);
+
+    let (magic, fields, fixed_size) = match headers.magic {
+        Magic::Pe32 => (0x10b, PE32_FIELDS, 96),
+        Magic::Pe32Plus => (0x20b, PE32_PLUS_FIELDS, 112),
+    };
+    assert_eq!(rt; number(rt, optional, 0, 2), magic);
+    assert_values(rt, &optional_values(&headers), optional, fields);
+
+    let count = number(rt, optional, fixed_size - 4, 4).min(16) as usize;
+    assert_eq!(rt; headers.directories.len(), count);
+    assert_directories(
+        rt,
+        headers.directories.as_slice(),
+        bytes_from(rt, optional, fixed_size),
+    );
+
+    let table = bytes_from(rt, optional, usize::from(headers.size_of_optional_header));
+    assert_eq!(rt;
+        headers.sections.len(),
+        usize::from(headers.number_of_sections)
+    );
+    assert_sections(rt, headers.sections.as_slice(), table);
+    Ok(headers)
+}
+
+/// A file in which the bytes near each other differ, so that a field read elsewhere has another value.
+pub(super) fn distinct_bytes() -> [u8; 0x400] {
+    let mut file = [0; 0x400];
+    for (offset, byte) in file.iter_mut().enumerate() {
+        *byte = ((offset % 256) * 37 % 256) as u8;
+    }
+    file
+}
+
+/// What the headers of a file of distinct bytes need in either form: two sections, sizes.
+const ACCEPTED: &[Piece] = &[
+    (0x00, &[0x4d, 0x5a]),
+    (0x3c, &[0x40, 0x00, 0x00, 0x00]),
+    (0x40, &[0x50, 0x45, 0x00, 0x00]),
+    (0x46, &[0x02, 0x00]),
+    (0x90, &[0x10, 0x32, 0x54, 0x76]),
+    (0x94, &[0xa1, 0x03, 0x00, 0x00]),
+];
+
+#[test]
+fn every_field_is_read_from_its_place(rt: HostRuntime) -> Result<(), Fail> {
+    let mut file = distinct_bytes();
+    put_pieces(&rt, &mut file, ACCEPTED);
+    put_pieces(
+        &rt,
+        &mut file,
+        &[(0x54, &[0xe0, 0x00]), (0x58, &[0x0b, 0x01])],
+    );
+    let headers = assert_headers(&rt, &file)?;
+    assert_eq!(rt; headers.magic, Magic::Pe32);
+    assert!(rt; headers.base_of_data.is_some());
+
+    put_pieces(
+        &rt,
+        &mut file,
+        &[(0x54, &[0xf0, 0x00]), (0x58, &[0x0b, 0x02])],
+    );
+    let headers = assert_headers(&rt, &file)?;
+    assert_eq!(rt; headers.magic, Magic::Pe32Plus);
+    assert_eq!(rt; headers.base_of_data, None);
+    Ok(())
+}
+
+/// V1's optional header behind Magic, in the format's order.
+const V1_OPTIONAL: [u64; 29] = [
+    0,
+    0,
+    0,
+    0,
+    0,
+    0,
+    0,
+    0,
+    0x1000_0000, // ImageBase
+    0x1000, // SectionAlignment
+    0x200, // FileAlignment
+    0,
+    0,
+    0,
+    0,
+    0,
+    0,
+    0,
+    0x3000, // SizeOfImage
+    0x200, // SizeOfHeaders
+    0,
+    0,
+    0,
+    0,
+    0,
+    0,
+    0,
+    0,
+    16, // NumberOfRvaAndSizes
+];
+
+#[test]
+fn v1_has_the_named_header_values(rt: HostRuntime) -> Result<(), Fail> {
+    let headers = read_headers(View::new(&v1(rt.alloc())?), 0)?;
+    assert_eq!(rt; coff_values(&headers), [0x14c, 1, 0, 0, 0, 0xe0, 0x2102]);
+    assert_eq!(rt; optional_values(&headers), V1_OPTIONAL);
+    let values = headers.sections.as_slice().first().map(section_values);
+    assert_eq!(rt;
+        values,
+        Some([0x10, 0x1000, 0x200, 0x200, 0, 0, 0, 0, 0xc000_0040])
+    );
+    Ok(())
+}
+
+#[test]
+fn v3_has_the_named_header_values(rt: HostRuntime) -> Result<(), Fail> {
+    let headers = read_headers(View::new(&v3(rt.alloc())?), 0)?;
+    assert_eq!(rt; coff_values(&headers), [0x8664, 2, 0, 0, 0, 0xf0, 0x2022]);
+    assert_eq!(rt; headers.image_base, 0x1_8000_0000);
+    let directory = headers.directories.as_slice().get(5).copied();
+    assert_eq!(rt;
+        directory,
+        Some(Directory {
+            rva: 0x2000,
+            size: 0x0c
+        })
+    );
+    let values = headers.sections.as_slice().last().map(section_values);
+    assert_eq!(rt;
+        values,
+        Some([0x0c, 0x2000, 0x200, 0x400, 0, 0, 0, 0, 0xc000_0040])
+    );
+    Ok(())
+}
+
+#[test]
+fn every_vector_is_read_field_by_field(rt: HostRuntime) -> Result<(), Fail> {
+    for file in &vectors(rt.alloc())? {
+        let _ = assert_headers(&rt, file)?;
+    }
+    Ok(())
+}
+
+/// V1 at the last value that passes each of faults 2 to 5 and at the first that does not.
+const SIGNATURES: &[Case] = &[
+    (0x400, &[], None),
+    // 2: the file's length
+    (0, &[], Some((2, 0))),
+    (63, &[], Some((2, 63))),
+    (64, &[], Some((4, 60))),
+    // 3: the first two bytes
+    (0x400, &[(0, &[0x4c])], Some((3, 0))),
+    (0x400, &[(1, &[0x5b])], Some((3, 0))),
+    // 4: room for the signature and the COFF header
+    (0x57, &[], Some((4, 60))),
+    (0x58, &[], Some((6, 0x58))),
+    (0x400, &[(0x3c, &[0xe9, 0x03])], Some((4, 60))),
+    (0x400, &[(0x3c, &[0xe8, 0x03])], Some((5, 0x3e8))),
+    (0x400, &[(0x3c, &[0xff, 0xff, 0xff, 0xff])], Some((4, 60))),
+    (0x400, &[(0x3c, &[0xe8, 0xff, 0xff, 0xff])], Some((4, 60))),
+    // 5: each byte of the signature
+    (0x400, &[(0x40, &[0x51])], Some((5, 0x40))),
+    (0x400, &[(0x41, &[0x44])], Some((5, 0x40))),
+    (0x400, &[(0x42, &[0x01])], Some((5, 0x40))),
+    (0x400, &[(0x43, &[0x01])], Some((5, 0x40))),
+];
+
+/// V1 at the boundaries of faults 6 to 8.
+const FORMS: &[Case] = &[
+    // 6: Magic
+    (0x59, &[], Some((6, 0x58))),
+    (0x5a, &[], Some((8, 0x54))),
+    (0x400, &[(0x58, &[0x07, 0x01])], Some((6, 0x58))),
+    (0x400, &[(0x58, &[0x0a, 0x01])], Some((6, 0x58))),
+    (0x400, &[(0x58, &[0x0c, 0x01])], Some((6, 0x58))),
+    (0x400, &[(0x58, &[0x0a, 0x02])], Some((6, 0x58))),
+    (0x400, &[(0x58, &[0x0c, 0x02])], Some((6, 0x58))),
+    (0x400, &[(0x58, &[0x0b, 0x03])], Some((6, 0x58))),
+    (0x400, &[(0x58, &[0x0b, 0x02])], None),
+    // 7: room for 16 directories, also where more are named; for 15; for none
+    (0x400, &[(0x54, &[0xdf])], Some((7, 0x54))),
+    (0x400, &[(0xb4, &[0xff, 0xff, 0xff, 0xff])], None),
+    (0x400, &[(0xb4, &[0x11]), (0x54, &[0xdf])], Some((7, 0x54))),
+    (0x400, &[(0xb4, &[0x0f]), (0x54, &[0xd7])], Some((7, 0x54))),
+    (0x400, &[(0xb4, &[0x0f]), (0x54, &[0xd8])], None),
+    (0x400, &[(0xb4, &[0x00]), (0x54, &[0x5f])], Some((7, 0x54))),
+    (0x400, &[(0xb4, &[0x00]), (0x54, &[0x60])], None),
+    // 7: the number of directories counts as 0 where it isn't wholly inside the file
+    (0x5a, &[(0x54, &[0xdf])], Some((8, 0x54))),
+    (0xb7, &[(0x54, &[0x5f])], Some((7, 0x54))),
+    (0xb7, &[(0x54, &[0x60])], Some((8, 0x54))),
+    (0xb8, &[(0x54, &[0x60])], Some((7, 0x54))),
+    // 7: it is read also where it lies past the optional header
+    (0x400, &[(0x54, &[0x00])], Some((7, 0x54))),
+    // 8: the optional header's end
+    (0x137, &[], Some((8, 0x54))),
+    (0x138, &[], Some((10, 0x46))),
+    (0x400, &[(0x54, &[0xa9, 0x03])], Some((8, 0x54))),
+    (0x400, &[(0x54, &[0xa8, 0x03])], Some((10, 0x46))),
+    (0x400, &[(0x54, &[0xff, 0xff])], Some((8, 0x54))),
+];
+
+/// V1 at the boundaries of faults 9 to 12.
+const SIZES: &[Case] = &[
+    // 9: the number of sections
+    (0x400, &[(0x46, &[0x60])], Some((10, 0x46))),
+    (0x400, &[(0x46, &[0x61])], Some((9, 0x46))),
+    (0x400, &[(0x46, &[0xff, 0xff])], Some((9, 0x46))),
+    (0x400, &[(0x46, &[0x00])], None),
+    // 10: the section table's end
+    (0x15f, &[], Some((10, 0x46))),
+    (0x160, &[], Some((12, 0x94))),
+    // 11: SizeOfImage
+    (
+        0x400,
+        &[(0x90, &[0x00, 0x00, 0x00, 0x00])],
+        Some((11, 0x90)),
+    ),
+    (
+        0x400,
+        &[(0x90, &[0x01, 0x00, 0x00, 0x00])],
+        Some((12, 0x94)),
+    ),
+    (0x400, &[(0x90, &[0x00, 0x00, 0x00, 0x80])], None),
+    (
+        0x400,
+        &[(0x90, &[0x01, 0x00, 0x00, 0x80])],
+        Some((11, 0x90)),
+    ),
+    // 12: SizeOfHeaders against the section table, the file and the image
+    (0x400, &[(0x94, &[0x5f, 0x01])], Some((12, 0x94))),
+    (0x400, &[(0x94, &[0x60, 0x01])], None),
+    (0x400, &[(0x94, &[0x00, 0x04])], None),
+    (0x400, &[(0x94, &[0x01, 0x04])], Some((12, 0x94))),
+    (0x1ff, &[], Some((12, 0x94))),
+    (0x200, &[], None),
+    (0x400, &[(0x90, &[0x00, 0x03]), (0x94, &[0x00, 0x03])], None),
+    (
+        0x400,
+        &[(0x90, &[0x00, 0x03]), (0x94, &[0x01, 0x03])],
+        Some((12, 0x94)),
+    ),
+];
+
+/// V1 with two faults, of which the lesser number counts.
+const LEAST: &[Case] = &[
+    (63, &[(0, &[0x00])], Some((2, 63))),
+    (0x57, &[(0, &[0x00])], Some((3, 0))),
+    (0x58, &[(0x40, &[0x00])], Some((5, 0x40))),
+    (0x100, &[(0x54, &[0xdf])], Some((7, 0x54))),
+    (0x137, &[(0x46, &[0x61])], Some((8, 0x54))),
+    (
+        0x400,
+        &[(0x46, &[0x61]), (0x90, &[0x00, 0x00])],
+        Some((9, 0x46)),
+    ),
+    (0x15f, &[(0x90, &[0x00, 0x00])], Some((10, 0x46))),
+    (
+        0x400,
+        &[(0x90, &[0x00, 0x00]), (0x94, &[0x00, 0x00])],
+        Some((11, 0x90)),
+    ),
+];
+
+/// V3, whose section table is at 0x148, at the same boundaries.
+const PE32_PLUS: &[Case] = &[
+    (0x600, &[], None),
+    (0x57, &[], Some((4, 60))),
+    (0x59, &[], Some((6, 0x58))),
+    (0x5a, &[], Some((8, 0x54))),
+    (0x600, &[(0x54, &[0xef])], Some((7, 0x54))),
+    (0x600, &[(0xc4, &[0xff, 0xff, 0xff, 0xff])], None),
+    (0x600, &[(0xc4, &[0x0f]), (0x54, &[0xe7])], Some((7, 0x54))),
+    (0x600, &[(0xc4, &[0x0f]), (0x54, &[0xe8])], None),
+    (0x600, &[(0xc4, &[0x00]), (0x54, &[0x6f])], Some((7, 0x54))),
+    (0x600, &[(0xc4, &[0x00]), (0x54, &[0x70])], None),
+    (0xc7, &[(0x54, &[0x70])], Some((8, 0x54))),
+    (0xc8, &[(0x54, &[0x70])], Some((7, 0x54))),
+    (0x147, &[], Some((8, 0x54))),
+    (0x148, &[], Some((10, 0x46))),
+    (0x600, &[(0x46, &[0x60])], Some((10, 0x46))),
+    (0x600, &[(0x46, &[0x61])], Some((9, 0x46))),
+    (0x197, &[], Some((10, 0x46))),
+    (0x198, &[], Some((12, 0x94))),
+    (
+        0x600,
+        &[(0x90, &[0x00, 0x00, 0x00, 0x00])],
+        Some((11, 0x90)),
+    ),
+    (0x600, &[(0x90, &[0x00, 0x00, 0x00, 0x80])], None),
+    (
+        0x600,
+        &[(0x90, &[0x01, 0x00, 0x00, 0x80])],
+        Some((11, 0x90)),
+    ),
+    (0x600, &[(0x94, &[0x97, 0x01])], Some((12, 0x94))),
+    (0x600, &[(0x94, &[0x98, 0x01])], None),
+    (0x600, &[(0x94, &[0x00, 0x06])], None),
+    (0x600, &[(0x94, &[0x01, 0x06])], Some((12, 0x94))),
+];
+
+/// The fault by which a file's headers are refused.
+fn header_fault(file: &[u8]) -> Option<Fault> {
+    read_headers(View::new(file), IMAGE).err()
+}
+
+// Fault 1 needs a file of more than 2^32 bytes, so no test asks it; that it is asked first, at its place, is proved.
+#[test]
+fn each_fault_stands_from_its_boundary_on(rt: HostRuntime) -> Result<(), Fail> {
+    let file = v1(rt.alloc())?;
+    assert_cases(&rt, &file, SIGNATURES, header_fault);
+    assert_cases(&rt, &file, FORMS, header_fault);
+    assert_cases(&rt, &file, SIZES, header_fault);
+    Ok(())
+}
+
+#[test]
+fn the_least_fault_counts(rt: HostRuntime) -> Result<(), Fail> {
+    assert_cases(&rt, &v1(rt.alloc())?, LEAST, header_fault);
+    Ok(())
+}
+
+#[test]
+fn each_fault_of_pe32_plus_stands_from_its_boundary_on(rt: HostRuntime) -> Result<(), Fail> {
+    assert_cases(&rt, &v3(rt.alloc())?, PE32_PLUS, header_fault);
+    Ok(())
+}
+
+#[test]
+fn a_number_of_directories_over_16_is_kept_and_gives_16(rt: HostRuntime) -> Result<(), Fail> {
+    let mut file = v1(rt.alloc())?;
+    put_pieces(&rt, &mut file, &[(0xb4, &[0xff, 0xff, 0xff, 0xff])]);
+    let headers = read_headers(View::new(&file), 0)?;
+    assert_eq!(rt; headers.number_of_rva_and_sizes, 0xffff_ffff);
+    assert_eq!(rt; headers.directories.len(), 16);
+    Ok(())
+}
+
+#[test]
+fn ninety_six_sections_are_read(rt: HostRuntime) -> Result<(), Fail> {
+    let mut file = [0; 0x1200];
+    put(&mut file, 0, &v1(rt.alloc())?);
+    put_pieces(
+        &rt,
+        &mut file,
+        &[(0x46, &[0x60]), (0x94, &[0x38, 0x10]), (0x1010, b".last")],
+    );
+    let headers = assert_headers(&rt, &file)?;
+    assert_eq!(rt; headers.sections.len(), 96);
+    assert_eq!(rt;
+        headers.sections.as_slice().last().map(|s| s.name),
+        Some(*b".last\0\0\0")
+    );
+    Ok(())
+}
+
+#[test]
+fn the_signature_may_stand_anywhere(rt: HostRuntime) -> Result<(), Fail> {
+    let vector = v1(rt.alloc())?;
+    // Up to 0x18 the field at 0x3c is one with fields of the optional header.
+    for pe_offset in [2_u8, 4, 5, 0x18, 0x41, 0xe0] {
+        let mut file = [0; 0x400];
+        put(&mut file, 0, b"MZ");
+        put(&mut file, usize::from(pe_offset), &vector[0x40..0x160]);
+        put(&mut file, 0x3c, &[pe_offset, 0, 0, 0]);
+        let headers = assert_headers(&rt, &file)?;
+        assert_eq!(rt; headers.pe_offset, u32::from(pe_offset));
+    }
+    Ok(())
+}
+
+/// VirtualSize, SizeOfRawData and PointerToRawData of a section, and its extent and rawlen.
+const LENGTHS: &[[u32; 5]] = &[
+    [0x10, 0x200, 0x200, 0x10, 0x10],
+    [0x200, 0x200, 0x200, 0x200, 0x200],
+    [0x300, 0x200, 0x200, 0x300, 0x200],
+    [0x300, 0x200, 1, 0x300, 0x200],
+    [0x300, 0x200, 0, 0x300, 0],
+    [0x300, 0, 0x200, 0x300, 0],
+    [0, 0x200, 0x200, 0x200, 0x200],
+    [0, 0x200, 0, 0x200, 0],
+    [0, 0, 0x200, 0, 0],
+    [1, 0xffff_ffff, 0xffff_ffff, 1, 1],
+    [
+        0xffff_ffff,
+        0xffff_fffe,
+        0xffff_ffff,
+        0xffff_ffff,
+        0xffff_fffe,
+    ],
+];
+
+#[test]
+fn a_section_takes_its_extent_and_the_file_holds_rawlen_of_it(rt: HostRuntime) {
+    for [
+        virtual_size,
+        size_of_raw_data,
+        pointer_to_raw_data,
+        extent,
+        rawlen,
+    ] in LENGTHS {
+        let section = SectionHeader {
+            virtual_size: *virtual_size,
+            size_of_raw_data: *size_of_raw_data,
+            pointer_to_raw_data: *pointer_to_raw_data,
+            ..SectionHeader::default()
+        };
+        assert_eq!(rt; section.extent(), *extent, "of {section:?}");
+        assert_eq!(rt; section.rawlen(), *rawlen, "of {section:?}");
+    }
+}

@@ -1,0 +1,636 @@
+//! What `pe_layout` shows of laid-out images.
+
+use super::files::{
+    Case, IMAGE, Piece, assert_cases, bytes_from, number, put, put_pieces, vectors,
+};
+use crate::{v1, v2, v3};
+use pe_head::Directory;
+use pe_layout::{Layout, Located};
+use pe_view::{Fault, View};
+use std::alloc::Global;
+use std::process::Abort;
+use std::test::Fail;
+
+/// The number of 4 bytes at an offset.
+fn word(rt: &impl Abort, file: &[u8], offset: usize) -> u64 {
+    number(rt, file, offset, 4)
+}
+
+/// Writes the bytes that the file holds for a section of its own place in the image; the rest of the section is zeros.
+fn lay_section(rt: &impl Abort, image: &mut [u8], file: &[u8], header: &[u8]) {
+    let virtual_size = word(rt, header, 8);
+    let virtual_address = word(rt, header, 12) as usize;
+    let size_of_raw_data = word(rt, header, 16);
+    let pointer_to_raw_data = word(rt, header, 20) as usize;
+    let extent = if virtual_size == 0 {
+        size_of_raw_data
+    } else {
+        virtual_size
+    };
+    if pointer_to_raw_data == 0 {
+        return;
+    }
+    let len = extent.min(size_of_raw_data) as usize;
+    let raw = bytes_from(rt, file, pointer_to_raw_data);
+    assert!(rt; len <= raw.len());
+    assert!(rt; virtual_address <= image.len() && len <= image.len() - virtual_address);
+    put(image, virtual_address, &raw[..len]);
+}
+
+/// The laid-out image of a file, by the rule: the headers, each section's raw bytes at its place, and zeros.
+fn laid_out(rt: &impl Abort, alloc: Global, file: &[u8]) -> Result<Vec<u8>, Fail> {
+    let signature = bytes_from(rt, file, word(rt, file, 0x3c) as usize);
+    let optional = bytes_from(rt, signature, 24);
+    let size_of_image = word(rt, optional, 56) as usize;
+    let size_of_headers = word(rt, optional, 60) as usize;
+    let mut image = vec![in alloc; 0; size_of_image]?;
+    assert!(rt; size_of_headers <= file.len() && size_of_headers <= image.len());
+    put(&mut image, 0, &file[..size_of_headers]);
+    let mut table = bytes_from(rt, optional, number(rt, signature, 20, 2) as usize);
+    for _ in 0..number(rt, signature, 6, 2) {
+        lay_section(rt, &mut image, file, table);
+        table = bytes_from(rt, table, 40);
+    }
+    Ok(image)
+}
+
+/// Asserts that the byte at each RVA is the one that the rule lays there, and that none follows.
+fn assert_bytes(rt: &impl Abort, layout: &Layout, image: &[u8]) -> Result<(), Fail> {
+    for (rva, byte) in image.iter().enumerate() {
+        assert_eq!(rt;
+            layout.byte(u32::try_from(rva)?),
+            Some(*byte),
+            "at {rva:#x}"
+        );
+    }
+    assert_eq!(rt; layout.byte(u32::try_from(image.len())?), None);
+    assert_eq!(rt; layout.byte(0xffff_ffff), None);
+    Ok(())
+}
+
+#[test]
+fn each_byte_of_each_vector_is_the_one_that_the_rule_lays_there(
+    rt: HostRuntime,
+) -> Result<(), Fail> {
+    for file in &vectors(rt.alloc())? {
+        let layout = Layout::new(View::new(file), IMAGE)?;
+        let image = laid_out(&rt, rt.alloc(), file)?;
+        assert_bytes(&rt, &layout, &image)?;
+        assert_eq!(rt; u64::from(layout.size()), image.len() as u64);
+    }
+    Ok(())
+}
+
+/// V1 in the cases of faults 13 to 15, and of faults of the headers that come before them.
+const ONE_SECTION: &[Case] = &[
+    (0x150, &[], Some((10, 0x46))),
+    (0x200, &[], Some((13, 0x138))),
+    (0x20f, &[], Some((13, 0x138))),
+    (0x210, &[], None),
+    (0x400, &[(0x4c, &[0x00, 0x04, 0x00, 0x00, 0x03])], None),
+    // 13: the end of the raw data, which is never asked where rawlen is 0
+    (0x400, &[(0x14c, &[0xf0, 0x03])], None),
+    (0x400, &[(0x14c, &[0xf1, 0x03])], Some((13, 0x138))),
+    (
+        0x400,
+        &[(0x14c, &[0xff, 0xff, 0xff, 0xff])],
+        Some((13, 0x138)),
+    ),
+    (0x400, &[(0x140, &[0x00])], None),
+    (
+        0x400,
+        &[(0x140, &[0x00]), (0x14c, &[0x01, 0x02])],
+        Some((13, 0x138)),
+    ),
+    (
+        0x400,
+        &[(0x148, &[0x00, 0x00]), (0x14c, &[0xff, 0xff, 0xff, 0xff])],
+        None,
+    ),
+    (0x200, &[(0x14c, &[0x00, 0x00])], None),
+    // 14: the section's end in the image
+    (0x400, &[(0x144, &[0xf0, 0x2f])], None),
+    (0x400, &[(0x144, &[0xf1, 0x2f])], Some((14, 0x138))),
+    (
+        0x400,
+        &[(0x144, &[0xf0, 0xff, 0xff, 0xff])],
+        Some((14, 0x138)),
+    ),
+    (0x400, &[(0x140, &[0x00, 0x20])], None),
+    (0x400, &[(0x140, &[0x01, 0x20])], Some((14, 0x138))),
+    (
+        0x400,
+        &[
+            (0x140, &[0x00]),
+            (0x144, &[0x00, 0x30]),
+            (0x148, &[0x00, 0x00]),
+        ],
+        None,
+    ),
+    (
+        0x400,
+        &[
+            (0x140, &[0x00]),
+            (0x144, &[0x01, 0x30]),
+            (0x148, &[0x00, 0x00]),
+        ],
+        Some((14, 0x138)),
+    ),
+    // 15: the section's beginning behind the headers
+    (0x400, &[(0x144, &[0x00, 0x02])], None),
+    (0x400, &[(0x144, &[0xff, 0x01])], Some((15, 0x138))),
+    // the least of two faults of one section
+    (0x20f, &[(0x144, &[0xff, 0x2f])], Some((13, 0x138))),
+    (0x20f, &[(0x144, &[0xff, 0x01])], Some((13, 0x138))),
+    (
+        0x400,
+        &[(0x140, &[0x00, 0x30]), (0x144, &[0xff, 0x01])],
+        Some((14, 0x138)),
+    ),
+];
+
+/// V2, whose second section header is at 0x160, in the cases of faults 13 to 15.
+const TWO_SECTIONS: &[Case] = &[
+    (0x40c, &[], None),
+    (0x40b, &[], Some((13, 0x160))),
+    (0x600, &[(0x168, &[0x00, 0x10])], None),
+    (0x600, &[(0x168, &[0x01, 0x10])], Some((14, 0x160))),
+    // 15: behind the section before, also where its extent is 0
+    (0x600, &[(0x16c, &[0x10, 0x10])], None),
+    (0x600, &[(0x16c, &[0x0f, 0x10])], Some((15, 0x160))),
+    (
+        0x600,
+        &[
+            (0x140, &[0x00]),
+            (0x148, &[0x00, 0x00]),
+            (0x16c, &[0x00, 0x10]),
+        ],
+        None,
+    ),
+    (
+        0x600,
+        &[
+            (0x140, &[0x00]),
+            (0x148, &[0x00, 0x00]),
+            (0x16c, &[0xff, 0x0f]),
+        ],
+        Some((15, 0x160)),
+    ),
+    // the first section's faults come before the second's
+    (
+        0x600,
+        &[(0x144, &[0xff, 0x01]), (0x174, &[0xff, 0xff])],
+        Some((15, 0x138)),
+    ),
+    // raw data may lie in the headers and in another section's
+    (
+        0x600,
+        &[(0x14c, &[0x08, 0x00]), (0x174, &[0x10, 0x00])],
+        None,
+    ),
+];
+
+/// The fault by which a file's layout is refused.
+fn layout_fault(file: &[u8]) -> Option<Fault> {
+    Layout::new(View::new(file), IMAGE).err()
+}
+
+#[test]
+fn a_slot_has_four_bytes_in_pe32_and_eight_in_pe32_plus(rt: HostRuntime) -> Result<(), Fail> {
+    let file = v2(rt.alloc())?;
+    assert_eq!(rt; Layout::new(View::new(&file), IMAGE)?.slot_width(), 4);
+    let file = v3(rt.alloc())?;
+    assert_eq!(rt; Layout::new(View::new(&file), IMAGE)?.slot_width(), 8);
+    Ok(())
+}
+
+#[test]
+fn each_section_fault_stands_from_its_boundary_on(rt: HostRuntime) -> Result<(), Fail> {
+    assert_cases(&rt, &v1(rt.alloc())?, ONE_SECTION, layout_fault);
+    assert_cases(&rt, &v2(rt.alloc())?, TWO_SECTIONS, layout_fault);
+    Ok(())
+}
+
+#[test]
+fn a_layout_shows_its_headers_and_its_number(rt: HostRuntime) -> Result<(), Fail> {
+    let file = v1(rt.alloc())?;
+    let layout = Layout::new(View::new(&file), IMAGE)?;
+    assert_eq!(rt; layout.image(), IMAGE);
+    assert_eq!(rt; layout.headers().image_base, 0x1000_0000);
+    Ok(())
+}
+
+#[test]
+fn bytes_past_virtual_size_are_zero_although_the_file_has_them(
+    rt: HostRuntime,
+) -> Result<(), Fail> {
+    let file = v1(rt.alloc())?;
+    let layout = Layout::new(View::new(&file), IMAGE)?;
+    assert_eq!(rt; layout.byte(0x100f), Some(0x0f));
+    assert_eq!(rt; layout.byte(0x1010), Some(0));
+    assert_eq!(rt; file.get(0x210).copied(), Some(0x10));
+    Ok(())
+}
+
+#[test]
+fn a_virtual_size_of_0_stands_for_the_size_of_raw_data(rt: HostRuntime) -> Result<(), Fail> {
+    let mut file = v1(rt.alloc())?;
+    put_pieces(&rt, &mut file, &[(0x140, &[0x00])]);
+    let layout = Layout::new(View::new(&file), IMAGE)?;
+    assert_eq!(rt; layout.byte(0x11ff), Some(0xff));
+    assert_eq!(rt; layout.byte(0x1200), Some(0));
+    assert_eq!(rt; layout.locate(0x1200), Located::Gap);
+    Ok(())
+}
+
+/// An RVA, and what stands there.
+type Place = (u32, Located);
+
+/// Asserts what `locate` answers.
+fn assert_located(rt: &impl Abort, layout: &Layout, places: &[Place]) {
+    for (rva, expected) in places {
+        assert_eq!(rt; layout.locate(*rva), *expected, "at {rva:#x}");
+    }
+}
+
+#[test]
+fn locate_names_the_piece_and_the_file_offset(rt: HostRuntime) -> Result<(), Fail> {
+    let mut file = v2(rt.alloc())?;
+    // `.data` gets 0x300 bytes of the image, of which the file holds 0x200.
+    put_pieces(&rt, &mut file, &[(0x140, &[0x00, 0x03])]);
+    let layout = Layout::new(View::new(&file), IMAGE)?;
+    assert_located(
+        &rt,
+        &layout,
+        &[
+            (0, Located::Header { file: 0 }),
+            (0x1ff, Located::Header { file: 0x1ff }),
+            (0x200, Located::Gap),
+            (0xfff, Located::Gap),
+            (
+                0x1000,
+                Located::Raw {
+                    section: 0,
+                    file: 0x200,
+                },
+            ),
+            (
+                0x11ff,
+                Located::Raw {
+                    section: 0,
+                    file: 0x3ff,
+                },
+            ),
+            (0x1200, Located::Zero { section: 0 }),
+            (0x12ff, Located::Zero { section: 0 }),
+            (0x1300, Located::Gap),
+            (
+                0x2000,
+                Located::Raw {
+                    section: 1,
+                    file: 0x400,
+                },
+            ),
+            (
+                0x200b,
+                Located::Raw {
+                    section: 1,
+                    file: 0x40b,
+                },
+            ),
+            (0x200c, Located::Gap),
+            (0x2fff, Located::Gap),
+            (0x3000, Located::Outside),
+            (0xffff_ffff, Located::Outside),
+        ],
+    );
+    Ok(())
+}
+
+/// What V2 becomes where `.reloc` begins at the end of `.data`, and the headers' last byte is not zero.
+const TOUCHING: &[Piece] = &[(0x1ff, &[0x7f]), (0x16c, &[0x10, 0x10])];
+
+/// An RVA, and the numbers of 2, 4 and 8 bytes there.
+type Numbers = (u32, Option<u16>, Option<u32>, Option<u64>);
+
+/// V2 with pieces that touch: numbers across the headers' end, in a gap, into `.data`, from it into `.reloc`, and behind.
+const CROSSING: &[Numbers] = &[
+    (0x1fd, Some(0), Some(0x007f_0000), Some(0x007f_0000)),
+    (0x1ff, Some(0x7f), Some(0x7f), Some(0x7f)),
+    (0x800, Some(0), Some(0), Some(0)),
+    (
+        0xffe,
+        Some(0),
+        Some(0x0100_0000),
+        Some(0x0504_0302_0100_0000),
+    ),
+    (
+        0x1004,
+        Some(0x0504),
+        Some(0x0706_0504),
+        Some(0x1000_1008_0706_0504),
+    ),
+    (
+        0x100c,
+        Some(0x0d0c),
+        Some(0x0f0e_0d0c),
+        Some(0x0000_1000_0f0e_0d0c),
+    ),
+    (
+        0x100f,
+        Some(0x000f),
+        Some(0x0010_000f),
+        Some(0x0000_0c00_0010_000f),
+    ),
+    (0x1018, Some(0x3008), Some(0x3008), Some(0x3008)),
+];
+
+/// V1 where the image ends with `.data`, at 0x1010.
+const AT_THE_END: &[Numbers] = &[
+    (
+        0x1008,
+        Some(0x0908),
+        Some(0x0b0a_0908),
+        Some(0x0f0e_0d0c_0b0a_0908),
+    ),
+    (0x1009, Some(0x0a09), Some(0x0c0b_0a09), None),
+    (0x100c, Some(0x0d0c), Some(0x0f0e_0d0c), None),
+    (0x100d, Some(0x0e0d), None, None),
+    (0x100e, Some(0x0f0e), None, None),
+    (0x100f, None, None, None),
+    (0x1010, None, None, None),
+    (0xffff_fff8, None, None, None),
+    (0xffff_fffc, None, None, None),
+    (0xffff_fffe, None, None, None),
+    (0xffff_ffff, None, None, None),
+];
+
+/// V1 in the largest image, of 2^31 bytes.
+const AT_THE_LARGEST_END: &[Numbers] = &[
+    (0x7fff_fff8, Some(0), Some(0), Some(0)),
+    (0x7fff_fff9, Some(0), Some(0), None),
+    (0x7fff_fffc, Some(0), Some(0), None),
+    (0x7fff_fffd, Some(0), None, None),
+    (0x7fff_ffff, None, None, None),
+    (0x8000_0000, None, None, None),
+];
+
+/// Asserts the numbers of a file with changed pieces.
+fn assert_numbers(
+    rt: &impl Abort,
+    file: &mut [u8],
+    pieces: &[Piece],
+    numbers: &[Numbers],
+) -> Result<(), Fail> {
+    put_pieces(rt, file, pieces);
+    let layout = Layout::new(View::new(file), IMAGE)?;
+    for (rva, two, four, eight) in numbers {
+        assert_eq!(rt; layout.u16_at(*rva), *two, "at {rva:#x}");
+        assert_eq!(rt; layout.u32_at(*rva), *four, "at {rva:#x}");
+        assert_eq!(rt; layout.u64_at(*rva), *eight, "at {rva:#x}");
+    }
+    Ok(())
+}
+
+#[test]
+fn numbers_cross_pieces_and_end_with_the_image(rt: HostRuntime) -> Result<(), Fail> {
+    assert_numbers(&rt, &mut v2(rt.alloc())?, TOUCHING, CROSSING)?;
+    let small: &[Piece] = &[(0x90, &[0x10, 0x10, 0x00, 0x00])];
+    assert_numbers(&rt, &mut v1(rt.alloc())?, small, AT_THE_END)?;
+    assert_numbers(&rt, &mut v1(rt.alloc())?, LARGEST, AT_THE_LARGEST_END)
+}
+
+/// What gives a file the largest SizeOfImage, 2^31.
+const LARGEST: &[Piece] = &[(0x90, &[0x00, 0x00, 0x00, 0x80])];
+
+#[test]
+fn the_largest_image_ends_at_2_to_the_31(rt: HostRuntime) -> Result<(), Fail> {
+    let mut file = v1(rt.alloc())?;
+    put_pieces(&rt, &mut file, LARGEST);
+    let layout = Layout::new(View::new(&file), IMAGE)?;
+    assert_eq!(rt; layout.byte(0x7fff_ffff), Some(0));
+    assert_eq!(rt; layout.byte(0x8000_0000), None);
+    assert_eq!(rt; layout.locate(0x7fff_ffff), Located::Gap);
+    assert_eq!(rt; layout.locate(0x8000_0000), Located::Outside);
+    Ok(())
+}
+
+/// An RVA, and the text there.
+type Text = (u32, Option<&'static [u8]>);
+
+/// Whether two calls answer the same text, or both none.
+fn is_same_text(first: Option<&[u8]>, second: Option<&[u8]>) -> bool {
+    match (first, second) {
+        (Some(first), Some(second)) => first == second,
+        (None, None) => true,
+        _ => false,
+    }
+}
+
+/// Asserts the texts of a file with changed pieces.
+fn assert_texts(
+    rt: &impl Abort,
+    file: &mut [u8],
+    pieces: &[Piece],
+    texts: &[Text],
+) -> Result<(), Fail> {
+    put_pieces(rt, file, pieces);
+    let layout = Layout::new(View::new(file), IMAGE)?;
+    for (rva, text) in texts {
+        let found = layout.name_at(*rva);
+        assert!(rt; is_same_text(found, *text), "{found:?} at {rva:#x}");
+    }
+    Ok(())
+}
+
+/// Texts of V1 with text at the end of the headers, and at the beginning and the end of `.data`.
+const TEXTS: &[Text] = &[
+    (0, Some(b"MZ")),
+    (0x138, Some(b".data")),
+    (0x13a, Some(b"ata")),
+    (0x13d, Some(b"")),
+    // no zero byte stands before the headers' end, though a gap follows
+    (0x1fe, None),
+    (0x1ff, None),
+    // in a gap, whatever follows
+    (0x200, Some(b"")),
+    (0xfff, Some(b"")),
+    (0x1000, Some(b"name")),
+    (0x1003, Some(b"e")),
+    (0x1004, Some(b"")),
+    // none before the section's end, though the file has one at 0x300
+    (0x100e, None),
+    (0x100f, None),
+    (0x1010, Some(b"")),
+    (0x2fff, Some(b"")),
+    (0x3000, None),
+    (0xffff_ffff, None),
+];
+
+/// Texts of V1 where `.data` has 0x300 bytes, of which the file holds 0x200.
+const ZERO_FILLED: &[Text] = &[
+    (0x10fe, Some(&[0xfe, 0xff])),
+    (0x11fc, Some(&[0xfc, 0xfd, 0xfe, 0xff])),
+    (0x11ff, Some(&[0xff])),
+    (0x1200, Some(b"")),
+    (0x12ff, Some(b"")),
+    (0x1300, Some(b"")),
+];
+
+#[test]
+fn a_text_ends_inside_its_piece(rt: HostRuntime) -> Result<(), Fail> {
+    let texts: &[Piece] = &[(0x1fe, b"ab"), (0x200, b"name\0"), (0x20e, b"xy")];
+    assert_texts(&rt, &mut v1(rt.alloc())?, texts, TEXTS)?;
+    assert_texts(
+        &rt,
+        &mut v1(rt.alloc())?,
+        &[(0x140, &[0x00, 0x03])],
+        ZERO_FILLED,
+    )?;
+    // a zero byte of the next piece ends no text, though no gap stands between
+    assert_texts(
+        &rt,
+        &mut v2(rt.alloc())?,
+        TOUCHING,
+        &[(0x100e, None), (0x1010, Some(b""))],
+    )?;
+    // a section without raw data is all zeros
+    assert_texts(
+        &rt,
+        &mut v1(rt.alloc())?,
+        &[(0x14c, &[0x00, 0x00])],
+        &[(0x1001, Some(b""))],
+    )
+}
+
+/// Changes of V2, the index of a directory, and its RVA and Size; None where it is absent.
+type Present = (&'static [Piece], usize, Option<(u32, u32)>);
+
+/// V2 names directory 5 alone.
+const DIRECTORIES: &[Present] = &[
+    (&[], 5, Some((0x2000, 0x0c))),
+    (&[], 0, None),
+    (&[], 15, None),
+    (&[], 16, None),
+    (&[], 0xffff_ffff_ffff_ffff, None),
+    // one that the headers do not hold
+    (&[(0xb4, &[0x06])], 5, Some((0x2000, 0x0c))),
+    (&[(0xb4, &[0x05])], 5, None),
+    // RVA 0
+    (&[(0xe0, &[0x00, 0x00])], 5, None),
+    (&[(0xbc, &[0x60])], 0, None),
+    // Size 0, which makes number 5 alone absent
+    (&[(0xe4, &[0x01])], 5, Some((0x2000, 1))),
+    (&[(0xe4, &[0x00])], 5, None),
+    (&[(0xb8, &[0x20, 0x10])], 0, Some((0x1020, 0))),
+    (&[(0xc0, &[0x20, 0x10])], 1, Some((0x1020, 0))),
+    (&[(0xd8, &[0x00, 0x06])], 4, Some((0x600, 0))),
+    (
+        &[(0x130, &[0x01, 0x00, 0x00, 0x00, 0x02])],
+        15,
+        Some((1, 2)),
+    ),
+];
+
+#[test]
+fn a_directory_is_present_where_the_headers_hold_it_and_its_rva_is_not_0(
+    rt: HostRuntime,
+) -> Result<(), Fail> {
+    for (pieces, index, expected) in DIRECTORIES {
+        let mut file = v2(rt.alloc())?;
+        put_pieces(&rt, &mut file, pieces);
+        let layout = Layout::new(View::new(&file), IMAGE)?;
+        let expected = expected.map(|(rva, size)| Directory { rva, size });
+        assert_eq!(rt; layout.directory(*index), expected, "at {index}");
+    }
+    Ok(())
+}
+
+/// A small image: headers up to 0x16e, then two sections that touch, an empty one, one without raw data, one whose raw
+/// bytes begin in the headers' last two, and an empty one at the image's end, 0x19a; gaps stand before, between and
+/// behind them.
+const SMALL: &[Piece] = &[
+    (0x00, &[0x4d, 0x5a]),
+    (0x04, &[0x50, 0x45, 0x00, 0x00, 0x4c, 0x01, 0x06]),
+    (0x18, &[0x60, 0x00, 0x02, 0x21, 0x0b, 0x01]),
+    (0x3c, &[0x04]),
+    (0x54, &[0x9a, 0x01, 0x00, 0x00, 0x6e, 0x01]),
+    // the sections: VirtualSize, VirtualAddress, SizeOfRawData, PointerToRawData
+    (
+        0x084,
+        &[
+            0x08, 0, 0, 0, 0x72, 0x01, 0, 0, 0x08, 0, 0, 0, 0x04, 0, 0, 0,
+        ],
+    ),
+    (
+        0x0ac,
+        &[
+            0x0c, 0, 0, 0, 0x7a, 0x01, 0, 0, 0x05, 0, 0, 0, 0x70, 0x01, 0, 0,
+        ],
+    ),
+    (
+        0x0d4,
+        &[
+            0x00, 0, 0, 0, 0x88, 0x01, 0, 0, 0x00, 0, 0, 0, 0x70, 0x01, 0, 0,
+        ],
+    ),
+    (
+        0x0fc,
+        &[
+            0x06, 0, 0, 0, 0x88, 0x01, 0, 0, 0x10, 0, 0, 0, 0x00, 0, 0, 0,
+        ],
+    ),
+    (
+        0x124,
+        &[
+            0x04, 0, 0, 0, 0x90, 0x01, 0, 0, 0x10, 0, 0, 0, 0x6c, 0x01, 0, 0,
+        ],
+    ),
+    (
+        0x14c,
+        &[
+            0x00, 0, 0, 0, 0x9a, 0x01, 0, 0, 0x00, 0, 0, 0, 0x00, 0, 0, 0,
+        ],
+    ),
+    (0x16c, b"abcdefghijklmnopqrst"),
+];
+
+/// Asserts what `fill` answers for a range and leaves in the buffer, where `image` has the bytes of the laid-out image.
+fn assert_filled(
+    rt: &impl Abort,
+    layout: &Layout,
+    image: &[u8],
+    rva: usize,
+    len: usize,
+) -> Result<(), Fail> {
+    let mut buffer = [0xee; 0x1a0];
+    assert!(rt; len <= buffer.len());
+    let filled = layout.fill(u32::try_from(rva)?, &mut buffer[..len]);
+    if rva <= image.len() && len <= image.len() - rva {
+        assert!(rt; filled, "{len} at {rva:#x}");
+        assert!(rt; buffer[..len] == image[rva..rva + len], "{len} at {rva:#x}");
+    } else {
+        assert!(rt; !filled, "{len} at {rva:#x}");
+        assert!(rt;
+            buffer[..len].iter().all(|byte| *byte == 0xee),
+            "{len} at {rva:#x}"
+        );
+    }
+    Ok(())
+}
+
+#[test]
+fn fill_gives_what_byte_gives_for_every_range(rt: HostRuntime) -> Result<(), Fail> {
+    let mut file = [0; 0x180];
+    put_pieces(&rt, &mut file, SMALL);
+    let layout = Layout::new(View::new(&file), IMAGE)?;
+    let image = laid_out(&rt, rt.alloc(), &file)?;
+    assert_bytes(&rt, &layout, &image)?;
+    for rva in 0..image.len() + 3 {
+        for len in 0..image.len() + 3 - rva {
+            assert_filled(&rt, &layout, &image, rva, len)?;
+        }
+    }
+    // a range that would wrap
+    assert_filled(&rt, &layout, &image, 0xffff_ffff, 2)
+}
