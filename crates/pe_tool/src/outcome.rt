@@ -38,3 +38,6 @@ pub fn status(answer: &Result<Outcome, ToolError>) -> u8
         Err(ToolError::Memory) => 4,
     }
 }
+
+#[cfg(test)]
+mod tests;
