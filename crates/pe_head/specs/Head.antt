@@ -61,18 +61,18 @@ section_start file i = table_start file + 40 * i
 -- section i's header
 abbrev pub section_at : List ℕ → ℕ → SectionHeader
 section_at file i =
-    let row = λ (offset width : ℕ). num (byte_of file) (section_start file i + offset) width in
+    let field = λ (offset width : ℕ). num (byte_of file) (section_start file i + offset) width in
     record {
       name = part file (section_start file i) 8;
-      virtual_size = row 8 4;
-      virtual_address = row 12 4;
-      size_of_raw_data = row 16 4;
-      pointer_to_raw_data = row 20 4;
-      pointer_to_relocations = row 24 4;
-      pointer_to_linenumbers = row 28 4;
-      number_of_relocations = row 32 2;
-      number_of_linenumbers = row 34 2;
-      characteristics = row 36 4;
+      virtual_size = field 8 4;
+      virtual_address = field 12 4;
+      size_of_raw_data = field 16 4;
+      pointer_to_raw_data = field 20 4;
+      pointer_to_relocations = field 24 4;
+      pointer_to_linenumbers = field 28 4;
+      number_of_relocations = field 32 2;
+      number_of_linenumbers = field 34 2;
+      characteristics = field 36 4;
     }
 
 -- the headers of a file: offsets count from the COFF header's and from the optional header's beginning

@@ -7,3 +7,4 @@ pub mod Neighbours
 pub mod Pages
 pub mod Refusing
 pub mod Rising
+pub mod Rows

@@ -1,5 +1,5 @@
 -- What the devices tell of their calls.
-use Rattle.std.specs.Prelude.{ℕ, ◌-◌, Bool, List, take, vec_len, vec_capacity}
+use Rattle.std.specs.Prelude.{ℕ, ◌-◌, Bool, List, Option, take, vec_len, vec_capacity}
 use Rattle.pe_vectors.specs.declared.devices.StepReader.{StepReader}
 use Rattle.pe_vectors.specs.declared.devices.StepWriter.{StepWriter}
 
@@ -30,3 +30,23 @@ room_of writer = vec_capacity writer.taken - vec_len writer.taken
 -- how many of its writes failed
 abbrev pub failed_writes : StepWriter → ℕ
 failed_writes writer = writer.failures
+
+-- the most bytes that a call gives or takes
+abbrev pub step_of_reads : StepReader → ℕ
+step_of_reads reader = reader.step
+
+abbrev pub step_of_writes : StepWriter → ℕ
+step_of_writes writer = writer.step
+
+-- the number of the next call, and of the one that fails
+abbrev pub next_read : StepReader → ℕ
+next_read reader = reader.schedule.calls
+
+abbrev pub failing_read : StepReader → Option ℕ
+failing_read reader = reader.schedule.failing
+
+abbrev pub next_write : StepWriter → ℕ
+next_write writer = writer.schedule.calls
+
+abbrev pub failing_write : StepWriter → Option ℕ
+failing_write writer = writer.schedule.failing

@@ -1,5 +1,5 @@
-//! A source and a sink over memory, for tests: each call gives or takes a few bytes at most, and one call fails. How many,
-//! and which, is shown by tests; all else that a device tells of its calls is proved.
+//! A source and a sink over memory, for tests: each call gives or takes a few bytes at most, and one call fails. That a call
+//! keeps to its device's number of bytes, and fails in its turn, is shown by tests; all else that it tells is proved.
 
 ghost use Rattle.std.specs.Prelude.{◌≡◌, ◌<◌, ◌≤◌, length, true, false, [], IfOk};
 
@@ -16,7 +16,10 @@ struct Schedule {
 }
 
 impl Schedule {
-    fn new(failing: Option<u64>) -> Self {
+    fn new(failing: Option<u64>) -> Self
+        ensures calls { result.calls ≡ 0 }
+        ensures failing { result.failing ≡ failing }
+    {
         Schedule { calls: 0, failing }
     }
 
@@ -43,7 +46,7 @@ pub struct StepReader<'a> {
 }
 
 impl<'a> StepReader<'a> {
-    ghost use Rattle.pe_vectors.specs.Devices.{bytes_of, given_by, has_ended, failed_reads};
+    ghost use Rattle.pe_vectors.specs.Devices.{bytes_of, given_by, has_ended, failed_reads, step_of_reads, next_read, failing_read};
 
     /// A source of these bytes that gives at most `step` of them a call. The call of the number `failing`, counted from
     /// 0, fails and gives none.
@@ -53,6 +56,9 @@ impl<'a> StepReader<'a> {
         ensures given { given_by result ≡ [] }
         ensures ended { has_ended result ≡ false }
         ensures failures { failed_reads result ≡ 0 }
+        ensures step { step_of_reads result ≡ step }
+        ensures first { next_read result ≡ 0 }
+        ensures failing { failing_read result ≡ failing }
     {
         StepReader {
             bytes,
@@ -103,7 +109,7 @@ pub struct StepWriter {
 }
 
 impl StepWriter {
-    ghost use Rattle.pe_vectors.specs.Devices.{taken_by, room_of, failed_writes};
+    ghost use Rattle.pe_vectors.specs.Devices.{taken_by, room_of, failed_writes, step_of_writes, next_write, failing_write};
 
     /// A sink that takes at most `step` bytes a call, and `room` in all: their memory is taken here, and none later. The
     /// call of the number `failing`, counted from 0, fails and takes none.
@@ -116,6 +122,9 @@ impl StepWriter {
         ensures taken { IfOk result (λ writer. taken_by writer ≡ []) }
         ensures room { IfOk result (λ writer. room_of writer ≡ room) }
         ensures failures { IfOk result (λ writer. failed_writes writer ≡ 0) }
+        ensures step { IfOk result (λ writer. step_of_writes writer ≡ step) }
+        ensures first { IfOk result (λ writer. next_write writer ≡ 0) }
+        ensures failing { IfOk result (λ writer. failing_write writer ≡ failing) }
     {
         Ok(StepWriter {
             taken: Vec::with_capacity(alloc, room)?,
