@@ -189,7 +189,7 @@ pages-before f (p ∷ ps) = elim (cases_Bool (p.page == page_of f)) [
   | inr other ↦ (let e : before_pages f (p ∷ ps) ≡ record { page = page_of f; fixups = f ∷ [] } ∷ p ∷ ps = rw other refl in ap (flat_map (λ (q : Page). q.fixups)) e)
 ]
 
-pages-all : (fs : List Fixup) → flat_map (λ (p : Page). p.fixups) (pages_of fs) ≡ fs
+pub pages-all : (fs : List Fixup) → flat_map (λ (p : Page). p.fixups) (pages_of fs) ≡ fs
 pages-all [] = refl
 pages-all (f ∷ fs) = pages-before f (pages_of fs) ∙ ap (λ (gs : List Fixup). f ∷ gs) (pages-all fs)
 

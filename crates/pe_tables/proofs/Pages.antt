@@ -1,10 +1,12 @@
 -- The pages of fixups, from the first on.
-use Rattle.std.proofs.Common.{◌≡◌, ◌≢◌, ℕ, zero, suc, ◌+◌, ◌-◌, ◌<◌, ◌≤◌, Bool, true, false, List, [], ◌∷◌, length, take, drop, get_or, refl, sym, ap, ◌∙◌, arith}
-use Rattle.std.specs.Prelude.{◌==◌}
-use Rattle.std.proofs.lemmas.Bool.{eqb-true}
+use Rattle.std.proofs.Common.{◌≡◌, ◌≢◌, ℕ, zero, suc, ◌+◌, ◌-◌, ◌<◌, ◌≤◌, Bool, true, false, List, [], ◌∷◌, length, take, drop, get_or, refl, sym, ap, subst, ◌∙◌, arith, inl, inr}
+use Rattle.std.specs.Prelude.{◌==◌, All, AllPairs}
+use Rattle.std.proofs.lemmas.Bool.{eqb-true, eqb-false, cases_Bool}
+use Rattle.std.proofs.lemmas.List.Elements.{All-nil, All-cons, All-head, All-tail}
+use Rattle.std.proofs.lemmas.List.Kept.{AllPairs-cons}
 use Rattle.std.proofs.lemmas.Bool.Decides.{nat_tests}
 use Rattle.std.proofs.lemmas.List.{get_or-drop, length-drop}
-use Rattle.pe_tables.specs.Encoded.{Page, FieldsAscend, page_of, before_pages, pages_of}
+use Rattle.pe_tables.specs.Encoded.{Page, IsPage, FieldsAscend, page_of, before_pages, pages_of}
 use Rattle.pe_tables.specs.declared.fixups.Fixup.{Fixup}
 
 -- the first page is that of the first fixup
@@ -79,3 +81,61 @@ ascend-drop xs n ascend = λ i j d lt below.
     let low : get_or (drop n xs) i d ≡ get_or xs (n + i) d = get_or-drop n xs i d in
     let high : get_or (drop n xs) j d ≡ get_or xs (n + j) d = get_or-drop n xs j d in
     rw (low, high) step
+
+-- pages ascend, from a number on
+abbrev Rising : ℕ → List Page → Type 0
+Rising from [] = Unit {0}
+Rising from (p ∷ ps) = (from ≤ p.page) × Rising (p.page + 1) ps
+
+rising-before : (f : Fixup) (from : ℕ) (ps : List Page) → page_of f ≤ from → Rising from ps → Rising (page_of f) (before_pages f ps)
+rising-before f from [] le rising = (omega arith, tt)
+rising-before f from (p ∷ ps) le rising = elim (cases_Bool (p.page == page_of f)) [
+  | inl same ↦
+      (let e : before_pages f (p ∷ ps) ≡ record { page = p.page; fixups = f ∷ p.fixups } ∷ ps = rw same refl in
+      let equal : p.page ≡ page_of f = eqb-true _ _ same in
+      subst (Rising (page_of f)) (sym e) (omega arith, rising.1))
+  | inr other ↦
+      (let e : before_pages f (p ∷ ps) ≡ record { page = page_of f; fixups = f ∷ [] } ∷ p ∷ ps = rw other refl in
+      let low = rising.0 in
+      let differs : p.page ≢ page_of f = eqb-false _ _ other in
+      subst (Rising (page_of f)) (sym e) (omega arith, (omega (arith, differs), rising.1)))
+]
+
+pages_rise : (f : Fixup) (fs : List Fixup) → FieldsAscend (f ∷ fs) → Rising (page_of f) (pages_of (f ∷ fs))
+pages_rise f [] ascend = (omega arith, tt)
+pages_rise f (g ∷ fs) ascend =
+    let step : f.field < g.field = ascend 0 1 f (omega arith) (omega arith) in
+    let later : FieldsAscend (g ∷ fs) = ascend-drop (f ∷ g ∷ fs) 1 ascend in
+    rising-before f (page_of g) (pages_of (g ∷ fs)) (omega arith) (pages_rise g fs later)
+
+all_later : (n from : ℕ) (ps : List Page) → n < from → Rising from ps → All (λ (p : Page). n < p.page) ps
+all_later n from [] lt rising = λ k d within. absurd (omega arith)
+all_later n from (p ∷ ps) lt rising = let low = rising.0 in All-cons (λ (q : Page). n < q.page) p ps (omega arith) (all_later n (p.page + 1) ps (omega arith) rising.1)
+
+ascends : (from : ℕ) (ps : List Page) → Rising from ps → AllPairs (λ (p q : Page). p.page < q.page) ps
+ascends from [] rising = λ i j d lt within. absurd (omega arith)
+ascends from (p ∷ ps) rising = AllPairs-cons (λ (p q : Page). p.page < q.page) p ps (all_later p.page (p.page + 1) ps (omega arith) rising.1) (ascends (p.page + 1) ps rising.1)
+
+pub pages_ascend : (fs : List Fixup) → FieldsAscend fs → AllPairs (λ (p q : Page). p.page < q.page) (pages_of fs)
+pages_ascend [] ascend = λ i j d lt within. absurd (omega arith)
+pages_ascend (f ∷ fs) ascend = ascends (page_of f) (pages_of (f ∷ fs)) (pages_rise f fs ascend)
+
+one : (f : Fixup) → IsPage (record { page = page_of f; fixups = f ∷ [] })
+one f = (omega arith, All-cons (λ (g : Fixup). page_of g ≡ page_of f) f [] refl (All-nil (λ (g : Fixup). page_of g ≡ page_of f)))
+
+own-before : (f : Fixup) (ps : List Page) → All IsPage ps → All IsPage (before_pages f ps)
+own-before f [] own = All-cons IsPage (record { page = page_of f; fixups = f ∷ [] }) [] (one f) own
+own-before f (p ∷ ps) own = elim (cases_Bool (p.page == page_of f)) [
+  | inl same ↦
+      (let e : before_pages f (p ∷ ps) ≡ record { page = p.page; fixups = f ∷ p.fixups } ∷ ps = rw same refl in
+      let h = All-head IsPage p ps own in
+      let joined : IsPage (record { page = p.page; fixups = f ∷ p.fixups }) = (omega arith, All-cons (λ (g : Fixup). page_of g ≡ p.page) f p.fixups (sym (eqb-true _ _ same)) h.1) in
+      subst (All IsPage) (sym e) (All-cons IsPage (record { page = p.page; fixups = f ∷ p.fixups }) ps joined (All-tail IsPage p ps own)))
+  | inr other ↦
+      (let e : before_pages f (p ∷ ps) ≡ record { page = page_of f; fixups = f ∷ [] } ∷ p ∷ ps = rw other refl in
+      subst (All IsPage) (sym e) (All-cons IsPage (record { page = page_of f; fixups = f ∷ [] }) (p ∷ ps) (one f) own))
+]
+
+pub pages_own : (fs : List Fixup) → All IsPage (pages_of fs)
+pages_own [] = All-nil IsPage
+pages_own (f ∷ fs) = own-before f (pages_of fs) (pages_own fs)

@@ -1,5 +1,5 @@
 -- The bytes of a base relocation table: one block for each page that has a field.
-use Rattle.std.specs.Prelude.{ℕ, ◌+◌, ◌*◌, ◌/◌, ◌%◌, ◌<◌, ◌==◌, List, [], ◌∷◌, ◌++◌, length, map, replicate, AllPairs, if◌then◌else◌}
+use Rattle.std.specs.Prelude.{◌≡◌, ℕ, ◌+◌, ◌*◌, ◌/◌, ◌%◌, ◌<◌, ◌==◌, List, [], ◌∷◌, ◌++◌, length, map, replicate, All, AllPairs, if◌then◌else◌}
 use Rattle.std.specs.List.{flat_map, range_with_len}
 use Rattle.pe_view.specs.Number.{digit}
 use Rattle.pe_tables.specs.declared.fixups.Fixup.{Fixup}
@@ -34,6 +34,10 @@ before_pages f (p ∷ ps) =
 abbrev pub pages_of : List Fixup → List Page
 pages_of [] = []
 pages_of (f ∷ fs) = before_pages f (pages_of fs)
+
+-- a page has some fixups, all of them its own
+abbrev pub IsPage : Page → Type 0
+IsPage p = (0 < length p.fixups) × All (λ (f : Fixup). page_of f ≡ p.page) p.fixups
 
 -- the type that stands for a kind
 abbrev pub type_of : FixupKind → ℕ
