@@ -3,8 +3,8 @@
 #![tactic(auto)]
 
 use pe_tool::{Counted, Job, Outcome, ToolError, WordsError, check, dump, parse_words, status};
-use std::alloc::Global;
-use std::io::{BufWriter, Read, Write};
+use std::alloc::{AllocError, Allocator};
+use std::io::{BufWriter, ErrorKind, Read, Write};
 use std::process::ExitCode;
 use std::rt::{Env, Files};
 use std::{env, fs, io};
@@ -32,8 +32,8 @@ enum Engine {
 }
 
 /// Runs an engine from a reader to a writer.
-fn run_engine(
-    alloc: Global,
+fn run_engine<A: Allocator + Copy>(
+    alloc: A,
     engine: Engine,
     reader: impl Read + Drop,
     writer: impl Write + Drop,
@@ -47,11 +47,14 @@ fn run_engine(
 }
 
 /// Runs an engine over an open file. Its text is on standard output when it is done.
-fn print_text<R: Print + AllocGlobal>(
+fn print_text<R: Print + Alloc>(
     rt: &R,
     engine: Engine,
     file: impl Read + Drop,
-) -> Result<Outcome, ToolError> {
+) -> Result<Outcome, ToolError>
+where
+    R::A: Copy,
+{
     let Ok(mut output) = BufWriter::with_capacity(rt.alloc(), OUTPUT_BUFFER, io::writer(rt)) else {
         return Err(ToolError::Memory);
     };
@@ -63,7 +66,10 @@ fn print_text<R: Print + AllocGlobal>(
 }
 
 /// Runs an engine over a file, tells on standard error what failed, and answers the exit status.
-fn run_file<R: Files + Print + Eprint + AllocGlobal>(rt: &R, engine: Engine, path: &str) -> u8 {
+fn run_file<R: Files + Print + Eprint + Alloc>(rt: &R, engine: Engine, path: &str) -> u8
+where
+    R::A: Copy,
+{
     let file = match fs::open(rt, path) {
         Ok(file) => file,
         Err(error) => {
@@ -76,6 +82,40 @@ fn run_file<R: Files + Print + Eprint + AllocGlobal>(rt: &R, engine: Engine, pat
         let _ = eprintln!(rt; "petool: {path}: {error}");
     }
     status(&answer)
+}
+
+/// Why the command line gives no words.
+enum NoWords {
+    /// A word is no text.
+    Unreadable,
+    /// Memory was refused.
+    Memory,
+}
+
+impl From<AllocError> for NoWords {
+    fn from(_error: AllocError) -> NoWords {
+        NoWords::Memory
+    }
+}
+
+/// The words of the command line after the program's name.
+fn words_of<R: Env + Alloc>(rt: &R) -> Result<Vec<String<R::A>, R::A>, NoWords> {
+    let words = env::args(rt).map_err(|error| match error.kind() {
+        ErrorKind::OutOfMemory => NoWords::Memory,
+        _ => NoWords::Unreadable,
+    })?;
+    Ok(words.skip(1).collect(rt.alloc())?)
+}
+
+/// Tells why there are no words, and answers the exit status.
+fn refuse_command_line(rt: &(impl Print + Eprint), error: NoWords) -> u8 {
+    match error {
+        NoWords::Unreadable => {
+            let _ = eprintln!(rt; "petool: the command line cannot be read");
+            BAD_WORDS
+        }
+        NoWords::Memory => refuse_words(rt, WordsError::Memory),
+    }
 }
 
 /// Tells why the words name no job, and answers the exit status.
@@ -98,12 +138,9 @@ fn refuse_words(rt: &(impl Print + Eprint), error: WordsError) -> u8 {
 
 /// Does what the command line asks for, and answers the exit status.
 fn run<R: Files + Env + Print + Eprint + AllocGlobal>(rt: &R) -> u8 {
-    let Ok(words) = env::args(rt) else {
-        let _ = eprintln!(rt; "petool: the command line cannot be read");
-        return BAD_WORDS;
-    };
-    let Ok(words) = words.skip(1).collect::<Vec<String>>(rt.alloc()) else {
-        return refuse_words(rt, WordsError::Memory);
+    let words = match words_of(rt) {
+        Ok(words) => words,
+        Err(error) => return refuse_command_line(rt, error),
     };
     match parse_words(rt.alloc(), &words) {
         Ok(Job::Check { file }) => run_file(rt, Engine::Check, file.as_str()),
@@ -115,3 +152,6 @@ fn run<R: Files + Env + Print + Eprint + AllocGlobal>(rt: &R) -> u8 {
 fn main(rt: HostRuntime) -> ExitCode {
     ExitCode::from(run(&rt))
 }
+
+#[cfg(test)]
+mod tests;

@@ -1,0 +1,159 @@
+//! What the program prints, on which of its outputs, and its exit status.
+
+use super::*;
+use fake::{Fake, Stored};
+use linked_list_allocator::LocalHeap;
+use std::test::Fail;
+
+mod fake;
+
+/// The file of a PE32 image that has headers alone, with no directory and no section.
+const HEADERS: &[u8] = b"\
+    MZ\0\0\0\0\0\0\0\0\0\0\0\0\0\0\0\0\0\0\0\0\0\0\0\0\0\0\0\0\0\0\
+    \0\0\0\0\0\0\0\0\0\0\0\0\0\0\0\0\0\0\0\0\0\0\0\0\0\0\0\0\x40\0\0\0\
+    PE\0\0\
+    \x4c\x01\0\0\0\0\0\0\0\0\0\0\0\0\0\0\x60\0\x02\x21\
+    \x0b\x01\0\0\0\0\0\0\0\0\0\0\0\0\0\0\0\0\0\0\0\0\0\0\0\0\0\0\
+    \0\0\0\x10\0\x10\0\0\0\x02\0\0\0\0\0\0\0\0\0\0\0\0\0\0\0\0\0\0\0\x10\0\0\
+    \xb8\0\0\0\0\0\0\0\0\0\0\0\0\0\0\0\0\0\0\0\0\0\0\0\0\0\0\0\0\0\0\0\0\0\0\0";
+
+const CHECK: &[&[u8]] = &[b"petool", b"check", b"a.dll"];
+
+const DUMP: &[&[u8]] = &[b"petool", b"dump", b"a.dll"];
+
+const NO_FILE_GIVEN: &str = "\
+error: the following required arguments were not provided:
+  <FILE>
+
+Usage: petool check <FILE>
+
+For more information, try '--help'.
+";
+
+/// What the program is to do on a system.
+#[derive(Clone, Copy)]
+struct Case {
+    words: &'static [&'static [u8]],
+    file: Stored,
+    is_full: bool,
+    status: u8,
+    printed: &'static str,
+    complained: &'static str,
+}
+
+#[test]
+fn each_end_has_its_status_and_its_text(rt: HostRuntime) -> Result<(), Fail> {
+    let cases = [
+        Case {
+            words: CHECK,
+            file: Stored::Bytes(HEADERS),
+            is_full: false,
+            status: 0,
+            printed: "accepted PE32 sections 0\n",
+            complained: "",
+        },
+        Case {
+            words: DUMP,
+            file: Stored::Bytes(b""),
+            is_full: false,
+            status: 1,
+            printed: "fault 2 image 0 file 0x00000000\n",
+            complained: "",
+        },
+        Case {
+            words: &[b"petool", b"check"],
+            file: Stored::Bytes(HEADERS),
+            is_full: false,
+            status: 2,
+            printed: "",
+            complained: NO_FILE_GIVEN,
+        },
+        Case {
+            words: &[b"petool", b"check", b"\xff"],
+            file: Stored::Bytes(HEADERS),
+            is_full: false,
+            status: 2,
+            printed: "",
+            complained: "petool: the command line cannot be read\n",
+        },
+        Case {
+            words: &[b"petool", b"dump", b"b.dll"],
+            file: Stored::Bytes(HEADERS),
+            is_full: false,
+            status: 3,
+            printed: "",
+            complained: "petool: b.dll: cannot be opened: no such file\n",
+        },
+        Case {
+            words: DUMP,
+            file: Stored::Broken,
+            is_full: false,
+            status: 3,
+            printed: "",
+            complained: "petool: a.dll: reading failed\n",
+        },
+        Case {
+            words: CHECK,
+            file: Stored::Bytes(HEADERS),
+            is_full: true,
+            status: 3,
+            printed: "",
+            complained: "petool: a.dll: writing failed\n",
+        },
+        Case {
+            words: &[b"petool", b"--help"],
+            file: Stored::Bytes(HEADERS),
+            is_full: true,
+            status: 3,
+            printed: "",
+            complained: "",
+        },
+    ];
+    for case in cases {
+        let mut system = Fake::new(rt.alloc(), case.words, case.file);
+        system.is_full = case.is_full;
+        assert_eq!(rt; run(&system), case.status);
+        assert_eq!(rt; system.printed()?.as_str(), case.printed);
+        assert_eq!(rt; system.complained()?.as_str(), case.complained);
+    }
+    Ok(())
+}
+
+#[test]
+fn help_goes_to_standard_output(rt: HostRuntime) -> Result<(), Fail> {
+    let system = Fake::new(rt.alloc(), &[b"petool", b"--help"], Stored::Broken);
+    assert_eq!(rt; run(&system), 0);
+    let text = system.printed()?;
+    assert!(rt; text.contains("\nUsage: petool <COMMAND>\n"), "{text}");
+    assert_eq!(rt; system.complained()?.as_str(), "");
+    Ok(())
+}
+
+#[test]
+fn want_of_memory_is_told(rt: HostRuntime) -> Result<(), Fail> {
+    // the first heap has no room for the output's buffer, the second none for the file beside it
+    for size in [1 << 10, OUTPUT_BUFFER + 64] {
+        let heap = LocalHeap::new(rt.alloc(), size)?;
+        let system = Fake::new(rt.alloc(), CHECK, Stored::Bytes(HEADERS));
+        assert_eq!(rt; run_file(&(&system, &heap), Engine::Check, "a.dll"), 4);
+        assert_eq!(rt; system.printed()?.as_str(), "");
+        assert_eq!(rt;
+            system.complained()?.as_str(),
+            "petool: a.dll: out of memory\n"
+        );
+    }
+    Ok(())
+}
+
+#[test]
+fn want_of_memory_for_the_words_is_told(rt: HostRuntime) -> Result<(), Fail> {
+    let heap = LocalHeap::new(rt.alloc(), 64)?;
+    let system = Fake::new(rt.alloc(), CHECK, Stored::Bytes(HEADERS));
+    let Err(error) = words_of(&(&system, &heap)) else {
+        return Err(Fail::from("the words were read"));
+    };
+    assert_eq!(rt; refuse_command_line(&system, error), 4);
+    assert_eq!(rt; system.printed()?.as_str(), "");
+    assert_eq!(rt; system.complained()?.as_str(), "petool: out of memory\n");
+    Ok(())
+}

@@ -1,0 +1,234 @@
+//! A runtime of the tests: it holds files and words in place of the system's, and keeps what is printed.
+
+ghost use Rattle.std.specs.Prelude.{IsErr};
+
+use std::alloc::{Allocator, Global};
+use std::cell::RefCell;
+use std::env::FillError;
+use std::fmt::Display;
+use std::fs::{Metadata, OpenFile, OpenOptions};
+use std::io;
+use std::io::{Empty, Error, ErrorKind, Read, Seek, SeekFrom, Write};
+use std::rt::{Env, Files};
+
+/// What a file of the runtime does when it is read.
+#[derive(Clone, Copy)]
+pub(super) enum Stored {
+    /// It gives these bytes, and then its end.
+    Bytes(&'static [u8]),
+    /// Each read fails.
+    Broken,
+}
+
+/// A system with one file, `a.dll`.
+#[derive(Drop)]
+pub(super) struct Fake {
+    alloc: Global,
+    pub words: &'static [&'static [u8]],
+    pub file: Stored,
+    /// Standard output takes nothing.
+    pub is_full: bool,
+    printed: RefCell<String>,
+    complained: RefCell<String>,
+}
+
+impl Fake {
+    /// A system on which nothing was printed.
+    pub fn new(alloc: Global, words: &'static [&'static [u8]], file: Stored) -> Fake {
+        Fake {
+            alloc,
+            words,
+            file,
+            is_full: false,
+            printed: RefCell::new(String::new(alloc)),
+            complained: RefCell::new(String::new(alloc)),
+        }
+    }
+
+    /// What is on standard output.
+    pub fn printed(&self) -> io::Result<String> {
+        copy_of(self.alloc, &self.printed)
+    }
+
+    /// What is on standard error.
+    pub fn complained(&self) -> io::Result<String> {
+        copy_of(self.alloc, &self.complained)
+    }
+}
+
+fn copy_of(alloc: Global, text: &RefCell<String>) -> io::Result<String> {
+    match text.try_borrow() {
+        Ok(text) => Ok(String::from_str(alloc, text.as_str())?),
+        Err(_) => Err(Error::from(ErrorKind::ResourceBusy)),
+    }
+}
+
+fn append(text: &RefCell<String>, more: &str) -> io::Result<()> {
+    match text.try_borrow_mut() {
+        Ok(mut text) => Ok(text.push_str(more)?),
+        Err(_) => Err(Error::from(ErrorKind::ResourceBusy)),
+    }
+}
+
+fn unsupported<T>() -> io::Result<T>
+    ensures { IsErr result }
+{
+    Err(Error::from(ErrorKind::Unsupported))
+}
+
+impl Alloc for Fake {
+    type A = Global;
+
+    fn alloc(&self) -> Global {
+        self.alloc
+    }
+}
+
+impl Env for Fake {
+    fn arg(&self, i: usize, buf: &mut [u8]) -> Result<usize, FillError> {
+        let Some(word) = self.words.get(i) else {
+            return Err(FillError::NotPresent);
+        };
+        let Some(room) = buf.get_mut(..word.len()) else {
+            return Err(FillError::TooLong);
+        };
+        room.copy_from_slice(word);
+        Ok(word.len())
+    }
+
+    fn var(&self, _name: &str, _buf: &mut [u8]) -> Result<usize, FillError> {
+        Err(FillError::NotPresent)
+    }
+
+    fn var_at(&self, _i: usize, _buf: &mut [u8]) -> Result<usize, FillError> {
+        Err(FillError::NotPresent)
+    }
+}
+
+impl Print for Fake {
+    fn print<D: Display + Drop>(&self, value: D) -> io::Result<()> {
+        let text = format!(in self.alloc; "{value}")?;
+        self.write_all(text.as_bytes())
+    }
+
+    fn println<D: Display + Drop>(&self, value: D) -> io::Result<()> {
+        let text = format!(in self.alloc; "{value}\n")?;
+        self.write_all(text.as_bytes())
+    }
+
+    fn write_all(&self, bytes: &[u8]) -> io::Result<()> {
+        match str::from_utf8(bytes) {
+            Ok(text) if !self.is_full => append(&self.printed, text),
+            _ => Err(Error::from(ErrorKind::StorageFull)),
+        }
+    }
+}
+
+impl Eprint for Fake {
+    fn eprint<D: Display + Drop>(&self, value: D) -> io::Result<()> {
+        let text = format!(in self.alloc; "{value}")?;
+        append(&self.complained, text.as_str())
+    }
+
+    fn eprintln<D: Display + Drop>(&self, value: D) -> io::Result<()> {
+        let text = format!(in self.alloc; "{value}\n")?;
+        append(&self.complained, text.as_str())
+    }
+}
+
+/// An open file.
+#[derive(Drop)]
+pub(super) struct Opened(Stored);
+
+impl Read for Opened {
+    fn read(&mut self, buf: &mut [u8]) -> io::Result<usize> {
+        match &mut self.0 {
+            Stored::Bytes(left) => left.read(buf),
+            Stored::Broken => Err(Error::from(ErrorKind::Other)),
+        }
+    }
+}
+
+impl Write for Opened {
+    fn write(&mut self, _buf: &[u8]) -> io::Result<usize> {
+        unsupported()
+    }
+
+    fn flush(&mut self) -> io::Result<()> {
+        unsupported()
+    }
+}
+
+impl Seek for Opened {
+    fn seek(&mut self, _to: SeekFrom) -> io::Result<u64> {
+        unsupported()
+    }
+}
+
+impl OpenFile for Opened {
+    fn metadata(&self) -> io::Result<Metadata> {
+        unsupported()
+    }
+
+    fn set_len(&self, _size: u64) -> io::Result<()> {
+        unsupported()
+    }
+
+    fn sync_all(&self) -> io::Result<()> {
+        unsupported()
+    }
+
+    fn sync_data(&self) -> io::Result<()> {
+        unsupported()
+    }
+}
+
+impl Files for Fake {
+    type File = Opened;
+
+    type Dir = Empty;
+
+    fn open_file(&self, _how: &OpenOptions, path: &str) -> io::Result<Opened> {
+        if path == "a.dll" {
+            Ok(Opened(self.file))
+        } else {
+            Err(Error::new(ErrorKind::NotFound, "no such file"))
+        }
+    }
+
+    fn open_dir(&self, _path: &str) -> io::Result<Empty> {
+        unsupported()
+    }
+
+    fn metadata(&self, _path: &str) -> io::Result<Metadata> {
+        unsupported()
+    }
+
+    fn symlink_metadata(&self, _path: &str) -> io::Result<Metadata> {
+        unsupported()
+    }
+
+    fn copy(&self, _from: &str, _to: &str) -> io::Result<u64> {
+        unsupported()
+    }
+
+    fn rename(&self, _from: &str, _to: &str) -> io::Result<()> {
+        unsupported()
+    }
+
+    fn remove_file(&self, _path: &str) -> io::Result<()> {
+        unsupported()
+    }
+
+    fn create_dir(&self, _path: &str) -> io::Result<()> {
+        unsupported()
+    }
+
+    fn remove_dir(&self, _path: &str) -> io::Result<()> {
+        unsupported()
+    }
+
+    fn remove_dir_all<B: Allocator>(&self, _alloc: B, _path: &str) -> io::Result<()> {
+        unsupported()
+    }
+}
