@@ -1,4 +1,4 @@
-ghost use Rattle.std.specs.Prelude.{◌≡◌, ℕ, ◌+◌, ◌≤◌, ◌*◌, ◌<◌, if◌then◌else◌, map};
+ghost use Rattle.std.specs.Prelude.{◌≡◌, ℕ, ◌+◌, ◌≤◌, ◌*◌, ◌^◌, ◌<◌, if◌then◌else◌, map};
 ghost use Rattle.std.specs.List.{range_with_len};
 ghost use Rattle.pe_view.specs.View.{bytes_of, size_of};
 ghost use Rattle.pe_view.specs.Number.{num, byte_of};
@@ -77,14 +77,20 @@ impl<'a> Fields<'a> {
         u32_in(self.view, u64::from(self.offset) + 4 + offset)
     }
 
+    /// Where what stands so many bytes behind the optional header's beginning is in the file.
+    fn optional(&self, offset: u64) -> u64
+        requires { offset < 2 ^ 32 }
+        ensures { result ≡ optional_start (bytes_of self.now.view) + offset }
+    {
+        u64::from(self.offset) + 24 + offset
+    }
+
     /// A field of 1 byte that stands at one offset in both forms of the optional header.
     pub fn u8_at(&self, offset: u64) -> u8
         requires { offset + 1 ≤ 96 }
         ensures { result ≡ field (bytes_of self.now.view) offset 1 }
     {
-        self.view
-            .slice(u64::from(self.offset) + 24 + offset, 1)
-            .unwrap()[0]
+        self.view.slice(self.optional(offset), 1).unwrap()[0]
     }
 
     /// A field of 2 bytes that stands at one offset in both forms of the optional header.
@@ -92,7 +98,7 @@ impl<'a> Fields<'a> {
         requires { offset + 2 ≤ 96 }
         ensures { result ≡ field (bytes_of self.now.view) offset 2 }
     {
-        u16_in(self.view, u64::from(self.offset) + 24 + offset)
+        u16_in(self.view, self.optional(offset))
     }
 
     /// A field of 4 bytes that stands at one offset in both forms of the optional header.
@@ -100,7 +106,7 @@ impl<'a> Fields<'a> {
         requires { offset + 4 ≤ 96 }
         ensures { result ≡ field (bytes_of self.now.view) offset 4 }
     {
-        u32_in(self.view, u64::from(self.offset) + 24 + offset)
+        u32_in(self.view, self.optional(offset))
     }
 
     /// A field of 4 bytes at one of two offsets.
@@ -110,8 +116,8 @@ impl<'a> Fields<'a> {
         ensures { result ≡ either_field (bytes_of self.now.view) offset 4 plus_offset 4 }
     {
         match self.magic {
-            Magic::Pe32 => u32_in(self.view, u64::from(self.offset) + 24 + offset),
-            Magic::Pe32Plus => u32_in(self.view, u64::from(self.offset) + 24 + plus_offset),
+            Magic::Pe32 => u32_in(self.view, self.optional(offset)),
+            Magic::Pe32Plus => u32_in(self.view, self.optional(plus_offset)),
         }
     }
 
@@ -122,8 +128,8 @@ impl<'a> Fields<'a> {
         ensures { result ≡ either_field (bytes_of self.now.view) offset 4 plus_offset 8 }
     {
         match self.magic {
-            Magic::Pe32 => u64::from(u32_in(self.view, u64::from(self.offset) + 24 + offset)),
-            Magic::Pe32Plus => u64_in(self.view, u64::from(self.offset) + 24 + plus_offset),
+            Magic::Pe32 => u64::from(u32_in(self.view, self.optional(offset))),
+            Magic::Pe32Plus => u64_in(self.view, self.optional(plus_offset)),
         }
     }
 
@@ -143,7 +149,7 @@ impl<'a> Fields<'a> {
         requires held { optional_start (bytes_of self.now.view) + fixed_size (bytes_of self.now.view) + 8 * index + 8 ≤ size_of self.now.view }
         ensures { result ≡ directory_at (bytes_of self.now.view) index }
     {
-        let start = u64::from(self.offset) + 24 + self.magic.fixed_size() + 8 * index;
+        let start = self.optional(self.magic.fixed_size() + 8 * index);
         Directory {
             rva: u32_in(self.view, start),
             size: u32_in(self.view, start + 4),
@@ -156,7 +162,7 @@ impl<'a> Fields<'a> {
         requires held { section_start (bytes_of self.now.view) (index + 1) ≤ size_of self.now.view }
         ensures { result ≡ section_at (bytes_of self.now.view) index }
     {
-        let start = u64::from(self.offset) + 24 + u64::from(self.coff_u16(16)) + 40 * index;
+        let start = self.optional(u64::from(self.coff_u16(16)) + 40 * index);
         let mut name = [0; 8];
         name.copy_from_slice(self.view.slice(start, 8).unwrap());
         SectionHeader {

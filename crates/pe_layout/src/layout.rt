@@ -4,7 +4,7 @@ ghost use Rattle.pe_view.specs.Faults.{first_standing};
 ghost use Rattle.pe_layout.specs.SectionFaults.{placing_tests};
 
 use crate::placing::check_sections;
-use pe_head::{Directory, Headers, Magic, read_headers};
+use pe_head::{Directory, Headers, Magic, directory_index, read_headers};
 use pe_view::{Fault, View};
 
 /// An image as its headers and sections lay it out: SizeOfImage bytes, each of the headers, of a section's raw data, or 0.
@@ -84,7 +84,9 @@ impl<'a> Layout<'a> {
         ensures { result ≡ (image_of self.now).directory index }
     {
         let directory = *self.headers.directories.as_slice().get(index)?;
-        if directory.rva == 0 || (index == 5 && directory.size == 0) {
+        if directory.rva == 0
+            || (index == directory_index::BASE_RELOCATION && directory.size == 0)
+        {
             return None;
         }
         Some(directory)
