@@ -12,7 +12,7 @@ use Rattle.pe_tables.specs.declared.fixups.FixupKind.{FixupKind}
 use Rattle.pe_tables.specs.declared.fixups.FixupKind.TheVariants.{Bits32, Bits64}
 
 -- no element passes a test that none passes
-none_at : {X : Type 0} (p : X → Bool) (xs : List X) (k : ℕ) (d : X) → list_any p xs ≡ false → k < length xs → p (get_or xs k d) ≡ false
+pub none_at : {X : Type 0} (p : X → Bool) (xs : List X) (k : ℕ) (d : X) → list_any p xs ≡ false → k < length xs → p (get_or xs k d) ≡ false
 none_at p xs k d none lt = elim (cases_Bool (p (get_or xs k d))) [
   | inl passes ↦ (let some = list_any_at p xs k d lt passes in absurd cc)
   | inr fails ↦ fails
@@ -21,7 +21,7 @@ none_at p xs k d none lt = elim (cases_Bool (p (get_or xs k d))) [
 abbrev is_empty : ℕ × ℕ → Bool
 is_empty range = nat_lt range.1 1
 
-apart_range : (start len start' len' : ℕ) → meets start len start' len' ≡ false → (start' + len' ≤ start) ⊎ (start + len ≤ start')
+pub apart_range : (start len start' len' : ℕ) → meets start len start' len' ≡ false → (start' + len' ≤ start) ⊎ (start + len ≤ start')
 apart_range start len start' len' test = elim (cases_lt start (start' + len')) [
   | inl before ↦ (let e = lt-ltb _ _ before in let f = rw e at test in inr (ltb-false _ _ f))
   | inr past ↦ inl past

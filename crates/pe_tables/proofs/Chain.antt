@@ -1,7 +1,7 @@
 -- The fixups of a table are the entries of its chain of blocks that name a field.
-use Rattle.std.proofs.Common.{◌≡◌, ◌≢◌, ℕ, zero, suc, ◌+◌, ◌-◌, ◌*◌, ◌/◌, ◌%◌, ◌<◌, ◌≤◌, Bool, true, false, List, [], ◌∷◌, length, get_or, Option, Some, None, refl, sym, ap, subst, ◌∙◌, arith, inl, inr, ◌⊎◌}
+use Rattle.std.proofs.Common.{◌≡◌, ◌≢◌, ℕ, zero, suc, ◌+◌, ◌-◌, ◌*◌, ◌/◌, ◌%◌, ◌<◌, ◌≤◌, Bool, true, false, List, [], ◌∷◌, Option, Some, None, refl, sym, ap, subst, ◌∙◌, arith, inl, inr}
 use Rattle.std.specs.Prelude.{map, nat_lt, ◌==◌, Contains}
-use Rattle.std.specs.List.{flat_map, filter_map, cons_option, range_with_len}
+use Rattle.std.specs.List.{flat_map, filter_map, range_with_len}
 use Rattle.std.proofs.lemmas.Bool.{cases_Bool, cases_eq, eqb-true, ltb-false, le-ltb, or_parts}
 use Rattle.std.proofs.lemmas.Bool.Decides.{nat_tests}
 use Rattle.std.proofs.lemmas.Option.{none-some, same_Some}
@@ -15,6 +15,7 @@ use Rattle.pe_tables.specs.declared.fixups.Fixup.{Fixup}
 use Rattle.pe_tables.specs.declared.fixups.FixupKind.{FixupKind}
 use Rattle.pe_tables.specs.declared.fixups.FixupKind.TheVariants.{Bits32, Bits64}
 use Rattle.pe_tables.proofs.Blocks.{blocks-step, not_equal_zero}
+use Rattle.pe_tables.proofs.Holding.{nothing, onto_cases, onto_here, onto_later}
 
 -- the type of a kind
 abbrev KindIs : ℕ → Option FixupKind → Type 0
@@ -51,28 +52,6 @@ fixup_is e f is =
     ap (fixup_by e) (ap kind_of is.1 ∙ type_kind f.kind)
     ∙ ap (λ (n : ℕ). Some (record { entry = n; field = e.field; kind = f.kind })) (sym is.0)
     ∙ ap (λ (n : ℕ). Some (record { entry = f.entry; field = n; kind = f.kind })) (sym is.2)
-
-cons_cases_at : (x f : Fixup) (xs : List Fixup) (k : ℕ) → k < length (x ∷ xs) → get_or (x ∷ xs) k f ≡ f → (x ≡ f) ⊎ Contains xs f
-cons_cases_at x f xs zero lt is = inl is
-cons_cases_at x f xs (suc k) lt is = inr (k, omega arith, is)
-
--- an element of some of the values, or of those after
-onto_cases : (o : Option Fixup) (xs : List Fixup) (f : Fixup) → Contains (cons_option o xs) f → (o ≡ Some f) ⊎ Contains xs f
-onto_cases None xs f has = inr has
-onto_cases (Some x) xs f has = elim (cons_cases_at x f xs has.0 has.1 has.2) [
-  | inl is ↦ inl (ap (λ (g : Fixup). Some g) is)
-  | inr later ↦ inr later
-]
-
-onto_here : (o : Option Fixup) (xs : List Fixup) (f : Fixup) → o ≡ Some f → Contains (cons_option o xs) f
-onto_here o xs f is = subst (λ (p : Option Fixup). Contains (cons_option p xs) f) (sym is) (0, omega arith, refl)
-
-onto_later : (o : Option Fixup) (xs : List Fixup) (f : Fixup) → Contains xs f → Contains (cons_option o xs) f
-onto_later None xs f has = has
-onto_later (Some x) xs f has = let lt = has.1 in (suc has.0, omega arith, has.2)
-
-nothing : (f : Fixup) → Contains {X = Fixup} [] f → ⊥
-nothing f has = omega (arith, has.1)
 
 module _ (g : ℕ → Entry) (f : Fixup) where
   entry_among : (a n k : ℕ) → a ≤ k → k < a + n → fixup_of (g k) ≡ Some f → Contains (filter_map fixup_of (map g (range_with_len a n))) f

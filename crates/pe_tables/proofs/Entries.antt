@@ -27,7 +27,7 @@ cons_option-list : {Y : Type 0} (o : Option Y) (ys : List Y) → cons_option o y
 cons_option-list None ys = refl
 cons_option-list (Some y) ys = refl
 
-filter_map-cons : {X Y : Type 0} (f : X → Option Y) (x : X) (xs : List X) → filter_map f (x ∷ xs) ≡ option_to_list (f x) ++ filter_map f xs
+pub filter_map-cons : {X Y : Type 0} (f : X → Option Y) (x : X) (xs : List X) → filter_map f (x ∷ xs) ≡ option_to_list (f x) ++ filter_map f xs
 filter_map-cons f x xs = cons_option-list (f x) (filter_map f xs)
 
 module _ (i : Image) (slots : List (ℕ × ℕ)) (f : ℕ → Entry) (n k : ℕ) (lt : k < n) (before : List Fixup) where

@@ -1,14 +1,7 @@
-/// By what an export is looked up.
-#[derive(Clone, Copy, Debug)]
-pub enum Key<'a> {
-    /// Its ordinal.
-    Ordinal(u16),
-    /// Its name, without the zero byte that ends it.
-    Name(&'a [u8]),
-}
+use crate::key::Key;
 
 /// An import of an image ("PE Format", The .idata Section).
-#[derive(Clone, Copy, Debug)]
+#[derive(Clone, Copy, Debug, PartialEq, Eq)]
 pub struct Import<'a> {
     /// The name of the module that exports it, as it stands in the image.
     pub module: &'a [u8],

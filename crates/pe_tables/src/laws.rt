@@ -1,14 +1,21 @@
 //! What the definitions mean, as laws: each function has an empty body, and its contract is the law.
 
-ghost use Rattle.std.specs.Prelude.{◌≡◌, ◌<◌, ◌^◌, ◌↔◌, ℕ, List, Some, All, AllPairs, Contains, length, map};
+ghost use Rattle.std.specs.Prelude.{◌≡◌, ◌≢◌, ◌+◌, ◌<◌, ◌≤◌, ◌^◌, ◌↔◌, ℕ, List, None, Some, All, AllPairs, Contains, length, map};
 ghost use Rattle.std.specs.List.{flat_map};
 ghost use Rattle.pe_head.specs.declared.directory.Directory.{Directory};
+ghost use Rattle.pe_view.specs.Faults.{first_standing};
 ghost use Rattle.pe_layout.specs.Image.{Image};
+ghost use Rattle.pe_tables.specs.Key.{Ordinal, Name, Target};
+ghost use Rattle.pe_tables.specs.Exports.{table_at, entry, target_of, name_entry, exports_at, target_at};
+ghost use Rattle.pe_tables.specs.Exported.{IsFirstName, IsUnnamed, IsUnnumbered};
 ghost use Rattle.pe_tables.specs.Fixups.{fixups_at};
 ghost use Rattle.pe_tables.specs.Chain.{IsNamed};
 ghost use Rattle.pe_tables.specs.Encoded.{Page, IsPage, FieldsAscend, pages_of, encoded};
 ghost use Rattle.pe_tables.specs.Standing.{StandsAt, view};
 ghost use Rattle.pe_tables.specs.declared.fixups.Fixup.{Fixup};
+ghost use Rattle.pe_tables.specs.Imports.{Import, imports_at, imports_of};
+ghost use Rattle.pe_tables.specs.ImportFaults.{import_tests, import_tests_at};
+ghost use Rattle.pe_tables.specs.Descriptors.{IsInList, IsInTable, IsImported, IsApart, HasTexts, table_rva, descriptor_rva};
 
 /// The fixups of a table are exactly the entries of types 3 and 10 of the blocks to which its start leads.
 pub fn fixups_are_named()
@@ -31,4 +38,41 @@ pub fn pages_ascend()
 /// An encoded table that stands in an image as a whole directory is read back: the same fields and kinds in the same order.
 pub fn encoded_is_read_back()
     ensures { (i : Image) (d : Directory) (fixups : List Fixup) → All (λ (f : Fixup). f.field < 2 ^ 32) fixups → StandsAt i d.rva (encoded fixups) → d.size ≡ length (encoded fixups) → d.size < 2 ^ 32 → map view (fixups_at i (Some d)) ≡ map view fixups }
+{}
+
+/// A name exports what the entry of the first name with its text does, and nothing where no name has its text.
+pub fn first_names_export()
+    ensures first { (i : Image) (d : Directory) (text : List ℕ) (k : ℕ) → IsFirstName i (table_at i d.rva) text k → target_at (exports_at i (Some d)) (Name text) ≡ target_of i d (entry i (table_at i d.rva) (name_entry i (table_at i d.rva) k)) }
+    ensures none { (i : Image) (d : Directory) (text : List ℕ) → IsUnnamed i (table_at i d.rva) text → target_at (exports_at i (Some d)) (Name text) ≡ None }
+{}
+
+/// An ordinal exports what its entry of the address table does, and nothing where the table has no such entry.
+pub fn entries_export()
+    ensures entry { (i : Image) (d : Directory) (k : ℕ) → k < (table_at i d.rva).entry_count → target_at (exports_at i (Some d)) (Ordinal ((table_at i d.rva).ordinal_base + k)) ≡ target_of i d (entry i (table_at i d.rva) k) }
+    ensures none { (i : Image) (d : Directory) (ordinal : ℕ) → IsUnnumbered (table_at i d.rva) ordinal → target_at (exports_at i (Some d)) (Ordinal ordinal) ≡ None }
+{}
+
+/// No ordinal and no name is listed twice: the ordinals ascend, and the names differ.
+pub fn keys_export_once()
+    ensures ordinals { (i : Image) (d : Directory) → AllPairs (λ (export later : ℕ × Target). export.0 < later.0) (exports_at i (Some d)).ordinals }
+    ensures names { (i : Image) (d : Directory) → AllPairs (λ (export later : List ℕ × Target). export.0 ≢ later.0) (exports_at i (Some d)).names }
+{}
+
+/// The imports of a table are exactly what the lookup entries of its descriptors import: entry k of descriptor j, where no
+/// entry up to it and no descriptor up to j ends its table or the list.
+pub fn imports_are_named()
+    ensures { (i : Image) (d : Directory) (import : Import) → 0 < i.slot_width → Contains (imports_at i (Some d)) import ↔ IsImported i d import }
+{}
+
+/// The slots of the imports of an image without a fault of its import table are in the image, share no byte with one another,
+/// and are at most 1,048,576.
+pub fn slots_are_apart()
+    ensures inside { (i : Image) → first_standing (import_tests i) ≡ None → All (λ (import : Import). import.slot + i.slot_width ≤ i.size) (imports_of i) }
+    ensures apart { (i : Image) → first_standing (import_tests i) ≡ None → AllPairs (IsApart i.slot_width) (imports_of i) }
+    ensures few { (i : Image) → first_standing (import_tests i) ≡ None → length (imports_of i) ≤ 1048576 }
+{}
+
+/// Each text that an import table without a fault names is there: no import has an empty name for want of one.
+pub fn names_are_there()
+    ensures { (i : Image) (d : Directory) (j k : ℕ) → 0 < i.slot_width → first_standing (import_tests_at i (Some d)) ≡ None → IsInList i d.rva j → IsInTable i (table_rva i (descriptor_rva d.rva j)) k → HasTexts i (descriptor_rva d.rva j) k }
 {}

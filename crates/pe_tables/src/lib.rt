@@ -10,12 +10,23 @@
 
 mod encode;
 mod error;
+mod export_lookup;
+mod export_table;
+mod exports;
 mod fixups;
+mod forwarder;
 mod import;
+mod imports;
+mod key;
 pub mod laws;
+mod name_index;
 mod ranges;
 
 pub use encode::{ascending, encode_fixups};
 pub use error::TableError;
+pub use export_lookup::Exports;
+pub use exports::read_exports;
 pub use fixups::{Fixup, FixupKind, read_fixups};
-pub use import::{Import, Key};
+pub use import::Import;
+pub use imports::read_imports;
+pub use key::{Key, Target};

@@ -1,0 +1,19 @@
+-- What an export table exports, by the places in it ("PE Format", The .edata Section).
+use Rattle.std.specs.Prelude.{◌≡◌, ◌≢◌, ◌<◌, ℕ, ◌+◌, List, Some}
+use Rattle.pe_layout.specs.Image.{Image}
+use Rattle.pe_tables.specs.Exports.{name_text}
+use Rattle.pe_tables.specs.declared.export_table.Table.{Table}
+
+-- name k is the first of a table that has the text
+pub record IsFirstName (i : Image) (t : Table) (text : List ℕ) (k : ℕ) : Type 0 where
+  pub within : k < t.name_count
+  pub has : name_text i t k ≡ Some text
+  pub first : (j : ℕ) → j < k → name_text i t j ≢ Some text
+
+-- no name of a table has the text
+abbrev pub IsUnnamed : Image → Table → List ℕ → Type 0
+IsUnnamed i t text = (k : ℕ) → k < t.name_count → name_text i t k ≢ Some text
+
+-- no entry of a table has the ordinal
+abbrev pub IsUnnumbered : Table → ℕ → Type 0
+IsUnnumbered t ordinal = (k : ℕ) → k < t.entry_count → ordinal ≢ t.ordinal_base + k

@@ -1,0 +1,21 @@
+-- The exports that have been read, with texts as their bytes.
+use Rattle.std.specs.Prelude.{ℕ, List, map}
+use Rattle.pe_tables.specs.Key.{Target, target_view}
+use Rattle.pe_tables.specs.Exports as table
+use Rattle.pe_tables.specs.NameIndex.{export_view}
+use Rattle.pe_tables.specs.declared.key.Target as code_target
+use Rattle.pe_tables.specs.declared.exports.Name as code_name
+use Rattle.pe_tables.specs.declared.export_lookup.Exports as code_exports
+
+-- a name, and the index of the entry that it exports
+abbrev pub name_view : code_name.Name → List ℕ × ℕ
+name_view name = (name.text.now, name.entry)
+
+abbrev pub ordinal_view : ℕ × code_target.Target → ℕ × Target
+ordinal_view pair = (pair.0, target_view pair.1)
+
+abbrev pub exports_view : {A : Type 0} → code_exports.Exports A → table.Exports
+exports_view exports = record {
+  ordinals = map ordinal_view exports.ordinals.items;
+  names = map export_view exports.names.exports.items;
+}

@@ -1,0 +1,19 @@
+-- What has been read of an import table.
+use Rattle.std.specs.Prelude.{◌≡◌, ℕ, List, ◌++◌, map}
+use Rattle.pe_tables.specs.Ranges.{SameRanges}
+use Rattle.pe_tables.specs.Imports.{Import}
+use Rattle.pe_tables.specs.ImportFaults.{range_of}
+use Rattle.pe_tables.specs.ImportView.{import_view}
+use Rattle.pe_tables.specs.declared.imports.Found.{Found}
+
+abbrev pub read_of : {A : Type 0} → Found A → List Import
+read_of found = map import_view found.imports.items
+
+-- the ranges are the imports' slots
+abbrev pub IsIndexed : {A : Type 0} → ℕ → Found A → Type 0
+IsIndexed width found = SameRanges found.slots.lens.entries (map (range_of width) (read_of found))
+
+-- some more imports have been read
+pub record Reads {A : Type 0} (width : ℕ) (old new : Found A) (more : List Import) : Type 0 where
+  pub imports : read_of new ≡ read_of old ++ more
+  pub indexed : IsIndexed width new

@@ -1,0 +1,89 @@
+ghost use Rattle.std.specs.Prelude.{◌≡◌, ◌<◌, ◌≤◌, ◌==◌, ℕ, [], length, slice_index_or, option_map, map, AllPairs};
+ghost use Rattle.std.specs.List.{find};
+ghost use Rattle.pe_tables.specs.NameIndex.{IsSearchable};
+ghost use Rattle.pe_tables.specs.declared.key.Target.{Target};
+
+use crate::key::Target;
+use crate::name_index::NameIndex;
+use std::alloc::Allocator;
+
+/// The exports of an image ("PE Format", The .edata Section).
+#[derive(Drop)]
+pub struct Exports<'a, A: Allocator> {
+    pub(crate) ordinals: Vec<(u64, Target<'a>), A>,
+    pub(crate) names: NameIndex<'a, A>,
+    ghost ascending: { AllPairs (λ export later. export.0 < later.0) ordinals.items },
+    ghost searchable: { IsSearchable names },
+}
+
+/// The index of the first export of this ordinal or a greater one, by a binary search, or the number of exports.
+fn first_from(exports: &[(u64, Target)], ordinal: u64) -> usize
+    requires { AllPairs (λ export later. export.0 < later.0) exports.now }
+    ensures bound { result ≤ length exports.now }
+    ensures before { (k : ℕ) (export : ℕ × Target) → k < result → (slice_index_or exports.now k export).0 < ordinal }
+    ensures after { (k : ℕ) (export : ℕ × Target) → result ≤ k → k < length exports.now → ordinal ≤ (slice_index_or exports.now k export).0 }
+{
+    exports.partition_point(|export| export.0 < ordinal)
+}
+
+/// What an ordinal exports.
+fn target_by_ordinal<'a>(exports: &[(u64, Target<'a>)], ordinal: u64) -> Option<Target<'a>>
+    requires { AllPairs (λ export later. export.0 < later.0) exports.now }
+    ensures { result ≡ option_map (λ export. export.1) (find (λ export. export.0 == ordinal) exports.now) }
+{
+    let index = first_from(exports, ordinal);
+    if index == exports.len() {
+        return None;
+    }
+    let (found, target) = exports[index];
+    if found != ordinal {
+        return None;
+    }
+    Some(target)
+}
+
+impl<'a, A: Allocator + Copy> Exports<'a, A> {
+    ghost use Rattle.pe_tables.specs.Key.{Ordinal, Name, target_view};
+    ghost use Rattle.pe_tables.specs.Exports.{target_at};
+    ghost use Rattle.pe_tables.specs.ExportsView.{ordinal_view, exports_view};
+    ghost use Rattle.pe_tables.specs.NameIndex.{export_view};
+
+    /// No exports.
+    pub(crate) fn new(alloc: A) -> Exports<'a, A>
+        ensures ordinals { result.ordinals.items ≡ [] }
+        ensures names { result.names.exports.items ≡ [] }
+    {
+        Exports {
+            ordinals: Vec::new(alloc),
+            names: NameIndex::new(alloc),
+        }
+    }
+
+    /// What an ordinal exports. No memory is taken.
+    pub fn by_ordinal(&self, ordinal: u32) -> Option<Target<'a>>
+        ensures { option_map target_view result ≡ target_at (exports_view self.now) (Ordinal ordinal) }
+    {
+        target_by_ordinal(self.ordinals.as_slice(), u64::from(ordinal))
+    }
+
+    /// What a name exports: what the first of the names with this text does. No memory is taken.
+    pub fn by_name(&self, name: &[u8]) -> Option<Target<'a>>
+        ensures { option_map target_view result ≡ target_at (exports_view self.now) (Name name.now) }
+    {
+        *self.names.targets.get(name)?
+    }
+
+    /// The exports by ordinal, in the order of the export address table.
+    pub fn ordinals(&self) -> &[(u64, Target<'a>)]
+        ensures { map ordinal_view result.now ≡ (exports_view self.now).ordinals }
+    {
+        self.ordinals.as_slice()
+    }
+
+    /// The exports by name, in the order of the name pointer table: each text once, where it stands first.
+    pub fn names(&self) -> &[(&'a [u8], Target<'a>)]
+        ensures { map export_view result.now ≡ (exports_view self.now).names }
+    {
+        self.names.exports.as_slice()
+    }
+}

@@ -1,0 +1,166 @@
+ghost use Rattle.std.specs.Prelude.{◌≡◌, ◌<◌, None, Some, IsOk, IfOk, option_map, map, All, AllPairs, []};
+ghost use Rattle.std.specs.List.{filter_map, range_with_len};
+ghost use Rattle.pe_layout.specs.Layout.{image_of};
+ghost use Rattle.pe_tables.specs.TableFaults.{TableAnswers};
+ghost use Rattle.pe_tables.specs.Key.{target_view};
+ghost use Rattle.pe_tables.specs.Exports.{entry, target_of, named, names_of, by_entry, exports_of};
+ghost use Rattle.pe_tables.specs.ExportFaults.{IsInside, each_tests, name_tests, entry_tests, export_tests};
+ghost use Rattle.pe_tables.specs.ExportsView.{name_view, ordinal_view, exports_view};
+ghost use Rattle.pe_tables.specs.NameIndex.{IsIndexOf};
+
+use crate::error::{TableError, fault_at};
+use crate::export_lookup::Exports;
+use crate::export_table::{Table, read_table};
+use crate::forwarder::{forwarder_at, is_forwarder};
+use crate::key::Target;
+use crate::name_index::NameIndex;
+use pe_head::{Directory, directory_index};
+use pe_layout::Layout;
+use std::alloc::{AllocError, Allocator};
+
+/// A name of the name pointer table.
+#[derive(Clone, Copy)]
+pub(crate) struct Name<'a> {
+    /// Its text.
+    pub text: &'a [u8],
+    /// The index of the address table's entry that it exports, without the ordinal base.
+    pub entry: u32,
+}
+
+/// Reads name `index`, unless fault 19 or 20 stands of it.
+fn read_name<'a>(layout: &Layout<'a>, table: &Table, index: u32) -> Result<Name<'a>, TableError>
+    requires inside { IsInside (image_of layout.now) table.now }
+    requires within { index < table.now.name_count }
+    ensures { TableAnswers (name_tests (image_of layout.now) table.now index)
+        (λ name. (Some (name_view name) ≡ named (image_of layout.now) table.now index) × (name.entry < table.now.entry_count)) result }
+{
+    let pointer = table.names + 4 * index;
+    let Some(text) = layout.name_at(layout.u32_at(pointer).unwrap()) else {
+        return Err(fault_at(19, layout, pointer));
+    };
+    let rva = table.ordinals + 2 * index;
+    let entry = u32::from(layout.u16_at(rva).unwrap());
+    if entry >= table.entry_count {
+        return Err(fault_at(20, layout, rva));
+    }
+    Ok(Name { text, entry })
+}
+
+/// Reads the names, in the order of the name pointer table, unless fault 19 or 20 stands of one.
+fn read_names<'a, A: Allocator + Copy>(
+    alloc: A,
+    layout: &Layout<'a>,
+    table: &Table,
+) -> Result<Vec<Name<'a>, A>, TableError>
+    requires { IsInside (image_of layout.now) table.now }
+    ensures { TableAnswers (each_tests (name_tests (image_of layout.now) table.now) table.now.name_count)
+        (λ names. (map name_view names.items ≡ names_of (image_of layout.now) table.now) × All (λ name. name.entry < table.now.entry_count) names.items) result }
+{
+    let mut names = Vec::with_capacity(alloc, table.name_count as usize)?;
+    for index in 0..table.name_count {
+        names.push(read_name(layout, table, index)?)?;
+    }
+    Ok(names)
+}
+
+/// What a value of the address table exports: nothing where it is 0, or where it is that of a forwarder which has no
+/// text or not a forwarder's form.
+fn target_of<'a>(layout: &Layout<'a>, directory: Directory, value: u32) -> Option<Target<'a>>
+    ensures { option_map target_view result ≡ target_of (image_of layout.now) directory value }
+{
+    if value == 0 {
+        None
+    } else if is_forwarder(directory, value) {
+        forwarder_at(layout, value)
+    } else {
+        Some(Target::Rva(value))
+    }
+}
+
+/// Reads entry `index` of the address table, unless fault 21 or 22 stands of it.
+fn read_entry<'a>(
+    layout: &Layout<'a>,
+    directory: Directory,
+    table: &Table,
+    index: u32,
+) -> Result<Option<Target<'a>>, TableError>
+    requires inside { IsInside (image_of layout.now) table.now }
+    requires within { index < table.now.entry_count }
+    ensures { TableAnswers (entry_tests (image_of layout.now) directory table.now index)
+        (λ target. option_map target_view target ≡ target_of (image_of layout.now) directory (entry (image_of layout.now) table.now index)) result }
+{
+    let rva = table.addresses + 4 * index;
+    let value = layout.u32_at(rva).unwrap();
+    if value == 0 {
+        return Ok(None);
+    }
+    if !is_forwarder(directory, value) && value >= layout.size() {
+        return Err(fault_at(21, layout, rva));
+    }
+    match target_of(layout, directory, value) {
+        Some(target) => Ok(Some(target)),
+        None => Err(fault_at(22, layout, rva)),
+    }
+}
+
+/// Reads the exports by ordinal, in the order of the address table, unless fault 21 or 22 stands of an entry.
+fn read_ordinals<'a, A: Allocator + Copy>(
+    alloc: A,
+    layout: &Layout<'a>,
+    directory: Directory,
+    table: &Table,
+) -> Result<Vec<(u64, Target<'a>), A>, TableError>
+    requires { IsInside (image_of layout.now) table.now }
+    ensures { TableAnswers (each_tests (entry_tests (image_of layout.now) directory table.now) table.now.entry_count)
+        (λ ordinals. (map ordinal_view ordinals.items ≡ filter_map (by_entry (image_of layout.now) directory table.now) (range_with_len 0 table.now.entry_count))
+        × AllPairs (λ export later. export.0 < later.0) ordinals.items) result }
+{
+    let mut ordinals = Vec::with_capacity(alloc, table.entry_count as usize)?;
+    for index in 0..table.entry_count {
+        let Some(target) = read_entry(layout, directory, table, index)? else {
+            continue;
+        };
+        ordinals.push((u64::from(table.ordinal_base) + u64::from(index), target))?;
+    }
+    Ok(ordinals)
+}
+
+/// The exports by name.
+fn index_names<'a, A: Allocator + Copy>(
+    alloc: A,
+    layout: &Layout<'a>,
+    directory: Directory,
+    table: &Table,
+    names: &[Name<'a>],
+) -> Result<NameIndex<'a, A>, AllocError>
+    requires inside { IsInside (image_of layout.now) table.now }
+    requires within { All (λ name. name.entry < table.now.entry_count) names.now }
+    ensures { IfOk result (IsIndexOf (λ index. target_of (image_of layout.now) directory (entry (image_of layout.now) table.now index)) (map name_view names.now)) }
+{
+    let mut index = NameIndex::new(alloc);
+    for name in names {
+        let value = layout.u32_at(table.addresses + 4 * name.entry).unwrap();
+        index.add(name.text, target_of(layout, directory, value))?;
+    }
+    Ok(index)
+}
+
+/// The exports of an image, or the first of faults 16 to 22.
+///
+/// An image without the table has no exports, and then no memory is taken. ("PE Format", The .edata Section.)
+pub fn read_exports<'a, A: Allocator + Copy>(
+    alloc: A,
+    layout: &Layout<'a>,
+) -> Result<Exports<'a, A>, TableError>
+    ensures exact { TableAnswers (export_tests (image_of layout.now)) (λ exports. exports_view exports ≡ exports_of (image_of layout.now)) result }
+    ensures absent { (image_of layout.now).directory 0 ≡ None → IsOk result }
+{
+    let Some(directory) = layout.directory(directory_index::EXPORT) else {
+        return Ok(Exports::new(alloc));
+    };
+    let table = read_table(layout, directory.rva)?;
+    let names = read_names(alloc, layout, &table)?;
+    let ordinals = read_ordinals(alloc, layout, directory, &table)?;
+    let names = index_names(alloc, layout, directory, &table, &names)?;
+    Ok(Exports { ordinals, names })
+}

@@ -1,0 +1,284 @@
+ghost use Rattle.std.specs.Prelude.{◌≡◌, ◌+◌, ◌≤◌, ◌^◌, ◌<◌, [], ◌∷◌, None, IsTrue, IsOk, OnOk, map, not, option_to_list};
+ghost use Rattle.std.specs.List.{filter_map, flat_map};
+ghost use Rattle.pe_layout.specs.Layout.{image_of};
+ghost use Rattle.pe_layout.specs.Image.{number_at, is_inside};
+ghost use Rattle.pe_tables.specs.TableFaults.{TableAnswers};
+ghost use Rattle.pe_tables.specs.Imports.{is_null, ends_list, descriptor_at, descriptors_of, lookup_at, lookup_table, lookups_of, ends_table, is_ordinal, key_of, import_of, module_of, imports_in, imports_at, imports_of};
+ghost use Rattle.pe_tables.specs.ImportFaults.{key_tests, slot_tests, lookup_tests, lookups_tests, module_tests, descriptor_tests, descriptors_tests, import_tests};
+ghost use Rattle.pe_tables.specs.ImportView.{import_view};
+ghost use Rattle.pe_tables.specs.ImportReading.{read_of, IsIndexed, Reads};
+ghost use Rattle.pe_tables.specs.Key.{key_view};
+
+use crate::error::{TableError, fault_at};
+use crate::import::Import;
+use crate::key::Key;
+use crate::ranges::Ranges;
+use pe_head::directory_index;
+use pe_layout::Layout;
+use std::alloc::{AllocError, Allocator};
+
+/// How many imports an image may have.
+const IMPORT_LIMIT: usize = 1_048_576;
+
+/// An import descriptor ("PE Format", Import Directory Table).
+#[derive(Clone, Copy)]
+pub(crate) struct Descriptor {
+    /// Where it stands.
+    pub rva: u32,
+    /// The RVA of the lookup table, or 0.
+    pub lookup: u32,
+    pub time_stamp: u32,
+    /// The RVA of the module's name.
+    pub name: u32,
+    /// The RVA of the address table.
+    pub addresses: u32,
+}
+
+impl Descriptor {
+    /// Whether it ends the list: it has no name, or no slots.
+    fn is_null(self) -> bool
+        ensures { result ≡ is_null self }
+    {
+        self.name == 0 || self.addresses == 0
+    }
+
+    /// The RVA of the lookup table: the address table serves where there is none.
+    fn lookup_table(self) -> u32
+        ensures { result ≡ lookup_table self }
+    {
+        if self.lookup == 0 {
+            self.addresses
+        } else {
+            self.lookup
+        }
+    }
+}
+
+/// The imports that have been read, and the bytes of their slots.
+#[derive(Drop)]
+pub(crate) struct Found<'a, A: Allocator> {
+    pub imports: Vec<Import<'a>, A>,
+    pub slots: Ranges<A>,
+}
+
+impl<'a, A: Allocator + Copy> Found<'a, A> {
+    /// Adds an import, whose slot has `width` bytes as those of the others have.
+    fn add(&mut self, import: Import<'a>, width: u32) -> Result<(), AllocError>
+        requires { IsIndexed width self.old }
+        ensures { OnOk result (Reads width self.old self.new (import_view import.entry ∷ [])) }
+    {
+        self.slots.add(import.slot, width)?;
+        self.imports.push(import)?;
+        Ok(())
+    }
+}
+
+/// Whether `len` bytes at an RVA are in the image.
+fn is_inside(layout: &Layout, rva: u32, len: u32) -> bool
+    ensures value { result ≡ is_inside (image_of layout.now) rva len }
+    ensures small { IsTrue result → rva + len ≤ 2 ^ 31 }
+{
+    u64::from(rva) + u64::from(len) <= u64::from(layout.size())
+}
+
+/// The value of the lookup entry at an RVA of the image, which has as many bytes as a slot.
+fn lookup_value(layout: &Layout, rva: u32) -> u64
+    requires { rva + (image_of layout.now).slot_width ≤ (image_of layout.now).size }
+    ensures { result ≡ number_at (image_of layout.now).slot_width (image_of layout.now) rva }
+{
+    if layout.slot_width() == 4 {
+        u64::from(layout.u32_at(rva).unwrap())
+    } else {
+        layout.u64_at(rva).unwrap()
+    }
+}
+
+/// Whether the top bit of a lookup entry's value is set: it holds an ordinal.
+fn is_ordinal(layout: &Layout, value: u64) -> bool
+    ensures { result ≡ is_ordinal (image_of layout.now) value }
+{
+    value >> (8 * layout.slot_width() - 1) == 1
+}
+
+/// By what the lookup entry at an RVA with this value names an export, unless fault 27 or 28 stands. The hint before a name
+/// is not read.
+fn read_key<'a>(layout: &Layout<'a>, rva: u32, value: u64) -> Result<Key<'a>, TableError>
+    ensures { TableAnswers (key_tests (image_of layout.now) rva value) (λ key. key_view key ≡ key_of (image_of layout.now) value) result }
+{
+    if is_ordinal(layout, value) {
+        return Ok(Key::Ordinal((value % 0x1_0000) as u16));
+    }
+    let Some(name) = layout.name_at((value % 0x8000_0000) as u32 + 2) else {
+        return Err(fault_at(27, layout, rva));
+    };
+    if value >> 31 != 0 {
+        return Err(fault_at(28, layout, rva));
+    }
+    Ok(Key::Name(name))
+}
+
+/// Asks faults 29 to 31 of the slot of the lookup entry at an RVA.
+fn check_slot<A: Allocator + Copy>(
+    layout: &Layout,
+    found: &Found<A>,
+    rva: u32,
+    slot: u32,
+) -> Result<(), TableError>
+    requires { IsIndexed (image_of layout.now).slot_width found.now }
+    ensures { TableAnswers (slot_tests (image_of layout.now) (read_of found.now) rva slot) (λ _. Unit {0}) result }
+{
+    let width = layout.slot_width();
+    if !is_inside(layout, slot, width) {
+        return Err(fault_at(29, layout, rva));
+    }
+    if found.slots.meets(slot, width) {
+        return Err(fault_at(30, layout, rva));
+    }
+    if found.imports.len() == IMPORT_LIMIT {
+        return Err(fault_at(31, layout, rva));
+    }
+    Ok(())
+}
+
+/// Reads the lookup entry at an RVA, with the slot beside it, unless one of faults 26 to 31 stands, and tells whether the
+/// table goes on behind it.
+fn read_lookup<'a, A: Allocator + Copy>(
+    layout: &Layout<'a>,
+    found: &mut Found<'a, A>,
+    module: &'a [u8],
+    rva: u32,
+    slot: u32,
+) -> Result<bool, TableError>
+    requires { IsIndexed (image_of layout.now).slot_width found.old }
+    ensures { TableAnswers (lookup_tests (image_of layout.now) (read_of found.old) (lookup_at (image_of layout.now) rva slot))
+        (λ goes_on. (goes_on ≡ not (ends_table (image_of layout.now) (lookup_at (image_of layout.now) rva slot)))
+        × Reads (image_of layout.now).slot_width found.old found.new (option_to_list (import_of (image_of layout.now) «module».entry.now (lookup_at (image_of layout.now) rva slot)))) result }
+{
+    let width = layout.slot_width();
+    if !is_inside(layout, rva, width) {
+        return Err(fault_at(26, layout, rva));
+    }
+    let value = lookup_value(layout, rva);
+    if value == 0 {
+        return Ok(false);
+    }
+    let key = read_key(layout, rva, value)?;
+    check_slot(layout, found, rva, slot)?;
+    found.add(Import { module, key, slot }, width)?;
+    Ok(true)
+}
+
+/// Reads the lookup entries of a descriptor that names this module, unless one of faults 26 to 31 stands of one.
+fn read_lookups<'a, A: Allocator + Copy>(
+    layout: &Layout<'a>,
+    found: &mut Found<'a, A>,
+    module: &'a [u8],
+    descriptor: Descriptor,
+) -> Result<(), TableError>
+    requires { IsIndexed (image_of layout.now).slot_width found.old }
+    ensures { TableAnswers (lookups_tests (image_of layout.now) «module».entry.now (read_of found.old) (lookups_of (image_of layout.now) descriptor))
+        (λ _. Reads (image_of layout.now).slot_width found.old found.new (filter_map (import_of (image_of layout.now) «module».entry.now) (lookups_of (image_of layout.now) descriptor))) result }
+{
+    let width = layout.slot_width();
+    let mut rva = descriptor.lookup_table();
+    let mut slot = descriptor.addresses;
+    while read_lookup(layout, found, module, rva, slot)? {
+        rva += width;
+        slot += width;
+    }
+    Ok(())
+}
+
+/// The descriptor at an RVA of the image.
+fn descriptor_at(layout: &Layout, rva: u32) -> Descriptor
+    requires inside { rva + 20 ≤ (image_of layout.now).size }
+    requires small { rva + 20 < 2 ^ 32 }
+    ensures { result ≡ descriptor_at (image_of layout.now) rva }
+{
+    Descriptor {
+        rva,
+        lookup: layout.u32_at(rva).unwrap(),
+        time_stamp: layout.u32_at(rva + 4).unwrap(),
+        name: layout.u32_at(rva + 12).unwrap(),
+        addresses: layout.u32_at(rva + 16).unwrap(),
+    }
+}
+
+/// The name of the module that a descriptor names, unless fault 25 or 32 stands.
+fn module_name<'a>(layout: &Layout<'a>, descriptor: Descriptor) -> Result<&'a [u8], TableError>
+    requires { descriptor.rva + 20 < 2 ^ 32 }
+    ensures { TableAnswers (module_tests (image_of layout.now) descriptor) (λ name. name.now ≡ module_of (image_of layout.now) descriptor) result }
+{
+    let Some(name) = layout.name_at(descriptor.name) else {
+        return Err(fault_at(25, layout, descriptor.rva + 12));
+    };
+    if descriptor.lookup == 0 && descriptor.time_stamp != 0 {
+        return Err(fault_at(32, layout, descriptor.rva));
+    }
+    Ok(name)
+}
+
+/// Reads the descriptor at an RVA and its lookup entries, unless one of faults 24 to 32 stands, and tells whether the list
+/// goes on behind it.
+fn read_descriptor<'a, A: Allocator + Copy>(
+    layout: &Layout<'a>,
+    found: &mut Found<'a, A>,
+    rva: u32,
+) -> Result<bool, TableError>
+    requires { IsIndexed (image_of layout.now).slot_width found.old }
+    ensures { TableAnswers (descriptor_tests (image_of layout.now) (read_of found.old) (descriptor_at (image_of layout.now) rva))
+        (λ goes_on. (goes_on ≡ not (ends_list (image_of layout.now) (descriptor_at (image_of layout.now) rva)))
+        × Reads (image_of layout.now).slot_width found.old found.new (imports_in (image_of layout.now) (descriptor_at (image_of layout.now) rva))) result }
+{
+    if !is_inside(layout, rva, 20) {
+        return Err(fault_at(24, layout, rva));
+    }
+    let descriptor = descriptor_at(layout, rva);
+    if descriptor.is_null() {
+        return Ok(false);
+    }
+    let module = module_name(layout, descriptor)?;
+    read_lookups(layout, found, module, descriptor)?;
+    Ok(true)
+}
+
+/// Reads the descriptors from an RVA on, unless one of faults 24 to 32 stands of one.
+fn read_descriptors<'a, A: Allocator + Copy>(
+    layout: &Layout<'a>,
+    found: &mut Found<'a, A>,
+    start: u32,
+) -> Result<(), TableError>
+    requires indexed { IsIndexed (image_of layout.now).slot_width found.old }
+    requires none { read_of found.old ≡ [] }
+    ensures { TableAnswers (descriptors_tests (image_of layout.now) [] (descriptors_of (image_of layout.now) start))
+        (λ _. read_of found.new ≡ flat_map (imports_in (image_of layout.now)) (descriptors_of (image_of layout.now) start)) result }
+{
+    let mut rva = start;
+    while read_descriptor(layout, found, rva)? {
+        rva += 20;
+    }
+    Ok(())
+}
+
+/// The imports of an image, in the order of its import table, or the first of faults 24 to 32.
+///
+/// Each borrows its texts from the file. An image without the table has no imports, and then no memory is taken; the
+/// directory's Size is not used. ("PE Format", The .idata Section.)
+pub fn read_imports<'a, A: Allocator + Copy>(
+    alloc: A,
+    layout: &Layout<'a>,
+) -> Result<Vec<Import<'a>, A>, TableError>
+    ensures exact { TableAnswers (import_tests (image_of layout.now)) (λ imports. map import_view imports.items ≡ imports_of (image_of layout.now)) result }
+    ensures absent { (image_of layout.now).directory 1 ≡ None → IsOk result }
+{
+    let Some(directory) = layout.directory(directory_index::IMPORT) else {
+        return Ok(Vec::new(alloc));
+    };
+    let mut found = Found {
+        imports: Vec::new(alloc),
+        slots: Ranges::new(alloc),
+    };
+    read_descriptors(layout, &mut found, directory.rva)?;
+    let Found { imports, slots: _ } = found;
+    Ok(imports)
+}
