@@ -1,10 +1,13 @@
-//! The tables of a laid-out image: base relocations.
+//! The tables of a laid-out image: exports, imports, base relocations.
 //!
 //! Every table is read through a [`pe_layout::Layout`], from the laid-out bytes, and either is what the format makes of
 //! them or is refused by the first fault of its phase:
 //!
 //! ```text
-//! let fixups = read_fixups(alloc, &layout, &[])?;
+//! let exports = read_exports(alloc, &layout)?;
+//! let target = exports.by_name(b"CreateFileW");
+//! let imports = read_imports(alloc, &layout)?;
+//! let fixups = read_fixups(alloc, &layout, &imports)?;
 //! ```
 #![tactic(auto)]
 

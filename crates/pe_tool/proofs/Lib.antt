@@ -1,5 +1,6 @@
 pub mod Adding
 pub mod Numbering
+pub mod Phases
 pub mod Reports
 pub mod Rows
 pub mod Token

@@ -1,8 +1,7 @@
 -- What an engine reads and writes, from the contracts of the reading and of the text writer.
 use Rattle.std.proofs.Common.{ℕ, ◌≡◌, ◌+◌, ◌^◌, ◌<◌, ◌≤◌, Bool, List, [], ◌++◌, length, Result, Ok, Err, refl, sym, ◌∙◌, ap, append_assoc, append-nil}
-use Rattle.std.specs.Prelude.{IsErr, IsErrAnd, IsErrOf}
+use Rattle.std.specs.Prelude.{IsErrAnd, IsErrOf}
 use Rattle.std.proofs.lemmas.List.{append_cancel_left}
-use Rattle.pe_tool.specs.declared.device.Failed.{Failed}
 use Rattle.pe_tool.specs.declared.outcome.Outcome.{Outcome}
 use Rattle.pe_tool.specs.declared.outcome.ToolError.{ToolError}
 use Rattle.pe_tool.specs.declared.outcome.ToolError.TheVariants.{Read, Write, Memory}
@@ -23,19 +22,24 @@ module _ {W : Type 0} (taken : W → List ℕ) (failures : W → ℕ) (IsText : 
       → v ≡ c.writer.now → Puts IsText (taken w) (taken v) (failures w) (failures v) (Ok outcome)
   Puts-whole a b c w v outcome fresh put ends is =
       let e = ends (taken w) (taken w ++ put.0) (failures w) (put.2.text _ _ _ (Stands-fresh taken failures a w fresh)) in
-      (put.0, put.1, rw is e.0, rw is e.1)
+      (put.0, rw is e.0, (put.1, rw is e.1))
 
   -- a beginning of the text was written
-  pub Puts-failed : (a b c : TextWriter W) (w v : W) (outcome : Outcome) (result : Result Outcome Failed) → IsFresh w a
+  pub Puts-failed : (a b c : TextWriter W) (w v : W) (outcome : Outcome) → IsFresh w a
       → ((text : List ℕ) × IsText outcome text × Adds taken failures a b text)
       → ((start text : List ℕ) (count : ℕ) → Stands taken failures b start text count
       → IsBeginning start (taken c.writer.now) × IsBeginning (taken c.writer.now) text × (failures c.writer.now ≡ count + 1))
-      → v ≡ c.writer.now → IsErr result → Puts IsText (taken w) (taken v) (failures w) (failures v) result
-  Puts-failed a b c w v outcome (Ok o) fresh put ends is err = cc
-  Puts-failed a b c w v outcome (Err e) fresh put ends is err =
+      → v ≡ c.writer.now → Puts IsText (taken w) (taken v) (failures w) (failures v) (Err Write)
+  Puts-failed a b c w v outcome fresh put ends is =
       let e = ends (taken w) (taken w ++ put.0) (failures w) (put.2.text _ _ _ (Stands-fresh taken failures a w fresh)) in
       let s = since (taken w) (taken c.writer.now) put.0 e.0 e.1 in
-      (s.0, rw is s.1, rw is e.2, (outcome, (put.0, put.1, s.2)))
+      (s.0, rw is s.1, (rw is e.2, (outcome, (put.0, put.1, s.2))))
+
+  -- nothing was written
+  pub Puts-none : (a b : TextWriter W) (w v : W) → IsFresh w a → b.writer.now ≡ a.writer.now → v ≡ b.writer.now → Puts IsText (taken w) (taken v) (failures w) (failures v) (Err Memory)
+  Puts-none a b w v fresh same is =
+      let e : v ≡ w = is ∙ same ∙ fresh.sink_is in
+      ([], rw e (sym (append-nil (taken w))), (rw e refl, refl))
 
 -- nothing was judged and nothing was written after a reading that failed
 unread : (IsText : Outcome → List ℕ → Type 0) (Whole : Type 0) (count count' : ℕ) (error : ToolError) (input : List ℕ) → FailsAfter input count count' error

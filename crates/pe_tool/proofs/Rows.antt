@@ -3,9 +3,12 @@ use Rattle.std.proofs.Common.{◌≡◌, [], ◌∷◌, refl, codes}
 use Rattle.std.specs.Fmt.{digits}
 use Rattle.pe_view.specs.declared.fault.Place.TheVariants.{File, Rva, Address, Item}
 use Rattle.pe_head.specs.declared.section.SectionHeader.{SectionHeader}
+use Rattle.pe_tables.specs.Key.{Ordinal, Name, Forward, Rva as ExportedRva}
+use Rattle.pe_tables.specs.declared.fixups.FixupKind.TheVariants.{Bits32, Bits64}
 use Rattle.pe_tool.specs.Dump.{directory_line, machine_line, section_line}
 use Rattle.pe_tool.specs.FaultLine.{place_text, fault_line}
 use Rattle.pe_tool.specs.HeaderFields.{field, field_line}
+use Rattle.pe_tool.specs.TableLines.{key_text, target_text, ordinal_line, name_line, export_lines, import_line, fixup_line}
 use Rattle.pe_tool.specs.Text.{hex, width_from, escaped, quoted}
 
 no_bytes : fault_line (record { number = 2; image = 0; place = File 0 }) ≡ codes "fault 2 image 0 file 0x00000000\n"
@@ -66,3 +69,37 @@ section_0 = refl
 escapes : quoted (0x41 ∷ 0x22 ∷ 0x5c ∷ 0x1f ∷ 0x20 ∷ 0x7e ∷ 0x7f ∷ 0xff ∷ []) ≡ codes "\"A\\x22\\x5c\\x1f ~\\x7f\\xff\""
 unfolding quoted escaped hex
 escapes = refl
+
+by_ordinal : ordinal_line (5, ExportedRva 0x1004) ≡ codes "export #5 rva 0x00001004\n"
+unfolding ordinal_line target_text hex digits
+by_ordinal = refl
+
+by_name : name_line (codes "f", Forward (codes "b") (Ordinal 7)) ≡ codes "export \"f\" forward \"b\" #7\n"
+unfolding name_line target_text key_text quoted escaped digits
+by_name = refl
+
+by_other_name : name_line (codes "g", Forward (codes "c.d") (Name (codes "h"))) ≡ codes "export \"g\" forward \"c.d\" \"h\"\n"
+unfolding name_line target_text key_text quoted escaped
+by_other_name = refl
+
+-- an image with one export, by ordinal 5 and by name
+one_export : export_lines (record { ordinals = (5, ExportedRva 0x1004) ∷ []; names = (codes "f", ExportedRva 0x1004) ∷ [] })
+    ≡ codes "export #5 rva 0x00001004\nexport \"f\" rva 0x00001004\n"
+unfolding export_lines ordinal_line name_line target_text quoted escaped hex digits
+one_export = refl
+
+import_by_name : import_line (record { module_name = codes "A.DLL"; key = Name (codes "f"); slot = 0x1030 }) ≡ codes "import \"A.DLL\" \"f\" slot 0x00001030\n"
+unfolding import_line key_text quoted escaped hex
+import_by_name = refl
+
+import_by_ordinal : import_line (record { module_name = codes "B"; key = Ordinal 65535; slot = 0x2008 }) ≡ codes "import \"B\" #65535 slot 0x00002008\n"
+unfolding import_line key_text quoted escaped hex digits
+import_by_ordinal = refl
+
+field_of_32_bits : fixup_line (record { entry = 0x3008; field = 0x1008; kind = Bits32 }) ≡ codes "fixup 0x00001008 32\n"
+unfolding fixup_line hex
+field_of_32_bits = refl
+
+field_of_64_bits : fixup_line (record { entry = 0x300a; field = 0x1ff8; kind = Bits64 }) ≡ codes "fixup 0x00001ff8 64\n"
+unfolding fixup_line hex
+field_of_64_bits = refl

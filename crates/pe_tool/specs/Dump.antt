@@ -1,4 +1,4 @@
--- The lines of a dump: what the headers of an image hold.
+-- The lines of a dump: what an image holds.
 use Rattle.std.specs.Prelude.{ℕ, ◌==◌, if◌then◌else◌, List, ◌++◌, codes, decimal, flat_map, unwrap_or}
 use Rattle.pe_view.specs.Text.{zero_ended}
 use Rattle.pe_head.specs.declared.optional.Magic.{Magic}
@@ -6,8 +6,12 @@ use Rattle.pe_head.specs.declared.directory.Directory.{Directory}
 use Rattle.pe_head.specs.declared.section.SectionHeader.{SectionHeader}
 use Rattle.pe_head.specs.declared.headers.Headers.{Headers}
 use Rattle.pe_head.specs.Section.{extent, rawlen}
+use Rattle.pe_tables.specs.Exports.{Exports}
+use Rattle.pe_tables.specs.Imports.{Import}
+use Rattle.pe_tables.specs.declared.fixups.Fixup.{Fixup}
 use Rattle.pe_tool.specs.Format.{format_name}
 use Rattle.pe_tool.specs.HeaderFields.{field_line, coff_fields, standard_fields, base_of_data_fields, windows_fields}
+use Rattle.pe_tool.specs.TableLines.{export_lines, import_line, fixup_line}
 use Rattle.pe_tool.specs.Text.{hex, quoted, numbered}
 
 -- the name of an image's form
@@ -60,12 +64,15 @@ field_lines h =
     ++ flat_map field_line (base_of_data_fields h.base_of_data)
     ++ flat_map field_line (windows_fields h)
 
--- the whole dump
-unfoldable pub dump_text : Headers → List ℕ
-dump_text h =
+-- the whole dump, of headers and of what the tables hold
+unfoldable pub dump_text : Headers → Exports → List Import → List Fixup → List ℕ
+dump_text h exports imports fixups =
     format_line h.magic
     ++ pe_offset_line h.pe_offset
     ++ field_lines h
     ++ numbered directory_line 0 h.directories.items
     ++ numbered section_line 0 h.sections.items
+    ++ export_lines exports
+    ++ flat_map import_line imports
+    ++ flat_map fixup_line fixups
     ++ codes "end\n"

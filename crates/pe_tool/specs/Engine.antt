@@ -1,10 +1,11 @@
 -- What an engine reads and writes.
 use Rattle.std.specs.Prelude.{ℕ, ◌≡◌, ◌<◌, ◌≤◌, ◌+◌, ◌^◌, ◌⊎◌, Bool, true, List, [], ◌++◌, length, None, Some, Result, Ok, Err, MatchResult, IsErrOf}
-use Rattle.pe_view.specs.Faults.{Test, first_standing}
-use Rattle.pe_head.specs.declared.headers.Headers.{Headers}
+use Rattle.pe_view.specs.Faults.{first_standing}
 use Rattle.pe_head.specs.Head.{head_of}
-use Rattle.pe_layout.specs.SectionFaults.{layout_tests}
-use Rattle.pe_tool.specs.declared.device.Failed.{Failed}
+use Rattle.pe_layout.specs.Image.{image_of_file}
+use Rattle.pe_tables.specs.Exports.{exports_of}
+use Rattle.pe_tables.specs.Imports.{imports_of}
+use Rattle.pe_tables.specs.Fixups.{fixups_of}
 use Rattle.pe_tool.specs.declared.outcome.Outcome.{Outcome}
 use Rattle.pe_tool.specs.declared.outcome.Outcome.TheVariants.{Done, Refused}
 use Rattle.pe_tool.specs.declared.outcome.ToolError.{ToolError}
@@ -12,24 +13,21 @@ use Rattle.pe_tool.specs.declared.outcome.ToolError.TheVariants.{Read, Write, Me
 use Rattle.pe_tool.specs.Dump.{dump_text}
 use Rattle.pe_tool.specs.FaultLine.{fault_line}
 use Rattle.pe_tool.specs.Format.{accepted_line}
+use Rattle.pe_tool.specs.ImageTests.{image_tests}
 use Rattle.pe_tool.specs.TextWriter.{IsBeginning}
 
--- all that may be wrong with the file of an image, in the order in which it counts; its image has number 0
-abbrev pub image_tests : List ℕ → List Test
-image_tests file = layout_tests 0 file
-
 -- the text of an image's file, and whether it is refused: its lines where no fault stands, else the line of the first
-abbrev pub IsImageText : (Headers → List ℕ) → List ℕ → Outcome → List ℕ → Type 0
-IsImageText lines file Done text = (first_standing (image_tests file) ≡ None) × (text ≡ lines (head_of file))
+abbrev pub IsImageText : (List ℕ → List ℕ) → List ℕ → Outcome → List ℕ → Type 0
+IsImageText lines file Done text = (first_standing (image_tests file) ≡ None) × (text ≡ lines file)
 IsImageText lines file (Refused fault) text = (first_standing (image_tests file) ≡ Some fault) × (text ≡ fault_line fault)
 
 -- what `check` writes of a file
 abbrev pub IsCheckText : List ℕ → Outcome → List ℕ → Type 0
-IsCheckText = IsImageText accepted_line
+IsCheckText = IsImageText (λ file. accepted_line (head_of file))
 
 -- what `dump` writes of a file
 abbrev pub IsDumpText : List ℕ → Outcome → List ℕ → Type 0
-IsDumpText = IsImageText dump_text
+IsDumpText = IsImageText (λ file. let i = image_of_file 0 file in dump_text (head_of file) (exports_of i) (imports_of i) (fixups_of i))
 
 -- the source's end was seen, or one byte more was read than any file may have
 abbrev pub IsWhole : Bool → List ℕ → Type 0
@@ -51,10 +49,17 @@ Collects items ended count count' result input = MatchResult result
 abbrev pub BeginsText : (Outcome → List ℕ → Type 0) → List ℕ → Type 0
 BeginsText IsText written = (outcome : Outcome) × ((text : List ℕ) × IsText outcome text × IsBeginning written text)
 
+-- why a text was not put, where `count` failures became `count'`: a write failed, or memory was refused before the first
+abbrev pub FailsToPut : (Outcome → List ℕ → Type 0) → List ℕ → ℕ → ℕ → ToolError → Type 0
+FailsToPut IsText written count count' Read = ⊥
+FailsToPut IsText written count count' Write = (count' ≡ count + 1) × BeginsText IsText written
+FailsToPut IsText written count count' Memory = (count' ≡ count) × (written ≡ [])
+
 -- what was written after what was there, by the answer of the writing
-abbrev pub Puts : (Outcome → List ℕ → Type 0) → List ℕ → List ℕ → ℕ → ℕ → Result Outcome Failed → Type 0
-Puts IsText before now count count' (Ok outcome) = (text : List ℕ) × IsText outcome text × (now ≡ before ++ text) × (count' ≡ count)
-Puts IsText before now count count' (Err _) = (written : List ℕ) × (now ≡ before ++ written) × (count' ≡ count + 1) × BeginsText IsText written
+abbrev pub Puts : (Outcome → List ℕ → Type 0) → List ℕ → List ℕ → ℕ → ℕ → Result Outcome ToolError → Type 0
+Puts IsText before now count count' result = (written : List ℕ) × (now ≡ before ++ written) × MatchResult result
+    (λ outcome. IsText outcome written × (count' ≡ count))
+    (FailsToPut IsText written count count')
 
 -- what was written of the text, by the engine's answer
 abbrev pub Written : (Outcome → List ℕ → Type 0) → Result Outcome ToolError → List ℕ → Type 0

@@ -1,3 +1,13 @@
+pub use Rattle.pe_tables.specs.ExportFaults
+pub use Rattle.pe_tables.specs.Exports
+pub use Rattle.pe_tables.specs.ExportsView
+pub use Rattle.pe_tables.specs.FixupFaults
+pub use Rattle.pe_tables.specs.Fixups
+pub use Rattle.pe_tables.specs.ImportFaults
+pub use Rattle.pe_tables.specs.Imports
+pub use Rattle.pe_tables.specs.ImportView
+pub use Rattle.pe_tables.specs.Key
+pub mod Accepted
 pub mod Counted
 pub mod Device
 pub mod Dump
@@ -6,6 +16,9 @@ pub mod FaultLine
 pub mod Field
 pub mod Format
 pub mod HeaderFields
+pub mod ImageTests
 pub mod Outcome
+pub mod Refusal
+pub mod TableLines
 pub mod Text
 pub mod TextWriter

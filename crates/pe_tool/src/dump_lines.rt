@@ -1,19 +1,25 @@
-//! The dump of an image: what its headers hold, a line each.
+//! The dump of an image: what its headers and tables hold, a line each.
 
 ghost use Rattle.std.specs.Prelude.{◌≡◌, flat_map, map};
+ghost use Rattle.pe_layout.specs.Layout.{headers_of};
+ghost use Rattle.pe_tables.specs.ExportsView.{exports_view};
+ghost use Rattle.pe_tables.specs.ImportView.{import_view};
 ghost use Rattle.pe_tool.specs.TextWriter.{IsReady, Adds};
 ghost use Rattle.pe_tool.specs.Field.{field_of};
 ghost use Rattle.pe_tool.specs.HeaderFields.{field_line, base_of_data_fields};
 ghost use Rattle.pe_tool.specs.Text.{numbered};
 ghost use Rattle.pe_tool.specs.Dump.{format_line, pe_offset_line, machine_name, machine_line, directory_line, name_of, section_line, field_lines, dump_text};
 
+use crate::accepted::Accepted;
 use crate::device::Sink;
 use crate::field::Field;
 use crate::format::format_name;
 use crate::header_fields::{coff_fields, standard_fields, windows_fields};
+use crate::table_lines::{write_exports, write_fixups, write_imports};
 use crate::text_writer::TextWriter;
 use pe_head::{Directory, Headers, Magic, SectionHeader, machine};
 use pe_view::View;
+use std::alloc::Allocator;
 
 #[tactic(auto, unfolding(crate::specs::Dump::format_line))]
 fn write_format<W: Sink>(line: &mut TextWriter<W>, magic: Magic)
@@ -165,14 +171,23 @@ fn write_sections<W: Sink>(text: &mut TextWriter<W>, sections: &[SectionHeader])
 
 /// Adds the lines of a dump.
 #[tactic(auto, unfolding(crate::specs::Dump::dump_text))]
-pub(crate) fn write_dump<W: Sink>(text: &mut TextWriter<W>, headers: &Headers)
+pub(crate) fn write_dump<A: Allocator + Copy, W: Sink>(
+    text: &mut TextWriter<W>,
+    image: &Accepted<A>,
+)
     requires { IsReady W.failures text.old }
-    ensures { Adds W.taken W.failures text.old text.new (dump_text headers.now) }
+    ensures { Adds W.taken W.failures text.old text.new
+        (dump_text (headers_of image.now.layout) (exports_view image.now.exports)
+        (map import_view image.now.imports.items) image.now.fixups.items) }
 {
+    let headers = image.layout.headers();
     write_format(text, headers.magic);
     write_pe_offset(text, headers.pe_offset);
     write_header_fields(text, headers);
     write_directories(text, headers.directories.as_slice());
     write_sections(text, headers.sections.as_slice());
+    write_exports(text, &image.exports);
+    write_imports(text, &image.imports);
+    write_fixups(text, &image.fixups);
     text.text(b"end\n");
 }

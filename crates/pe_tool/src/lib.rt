@@ -13,6 +13,7 @@
 //! [`parse_words`] reads the program's command line.
 #![tactic(auto)]
 
+mod accepted;
 mod counted;
 mod device;
 mod digits;
@@ -24,6 +25,7 @@ mod format;
 mod header_fields;
 mod outcome;
 mod report;
+mod table_lines;
 mod text_writer;
 mod told;
 mod whole_file;

@@ -1,38 +1,50 @@
-ghost use Rattle.std.specs.Prelude.{◌≡◌, ℕ, List};
+ghost use Rattle.std.specs.Prelude.{◌≡◌, ◌<◌, ℕ, List, length, IfOk, OnErr};
 ghost use Rattle.pe_tool.specs.declared.outcome.Outcome.{Outcome};
 ghost use Rattle.pe_tool.specs.TextWriter.{IsReady, Adds};
-ghost use Rattle.pe_tool.specs.FaultLine.{fault_line};
+ghost use Rattle.pe_tool.specs.Refusal.{IsRefusal};
 ghost use Rattle.pe_tool.specs.Engine.{IsCheckText, IsDumpText};
 
+use crate::accepted::judge;
 use crate::device::Sink;
 use crate::dump_lines::write_dump;
 use crate::fault_line::write_fault_line;
 use crate::format::write_accepted_line;
 use crate::outcome::Outcome;
 use crate::text_writer::TextWriter;
-use pe_layout::Layout;
-use pe_view::{Fault, View};
+use pe_tables::TableError;
+use std::alloc::{AllocError, Allocator};
 
 /// What an engine says of a file.
 pub(crate) trait Report {
     // a text says so of the file, by the outcome
     ghost is_text: { List ℕ → Outcome → List ℕ → Type 0 };
 
-    /// Judges the file, and only then adds the text.
-    fn write<W: Sink>(text: &mut TextWriter<W>, file: &[u8]) -> Outcome
+    /// Judges the file, and only then adds the text. Where memory is refused it adds nothing, and that never comes of an
+    /// empty file.
+    fn write<A: Allocator + Copy, W: Sink>(
+        alloc: A,
+        text: &mut TextWriter<W>,
+        file: &[u8],
+    ) -> Result<Outcome, AllocError>
         requires { IsReady W.failures text.old }
         ensures same { text.new.writer.ghost_name ≡ text.old.writer.ghost_name }
-        ensures adds { (added : List ℕ) × is_text file.now result added × Adds W.taken W.failures text.old text.new added };
+        ensures adds { IfOk result (λ outcome. (added : List ℕ) × is_text file.now outcome added × Adds W.taken W.failures text.old text.new added) }
+        ensures adds_none { OnErr result (text.new.writer.now ≡ text.old.writer.now) }
+        ensures reads { OnErr result (0 < length file.now) };
 }
 
-/// Adds the line of a fault.
-fn refuse<W: Sink>(text: &mut TextWriter<W>, fault: Fault) -> Outcome
+/// Adds the line of a fault, and passes want of memory on.
+fn refuse<W: Sink>(text: &mut TextWriter<W>, error: TableError) -> Result<Outcome, AllocError>
     requires { IsReady W.failures text.old }
-    ensures outcome { result ≡ Outcome.Refused fault }
-    ensures adds { Adds W.taken W.failures text.old text.new (fault_line fault) }
+    ensures { IsRefusal W.taken W.failures text.old text.new error result }
 {
-    write_fault_line(text, &fault);
-    Outcome::Refused(fault)
+    match error {
+        TableError::Fault(fault) => {
+            write_fault_line(text, &fault);
+            Ok(Outcome::Refused(fault))
+        }
+        TableError::Memory => Err(AllocError),
+    }
 }
 
 /// The report of `check`: the line of an accepted image, or its first fault.
@@ -41,13 +53,17 @@ pub(crate) struct Check;
 impl Report for Check {
     ghost is_text = { IsCheckText };
 
-    fn write<W: Sink>(text: &mut TextWriter<W>, file: &[u8]) -> Outcome {
-        match Layout::new(View::new(file), 0) {
-            Ok(layout) => {
-                write_accepted_line(text, layout.headers());
-                Outcome::Done
+    fn write<A: Allocator + Copy, W: Sink>(
+        alloc: A,
+        text: &mut TextWriter<W>,
+        file: &[u8],
+    ) -> Result<Outcome, AllocError> {
+        match judge(alloc, file) {
+            Ok(image) => {
+                write_accepted_line(text, image.layout.headers());
+                Ok(Outcome::Done)
             }
-            Err(fault) => refuse(text, fault),
+            Err(error) => refuse(text, error),
         }
     }
 }
@@ -58,13 +74,17 @@ pub(crate) struct Dump;
 impl Report for Dump {
     ghost is_text = { IsDumpText };
 
-    fn write<W: Sink>(text: &mut TextWriter<W>, file: &[u8]) -> Outcome {
-        match Layout::new(View::new(file), 0) {
-            Ok(layout) => {
-                write_dump(text, layout.headers());
-                Outcome::Done
+    fn write<A: Allocator + Copy, W: Sink>(
+        alloc: A,
+        text: &mut TextWriter<W>,
+        file: &[u8],
+    ) -> Result<Outcome, AllocError> {
+        match judge(alloc, file) {
+            Ok(image) => {
+                write_dump(text, &image);
+                Ok(Outcome::Done)
             }
-            Err(fault) => refuse(text, fault),
+            Err(error) => refuse(text, error),
         }
     }
 }

@@ -9,7 +9,7 @@ use std::alloc::{AllocError, Global};
 pub enum Job {
     /// `check FILE`: judge an image and write one line.
     Check { file: String },
-    /// `dump FILE`: write what the headers of an image hold.
+    /// `dump FILE`: write what the headers and tables of an image hold.
     Dump { file: String },
 }
 
@@ -52,7 +52,7 @@ fn command<'a>(alloc: Global) -> Result<Command<'a>, AllocError> {
     let dump = file_command(
         alloc,
         "dump",
-        "Prints the fields of the image's headers, its directories and its sections, a line each, or its first fault",
+        "Prints the fields of the image's headers, its directories, sections, exports, imports and base relocations, a line each, or its first fault",
     )?;
     Command::new(alloc, "petool")
         .about("Reads PE images: judges them, and shows what they hold")

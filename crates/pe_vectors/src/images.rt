@@ -1,4 +1,4 @@
-//! The files V1, V2, V3, VA, VB, VC and VS. The builders' clauses give each file's length alone; its bytes are shown by
+//! The files V1, V2, V3, VA, VB, VC, VD and VS. The builders' clauses give each file's length alone; its bytes are shown by
 //! tests.
 
 ghost use Rattle.std.specs.Prelude.{◌≡◌, IfOk, vec_len};
@@ -167,6 +167,33 @@ pub fn vc(alloc: Global) -> Result<Vec<u8>, AllocError>
     image.put_u32(0x230, 0x1038);
     image.put_bytes(0x23a, b"f");
     image.put_bytes(0x240, b"A.DLL");
+    Ok(image.into_file(0x400))
+}
+
+/// VD: VC as PE32+: the slot of the import is at 0x1060.
+pub fn vd(alloc: Global) -> Result<Vec<u8>, AllocError>
+    ensures { IfOk result (λ file. vec_len file ≡ 0x400) }
+{
+    let heading = Heading {
+        form: Form::Pe32Plus,
+        machine: AMD64,
+        characteristics: 0x0022,
+        image_base: 0x1_4000_0000,
+        ..LIBRARY
+    };
+    let mut image = Image::new(alloc, &heading)?;
+    image.section(0, b".idata", 0x80);
+    image.directory(IMPORT, 0x1000, 0x28);
+    let descriptor = ImportDescriptor {
+        lookup_table: 0x1050,
+        name: 0x1040,
+        address_table: 0x1060,
+    };
+    image.import_descriptor(0x200, &descriptor);
+    image.put_bytes(0x23a, b"f");
+    image.put_bytes(0x240, b"A.DLL");
+    image.put_u64(0x250, 0x1038);
+    image.put_u64(0x260, 0x1038);
     Ok(image.into_file(0x400))
 }
 

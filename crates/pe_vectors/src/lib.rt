@@ -14,7 +14,7 @@ mod devices;
 mod images;
 
 pub use devices::{StepReader, StepWriter};
-pub use images::{v1, v2, v3, va, vb, vc, vs};
+pub use images::{v1, v2, v3, va, vb, vc, vd, vs};
 
 #[cfg(test)]
 mod tests;

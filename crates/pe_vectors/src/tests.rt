@@ -1,7 +1,10 @@
 mod dumps;
+mod exports;
 mod files;
 mod fixups;
 mod head;
 mod images;
+mod imports;
+mod keys;
 mod layout;
 mod tool;

@@ -2,7 +2,7 @@
 
 ghost use Rattle.std.specs.Prelude.{◌+◌, ◌≤◌, length};
 
-use crate::{v1, v2, v3, va, vb, vc, vs};
+use crate::{v1, v2, v3, va, vb, vc, vd, vs};
 use pe_view::{Fault, Place};
 use std::alloc::{AllocError, Global};
 use std::process::Abort;
@@ -44,7 +44,7 @@ pub(super) fn number(rt: &impl Abort, file: &[u8], offset: usize, width: usize) 
 }
 
 /// All the files.
-pub(super) fn vectors(alloc: Global) -> Result<[Vec<u8>; 7], AllocError> {
+pub(super) fn vectors(alloc: Global) -> Result<[Vec<u8>; 8], AllocError> {
     Ok([
         v1(alloc)?,
         v2(alloc)?,
@@ -52,6 +52,7 @@ pub(super) fn vectors(alloc: Global) -> Result<[Vec<u8>; 7], AllocError> {
         va(alloc)?,
         vb(alloc)?,
         vc(alloc)?,
+        vd(alloc)?,
         vs(alloc)?,
     ])
 }

@@ -2,10 +2,10 @@
 
 ghost use Rattle.std.specs.Prelude.{◌≡◌, ◌<◌};
 
-use super::dumps::{V1_DUMP, V3_DUMP};
+use super::dumps::dumps;
 use super::files::{Piece, put, put_pieces, vectors};
 use super::head::{COFF_FIELDS, Field, PE32_FIELDS, PE32_PLUS_FIELDS, distinct_bytes};
-use crate::{StepReader, StepWriter, v1, v3};
+use crate::{StepReader, StepWriter, v1, vs};
 use pe_tool::{Failed, Outcome, Sink, Source, ToolError, check, dump, status};
 use std::alloc::{AllocError, Global};
 use std::process::Abort;
@@ -96,16 +96,6 @@ fn run(
     Ok((answer, writer))
 }
 
-/// A text of lines, each ended by 0a.
-fn text_of(alloc: Global, lines: &[&str]) -> Result<String, AllocError> {
-    let mut text = String::new(alloc);
-    for line in lines {
-        text.push_str(line)?;
-        text.push('\n')?;
-    }
-    Ok(text)
-}
-
 /// Asserts that an engine accepts a file and writes a text.
 fn assert_done(
     rt: &impl Abort,
@@ -130,6 +120,7 @@ fn check_of_each_vector_prints_its_form_and_its_sections(rt: HostRuntime) -> Res
         "accepted PE32 sections 1\n",
         "accepted PE32 sections 1\n",
         "accepted PE32 sections 1\n",
+        "accepted PE32+ sections 1\n",
         "accepted PE32 sections 2\n",
     ];
     for (file, line) in vectors(rt.alloc())?.iter().zip(lines) {
@@ -139,23 +130,15 @@ fn check_of_each_vector_prints_its_form_and_its_sections(rt: HostRuntime) -> Res
 }
 
 #[test]
-fn dump_prints_each_line_of_the_headers(rt: HostRuntime) -> Result<(), Fail> {
-    let text = text_of(rt.alloc(), V1_DUMP)?;
-    assert_done(
-        &rt,
-        rt.alloc(),
-        Engine::Dump,
-        &v1(rt.alloc())?,
-        text.as_str(),
-    )?;
-    let text = text_of(rt.alloc(), V3_DUMP)?;
-    assert_done(
-        &rt,
-        rt.alloc(),
-        Engine::Dump,
-        &v3(rt.alloc())?,
-        text.as_str(),
-    )
+fn dump_of_each_vector_prints_what_it_holds(rt: HostRuntime) -> Result<(), Fail> {
+    let texts = dumps(&rt, rt.alloc())?;
+    for (file, text) in vectors(rt.alloc())?.iter().zip(texts.iter()) {
+        assert_done(&rt, rt.alloc(), Engine::Dump, file, text.as_str())?;
+    }
+    for (text, lines) in texts.iter().zip([57, 59, 58, 59, 60, 58, 57, 62]) {
+        assert_eq!(rt; text.as_str().lines().count(), lines);
+    }
+    Ok(())
 }
 
 /// V1 cut to a length and changed, and the line by which it is refused.
@@ -219,6 +202,99 @@ fn a_refused_file_gives_the_line_of_its_fault(rt: HostRuntime) -> Result<(), Fai
         file.truncate(*len);
         assert_refused(&rt, rt.alloc(), Engine::Check, &file, line)?;
         assert_refused(&rt, rt.alloc(), Engine::Dump, &file, line)?;
+    }
+    Ok(())
+}
+
+/// A vector by its place among all of them, changed, and the line by which it is refused.
+type TableRefusal = (usize, &'static [Piece], &'static str);
+
+const TABLE_REFUSALS: &[TableRefusal] = &[
+    // VB, VA: exports
+    (4, &[(0x258, &[0x03])], "fault 20 image 0 rva 0x00001058\n"),
+    (
+        4,
+        &[(0x248, &[0x00, 0x30])],
+        "fault 21 image 0 rva 0x00001048\n",
+    ),
+    (3, &[(0x262, &[0x00])], "fault 22 image 0 rva 0x00001048\n"),
+    // VC, VD: imports
+    (
+        5,
+        &[(0x200, &[0x00, 0x00]), (0x204, &[0x01])],
+        "fault 32 image 0 rva 0x00001000\n",
+    ),
+    (6, &[(0x254, &[0x01])], "fault 28 image 0 rva 0x00001050\n"),
+    // V2: base relocations
+    (1, &[(0x404, &[0x09])], "fault 33 image 0 rva 0x00002000\n"),
+    (
+        1,
+        &[(0x40a, &[0x08, 0x30])],
+        "fault 37 image 0 rva 0x0000200a\n",
+    ),
+    // VC with V2's section `.reloc`, its directory and the entry of a field in the import's slot
+    (
+        5,
+        &[
+            (0x46, &[0x02]),
+            (0xe0, &[0x00, 0x20, 0x00, 0x00, 0x0c]),
+            (0x160, &[0x2e, 0x72, 0x65, 0x6c, 0x6f, 0x63]),
+            (0x168, &[0x0c, 0x00, 0x00, 0x00, 0x00, 0x20]),
+            (0x170, &[0x00, 0x02, 0x00, 0x00, 0x00, 0x04]),
+            (0x184, &[0x40, 0x00, 0x00, 0xc0]),
+            (
+                0x400,
+                &[
+                    0x00, 0x10, 0x00, 0x00, 0x0c, 0x00, 0x00, 0x00, 0x33, 0x30, 0x00, 0x00,
+                ],
+            ),
+        ],
+        "fault 38 image 0 rva 0x00002008\n",
+    ),
+    // VS: an import's fault, which an export's comes before, which one of the sections comes before
+    (
+        7,
+        &[(0x428, &[0xfe, 0xff, 0x01, 0x00])],
+        "fault 27 image 0 rva 0x00002028\n",
+    ),
+    (
+        7,
+        &[(0x258, &[0x03]), (0x428, &[0xfe, 0xff, 0x01, 0x00])],
+        "fault 20 image 0 rva 0x00001058\n",
+    ),
+    (
+        7,
+        &[
+            (0x16c, &[0x80, 0x10]),
+            (0x258, &[0x03]),
+            (0x428, &[0xfe, 0xff, 0x01, 0x00]),
+        ],
+        "fault 20 image 0 rva 0x00001058\n",
+    ),
+    (
+        7,
+        &[
+            (0x16c, &[0x7f, 0x10]),
+            (0x258, &[0x03]),
+            (0x428, &[0xfe, 0xff, 0x01, 0x00]),
+        ],
+        "fault 15 image 0 file 0x00000160\n",
+    ),
+];
+
+#[test]
+fn a_refused_table_gives_the_line_of_its_fault(rt: HostRuntime) -> Result<(), Fail> {
+    let files = vectors(rt.alloc())?;
+    for (vector, pieces, line) in TABLE_REFUSALS {
+        let Some(file) = files.get(*vector) else {
+            return Err(Fail::from("a vector"));
+        };
+        let mut changed = [0; 0x600];
+        assert!(rt; file.len() <= 0x600);
+        put(&mut changed, 0, file);
+        put_pieces(&rt, &mut changed, pieces);
+        assert_refused(&rt, rt.alloc(), Engine::Check, &changed, line)?;
+        assert_refused(&rt, rt.alloc(), Engine::Dump, &changed, line)?;
     }
     Ok(())
 }
@@ -357,7 +433,7 @@ const NAMES: &[(&[u8; 8], &str)] = &[
 
 #[test]
 fn dump_escapes_what_is_not_plain_in_a_name(rt: HostRuntime) -> Result<(), Fail> {
-    let whole = text_of(rt.alloc(), V1_DUMP)?;
+    let [whole, ..] = dumps(&rt, rt.alloc())?;
     let (before, after) = whole.as_str().split_once(".data").ok_or("a section")?;
     for (name, printed) in NAMES {
         let mut file = v1(rt.alloc())?;
@@ -371,16 +447,19 @@ fn dump_escapes_what_is_not_plain_in_a_name(rt: HostRuntime) -> Result<(), Fail>
 
 #[test]
 fn any_steps_give_the_same_text(rt: HostRuntime) -> Result<(), Fail> {
-    let file = v1(rt.alloc())?;
-    let text = text_of(rt.alloc(), V1_DUMP)?;
+    let texts = dumps(&rt, rt.alloc())?;
+    for (file, text) in vectors(rt.alloc())?.iter().zip(texts.iter()) {
+        for step in [1_usize, 7, 64, 4096] {
+            let (answer, writer) = run(rt.alloc(), Engine::Dump, file, steps_of(step))?;
+            assert_eq!(rt; answer, Ok(Outcome::Done));
+            assert!(rt;
+                writer.taken() == text.as_str().as_bytes(),
+                "in steps of {step}"
+            );
+        }
+    }
     for step in [1_usize, 7, 64, 4096] {
-        let (answer, writer) = run(rt.alloc(), Engine::Dump, &file, steps_of(step))?;
-        assert_eq!(rt; answer, Ok(Outcome::Done));
-        assert!(rt;
-            writer.taken() == text.as_str().as_bytes(),
-            "in steps of {step}"
-        );
-        let (answer, writer) = run(rt.alloc(), Engine::Check, &file, steps_of(step))?;
+        let (answer, writer) = run(rt.alloc(), Engine::Check, &v1(rt.alloc())?, steps_of(step))?;
         assert_eq!(rt; answer, Ok(Outcome::Done));
         assert_eq!(rt; writer.taken(), b"accepted PE32 sections 1\n".as_slice());
     }
@@ -458,6 +537,12 @@ fn each_read_and_each_write_that_fails_is_told(rt: HostRuntime) -> Result<(), Fa
             assert_reads_fail(&rt, rt.alloc(), engine, &file, step)?;
             assert_writes_fail(&rt, rt.alloc(), engine, &file, step)?;
         }
+    }
+    // a file with exports and imports
+    let file = vs(rt.alloc())?;
+    for step in [64_usize, 4096] {
+        assert_reads_fail(&rt, rt.alloc(), Engine::Dump, &file, step)?;
+        assert_writes_fail(&rt, rt.alloc(), Engine::Dump, &file, step)?;
     }
     Ok(())
 }

@@ -1,13 +1,17 @@
 use Rattle.std.proofs.Common.{rules}
-use Rattle.pe_tool.proofs.Reports.{Puts-whole, Puts-failed}
+use Rattle.pe_tool.proofs.Reports.{Puts-whole, Puts-failed, Puts-none}
 use Rattle.pe_tool.proofs.engine.write_report.Goals as goal
 
-pub returns : goal.returns
-returns g c =
-    Puts-whole g.W.Sink.taken g.W.Sink.failures (g.T.Report.is_text c.args.file.now) _ _ c.finish.new.self _ _ _ c.new-text.ensures.fresh c.write-outcome.ensures.adds
-    c.in_ok-finish.ensures.written (search rules)
+pub returns-in-Ok-finish-clause-puts : goal.returns-in-Ok-finish-clause-puts
+returns-in-Ok-finish-clause-puts g c =
+    Puts-whole g.W.Sink.taken g.W.Sink.failures (g.T.Report.is_text c.args.file.now) _ _ c.finish.new.self _ _ c.in-Ok.outcome c.new-text.ensures.fresh c.in-Ok.ensures.adds
+    c.in-Ok-finish.ensures.written (search rules)
 
-pub returns-in_err-finish : goal.returns-in_err-finish
-returns-in_err-finish g c =
-    Puts-failed g.W.Sink.taken g.W.Sink.failures (g.T.Report.is_text c.args.file.now) _ _ c.finish.new.self _ _ c.write-outcome.result c.from_residual.result c.new-text.ensures.fresh
-    c.write-outcome.ensures.adds c.in_err-finish.ensures.written (search rules) c.from_residual.ensures.0
+pub returns-in-Err-clause-puts : goal.returns-in-Err-clause-puts
+returns-in-Err-clause-puts g c =
+    Puts-failed g.W.Sink.taken g.W.Sink.failures (g.T.Report.is_text c.args.file.now) _ _ c.finish.new.self _ _ c.in-Ok.outcome c.new-text.ensures.fresh c.in-Ok.ensures.adds
+    c.in-Err.ensures.written (search rules)
+
+pub returns-in_default-clause-puts : goal.returns-in_default-clause-puts
+returns-in_default-clause-puts g c =
+    Puts-none g.W.Sink.taken g.W.Sink.failures (g.T.Report.is_text c.args.file.now) _ c.write.new.text _ _ c.new-text.ensures.fresh c.in_default.ensures.adds_none (search rules)
