@@ -1,11 +1,11 @@
 -- Where a range fits beside others.
-use Rattle.std.proofs.Common.{◌≡◌, ℕ, ◌+◌, ◌<◌, ◌≤◌, Bool, true, false, not, ◌||◌, List, [], ◌∷◌, ◌++◌, length, get_or, refl, sym, ap, ◌∙◌, arith, lit<, inl, inr, ◌⊎◌}
+use Rattle.std.proofs.Common.{◌≡◌, ℕ, ◌+◌, ◌<◌, ◌≤◌, Bool, false, not, ◌||◌, List, [], ◌∷◌, length, get_or, refl, ap, ◌∙◌, arith, lit<, inl, inr, ◌⊎◌}
 use Rattle.std.specs.Prelude.{nat_lt, All, map, ◌==◌}
 use Rattle.std.specs.List.{list_any}
 use Rattle.std.proofs.lemmas.Bool.{ltb-false, lt-ltb, cases_Bool, cases_lt}
 use Rattle.std.proofs.lemmas.Bool.Decides.{nat_tests}
-use Rattle.std.proofs.lemmas.List.Folds.{list_any-append, list_any_at}
-use Rattle.pe_tables.specs.Ranges.{meets, meets_any, FitsBeside, SameRanges, Gains}
+use Rattle.std.proofs.lemmas.List.Folds.{list_any_at}
+use Rattle.pe_tables.specs.Ranges.{meets, meets_any, FitsBeside, SameRanges}
 use Rattle.pe_tables.specs.Fixups.{width_of, range_of}
 use Rattle.pe_tables.specs.declared.fixups.Fixup.{Fixup}
 use Rattle.pe_tables.specs.declared.fixups.FixupKind.{FixupKind}
@@ -65,32 +65,9 @@ pub width_some : (kind : FixupKind) → 0 < width_of kind
 width_some Bits32 = lit< tt
 width_some Bits64 = lit< tt
 
-or_swap : (a b : Bool) → (a || b) ≡ (b || a)
-or_swap true true = refl
-or_swap true false = refl
-or_swap false true = refl
-or_swap false false = refl
-
 pub list_any-map : {X Y : Type 0} (p : Y → Bool) (f : X → Y) (xs : List X) → list_any p (map f xs) ≡ list_any (λ x. p (f x)) xs
 list_any-map p f [] = refl
 list_any-map p f (x ∷ xs) = ap (λ (b : Bool). p (f x) || b) (list_any-map p f xs)
-
-map-append : {X Y : Type 0} (f : X → Y) (xs ys : List X) → map f (xs ++ ys) ≡ map f xs ++ map f ys
-map-append f [] ys = refl
-map-append f (x ∷ xs) ys = ap (λ (zs : _). f x ∷ zs) (map-append f xs ys)
-
-or_false : (a : Bool) → (a || false) ≡ a
-or_false true = refl
-or_false false = refl
-
--- the ranges of fixups with one more at their end
-pub one_more : (old new : List (ℕ × ℕ)) (fixups more : List Fixup) (fixup : Fixup) → SameRanges old (map range_of fixups) → Gains old new (range_of fixup) → more ≡ fixups ++ fixup ∷ [] → SameRanges new (map range_of more)
-one_more old new fixups more fixup same gains is = λ test.
-    gains test ∙ ap (λ (b : Bool). test (range_of fixup) || b) (same test)
-    ∙ or_swap (test (range_of fixup)) (list_any test (map range_of fixups))
-    ∙ ap (λ (b : Bool). list_any test (map range_of fixups) || b) (sym (or_false (test (range_of fixup))))
-    ∙ sym (list_any-append test (map range_of fixups) (range_of fixup ∷ []))
-    ∙ ap (list_any test) (sym (map-append range_of fixups (fixup ∷ [])) ∙ ap (map range_of) (sym is))
 
 pub equal_self : (a : ℕ) → not (a == a) ≡ false
 equal_self a = grind (arith, nat_tests)

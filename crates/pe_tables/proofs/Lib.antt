@@ -18,10 +18,13 @@ pub mod Named
 pub mod Names
 pub mod Neighbours
 pub mod Pages
+pub mod Pairs
 pub mod Refusing
 pub mod Rising
 pub mod Rows
+pub mod Runs
 pub mod Search
 pub mod Slots
 pub mod TextMap
+pub mod TextRun
 pub mod Widths

@@ -72,7 +72,7 @@ meets_any-last start len ranges front x ascending last =
     let kept = AllPairs-filter (λ (range later : ℕ × ℕ). (range.0 < later.0) × (range_end range ≤ range_end later)) q ranges ascending in
     list_any-filter p q ranges ∙ ap (list_any p) last ∙ last_reaches front x start (rw last at kept)
 
-swapped : (a b rest : Bool) → (a || (b || rest)) ≡ (b || (a || rest))
+pub swapped : (a b rest : Bool) → (a || (b || rest)) ≡ (b || (a || rest))
 swapped true true rest = refl
 swapped true false rest = refl
 swapped false true rest = refl
@@ -114,7 +114,7 @@ All-joined P start len (range ∷ ranges) fits all here =
     (All-joined P start len ranges (All-tail (FitsBeside start len) range ranges fits) (All-tail P range ranges all) here)
 
 -- a range comes before another and does not end after it
-abbrev Before : ℕ × ℕ → ℕ × ℕ → Type 0
+abbrev pub Before : ℕ × ℕ → ℕ × ℕ → Type 0
 Before range later = (range.0 < later.0) × (range_end range ≤ range_end later)
 
 ascending-tail : (range : ℕ × ℕ) (ranges : List (ℕ × ℕ)) → IsAscending (range ∷ ranges) → IsAscending ranges

@@ -1,11 +1,10 @@
 -- Imports without a fault: their slots are in the image, share no byte, and are not too many.
-use Rattle.std.proofs.Common.{◌≡◌, ℕ, suc, ◌+◌, ◌<◌, ◌≤◌, true, false, not, List, [], ◌∷◌, ◌++◌, length, get_or, Option, Some, None, refl, sym, ap, subst, ◌∙◌, length-append, append_assoc, append-nil, arith, inl, inr}
+use Rattle.std.proofs.Common.{◌≡◌, ℕ, ◌+◌, ◌<◌, ◌≤◌, true, false, not, List, [], ◌∷◌, ◌++◌, length, get_or, Option, Some, None, refl, sym, ap, subst, ◌∙◌, length-append, append_assoc, append-nil, arith, inl, inr}
 use Rattle.std.specs.Prelude.{◌==◌, map, All, AllPairs, option_to_list}
 use Rattle.std.specs.List.{filter_map, flat_map}
 use Rattle.std.proofs.lemmas.Bool.{cases_Bool, or_parts}
 use Rattle.std.proofs.lemmas.Bool.Decides.{nat_tests}
 use Rattle.std.proofs.lemmas.List.Elements.{All-nil, All-append, All-cons}
-use Rattle.std.proofs.lemmas.List.Kept.{AllPairs-cons}
 use Rattle.pe_view.specs.Faults.{Test, first_standing}
 use Rattle.pe_view.proofs.Standing.{none-append, none_stands}
 use Rattle.pe_head.specs.declared.directory.Directory.{Directory}
@@ -18,17 +17,7 @@ use Rattle.pe_tables.specs.declared.imports.Descriptor.{Descriptor}
 use Rattle.pe_tables.proofs.Beside.{none_at, apart_range, list_any-map}
 use Rattle.pe_tables.proofs.Entries.{filter_map-cons}
 use Rattle.pe_tables.proofs.Lookups.{affirmed, leb-≤}
-
-AllPairs-nil : {X : Type 0} (R : X → X → Type 0) → AllPairs R []
-AllPairs-nil R = λ i j d lt within. absurd (omega arith)
-
--- one more element, to which all others stand in the relation
-AllPairs-snoc : {X : Type 0} (R : X → X → Type 0) (xs : List X) (y : X) → AllPairs R xs → All (λ x. R x y) xs → AllPairs R (xs ++ y ∷ [])
-AllPairs-snoc R [] y pairs all = AllPairs-cons R y [] (All-nil (R y)) (AllPairs-nil R)
-AllPairs-snoc R (x ∷ xs) y pairs all =
-    AllPairs-cons R x (xs ++ y ∷ [])
-    (All-append (R x) xs (y ∷ []) (λ k d lt. pairs 0 (suc k) d (omega arith) (omega arith)) (All-cons (R x) y [] (all 0 x (omega arith)) (All-nil (R x))))
-    (AllPairs-snoc R xs y (λ i j d lt within. pairs (suc i) (suc j) d (omega arith) (omega arith)) (λ k d lt. all (suc k) d (omega arith)))
+use Rattle.pe_tables.proofs.Pairs.{AllPairs-nil, AllPairs-snoc}
 
 unequal : (a b : ℕ) → (a == b) ≡ false → a ≤ b → a < b
 unequal a b e le = grind (arith, nat_tests)

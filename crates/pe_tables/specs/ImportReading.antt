@@ -1,6 +1,7 @@
 -- What has been read of an import table.
 use Rattle.std.specs.Prelude.{◌≡◌, ℕ, List, ◌++◌, map}
 use Rattle.pe_tables.specs.Ranges.{SameRanges}
+use Rattle.pe_tables.specs.RangesView.{ranges_in}
 use Rattle.pe_tables.specs.Imports.{Import}
 use Rattle.pe_tables.specs.ImportFaults.{range_of}
 use Rattle.pe_tables.specs.ImportView.{import_view}
@@ -11,7 +12,7 @@ read_of found = map import_view found.imports.items
 
 -- the ranges are the imports' slots
 abbrev pub IsIndexed : {A : Type 0} → ℕ → Found A → Type 0
-IsIndexed width found = SameRanges found.slots.lens.entries (map (range_of width) (read_of found))
+IsIndexed width found = SameRanges (ranges_in found.slots) (map (range_of width) (read_of found))
 
 -- some more imports have been read
 pub record Reads {A : Type 0} (width : ℕ) (old new : Found A) (more : List Import) : Type 0 where

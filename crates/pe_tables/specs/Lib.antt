@@ -18,6 +18,9 @@ pub mod ImportView
 pub mod Key
 pub mod NameIndex
 pub mod Ranges
+pub mod RangesView
 pub mod Reading
 pub mod Standing
 pub mod TableFaults
+pub mod TextMap
+pub mod TextMapView

@@ -2,16 +2,17 @@
 use Rattle.std.specs.Prelude.{◌≡◌, ℕ, List, ◌++◌, map, Option, Some, None, if◌then◌else◌, option_map, option_and_then, option_to_list}
 use Rattle.std.specs.Borrow.{Bor}
 use Rattle.std.specs.List.{filter_map, find}
-use Rattle.std.specs.Map.{lookup}
 use Rattle.std.specs.Str.{bytes_eq}
 use Rattle.pe_tables.specs.Key.{Target, target_view}
 use Rattle.pe_tables.specs.Exports.{first_of_each}
+use Rattle.pe_tables.specs.TextMap.{found}
+use Rattle.pe_tables.specs.TextMapView.{entries_in}
 use Rattle.pe_tables.specs.declared.key.Target as code_target
 use Rattle.pe_tables.specs.declared.name_index.NameIndex.{NameIndex}
 
 -- what is held for a text
 abbrev pub held : {A : Type 0} → NameIndex A → List ℕ → Option (Option code_target.Target)
-held index text = lookup (λ key. bytes_eq text key.now) index.targets.entries
+held index text = found text (entries_in index.targets)
 
 abbrev pub export_view : Bor (List ℕ) × code_target.Target → List ℕ × Target
 export_view pair = (pair.0.now, target_view pair.1)
@@ -23,7 +24,7 @@ pub record Gains {A : Type 0} (old new : NameIndex A) (text : Bor (List ℕ)) (t
 
 -- a text that was held changes nothing
 pub record Stays {A : Type 0} (old new : NameIndex A) : Type 0 where
-  pub targets : new.targets.entries ≡ old.targets.entries
+  pub targets : entries_in new.targets ≡ entries_in old.targets
   pub exports : new.exports.items ≡ old.exports.items
 
 -- a name was added, by what was held for its text

@@ -1,13 +1,14 @@
 -- What has been read of a base relocation table.
 use Rattle.std.specs.Prelude.{◌≡◌, List, ◌++◌, map}
 use Rattle.pe_tables.specs.Ranges.{SameRanges}
+use Rattle.pe_tables.specs.RangesView.{ranges_in}
 use Rattle.pe_tables.specs.Fixups.{range_of}
 use Rattle.pe_tables.specs.declared.fixups.Fixup.{Fixup}
 use Rattle.pe_tables.specs.declared.fixups.Found.{Found}
 
 -- the ranges are those of the fixups
 abbrev pub IsIndexed : {A : Type 0} → Found A → Type 0
-IsIndexed found = SameRanges found.fields.lens.entries (map range_of found.fixups.items)
+IsIndexed found = SameRanges (ranges_in found.fields) (map range_of found.fixups.items)
 
 -- some more fixups have been read
 pub record Reads {A : Type 0} (old new : Found A) (more : List Fixup) : Type 0 where

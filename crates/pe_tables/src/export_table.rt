@@ -5,6 +5,7 @@ ghost use Rattle.pe_tables.specs.Exports.{table_at};
 ghost use Rattle.pe_tables.specs.ExportFaults.{is_outside, directory_tests, IsInside};
 
 use crate::error::{TableError, fault_at};
+use crate::inside::is_inside;
 use pe_layout::Layout;
 
 /// The most entries of an export address table, and the most names.
@@ -52,7 +53,7 @@ fn is_outside(layout: &Layout, rva: u32, width: u32, count: u32) -> bool
     requires { width ≤ 4 }
     ensures { result ≡ is_outside (image_of layout.now) rva width count }
 {
-    count != 0 && u64::from(rva) + u64::from(width) * u64::from(count) > u64::from(layout.size())
+    count != 0 && !is_inside(layout, rva, u64::from(width) * u64::from(count))
 }
 
 /// Reads the table at an RVA, whose own tables lie in the image, unless one of faults 16 to 18 stands.

@@ -3,6 +3,7 @@ ghost use Rattle.pe_layout.specs.Layout.{image_of};
 ghost use Rattle.pe_layout.specs.Image.{number_at};
 ghost use Rattle.pe_tables.specs.TableFaults.{TableAnswers};
 ghost use Rattle.pe_tables.specs.Ranges.{SameRanges, meets_any};
+ghost use Rattle.pe_tables.specs.RangesView.{ranges_in};
 ghost use Rattle.pe_tables.specs.Fixups.{IsBlockSize, width_of, range_of, slot_range, block_at, blocks_of, entry_of, entries_of, fixup_of, fixups_in, fixups_at, fixups_of};
 ghost use Rattle.pe_tables.specs.FixupFaults.{is_bad_size, entry_tests, entries_tests, blocks_tests, fixup_tests};
 ghost use Rattle.pe_tables.specs.Import.{slots_of};
@@ -10,6 +11,7 @@ ghost use Rattle.pe_tables.specs.Reading.{IsIndexed, Reads};
 
 use crate::error::{TableError, fault_at};
 use crate::import::Import;
+use crate::inside::is_inside;
 use crate::ranges::Ranges;
 use pe_head::{Directory, directory_index};
 use pe_layout::Layout;
@@ -73,7 +75,7 @@ fn slot_ranges<A: Allocator + Copy>(
     imports: &[Import],
     width: u32,
 ) -> Result<Ranges<A>, AllocError>
-    ensures { IfOk result (λ ranges. SameRanges ranges.lens.entries (map (slot_range width) (slots_of imports.now))) }
+    ensures { IfOk result (λ ranges. SameRanges (ranges_in ranges) (map (slot_range width) (slots_of imports.now))) }
 {
     let mut ranges = Ranges::new(alloc);
     for import in imports {
@@ -92,7 +94,7 @@ fn read_entry<A: Allocator + Copy>(
 ) -> Result<(), TableError>
     requires inside { rva + 2 ≤ (image_of layout.now).size }
     requires indexed { IsIndexed found.old }
-    ensures { TableAnswers (entry_tests (image_of layout.now) slots.now.lens.entries found.old.fixups.items (entry_of (image_of layout.now) page rva))
+    ensures { TableAnswers (entry_tests (image_of layout.now) (ranges_in slots.now) found.old.fixups.items (entry_of (image_of layout.now) page rva))
         (λ _. Reads found.old found.new (option_to_list (fixup_of (entry_of (image_of layout.now) page rva)))) result }
 {
     let entry = layout.u16_at(rva).unwrap();
@@ -134,7 +136,7 @@ fn read_block<A: Allocator + Copy>(
     requires inside { rva + size ≤ (image_of layout.now).size }
     requires small { rva + size < 2 ^ 32 }
     requires indexed { IsIndexed found.old }
-    ensures { TableAnswers (entries_tests (image_of layout.now) slots.now.lens.entries found.old.fixups.items (entries_of (image_of layout.now) (block_at (image_of layout.now) rva)))
+    ensures { TableAnswers (entries_tests (image_of layout.now) (ranges_in slots.now) found.old.fixups.items (entries_of (image_of layout.now) (block_at (image_of layout.now) rva)))
         (λ _. Reads found.old found.new (fixups_in (image_of layout.now) (block_at (image_of layout.now) rva))) result }
 {
     let page = layout.u32_at(rva).unwrap();
@@ -178,7 +180,7 @@ fn read_blocks<A: Allocator + Copy>(
     requires small { directory.rva + directory.size < 2 ^ 32 }
     requires none { found.old.fixups.items ≡ [] }
     requires indexed { IsIndexed found.old }
-    ensures { TableAnswers (blocks_tests (image_of layout.now) slots.now.lens.entries (directory.rva + directory.size) [] (blocks_of (image_of layout.now) directory))
+    ensures { TableAnswers (blocks_tests (image_of layout.now) (ranges_in slots.now) (directory.rva + directory.size) [] (blocks_of (image_of layout.now) directory))
         (λ _. found.new.fixups.items ≡ fixups_at (image_of layout.now) (Some directory)) result }
 {
     let end = directory.rva + directory.size;
@@ -208,7 +210,7 @@ pub fn read_fixups<A: Allocator + Copy>(
     let Some(directory) = layout.directory(directory_index::BASE_RELOCATION) else {
         return Ok(Vec::new(alloc));
     };
-    if u64::from(directory.rva) + u64::from(directory.size) > u64::from(layout.size()) {
+    if !is_inside(layout, directory.rva, u64::from(directory.size)) {
         return Err(fault_at(34, layout, directory.rva));
     }
     let slots = slot_ranges(alloc, imports, layout.slot_width())?;

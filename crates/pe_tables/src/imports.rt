@@ -1,7 +1,7 @@
 ghost use Rattle.std.specs.Prelude.{◌≡◌, ◌+◌, ◌≤◌, ◌^◌, ◌<◌, [], ◌∷◌, None, IsTrue, IsOk, OnOk, map, not, option_to_list};
 ghost use Rattle.std.specs.List.{filter_map, flat_map};
 ghost use Rattle.pe_layout.specs.Layout.{image_of};
-ghost use Rattle.pe_layout.specs.Image.{number_at, is_inside};
+ghost use Rattle.pe_layout.specs.Image.{number_at};
 ghost use Rattle.pe_tables.specs.TableFaults.{TableAnswers};
 ghost use Rattle.pe_tables.specs.Imports.{is_null, ends_list, descriptor_at, descriptors_of, lookup_at, lookup_table, lookups_of, ends_table, is_ordinal, key_of, import_of, module_of, imports_in, imports_at, imports_of};
 ghost use Rattle.pe_tables.specs.ImportFaults.{key_tests, slot_tests, lookup_tests, lookups_tests, module_tests, descriptor_tests, descriptors_tests, import_tests};
@@ -11,6 +11,7 @@ ghost use Rattle.pe_tables.specs.Key.{key_view};
 
 use crate::error::{TableError, fault_at};
 use crate::import::Import;
+use crate::inside::is_inside;
 use crate::key::Key;
 use crate::ranges::Ranges;
 use pe_head::directory_index;
@@ -73,14 +74,6 @@ impl<'a, A: Allocator + Copy> Found<'a, A> {
     }
 }
 
-/// Whether `len` bytes at an RVA are in the image.
-fn is_inside(layout: &Layout, rva: u32, len: u32) -> bool
-    ensures value { result ≡ is_inside (image_of layout.now) rva len }
-    ensures small { IsTrue result → rva + len ≤ 2 ^ 31 }
-{
-    u64::from(rva) + u64::from(len) <= u64::from(layout.size())
-}
-
 /// The value of the lookup entry at an RVA of the image, which has as many bytes as a slot.
 fn lookup_value(layout: &Layout, rva: u32) -> u64
     requires { rva + (image_of layout.now).slot_width ≤ (image_of layout.now).size }
@@ -128,7 +121,7 @@ fn check_slot<A: Allocator + Copy>(
     ensures { TableAnswers (slot_tests (image_of layout.now) (read_of found.now) rva slot) (λ _. Unit {0}) result }
 {
     let width = layout.slot_width();
-    if !is_inside(layout, slot, width) {
+    if !is_inside(layout, slot, u64::from(width)) {
         return Err(fault_at(29, layout, rva));
     }
     if found.slots.meets(slot, width) {
@@ -155,7 +148,7 @@ fn read_lookup<'a, A: Allocator + Copy>(
         × Reads (image_of layout.now).slot_width found.old found.new (option_to_list (import_of (image_of layout.now) «module».entry.now (lookup_at (image_of layout.now) rva slot)))) result }
 {
     let width = layout.slot_width();
-    if !is_inside(layout, rva, width) {
+    if !is_inside(layout, rva, u64::from(width)) {
         return Err(fault_at(26, layout, rva));
     }
     let value = lookup_value(layout, rva);

@@ -20,10 +20,12 @@ mod fixups;
 mod forwarder;
 mod import;
 mod imports;
+mod inside;
 mod key;
 pub mod laws;
 mod name_index;
 mod ranges;
+mod text_map;
 
 pub use encode::{ascending, encode_fixups};
 pub use error::TableError;

@@ -1,9 +1,10 @@
 ghost use Rattle.std.specs.Prelude.{◌≡◌, [], OnOk};
 ghost use Rattle.pe_tables.specs.NameIndex.{held, Learns};
+ghost use Rattle.pe_tables.specs.TextMapView.{entries_in};
 
 use crate::key::Target;
+use crate::text_map::TextMap;
 use std::alloc::{AllocError, Allocator};
-use std::collections::BTreeMap;
 
 /// The exports of an image by name.
 #[derive(Drop)]
@@ -11,18 +12,18 @@ pub(crate) struct NameIndex<'a, A: Allocator> {
     /// Each text that exports something, where it stands first.
     pub exports: Vec<(&'a [u8], Target<'a>), A>,
     /// What each text exports, also where that is nothing.
-    pub targets: BTreeMap<&'a [u8], Option<Target<'a>>, A>,
+    pub targets: TextMap<'a, A>,
 }
 
 impl<'a, A: Allocator + Copy> NameIndex<'a, A> {
     /// No names.
     pub fn new(alloc: A) -> NameIndex<'a, A>
         ensures exports { result.exports.items ≡ [] }
-        ensures targets { result.targets.entries ≡ [] }
+        ensures targets { entries_in result.targets ≡ [] }
     {
         NameIndex {
             exports: Vec::new(alloc),
-            targets: BTreeMap::new(alloc),
+            targets: TextMap::new(alloc),
         }
     }
 
@@ -30,7 +31,7 @@ impl<'a, A: Allocator + Copy> NameIndex<'a, A> {
     pub fn add(&mut self, text: &'a [u8], target: Option<Target<'a>>) -> Result<(), AllocError>
         ensures { OnOk result (Learns self.old self.new text.entry target.entry (held self.old text.now)) }
     {
-        if self.targets.contains_key(text) {
+        if self.targets.get(text).is_some() {
             return Ok(());
         }
         self.targets.insert(text, target)?;

@@ -1,48 +1,114 @@
-ghost use Rattle.std.specs.Prelude.{◌≡◌, ◌+◌, ◌<◌, ◌^◌, All, OnOk, []};
-ghost use Rattle.pe_tables.specs.Ranges.{IsAscending};
+ghost use Rattle.std.specs.Prelude.{◌≡◌, ◌+◌, ◌<◌, ◌≤◌, ◌^◌, ◌↔◌, All, IsTrue, OnOk, [], length, take, filter, nat_lt};
+ghost use Rattle.pe_tables.specs.Ranges.{IsAscending, meets_any, range_end};
 
 use std::alloc::{AllocError, Allocator};
 use std::collections::BTreeMap;
 
 /// Ranges of RVAs by their starts, of which no later one ends first.
+///
+/// Those of most tables ascend, and then they are all one run, whose end tells where the next one stands.
 #[derive(Drop)]
 pub(crate) struct Ranges<A: Allocator> {
-    lens: BTreeMap<u32, u32, A>,
-    ghost ascending: { IsAscending lens.entries },
+    /// The ranges that start behind all those of the run before them.
+    run: Vec<(u32, u32), A>,
+    /// How long the other ranges are, by their starts.
+    others: BTreeMap<u32, u32, A>,
+    ghost run_ascending: { IsAscending run.items },
+    ghost others_ascending: { IsAscending others.entries },
 }
 
-impl<A: Allocator + Clone> Ranges<A> {
-    ghost use Rattle.pe_tables.specs.Ranges.{meets_any, FitsBeside, Gains};
+/// Whether all ranges of a run start below an RVA, which the last one tells.
+fn all_below(run: &[(u32, u32)], rva: u32) -> bool
+    requires { IsAscending run.now }
+    ensures { IsTrue result ↔ All (λ range. range.0 < rva) run.now }
+{
+    match run.last() {
+        Some(last) => last.0 < rva,
+        None => true,
+    }
+}
+
+/// How many ranges of a run start below an RVA.
+fn count_below(run: &[(u32, u32)], rva: u32) -> usize
+    requires { IsAscending run.now }
+    ensures within { result ≤ length run.now }
+    ensures these { filter (λ range. nat_lt range.0 rva) run.now ≡ take result run.now }
+{
+    if all_below(run, rva) {
+        run.len()
+    } else {
+        run.partition_point(|range| range.0 < rva)
+    }
+}
+
+/// Whether a range goes on behind an RVA.
+fn ends_behind(start: u32, len: u32, rva: u32) -> bool
+    ensures { result ≡ nat_lt rva (range_end (start, len)) }
+{
+    u64::from(rva) < u64::from(start) + u64::from(len)
+}
+
+/// Whether some range of a run has an RVA in common with the `len` bytes at `start`.
+///
+/// Of the ranges that start before these bytes end, the last one ends last, so it alone is asked.
+fn run_meets(run: &[(u32, u32)], start: u32, len: u32) -> bool
+    requires ascending { IsAscending run.now }
+    requires small { start + len < 2 ^ 32 }
+    ensures { result ≡ meets_any start len run.now }
+{
+    let count = count_below(run, start + len);
+    if count == 0 {
+        return false;
+    }
+    let (last, last_len) = run[count - 1];
+    ends_behind(last, last_len, start)
+}
+
+/// Whether some of these ranges has an RVA in common with the `len` bytes at `start`, as [`run_meets`] tells it.
+fn others_meet<A: Allocator>(others: &BTreeMap<u32, u32, A>, start: u32, len: u32) -> bool
+    requires ascending { IsAscending others.now.entries }
+    requires small { start + len < 2 ^ 32 }
+    ensures { result ≡ meets_any start len others.now.entries }
+{
+    let mut before = others.range(..start + len);
+    match before.next_back() {
+        Some((last, last_len)) => ends_behind(*last, *last_len, start),
+        None => false,
+    }
+}
+
+impl<A: Allocator + Copy> Ranges<A> {
+    ghost use Rattle.pe_tables.specs.Ranges.{FitsBeside, Gains};
+    ghost use Rattle.pe_tables.specs.RangesView.{ranges_in};
 
     /// No ranges.
     pub fn new(alloc: A) -> Ranges<A>
-        ensures { result.lens.entries ≡ [] }
+        ensures { ranges_in result ≡ [] }
     {
         Ranges {
-            lens: BTreeMap::new(alloc),
+            run: Vec::new(alloc),
+            others: BTreeMap::new(alloc),
         }
     }
 
     /// Whether some range has an RVA in common with the `len` bytes at `start`.
-    ///
-    /// Of the ranges that begin before these bytes end, the last one ends last, so it alone is asked.
     pub fn meets(&self, start: u32, len: u32) -> bool
         requires { start + len < 2 ^ 32 }
-        ensures { result ≡ meets_any start len self.now.lens.entries }
+        ensures { result ≡ meets_any start len (ranges_in self.now) }
     {
-        let mut before = self.lens.range(..start + len);
-        match before.next_back() {
-            Some((last, count)) => u64::from(start) < u64::from(*last) + u64::from(*count),
-            None => false,
-        }
+        run_meets(self.run.as_slice(), start, len) || others_meet(&self.others, start, len)
     }
 
     /// Adds a range, which fits among the others.
     pub fn add(&mut self, start: u32, len: u32) -> Result<(), AllocError>
-        requires { All (FitsBeside start len) self.old.lens.entries }
-        ensures { OnOk result (Gains self.old.lens.entries self.new.lens.entries (start, len)) }
+        requires { All (FitsBeside start len) (ranges_in self.old) }
+        ensures { OnOk result (Gains (ranges_in self.old) (ranges_in self.new) (start, len)) }
     {
-        self.lens.insert(start, len)?;
+        if all_below(self.run.as_slice(), start) {
+            self.run.push((start, len))?;
+        } else {
+            self.others.insert(start, len)?;
+        }
         Ok(())
     }
 }

@@ -1,6 +1,6 @@
-ghost use Rattle.std.specs.Prelude.{◌≡◌, ◌-◌, ◌^◌, ◌<◌, ◌≤◌, length, take, [], ◌∷◌, decimal, flat_map, ℕ, List};
+ghost use Rattle.std.specs.Prelude.{◌≡◌, ◌-◌, ◌^◌, ◌<◌, ◌≤◌, length, take, slice_index_or, [], ◌∷◌, decimal, flat_map, ℕ, List, true, false};
 ghost use Rattle.pe_tool.specs.TextWriter.{WritesAll, Finishes};
-ghost use Rattle.pe_tool.specs.Text.{hex, hex_8, escaped, quoted};
+ghost use Rattle.pe_tool.specs.Text.{hex, hex_8, is_plain, escaped, quoted};
 
 use crate::device::{Failed, Sink};
 use crate::digits::{hex_digit, hex_width};
@@ -29,6 +29,26 @@ fn write_all<W: Sink>(writer: &mut W, piece: &[u8]) -> Result<(), Failed>
         at += writer.write(&piece[at..])?;
     }
     Ok(())
+}
+
+/// Whether a byte of a quoted text stands for itself: it is printable, no quote and no backslash.
+fn is_plain(byte: u8) -> bool
+    ensures { result ≡ is_plain byte }
+{
+    matches!(byte, b' '..=b'~') && byte != b'"' && byte != b'\\'
+}
+
+/// How many bytes of a quoted text stand for themselves, from the first on.
+fn plain_len(bytes: &[u8]) -> usize
+    ensures within { result ≤ length bytes.now }
+    ensures plain { (k d : ℕ) → k < result → is_plain (slice_index_or bytes.now k d) ≡ true }
+    ensures other { (d : ℕ) → result < length bytes.now → is_plain (slice_index_or bytes.now result d) ≡ false }
+{
+    let mut len = 0;
+    while len < bytes.len() && is_plain(bytes[len]) {
+        len += 1;
+    }
+    len
 }
 
 impl<'w, W: Sink> TextWriter<'w, W> {
@@ -142,7 +162,7 @@ impl<'w, W: Sink> TextWriter<'w, W> {
         requires { IsReady W.failures self.old }
         ensures { Adds W.taken W.failures self.old self.new (escaped byte) }
     {
-        if matches!(byte, b' '..=b'~') && byte != b'"' && byte != b'\\' {
+        if is_plain(byte) {
             self.byte(byte);
         } else {
             self.text(b"\\x");
@@ -150,13 +170,31 @@ impl<'w, W: Sink> TextWriter<'w, W> {
         }
     }
 
+    /// Adds some bytes of a quoted text, from the first on, and answers how many: those that stand for themselves at once.
+    fn some_escaped(&mut self, bytes: &[u8]) -> usize
+        requires ready { IsReady W.failures self.old }
+        requires some { 0 < length bytes.now }
+        ensures fits { result ≤ length bytes.now }
+        ensures some { 0 < result }
+        ensures adds { Adds W.taken W.failures self.old self.new (flat_map escaped (take result bytes.now)) }
+    {
+        let plain = plain_len(bytes);
+        if plain == 0 {
+            self.escaped(bytes[0]);
+            return 1;
+        }
+        self.text(&bytes[..plain]);
+        plain
+    }
+
     /// Adds the bytes of a quoted text.
     fn all_escaped(&mut self, bytes: &[u8])
         requires { IsReady W.failures self.old }
         ensures { Adds W.taken W.failures self.old self.new (flat_map escaped bytes.now) }
     {
-        for byte in bytes {
-            self.escaped(*byte);
+        let mut at = 0;
+        while at < bytes.len() {
+            at += self.some_escaped(&bytes[at..]);
         }
     }
 

@@ -298,6 +298,25 @@ const SEVERAL_NAMES: &[Case] = &[
             &[(b"z", Target::Rva(0x1010)), (b"a", Target::Rva(0x1004))],
         )),
     ),
+    // also where both stand below an earlier one
+    (
+        &[
+            (0x238, &[0x03]),
+            (0x240, &[0x60, 0x10, 0x00, 0x00, 0x6c, 0x10]),
+            (
+                0x260,
+                &[
+                    0x74, 0x10, 0x00, 0x00, 0x76, 0x10, 0x00, 0x00, 0x78, 0x10, 0x00, 0x00, 0x00,
+                    0x00, 0x02, 0x00, 0x00, 0x00,
+                ],
+            ),
+            (0x274, b"z\0a\0a\0"),
+        ],
+        Ok((
+            ORDINALS,
+            &[(b"z", Target::Rva(0x1004)), (b"a", Target::Rva(0x1010))],
+        )),
+    ),
     // also where it exports nothing
     (
         &[

@@ -200,6 +200,21 @@ const TWO_BLOCKS: &[Case] = &[
             (0x2016, 0x0ff7, 32),
         ]),
     ),
+    // fields that meet, both below an earlier one
+    (
+        &[
+            (0xe4, &[0x18]),
+            (0x168, &[0x18]),
+            (
+                0x40c,
+                &[
+                    0x00, 0x00, 0x00, 0x00, 0x0c, 0x00, 0x00, 0x00, 0xff, 0xaf, 0xfc, 0x3f,
+                ],
+            ),
+        ],
+        &[],
+        Err((37, 0x2016)),
+    ),
     (
         &[
             (0xe4, &[0x18]),

@@ -5,6 +5,7 @@ use Rattle.std.specs.List.{filter_map}
 use Rattle.std.proofs.lemmas.Result.{err_from_is_err_and}
 use Rattle.pe_view.specs.Faults.{first_standing}
 use Rattle.pe_layout.specs.Layout.{image_of}
+use Rattle.pe_tables.specs.RangesView.{ranges_in}
 use Rattle.pe_tables.specs.Fixups.{Entry, block_at, entry_at, entry_of, entries_of, fixup_of}
 use Rattle.pe_tables.specs.FixupFaults.{entry_tests, entries_tests}
 use Rattle.pe_tables.specs.declared.fixups.Fixup.{Fixup}
@@ -17,7 +18,7 @@ pub returns-in_err-read_entry : goal.returns-in_err-read_entry
 returns-in_err-read_entry g c =
     let i = image_of c.args.layout.now in
     let b = block_at i c.args.rva in
-    let slots = c.args.slots.now.lens.entries in
+    let slots = ranges_in c.args.slots.now in
     let n : ℕ = (b.size - 8) / 2 in
     let k : ℕ = c.loop-index.index in
     let before = c.loop-index.found.fixups.items in
@@ -33,7 +34,7 @@ pub loop-index-preserved : goal.loop-index-preserved
 loop-index-preserved g c =
     let i = image_of c.args.layout.now in
     let b = block_at i c.args.rva in
-    let slots = c.args.slots.now.lens.entries in
+    let slots = ranges_in c.args.slots.now in
     let n : ℕ = (b.size - 8) / 2 in
     let k : ℕ = c.loop-index.index in
     let before = c.loop-index.found.fixups.items in
@@ -59,7 +60,7 @@ returns g c =
     let b = block_at i c.args.rva in
     let le : (b.size - 8) / 2 ≤ c.loop-index.index = rw (← c.requires.its_size) c.loop-index-test.false in
     let before = c.loop-index.found.fixups.items in (
-      sym c.loop-index.invariant.tests ∙ entries-end i c.args.slots.now.lens.entries (entry_at i b) ((b.size - 8) / 2) c.loop-index.index before le,
+      sym c.loop-index.invariant.tests ∙ entries-end i (ranges_in c.args.slots.now) (entry_at i b) ((b.size - 8) / 2) c.loop-index.index before le,
       record {
         fixups = sym (fixups-end (entry_at i b) ((b.size - 8) / 2) c.loop-index.index before le) ∙ c.loop-index.invariant.fixups;
         indexed = c.loop-index.invariant.indexed;

@@ -2,6 +2,7 @@ use Rattle.std.proofs.Common.{◌≡◌, ◌++◌, drop}
 use Rattle.std.specs.List.{filter_map}
 use Rattle.pe_view.specs.Faults.{first_standing}
 use Rattle.pe_layout.specs.Layout.{image_of}
+use Rattle.pe_tables.specs.RangesView.{ranges_in}
 use Rattle.pe_tables.specs.Fixups.{block_at, entries_of, fixup_of, fixups_in}
 use Rattle.pe_tables.specs.FixupFaults.{entries_tests}
 use Rattle.pe_tables.specs.Reading.{IsIndexed}
@@ -13,6 +14,6 @@ invariant-loop-index g l =
     let entries = entries_of i (block_at i l.rva) in
     record {
       indexed : IsIndexed l.found;
-      tests : first_standing (entries_tests i l.slots.lens.entries l.found.fixups.items (drop l.index entries)) ≡ first_standing (entries_tests i l.slots.lens.entries l.initial.found.fixups.items entries);
+      tests : first_standing (entries_tests i (ranges_in l.slots) l.found.fixups.items (drop l.index entries)) ≡ first_standing (entries_tests i (ranges_in l.slots) l.initial.found.fixups.items entries);
       fixups : l.found.fixups.items ++ filter_map fixup_of (drop l.index entries) ≡ l.initial.found.fixups.items ++ fixups_in i (block_at i l.rva);
     }

@@ -5,6 +5,7 @@ use Rattle.std.proofs.lemmas.Bool.{ltb-false, or_parts}
 use Rattle.std.proofs.lemmas.Result.{err_from_is_err_and}
 use Rattle.pe_view.specs.Faults.{first_standing}
 use Rattle.pe_layout.specs.Layout.{image_of}
+use Rattle.pe_tables.specs.RangesView.{ranges_in}
 use Rattle.pe_tables.specs.Fixups.{Block, block_at, blocks_from, blocks_of, entries_of, fixups_in}
 use Rattle.pe_tables.specs.FixupFaults.{is_bad_size, entries_tests, blocks_tests}
 use Rattle.pe_tables.specs.declared.fixups.Fixup.{Fixup}
@@ -18,14 +19,14 @@ returns-then-is_bad_size g c =
     let end : ℕ = c.args.directory.rva + c.args.directory.size in
     let rva : ℕ = c.loop-size.rva in
     let bad : is_bad_size end rva (block_at i rva).size ≡ true = ap (is_bad_size end rva) (sym c.in-Some.ensures.1) ∙ sym c.is_bad_size.ensures ∙ c.if-is_bad_size.true in
-    rw c.fault_at.ensures (sym c.loop-size.invariant.tests ∙ blocks-bad_size i c.args.slots.now.lens.entries end rva c.loop-size.found.fixups.items c.in-Some.ensures.0 bad)
+    rw c.fault_at.ensures (sym c.loop-size.invariant.tests ∙ blocks-bad_size i (ranges_in c.args.slots.now) end rva c.loop-size.found.fixups.items c.in-Some.ensures.0 bad)
 
 pub returns-in_err-read_block : goal.returns-in_err-read_block
 returns-in_err-read_block g c =
     let i = image_of c.args.layout.now in
     let end : ℕ = c.args.directory.rva + c.args.directory.size in
     let rva : ℕ = c.loop-size.rva in
-    let slots = c.args.slots.now.lens.entries in
+    let slots = ranges_in c.args.slots.now in
     let before = c.loop-size.found.fixups.items in
     let sized : is_bad_size end rva (block_at i rva).size ≡ false = ap (is_bad_size end rva) (sym c.in-Some.ensures.1) ∙ sym c.is_bad_size.ensures ∙ c.if-is_bad_size.false in
     let p = err_from_is_err_and c.from_residual.result c.from_residual.ensures.1 in
@@ -39,7 +40,7 @@ loop-size-preserved g c =
     let i = image_of c.args.layout.now in
     let end : ℕ = c.args.directory.rva + c.args.directory.size in
     let rva : ℕ = c.loop-size.rva in
-    let slots = c.args.slots.now.lens.entries in
+    let slots = ranges_in c.args.slots.now in
     let before = c.loop-size.found.fixups.items in
     let size : c.in-Some.size ≡ (block_at i rva).size = c.in-Some.ensures.1 in
     let sized : is_bad_size end rva (block_at i rva).size ≡ false = ap (is_bad_size end rva) (sym size) ∙ sym c.is_bad_size.ensures ∙ c.if-is_bad_size.false in
@@ -66,7 +67,7 @@ returns g c =
     let i = image_of c.args.layout.now in
     let end : ℕ = c.args.directory.rva + c.args.directory.size in
     let rva : ℕ = c.loop-size.rva in
-    let slots = c.args.slots.now.lens.entries in
+    let slots = ranges_in c.args.slots.now in
     let read = c.loop-size.found.fixups.items in
     let none : blocks_from (end - rva) i end rva ≡ [] = blocks-end i end rva (end - rva) c.in_default.ensures in (
       sym c.loop-size.invariant.tests ∙ ap (λ (bs : List Block). first_standing (blocks_tests i slots end read bs)) none ∙ blocks-none i slots end read,

@@ -2,6 +2,7 @@ use Rattle.std.proofs.Common.{◌≡◌, ◌-◌, ◌≤◌, ◌++◌, [], Some}
 use Rattle.std.specs.List.{flat_map}
 use Rattle.pe_view.specs.Faults.{first_standing}
 use Rattle.pe_layout.specs.Layout.{image_of}
+use Rattle.pe_tables.specs.RangesView.{ranges_in}
 use Rattle.pe_tables.specs.Fixups.{blocks_from, blocks_of, fixups_in, fixups_at}
 use Rattle.pe_tables.specs.FixupFaults.{blocks_tests}
 use Rattle.pe_tables.specs.Reading.{IsIndexed}
@@ -14,7 +15,7 @@ invariant-loop-size g l =
     record {
       begins : l.rva ≤ l.end;
       indexed : IsIndexed l.found;
-      tests : first_standing (blocks_tests i l.slots.lens.entries l.end l.found.fixups.items left) ≡ first_standing (blocks_tests i l.slots.lens.entries l.end [] (blocks_of i l.fn.directory));
+      tests : first_standing (blocks_tests i (ranges_in l.slots) l.end l.found.fixups.items left) ≡ first_standing (blocks_tests i (ranges_in l.slots) l.end [] (blocks_of i l.fn.directory));
       fixups : l.found.fixups.items ++ flat_map (fixups_in i) left ≡ fixups_at i (Some l.fn.directory);
     }
 

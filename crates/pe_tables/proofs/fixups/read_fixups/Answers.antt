@@ -1,15 +1,18 @@
 -- A table that lies in the image has the faults and the fixups of its blocks.
-use Rattle.std.proofs.Common.{◌∙◌, ◌+◌, ◌≤◌, ℕ, Option, [], sym, ap, subst, arith}
+use Rattle.std.proofs.Common.{◌≡◌, ◌∙◌, ◌+◌, ◌≤◌, ℕ, Option, true, [], sym, ap, subst}
 use Rattle.std.specs.Prelude.{map}
 use Rattle.std.proofs.lemmas.Result.{err_from_is_err_and}
 use Rattle.pe_view.specs.Faults.{first_standing}
 use Rattle.pe_head.specs.declared.directory.Directory.{Directory}
+use Rattle.pe_layout.specs.Image.{is_inside}
 use Rattle.pe_layout.specs.Layout.{image_of}
 use Rattle.pe_tables.specs.Ranges.{SameRanges}
+use Rattle.pe_tables.specs.RangesView.{ranges_in}
 use Rattle.pe_tables.specs.Fixups.{blocks_of, fixups_at, slot_range}
 use Rattle.pe_tables.specs.FixupFaults.{fixup_tests, fixup_tests_at, blocks_tests}
 use Rattle.pe_tables.specs.Import.{slots_of}
 use Rattle.pe_tables.proofs.Blocks.{table-past}
+use Rattle.pe_tables.proofs.Lookups.{leb-≤}
 use Rattle.pe_tables.proofs.Refusing.{refuses-whole}
 use Rattle.pe_tables.proofs.fixups.read_fixups.Goals as goal
 
@@ -17,11 +20,11 @@ pub returns-in_err-read_blocks-clause-exact : goal.returns-in_err-read_blocks-cl
 returns-in_err-read_blocks-clause-exact g c =
     let i = image_of c.args.layout.now in
     let d = c.in-Some.directory in
-    let slots = c.in_ok-slots.slots.lens.entries in
+    let slots = ranges_in c.in_ok-slots.slots in
     let SameAs : ℕ → Type 0 = λ width. SameRanges slots (map (slot_range width) (slots_of c.args.imports.now)) in
     let same : SameAs i.slot_width = subst SameAs c.slot_width.ensures c.in_ok-slots.ensures in
-    let size = c.size.ensures.value in
-    let inside : d.rva + d.size ≤ i.size = omega (arith, c.if-from.false) in
+    let test : is_inside i d.rva d.size ≡ true = ap (is_inside i d.rva) (sym c.from.ensures) ∙ sym c.is_inside.ensures.value ∙ c.if-not-is_inside.false in
+    let inside : d.rva + d.size ≤ i.size = leb-≤ _ _ test in
     let whole = ap (λ (o : Option Directory). first_standing (fixup_tests_at i (map (slot_range i.slot_width) (slots_of c.args.imports.now)) o)) (sym c.in-Some.ensures)
     ∙ table-past i slots (map (slot_range i.slot_width) (slots_of c.args.imports.now)) d same inside in
     let p = err_from_is_err_and c.from_residual-in_err-read_blocks.result c.from_residual-in_err-read_blocks.ensures.1 in
@@ -33,11 +36,11 @@ pub returns-clause-exact : goal.returns-clause-exact
 returns-clause-exact g c =
     let i = image_of c.args.layout.now in
     let d = c.in-Some.directory in
-    let slots = c.in_ok-slots.slots.lens.entries in
+    let slots = ranges_in c.in_ok-slots.slots in
     let SameAs : ℕ → Type 0 = λ width. SameRanges slots (map (slot_range width) (slots_of c.args.imports.now)) in
     let same : SameAs i.slot_width = subst SameAs c.slot_width.ensures c.in_ok-slots.ensures in
-    let size = c.size.ensures.value in
-    let inside : d.rva + d.size ≤ i.size = omega (arith, c.if-from.false) in
+    let test : is_inside i d.rva d.size ≡ true = ap (is_inside i d.rva) (sym c.from.ensures) ∙ sym c.is_inside.ensures.value ∙ c.if-not-is_inside.false in
+    let inside : d.rva + d.size ≤ i.size = leb-≤ _ _ test in
     let whole = ap (λ (o : Option Directory). first_standing (fixup_tests_at i (map (slot_range i.slot_width) (slots_of c.args.imports.now)) o)) (sym c.in-Some.ensures)
     ∙ table-past i slots (map (slot_range i.slot_width) (slots_of c.args.imports.now)) d same inside in (
       whole ∙ c.in_ok-read_blocks.ensures.0,

@@ -4,6 +4,7 @@ use Rattle.std.specs.Prelude.{◌==◌}
 use Rattle.std.specs.List.{list_any}
 use Rattle.std.proofs.lemmas.List.{take_all}
 use Rattle.std.proofs.lemmas.List.Folds.{list_any_none}
+use Rattle.pe_tables.specs.RangesView.{ranges_in}
 use Rattle.pe_tables.specs.Fixups.{slot_range}
 use Rattle.pe_tables.specs.Import.{slots_of}
 use Rattle.pe_tables.specs.declared.import.Import.{Import}
@@ -13,7 +14,7 @@ use Rattle.pe_tables.proofs.fixups.slot_ranges.Goals as goal
 pub add-requires : goal.add-requires
 add-requires g c =
     let imports : List Import = take c.loop-import.import-index c.args.imports.now in
-    all_equal _ c.args.width c.loop-import.ranges.lens.entries
+    all_equal _ c.args.width (ranges_in c.loop-import.ranges)
     (c.loop-import.invariant (λ range. not (range.1 == c.args.width))
     ∙ list_any_none (λ (i : Import). not (c.args.width == c.args.width)) imports (λ k d lt. equal_self c.args.width))
 

@@ -1,17 +1,20 @@
--- The last range that begins before the bytes end decides.
-use Rattle.std.proofs.Common.{◌∙◌, ◌+◌, sym, refl}
-use Rattle.pe_tables.proofs.Neighbours.{meets_any-none, meets_any-last, filter-below}
+-- The run meets the bytes, or the others do.
+use Rattle.std.proofs.Common.{◌≡◌, ◌∙◌, true, false, ap, sym}
+use Rattle.pe_tables.specs.Ranges.{meets_any}
+use Rattle.pe_tables.specs.RangesView.{ranges_in}
+use Rattle.pe_tables.proofs.Runs.{meets-run, meets-others}
 use Rattle.pe_tables.proofs.ranges.Ranges.meets.Goals as goal
 
-pub returns-in-Some : goal.returns-in-Some
-returns-in-Some g c =
-    let ranges = c.args.self.now.lens.entries in
-    let below = filter-below _ (c.args.start + c.args.len) ranges (λ range. refl) in
-    let last = sym below ∙ sym (c.range-before.ensures.between tt) ∙ c.in-Some.ensures.steps in
-    rw (c.from.ensures, c.from-in-Some.ensures, c.from-in-Some-2.ensures) (sym (meets_any-last c.args.start c.args.len ranges _ _ c.args.self.now.ascending last))
+pub returns-then-run_meets : goal.returns-then-run_meets
+unfolding ranges_in
+returns-then-run_meets g c =
+    let ranges = c.args.self.now in
+    let met : meets_any c.args.start c.args.len ranges.run.items ≡ true = ap (meets_any c.args.start c.args.len) (sym c.as_slice.ensures.value) ∙ sym c.run_meets.ensures ∙ c.if-run_meets.true in
+    c.if-run_meets.true ∙ sym (meets-run c.args.start c.args.len ranges.run.items ranges.others.entries met)
 
-pub returns-in-None : goal.returns-in-None
-returns-in-None g c =
-    let ranges = c.args.self.now.lens.entries in
-    let below = filter-below _ (c.args.start + c.args.len) ranges (λ range. refl) in
-    sym (meets_any-none c.args.start c.args.len ranges (sym below ∙ sym (c.range-before.ensures.between tt) ∙ c.in-None.ensures.steps.0))
+pub returns-else-run_meets : goal.returns-else-run_meets
+unfolding ranges_in
+returns-else-run_meets g c =
+    let ranges = c.args.self.now in
+    let apart : meets_any c.args.start c.args.len ranges.run.items ≡ false = ap (meets_any c.args.start c.args.len) (sym c.as_slice.ensures.value) ∙ sym c.run_meets.ensures ∙ c.if-run_meets.false in
+    c.others_meet.ensures ∙ sym (meets-others c.args.start c.args.len ranges.run.items ranges.others.entries apart)

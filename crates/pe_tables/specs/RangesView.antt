@@ -1,0 +1,7 @@
+-- The ranges that are held.
+use Rattle.std.specs.Prelude.{ℕ, List, ◌++◌}
+use Rattle.pe_tables.specs.declared.ranges.Ranges.{Ranges}
+
+-- those of the run, and the others
+unfoldable pub ranges_in : {A : Type 0} → Ranges A → List (ℕ × ℕ)
+ranges_in ranges = ranges.run.items ++ ranges.others.entries

@@ -1,0 +1,19 @@
+-- Texts in the order of their bytes, each with something.
+use Rattle.std.specs.Prelude.{◌≡◌, ℕ, List, Option, AllPairs}
+use Rattle.std.specs.Borrow.{Bor}
+use Rattle.std.specs.Ordering.{nat_cmp}
+use Rattle.std.specs.declared.cmp.Ordering.TheVariants.{Less}
+use Rattle.std.specs.Cmp.Lexicographic.{slice_cmp}
+use Rattle.std.specs.Map.{lookup}
+use Rattle.std.specs.Str.{bytes_eq}
+
+-- a text stands before another in the order of their bytes
+abbrev pub IsBefore : List ℕ → List ℕ → Type 0
+IsBefore a b = slice_cmp nat_cmp a b ≡ Less
+
+abbrev pub TextsAscend : {X : Type 0} → List (Bor (List ℕ) × X) → Type 0
+TextsAscend entries = AllPairs (λ entry later. IsBefore entry.0.now later.0.now) entries
+
+-- what the first of the entries with a text has
+abbrev pub found : {X : Type 0} → List ℕ → List (Bor (List ℕ) × X) → Option X
+found text entries = lookup (λ key. bytes_eq text key.now) entries

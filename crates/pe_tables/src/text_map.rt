@@ -1,0 +1,81 @@
+ghost use Rattle.std.specs.Prelude.{◌≡◌, ◌↔◌, ℕ, List, [], None, Some, All, IsTrue, OnOk, if◌then◌else◌};
+ghost use Rattle.std.specs.Str.{bytes_eq};
+ghost use Rattle.pe_tables.specs.TextMap.{IsBefore, TextsAscend, found};
+
+use crate::key::Target;
+use std::alloc::{AllocError, Allocator};
+use std::collections::BTreeMap;
+
+/// What each of some texts exports, or that it exports nothing, by the text.
+///
+/// The texts of most tables ascend, and then they are all one run, whose end tells that the next one is new.
+#[derive(Drop)]
+pub(crate) struct TextMap<'a, A: Allocator> {
+    /// The texts that stand behind all those of the run before them, by their bytes.
+    run: Vec<(&'a [u8], Option<Target<'a>>), A>,
+    /// The other texts.
+    others: BTreeMap<&'a [u8], Option<Target<'a>>, A>,
+    ghost ascending: { TextsAscend run.items },
+}
+
+/// Whether all texts of a run stand before a text, which the last one tells.
+fn all_before(run: &[(&[u8], Option<Target>)], text: &[u8]) -> bool
+    requires { TextsAscend run.now }
+    ensures { IsTrue result ↔ All (λ entry. IsBefore entry.0.now text.now) run.now }
+{
+    match run.last() {
+        Some(last) => last.0.cmp(text).is_lt(),
+        None => true,
+    }
+}
+
+/// What a text of a run exports, if it is there.
+fn find<'a>(run: &[(&[u8], Option<Target<'a>>)], text: &[u8]) -> Option<Option<Target<'a>>>
+    requires { TextsAscend run.now }
+    ensures { result ≡ found text.now run.now }
+{
+    if all_before(run, text) {
+        return None;
+    }
+    let Ok(index) = run.binary_search_by_key(&text, |entry| entry.0) else {
+        return None;
+    };
+    Some(run[index].1)
+}
+
+impl<'a, A: Allocator + Copy> TextMap<'a, A> {
+    ghost use Rattle.pe_tables.specs.TextMapView.{entries_in};
+
+    /// No texts.
+    pub fn new(alloc: A) -> TextMap<'a, A>
+        ensures { entries_in result ≡ [] }
+    {
+        TextMap {
+            run: Vec::new(alloc),
+            others: BTreeMap::new(alloc),
+        }
+    }
+
+    /// What a text exports, if it is there.
+    pub fn get(&self, text: &[u8]) -> Option<Option<Target<'a>>>
+        ensures { result ≡ found text.now (entries_in self.now) }
+    {
+        match find(self.run.as_slice(), text) {
+            Some(target) => Some(target),
+            None => self.others.get(text).copied(),
+        }
+    }
+
+    /// Adds a text, which isn't there yet.
+    pub fn insert(&mut self, text: &'a [u8], target: Option<Target<'a>>) -> Result<(), AllocError>
+        requires { found text.now (entries_in self.old) ≡ None }
+        ensures { OnOk result ((other : List ℕ) → found other (entries_in self.new) ≡ (if bytes_eq other text.now then Some target.entry else found other (entries_in self.old))) }
+    {
+        if all_before(self.run.as_slice(), text) {
+            self.run.push((text, target))?;
+        } else {
+            self.others.insert(text, target)?;
+        }
+        Ok(())
+    }
+}
