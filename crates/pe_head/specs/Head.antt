@@ -8,6 +8,7 @@ use Rattle.pe_head.specs.declared.optional.Magic.TheVariants.{Pe32, Pe32Plus}
 use Rattle.pe_head.specs.declared.directory.Directory.{Directory}
 use Rattle.pe_head.specs.declared.section.SectionHeader.{SectionHeader}
 use Rattle.pe_head.specs.declared.headers.Headers.{Headers}
+use Rattle.pe_head.specs.Optional.{fixed_size_of}
 
 -- p, where the signature stands
 abbrev pub pe_offset : List ℕ → ℕ
@@ -37,7 +38,7 @@ either_field file offset width plus_offset plus_width = if is_pe32 file then fie
 
 -- how many bytes of the optional header come before its directories
 abbrev pub fixed_size : List ℕ → ℕ
-fixed_size file = if is_pe32 file then 96 else 112
+fixed_size file = fixed_size_of (magic_of file)
 
 -- how many directories the headers hold: NumberOfRvaAndSizes, and at most 16
 abbrev pub directory_count : List ℕ → ℕ

@@ -1,8 +1,11 @@
 pub use Rattle.pe_view.specs.Faults
+pub use Rattle.pe_view.specs.FirstStanding
 pub use Rattle.pe_view.specs.Number
 pub use Rattle.pe_view.specs.Text
 pub use Rattle.pe_view.specs.View
+pub mod Accepted
 pub mod Head
 pub mod HeaderFaults
 pub mod Optional
 pub mod Section
+pub mod V1

@@ -7,3 +7,12 @@ use Rattle.pe_head.specs.declared.optional.Magic.TheVariants.{Pe32, Pe32Plus}
 abbrev pub fixed_size_of : Magic → ℕ
 fixed_size_of Pe32 = 96
 fixed_size_of Pe32Plus = 112
+
+-- where ImageBase stands, from the optional header's beginning on, and how many bytes it has
+abbrev pub image_base_offset : Magic → ℕ
+image_base_offset Pe32 = 28
+image_base_offset Pe32Plus = 24
+
+abbrev pub image_base_width : Magic → ℕ
+image_base_width Pe32 = 4
+image_base_width Pe32Plus = 8

@@ -13,6 +13,7 @@ mod coff;
 mod directory;
 mod fields;
 mod headers;
+pub mod laws;
 mod optional;
 mod reading;
 mod section;

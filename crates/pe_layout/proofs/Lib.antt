@@ -1,3 +1,4 @@
+pub mod Accepted
 pub mod Finding
 pub mod OfLayout
 pub mod Parts

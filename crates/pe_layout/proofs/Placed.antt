@@ -7,7 +7,7 @@ use Rattle.pe_head.specs.declared.section.SectionHeader.{SectionHeader}
 use Rattle.pe_head.specs.declared.headers.Headers.{Headers}
 use Rattle.pe_head.specs.Section.{rawlen}
 use Rattle.pe_view.specs.Faults.{first_standing}
-use Rattle.pe_view.proofs.Standing.{none_stands, none-append}
+use Rattle.pe_view.specs.FirstStanding.{none_stands, none-append}
 use Rattle.pe_layout.specs.Piece.{end_of}
 use Rattle.pe_layout.specs.SectionFaults.{section_tests, sections_tests}
 use Rattle.pe_layout.specs.Sections.{EndsAscend}

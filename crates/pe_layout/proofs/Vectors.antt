@@ -4,7 +4,7 @@ use Rattle.std.specs.Prelude.{codes, slice_set}
 use Rattle.pe_head.specs.Head.{head_of}
 use Rattle.pe_view.specs.Faults.{first_standing}
 use Rattle.pe_head.specs.HeaderFaults.{head_tests}
-use Rattle.pe_head.proofs.Vectors.{v1}
+use Rattle.pe_head.specs.V1.{v1}
 use Rattle.pe_view.specs.declared.fault.Place.TheVariants.{File}
 use Rattle.pe_layout.specs.SectionFaults.{layout_tests, sections_tests}
 use Rattle.pe_layout.specs.Plain.{plain}

@@ -3,7 +3,7 @@ use Rattle.std.specs.Prelude.{◌≡◌, ℕ, List}
 use Rattle.pe_view.specs.View.{bytes_of}
 use Rattle.pe_head.specs.Head.{head_of}
 use Rattle.pe_head.specs.declared.headers.Headers.{Headers}
-use Rattle.pe_layout.specs.Image.{Image, image_from}
+use Rattle.pe_layout.specs.Image.{Image, image_from, image_of_file}
 use Rattle.pe_layout.specs.declared.layout.Layout.{Layout}
 
 -- its headers
@@ -22,4 +22,4 @@ image_of l = image_from l.image (headers_of l) (file_of l)
 pub record IsLayoutOf (file : List ℕ) (image : ℕ) (l : Layout) : Type 0 where
   pub headers : headers_of l ≡ head_of file
   pub bytes : file_of l ≡ file
-  pub number : (image_of l).number ≡ image
+  pub shows : image_of l ≡ image_of_file image file

@@ -1,4 +1,5 @@
 pub use Rattle.pe_view.specs.Faults
+pub use Rattle.pe_view.specs.FirstStanding
 pub use Rattle.pe_view.specs.Number
 pub use Rattle.pe_view.specs.Text
 pub use Rattle.pe_view.specs.View

@@ -1,10 +1,10 @@
-ghost use Rattle.std.specs.Prelude.{◌≡◌, ◌≤◌, ◌^◌, None};
+ghost use Rattle.std.specs.Prelude.{◌≡◌, ◌+◌, ◌≤◌, ◌^◌, ◌⊎◌, None, IsTrue};
 ghost use Rattle.pe_view.specs.View.{size_of};
 ghost use Rattle.pe_view.specs.Faults.{first_standing};
 ghost use Rattle.pe_layout.specs.SectionFaults.{placing_tests};
 
 use crate::placing::check_sections;
-use pe_head::{Directory, Headers, Magic, directory_index, read_headers};
+use pe_head::{Directory, Headers, Magic, characteristic, directory_index, read_headers};
 use pe_view::{Fault, View};
 
 /// An image as its headers and sections lay it out: SizeOfImage bytes, each of the headers, of a section's raw data, or 0.
@@ -25,6 +25,7 @@ impl<'a> Layout<'a> {
     ghost use Rattle.pe_view.specs.View.{bytes_of};
     ghost use Rattle.pe_view.specs.Faults.{Answers};
     ghost use Rattle.pe_layout.specs.SectionFaults.{layout_tests};
+    ghost use Rattle.pe_layout.specs.Image.{is_inside};
     ghost use Rattle.pe_layout.specs.Layout.{headers_of, image_of, IsLayoutOf};
 
     /// The layout of a file, or the first of faults 1 to 15: of the headers, and then of each section in table order.
@@ -69,12 +70,39 @@ impl<'a> Layout<'a> {
     /// How many bytes a slot of the import address table has: 4 in PE32, 8 in PE32+.
     #[tactic(auto, unfolding(crate::specs::Layout::image_of))]
     pub fn slot_width(&self) -> u32
-        ensures { result ≡ (image_of self.now).slot_width }
+        ensures value { result ≡ (image_of self.now).slot_width }
+        ensures width { (result ≡ 4) ⊎ (result ≡ 8) }
     {
         match self.headers.magic {
             Magic::Pe32 => 4,
             Magic::Pe32Plus => 8,
         }
+    }
+
+    /// The address at which the image prefers to stand: ImageBase.
+    #[tactic(auto, unfolding(crate::specs::Layout::image_of))]
+    pub fn image_base(&self) -> u64
+        ensures { result ≡ (image_of self.now).image_base }
+    {
+        self.headers.image_base
+    }
+
+    /// Whether the image must stand at its ImageBase, having no base relocations: the flag RELOCS_STRIPPED.
+    #[tactic(auto, unfolding(crate::specs::Layout::image_of))]
+    pub fn is_stripped(&self) -> bool
+        ensures { result ≡ (image_of self.now).is_stripped }
+    {
+        self.headers.characteristics % 2 == characteristic::RELOCS_STRIPPED
+    }
+
+    /// Whether `len` bytes at an RVA are in the image, which has at most 2^31 bytes. No bytes are in it up to its end.
+    #[tactic(auto, unfolding(crate::specs::Layout::image_of))]
+    pub fn contains(&self, rva: u32, len: u64) -> bool
+        ensures value { result ≡ is_inside (image_of self.now) rva len }
+        ensures small { IsTrue result → rva + len ≤ 2 ^ 31 }
+    {
+        let size = u64::from(self.headers.size_of_image);
+        len <= size && u64::from(rva) <= size - len
     }
 
     /// The data directory of an index, where it is present: the headers hold it and its RVA is not 0. The base

@@ -5,7 +5,7 @@ use Rattle.std.specs.List.{flat_map}
 use Rattle.std.proofs.lemmas.Bool.{cases_Bool}
 use Rattle.pe_view.specs.declared.fault.Fault.{Fault}
 use Rattle.pe_view.specs.Faults.{first_standing}
-use Rattle.pe_view.proofs.Standing.{first-past, first-in}
+use Rattle.pe_view.specs.FirstStanding.{first-past, first-in}
 use Rattle.pe_layout.specs.Image.{Image}
 use Rattle.pe_tables.specs.Imports.{Import, descriptor_at, descriptors_from, ends_list, imports_in}
 use Rattle.pe_tables.specs.ImportFaults.{descriptor_tests, descriptors_tests}

@@ -6,7 +6,7 @@ use Rattle.std.proofs.lemmas.Grind.{flat_map-append}
 use Rattle.std.proofs.lemmas.List.Elements.{filter_map-append}
 use Rattle.pe_view.specs.declared.fault.Fault.{Fault}
 use Rattle.pe_view.specs.Faults.{Test, first_standing}
-use Rattle.pe_view.proofs.Standing.{first-past, first-in}
+use Rattle.pe_view.specs.FirstStanding.{first-past, first-in}
 use Rattle.pe_tables.specs.ExportFaults.{each_tests}
 use Rattle.pe_tables.proofs.Entries.{filter_map-cons}
 

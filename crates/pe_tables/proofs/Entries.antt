@@ -6,7 +6,7 @@ use Rattle.std.proofs.lemmas.List.{drop_more, drop_all}
 use Rattle.std.proofs.lemmas.List.FromFn.{length-map-range_with_len, get_or-map-range_with_len}
 use Rattle.pe_view.specs.declared.fault.Fault.{Fault}
 use Rattle.pe_view.specs.Faults.{first_standing}
-use Rattle.pe_view.proofs.Standing.{first-past, first-in}
+use Rattle.pe_view.specs.FirstStanding.{first-past, first-in}
 use Rattle.pe_layout.specs.Image.{Image}
 use Rattle.pe_tables.specs.Fixups.{Entry, fixup_of}
 use Rattle.pe_tables.specs.FixupFaults.{entry_tests, entries_tests}

@@ -6,7 +6,7 @@ use Rattle.std.proofs.lemmas.Bool.{or_parts, cases_Bool}
 use Rattle.std.proofs.lemmas.Bool.Decides.{nat_tests}
 use Rattle.pe_view.specs.declared.fault.Fault.{Fault}
 use Rattle.pe_view.specs.Faults.{Test, first_standing}
-use Rattle.pe_view.proofs.Standing.{first-past, first-in, none_stands}
+use Rattle.pe_view.specs.FirstStanding.{first-past, first-in, none_stands}
 use Rattle.pe_layout.specs.Image.{Image, is_inside, fault_at}
 use Rattle.pe_tables.specs.Imports.{Import, Lookup, lookup_at, lookups_from, ends_table, import_of}
 use Rattle.pe_tables.specs.ImportFaults.{key_tests, slot_tests, lookup_tests, lookups_tests}

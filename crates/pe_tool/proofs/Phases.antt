@@ -5,7 +5,7 @@ use Rattle.std.specs.declared.alloc.AllocError.{AllocError}
 use Rattle.std.proofs.lemmas.Bool.{ltb-false}
 use Rattle.std.proofs.lemmas.Simd.{map-map}
 use Rattle.pe_view.specs.Faults.{Test, first_standing}
-use Rattle.pe_view.proofs.Standing.{first-past, first-in, none-append, none_stands}
+use Rattle.pe_view.specs.FirstStanding.{first-past, first-in, none-append, none_stands}
 use Rattle.pe_head.specs.declared.headers.Headers.{Headers}
 use Rattle.pe_head.specs.Head.{head_of}
 use Rattle.pe_head.specs.HeaderFaults.{head_tests}

@@ -1,4 +1,5 @@
 pub mod Faults
+pub mod FirstStanding
 pub mod Number
 pub mod Text
 pub mod View

@@ -2,7 +2,7 @@
 use Rattle.std.proofs.Common.{◌∙◌, ap, lit≤}
 use Rattle.std.proofs.lemmas.Result.{err_from_is_err_and}
 use Rattle.pe_view.specs.View.{bytes_of}
-use Rattle.pe_view.proofs.Standing.{first-step, first-stop}
+use Rattle.pe_view.specs.FirstStanding.{first-step, first-stop}
 use Rattle.pe_head.specs.Head.{head_of}
 use Rattle.pe_head.specs.HeaderFaults.{head_tests}
 use Rattle.pe_head.proofs.reading.read_headers.Goals as goal

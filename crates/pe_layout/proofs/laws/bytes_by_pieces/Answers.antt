@@ -1,5 +1,5 @@
 use Rattle.std.proofs.Common.{length}
-use Rattle.pe_view.proofs.Standing.{none-append}
+use Rattle.pe_view.specs.FirstStanding.{none-append}
 use Rattle.pe_head.specs.Head.{head_of}
 use Rattle.pe_head.specs.HeaderFaults.{head_tests}
 use Rattle.pe_layout.specs.SectionFaults.{placing_tests}

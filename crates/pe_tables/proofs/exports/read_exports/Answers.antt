@@ -4,7 +4,7 @@ use Rattle.std.specs.Prelude.{map}
 use Rattle.std.specs.List.{filter_map, range_with_len}
 use Rattle.std.proofs.lemmas.Result.{err_from_is_err_and}
 use Rattle.pe_view.specs.Faults.{Test, first_standing}
-use Rattle.pe_view.proofs.Standing.{first-past, first-in}
+use Rattle.pe_view.specs.FirstStanding.{first-past, first-in}
 use Rattle.pe_head.specs.declared.directory.Directory.{Directory}
 use Rattle.pe_layout.specs.Layout.{image_of}
 use Rattle.pe_tables.specs.Key.{Target}

@@ -2,7 +2,7 @@
 use Rattle.std.proofs.Common.{◌∙◌, ◌≡◌, None, List, ℕ, map, ap, subst}
 use Rattle.std.proofs.lemmas.Result.{err_from_is_err_and}
 use Rattle.pe_view.specs.Faults.{first_standing}
-use Rattle.pe_view.proofs.Standing.{first-past}
+use Rattle.pe_view.specs.FirstStanding.{first-past}
 use Rattle.pe_layout.specs.Image.{Image, image_of_file}
 use Rattle.pe_layout.specs.Layout.{image_of}
 use Rattle.pe_layout.specs.SectionFaults.{layout_tests}

@@ -1,11 +1,13 @@
-use Rattle.std.proofs.Common.{◌≡◌, ◌∙◌, refl, length}
+use Rattle.std.proofs.Common.{◌≡◌, ◌∙◌, ap, refl, length}
 use Rattle.std.proofs.lemmas.Result.{err_from_is_err_and}
 use Rattle.pe_view.specs.View.{bytes_of}
-use Rattle.pe_view.proofs.Standing.{first-past, first-in}
+use Rattle.pe_view.specs.FirstStanding.{first-past, first-in}
 use Rattle.pe_head.specs.Head.{head_of}
 use Rattle.pe_head.specs.HeaderFaults.{head_tests}
-use Rattle.pe_head.proofs.Accepted.{headers_inside, image_small}
+use Rattle.pe_head.specs.Accepted.{headers_inside, image_small}
 use Rattle.pe_layout.specs.SectionFaults.{placing_tests}
+use Rattle.pe_head.specs.declared.headers.Headers.{Headers}
+use Rattle.pe_layout.specs.Image.{image_from}
 use Rattle.pe_layout.specs.Layout.{image_of}
 use Rattle.pe_layout.proofs.layout.Layout.new.Goals as goal
 
@@ -44,5 +46,5 @@ returns c =
     let e : c.in_ok-headers.headers ≡ head_of file = c.in_ok-headers.ensures.1 in (
       first-past (head_tests c.args.image file) (placing_tests c.args.image (head_of file) (length file)) c.in_ok-headers.ensures.0
           ∙ rw (e, c.len.ensures) at c.in_ok-check_sections.ensures.0,
-      record { headers = e; bytes = refl; number = refl },
+      record { headers = e; bytes = refl; shows = ap (λ (h : Headers). image_from c.args.image h file) e },
     )
