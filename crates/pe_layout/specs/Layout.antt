@@ -1,5 +1,5 @@
 -- What a layout shows.
-use Rattle.std.specs.Prelude.{◌≡◌, ℕ, List}
+use Rattle.std.specs.Prelude.{◌≡◌, ◌≤◌, ◌^◌, ℕ, List}
 use Rattle.pe_view.specs.View.{bytes_of}
 use Rattle.pe_head.specs.Head.{head_of}
 use Rattle.pe_head.specs.declared.headers.Headers.{Headers}
@@ -17,6 +17,11 @@ file_of l = bytes_of l.view
 -- its image, which is all that tables need; what it is made of stays hidden from the layers above
 unfoldable pub image_of : Layout → Image
 image_of l = image_from l.image (headers_of l) (file_of l)
+
+-- it has at most 2^31 bytes
+pub size_small : (l : Layout) → (image_of l).size ≤ 2 ^ 31
+unfolding image_of
+size_small l = l.small
 
 -- the layout of a file, under a number
 pub record IsLayoutOf (file : List ℕ) (image : ℕ) (l : Layout) : Type 0 where

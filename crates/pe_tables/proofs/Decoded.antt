@@ -10,7 +10,8 @@ use Rattle.std.proofs.Math.Seq.{get_or-append_right}
 use Rattle.pe_layout.specs.Image.{Image, number_at}
 use Rattle.pe_tables.specs.Fixups.{Block, Entry, block_at, blocks_from, ends_table, entry_of, fixup_of, fixup_by, fixups_at, fixups_in, kind_of}
 use Rattle.pe_head.specs.declared.directory.Directory.{Directory}
-use Rattle.pe_tables.specs.Encoded.{Page, little, page_of, before_pages, pages_of, type_of, entry_bytes, block_size, block_bytes, encoded}
+use Rattle.pe_view.specs.Number.{little}
+use Rattle.pe_tables.specs.Encoded.{Page, page_of, before_pages, pages_of, type_of, entry_bytes, block_size, block_bytes, encoded}
 use Rattle.pe_tables.specs.Standing.{StandsAt, view}
 use Rattle.pe_tables.specs.declared.fixups.Fixup.{Fixup}
 use Rattle.pe_tables.specs.declared.fixups.FixupKind.{FixupKind}

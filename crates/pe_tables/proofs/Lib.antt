@@ -1,13 +1,16 @@
 pub mod Beside
 pub mod Blocks
 pub mod Chain
+pub mod Counts
 pub mod Decimal
 pub mod Decoded
 pub mod Descriptors
 pub mod Each
+pub mod Eaches
 pub mod Entries
 pub mod ExportRows
 pub mod Exported
+pub mod Fields
 pub mod Holding
 pub mod ImportRows
 pub mod Importing
@@ -24,7 +27,8 @@ pub mod Rising
 pub mod Rows
 pub mod Runs
 pub mod Search
+pub mod Shifts
 pub mod Slots
+pub mod Targets
 pub mod TextMap
 pub mod TextRun
-pub mod Widths

@@ -1,7 +1,7 @@
 -- The bytes of a base relocation table: one block for each page that has a field.
 use Rattle.std.specs.Prelude.{◌≡◌, ℕ, ◌+◌, ◌*◌, ◌/◌, ◌%◌, ◌<◌, ◌==◌, List, [], ◌∷◌, ◌++◌, length, map, replicate, All, AllPairs, if◌then◌else◌}
-use Rattle.std.specs.List.{flat_map, range_with_len}
-use Rattle.pe_view.specs.Number.{digit}
+use Rattle.std.specs.List.{flat_map}
+use Rattle.pe_view.specs.Number.{little}
 use Rattle.pe_tables.specs.declared.fixups.Fixup.{Fixup}
 use Rattle.pe_tables.specs.declared.fixups.FixupKind.{FixupKind}
 use Rattle.pe_tables.specs.declared.fixups.FixupKind.TheVariants.{Bits32, Bits64}
@@ -9,10 +9,6 @@ use Rattle.pe_tables.specs.declared.fixups.FixupKind.TheVariants.{Bits32, Bits64
 -- the fields strictly ascend
 abbrev pub FieldsAscend : List Fixup → Type 0
 FieldsAscend fixups = AllPairs (λ f g. f.field < g.field) fixups
-
--- the lowest `width` bytes of a number, the lowest first
-abbrev pub little : ℕ → ℕ → List ℕ
-little width v = map (digit v) (range_with_len 0 width)
 
 -- the page of 4,096 bytes in which a field begins
 abbrev pub page_of : Fixup → ℕ

@@ -20,6 +20,7 @@ pub mod NameIndex
 pub mod Ranges
 pub mod RangesView
 pub mod Reading
+pub mod Relocated
 pub mod Standing
 pub mod TableFaults
 pub mod TextMap

@@ -1,5 +1,5 @@
 -- Ranges of RVAs, each by its start and its length.
-use Rattle.std.specs.Prelude.{◌≡◌, ℕ, ◌+◌, ◌<◌, ◌≤◌, ◌&&◌, Bool, nat_lt, List, ◌∷◌, AllPairs}
+use Rattle.std.specs.Prelude.{◌≡◌, ℕ, ◌+◌, ◌<◌, ◌≤◌, ◌&&◌, ◌⊎◌, Bool, nat_lt, List, ◌∷◌, AllPairs}
 use Rattle.std.specs.List.{list_any}
 
 -- two ranges have an RVA in common
@@ -31,3 +31,7 @@ Gains old new range = (test : ℕ × ℕ → Bool) → list_any test new ≡ lis
 -- lists of ranges that no test tells apart
 abbrev pub SameRanges : List (ℕ × ℕ) → List (ℕ × ℕ) → Type 0
 SameRanges ranges others = (test : ℕ × ℕ → Bool) → list_any test ranges ≡ list_any test others
+
+-- no RVA is in both ranges
+abbrev pub AreApart : ℕ × ℕ → ℕ × ℕ → Type 0
+AreApart a b = (range_end a ≤ b.0) ⊎ (range_end b ≤ a.0)

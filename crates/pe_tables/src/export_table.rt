@@ -5,7 +5,6 @@ ghost use Rattle.pe_tables.specs.Exports.{table_at};
 ghost use Rattle.pe_tables.specs.ExportFaults.{is_outside, directory_tests, IsInside};
 
 use crate::error::{TableError, fault_at};
-use crate::inside::is_inside;
 use pe_layout::Layout;
 
 /// The most entries of an export address table, and the most names.
@@ -50,10 +49,9 @@ fn table_at(layout: &Layout, rva: u32) -> Table
 
 /// Whether `count` entries of `width` bytes at an RVA, if there are any, are not all in the image.
 fn is_outside(layout: &Layout, rva: u32, width: u32, count: u32) -> bool
-    requires { width ≤ 4 }
     ensures { result ≡ is_outside (image_of layout.now) rva width count }
 {
-    count != 0 && !is_inside(layout, rva, u64::from(width) * u64::from(count))
+    count != 0 && !layout.contains(rva, u64::from(width) * u64::from(count))
 }
 
 /// Reads the table at an RVA, whose own tables lie in the image, unless one of faults 16 to 18 stands.

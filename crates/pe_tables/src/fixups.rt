@@ -11,7 +11,6 @@ ghost use Rattle.pe_tables.specs.Reading.{IsIndexed, Reads};
 
 use crate::error::{TableError, fault_at};
 use crate::import::Import;
-use crate::inside::is_inside;
 use crate::ranges::Ranges;
 use pe_head::{Directory, directory_index};
 use pe_layout::Layout;
@@ -210,7 +209,7 @@ pub fn read_fixups<A: Allocator + Copy>(
     let Some(directory) = layout.directory(directory_index::BASE_RELOCATION) else {
         return Ok(Vec::new(alloc));
     };
-    if !is_inside(layout, directory.rva, u64::from(directory.size)) {
+    if !layout.contains(directory.rva, u64::from(directory.size)) {
         return Err(fault_at(34, layout, directory.rva));
     }
     let slots = slot_ranges(alloc, imports, layout.slot_width())?;

@@ -11,7 +11,6 @@ ghost use Rattle.pe_tables.specs.Key.{key_view};
 
 use crate::error::{TableError, fault_at};
 use crate::import::Import;
-use crate::inside::is_inside;
 use crate::key::Key;
 use crate::ranges::Ranges;
 use pe_head::directory_index;
@@ -121,7 +120,7 @@ fn check_slot<A: Allocator + Copy>(
     ensures { TableAnswers (slot_tests (image_of layout.now) (read_of found.now) rva slot) (λ _. Unit {0}) result }
 {
     let width = layout.slot_width();
-    if !is_inside(layout, slot, u64::from(width)) {
+    if !layout.contains(slot, u64::from(width)) {
         return Err(fault_at(29, layout, rva));
     }
     if found.slots.meets(slot, width) {
@@ -148,7 +147,7 @@ fn read_lookup<'a, A: Allocator + Copy>(
         × Reads (image_of layout.now).slot_width found.old found.new (option_to_list (import_of (image_of layout.now) «module».entry.now (lookup_at (image_of layout.now) rva slot)))) result }
 {
     let width = layout.slot_width();
-    if !is_inside(layout, rva, u64::from(width)) {
+    if !layout.contains(rva, u64::from(width)) {
         return Err(fault_at(26, layout, rva));
     }
     let value = lookup_value(layout, rva);
@@ -223,7 +222,7 @@ fn read_descriptor<'a, A: Allocator + Copy>(
         (λ goes_on. (goes_on ≡ not (ends_list (image_of layout.now) (descriptor_at (image_of layout.now) rva)))
         × Reads (image_of layout.now).slot_width found.old found.new (imports_in (image_of layout.now) (descriptor_at (image_of layout.now) rva))) result }
 {
-    if !is_inside(layout, rva, 20) {
+    if !layout.contains(rva, 20) {
         return Err(fault_at(24, layout, rva));
     }
     let descriptor = descriptor_at(layout, rva);

@@ -1,14 +1,19 @@
 //! What the definitions mean, as laws: each function has an empty body, and its contract is the law.
 
-ghost use Rattle.std.specs.Prelude.{◌≡◌, ◌≢◌, ◌+◌, ◌<◌, ◌≤◌, ◌^◌, ◌↔◌, ℕ, List, None, Some, All, AllPairs, Contains, length, map};
+ghost use Rattle.std.specs.Prelude.{◌≡◌, ◌≢◌, ◌+◌, ◌<◌, ◌≤◌, ◌^◌, ◌↔◌, ◌+ℤ◌, ℕ, ℤ, List, None, Some, All, AllPairs, Contains, length, map};
 ghost use Rattle.std.specs.List.{flat_map};
 ghost use Rattle.pe_head.specs.declared.directory.Directory.{Directory};
 ghost use Rattle.pe_view.specs.Faults.{first_standing};
 ghost use Rattle.pe_layout.specs.Image.{Image};
-ghost use Rattle.pe_tables.specs.Key.{Ordinal, Name, Target};
-ghost use Rattle.pe_tables.specs.Exports.{table_at, entry, target_of, name_entry, exports_at, target_at};
+ghost use Rattle.pe_tables.specs.Key.{Key, Ordinal, Name, Target, Rva};
+ghost use Rattle.pe_tables.specs.Exports.{table_at, entry, target_of, name_entry, exports_at, exports_of, target_at};
+ghost use Rattle.pe_tables.specs.ExportFaults.{export_tests};
 ghost use Rattle.pe_tables.specs.Exported.{IsFirstName, IsUnnamed, IsUnnumbered};
-ghost use Rattle.pe_tables.specs.Fixups.{fixups_at};
+ghost use Rattle.pe_tables.specs.Fixups.{width_of, range_of, slot_range, fixups_at, fixups_of};
+ghost use Rattle.pe_tables.specs.FixupFaults.{fixup_tests};
+ghost use Rattle.pe_tables.specs.Ranges.{AreApart};
+ghost use Rattle.pe_tables.specs.Relocated.{shift};
+ghost use Rattle.pe_tables.specs.declared.fixups.FixupKind.{FixupKind};
 ghost use Rattle.pe_tables.specs.Chain.{IsNamed};
 ghost use Rattle.pe_tables.specs.Encoded.{Page, IsPage, FieldsAscend, pages_of, encoded};
 ghost use Rattle.pe_tables.specs.Standing.{StandsAt, view};
@@ -75,4 +80,23 @@ pub fn slots_are_apart()
 /// Each text that an import table without a fault names is there: no import has an empty name for want of one.
 pub fn names_are_there()
     ensures { (i : Image) (d : Directory) (j k : ℕ) → 0 < i.slot_width → first_standing (import_tests_at i (Some d)) ≡ None → IsInList i d.rva j → IsInTable i (table_rva i (descriptor_rva d.rva j)) k → HasTexts i (descriptor_rva d.rva j) k }
+{}
+
+/// The fields of the fixups of an image without a fault of its base relocation table, which is asked beside these slots, are
+/// in the image, share no byte with one another or with a slot, and are fewer than 2^31.
+pub fn fields_are_apart()
+    ensures inside { (i : Image) (slots : List ℕ) → first_standing (fixup_tests i slots) ≡ None → All (λ (f : Fixup). f.field + width_of f.kind ≤ i.size) (fixups_of i) }
+    ensures apart { (i : Image) (slots : List ℕ) → first_standing (fixup_tests i slots) ≡ None → AllPairs (λ (f g : Fixup). AreApart (range_of f) (range_of g)) (fixups_of i) }
+    ensures off_slots { (i : Image) (slots : List ℕ) → first_standing (fixup_tests i slots) ≡ None → All (λ (f : Fixup). All (λ (slot : ℕ × ℕ). AreApart slot (range_of f)) (map (slot_range i.slot_width) slots)) (fixups_of i) }
+    ensures few { (i : Image) (slots : List ℕ) → i.size ≤ 2 ^ 31 → first_standing (fixup_tests i slots) ≡ None → length (fixups_of i) < 2 ^ 31 }
+{}
+
+/// Each RVA that an image without a fault of its export table exports is in the image.
+pub fn targets_are_inside()
+    ensures { (i : Image) (key : Key) (rva : ℕ) → first_standing (export_tests i) ≡ None → target_at (exports_of i) key ≡ Some (Rva rva) → rva < i.size }
+{}
+
+/// A field that is moved on by one difference of bases and then by another is moved on by their sum, modulo what it holds.
+pub fn shifts_compose()
+    ensures { (kind : FixupKind) (v : ℕ) (d e : ℤ) → shift kind (shift kind v d) e ≡ shift kind v (d +ℤ e) }
 {}

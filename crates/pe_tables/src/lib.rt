@@ -20,7 +20,6 @@ mod fixups;
 mod forwarder;
 mod import;
 mod imports;
-mod inside;
 mod key;
 pub mod laws;
 mod name_index;

@@ -22,8 +22,8 @@ returns-in_err-read_blocks-clause-exact g c =
     let d = c.in-Some.directory in
     let slots = ranges_in c.in_ok-slots.slots in
     let SameAs : ℕ → Type 0 = λ width. SameRanges slots (map (slot_range width) (slots_of c.args.imports.now)) in
-    let same : SameAs i.slot_width = subst SameAs c.slot_width.ensures c.in_ok-slots.ensures in
-    let test : is_inside i d.rva d.size ≡ true = ap (is_inside i d.rva) (sym c.from.ensures) ∙ sym c.is_inside.ensures.value ∙ c.if-not-is_inside.false in
+    let same : SameAs i.slot_width = subst SameAs c.slot_width.ensures.value c.in_ok-slots.ensures in
+    let test : is_inside i d.rva d.size ≡ true = ap (is_inside i d.rva) (sym c.from.ensures) ∙ sym c.contains.ensures.value ∙ c.if-not-contains.false in
     let inside : d.rva + d.size ≤ i.size = leb-≤ _ _ test in
     let whole = ap (λ (o : Option Directory). first_standing (fixup_tests_at i (map (slot_range i.slot_width) (slots_of c.args.imports.now)) o)) (sym c.in-Some.ensures)
     ∙ table-past i slots (map (slot_range i.slot_width) (slots_of c.args.imports.now)) d same inside in
@@ -38,8 +38,8 @@ returns-clause-exact g c =
     let d = c.in-Some.directory in
     let slots = ranges_in c.in_ok-slots.slots in
     let SameAs : ℕ → Type 0 = λ width. SameRanges slots (map (slot_range width) (slots_of c.args.imports.now)) in
-    let same : SameAs i.slot_width = subst SameAs c.slot_width.ensures c.in_ok-slots.ensures in
-    let test : is_inside i d.rva d.size ≡ true = ap (is_inside i d.rva) (sym c.from.ensures) ∙ sym c.is_inside.ensures.value ∙ c.if-not-is_inside.false in
+    let same : SameAs i.slot_width = subst SameAs c.slot_width.ensures.value c.in_ok-slots.ensures in
+    let test : is_inside i d.rva d.size ≡ true = ap (is_inside i d.rva) (sym c.from.ensures) ∙ sym c.contains.ensures.value ∙ c.if-not-contains.false in
     let inside : d.rva + d.size ≤ i.size = leb-≤ _ _ test in
     let whole = ap (λ (o : Option Directory). first_standing (fixup_tests_at i (map (slot_range i.slot_width) (slots_of c.args.imports.now)) o)) (sym c.in-Some.ensures)
     ∙ table-past i slots (map (slot_range i.slot_width) (slots_of c.args.imports.now)) d same inside in (

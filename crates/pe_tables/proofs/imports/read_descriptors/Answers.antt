@@ -3,7 +3,7 @@ use Rattle.std.proofs.Common.{◌≡◌, ◌∙◌, ◌+◌, ◌-◌, ◌≤◌,
 use Rattle.std.specs.List.{flat_map}
 use Rattle.std.proofs.lemmas.Result.{err_from_is_err_and}
 use Rattle.pe_view.specs.Faults.{first_standing}
-use Rattle.pe_layout.specs.Layout.{image_of}
+use Rattle.pe_layout.specs.Layout.{image_of, size_small}
 use Rattle.pe_tables.specs.Imports.{Import, descriptor_at, descriptors_from, descriptors_of, ends_list, imports_in}
 use Rattle.pe_tables.specs.ImportFaults.{descriptor_tests, descriptors_tests}
 use Rattle.pe_tables.specs.ImportReading.{read_of}
@@ -11,7 +11,6 @@ use Rattle.pe_tables.specs.declared.imports.Descriptor.{Descriptor}
 use Rattle.pe_tables.proofs.Lookups.{inside_of, negated, affirmed}
 use Rattle.pe_tables.proofs.Descriptors.{descriptors-enough, descriptors-step, descriptors-in, descriptors-past, descriptors-end, descriptors-imports, descriptors-none}
 use Rattle.pe_tables.proofs.Refusing.{refuses-whole}
-use Rattle.pe_tables.proofs.Widths.{size_small}
 use Rattle.pe_tables.proofs.imports.read_descriptors.Goals as goal
 
 pub loop-rva-init : goal.loop-rva-init

@@ -1,24 +1,27 @@
 -- One entry after the other.
-use Rattle.std.proofs.Common.{◌≡◌, ◌∙◌, ◌+◌, ◌-◌, ◌≤◌, ◌++◌, ◌∷◌, ℕ, List, true, false, [], sym, ap, append-nil, arith}
+use Rattle.std.proofs.Common.{◌≡◌, ◌∙◌, ◌+◌, ◌-◌, ◌≤◌, ◌⊎◌, inl, inr, ◌++◌, ◌∷◌, ℕ, List, true, false, [], sym, ap, append-nil, arith}
 use Rattle.std.specs.Prelude.{option_to_list}
 use Rattle.std.specs.List.{filter_map}
 use Rattle.std.proofs.lemmas.Result.{err_from_is_err_and}
 use Rattle.pe_view.specs.Faults.{first_standing}
-use Rattle.pe_layout.specs.Layout.{image_of}
+use Rattle.pe_layout.specs.Layout.{image_of, size_small}
 use Rattle.pe_tables.specs.Imports.{Import, Lookup, lookup_at, lookups_from, lookups_of, ends_table, import_of}
 use Rattle.pe_tables.specs.ImportFaults.{lookup_tests, lookups_tests}
 use Rattle.pe_tables.specs.ImportReading.{read_of}
 use Rattle.pe_tables.proofs.Lookups.{lookups-enough, lookups-step, lookups-in, lookups-past, lookups-end, lookups-imports, lookups-none, slot_inside, inside_of, negated, affirmed}
 use Rattle.pe_tables.proofs.Refusing.{refuses-whole}
-use Rattle.pe_tables.proofs.Widths.{slot_width_some, size_small}
 use Rattle.pe_tables.proofs.imports.read_lookups.Goals as goal
+
+wide : (width slot_width : ℕ) → width ≡ slot_width → (width ≡ 4) ⊎ (width ≡ 8) → 4 ≤ slot_width
+wide width slot_width is (inl four) = omega arith
+wide width slot_width is (inr eight) = omega arith
 
 pub loop-rva-init : goal.loop-rva-init
 loop-rva-init g c =
     let i = image_of c.args.layout.now in
     let d = c.args.descriptor in
     let name = c.args.«module».now in
-    let width = slot_width_some c.args.layout.now in
+    let some = wide c.slot_width-width.result _ c.slot_width-width.ensures.value c.slot_width-width.ensures.width in
     let rva : ℕ = c.lookup_table-rva.result in
     let same : lookups_from (i.size - rva) i rva d.addresses ≡ lookups_of i d =
     lookups-enough i (omega arith) (i.size - rva) i.size rva d.addresses (omega arith) (omega arith)
@@ -48,7 +51,7 @@ overflow_add-rva g c =
     let goes = negated _ (sym c.in_ok-read_lookup.ensures.1.0 ∙ c.if-branch.true) in
     let inside : c.loop-rva.rva + i.slot_width ≤ i.size = inside_of _ _ _ goes in
     let small = size_small c.args.layout.now in
-    let width = c.slot_width-width.ensures in
+    let width = c.slot_width-width.ensures.value in
     omega (arith, inside, small, width)
 
 pub overflow_add-slot : goal.overflow_add-slot
@@ -57,7 +60,7 @@ overflow_add-slot g c =
     let goes = negated _ (sym c.in_ok-read_lookup.ensures.1.0 ∙ c.if-branch.true) in
     let inside = slot_inside i (read_of c.loop-rva.found) (lookup_at i c.loop-rva.rva c.loop-rva.slot) goes c.in_ok-read_lookup.ensures.0 in
     let small = size_small c.args.layout.now in
-    let width = c.slot_width-width.ensures in
+    let width = c.slot_width-width.ensures.value in
     omega (arith, inside, small, width)
 
 pub loop-rva-preserved : goal.loop-rva-preserved
@@ -67,8 +70,8 @@ loop-rva-preserved g c =
     let rva : ℕ = c.loop-rva.rva in
     let slot : ℕ = c.loop-rva.slot in
     let before = read_of c.loop-rva.found in
-    let some = slot_width_some c.args.layout.now in
-    let width : c.slot_width-width.result ≡ i.slot_width = c.slot_width-width.ensures in
+    let some = wide c.slot_width-width.result _ c.slot_width-width.ensures.value c.slot_width-width.ensures.width in
+    let width : c.slot_width-width.result ≡ i.slot_width = c.slot_width-width.ensures.value in
     let goes : ends_table i (lookup_at i rva slot) ≡ false = negated _ (sym c.in_ok-read_lookup.ensures.1.0 ∙ c.if-branch.true) in
     let left : List Lookup = lookups_from (i.size - (rva + i.slot_width)) i (rva + i.slot_width) (slot + i.slot_width) in
     let step : lookups_from (i.size - rva) i rva slot ≡ lookup_at i rva slot ∷ left = lookups-step i (omega arith) rva slot goes in

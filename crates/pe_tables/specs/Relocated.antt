@@ -1,0 +1,29 @@
+-- An image that stands at a base: the number in each fixup's field is moved on by as much as the base lies above ImageBase
+-- ("PE Format", Base Relocation Types).
+use Rattle.std.specs.Prelude.{ℕ, ◌-◌, ◌^◌, Bool, find, Option, None, Some, ℤ, pos, ◌+ℤ◌, ◌-ℤ◌, unsigned_abs}
+use Rattle.std.specs.Int.{int_rem_euclid}
+use Rattle.pe_view.specs.Number.{digit, is_in}
+use Rattle.pe_layout.specs.Image.{Image, number_at}
+use Rattle.pe_tables.specs.Fixups.{width_of, fixups_of}
+use Rattle.pe_tables.specs.declared.fixups.Fixup.{Fixup}
+use Rattle.pe_tables.specs.declared.fixups.FixupKind.{FixupKind}
+
+-- a field's number with d added, modulo what the field holds; d may be below zero
+unfoldable pub shift : FixupKind → ℕ → ℤ → ℕ
+shift kind v d = unsigned_abs (int_rem_euclid (pos v +ℤ d) (pos (256 ^ width_of kind)))
+
+-- an RVA is one of a field
+abbrev pub in_field : ℕ → Fixup → Bool
+in_field r f = is_in f.field (width_of f.kind) r
+
+-- what a field holds in the image at a base
+abbrev pub shifted : Image → ℕ → Fixup → ℕ
+shifted i base f = shift f.kind (number_at (width_of f.kind) i f.field) (pos base -ℤ pos i.image_base)
+
+abbrev pub relocated_by : Image → ℕ → ℕ → Option Fixup → ℕ
+relocated_by i base r None = i.byte r
+relocated_by i base r (Some f) = digit (shifted i base f) (r - f.field)
+
+-- the byte at an RVA of the image at a base: that of the field in which it is, else the laid-out one
+abbrev pub relocated : Image → ℕ → ℕ → ℕ
+relocated i base r = relocated_by i base r (find (in_field r) (fixups_of i))
