@@ -1,6 +1,6 @@
 -- The blocks of a table, one after the other.
-use Rattle.std.proofs.Common.{◌≡◌, ℕ, zero, suc, ◌+◌, ◌-◌, ◌<◌, ◌≤◌, true, false, List, [], ◌∷◌, ◌++◌, Option, Some, None, refl, sym, ap, ◌∙◌, append_assoc, arith, inl, inr}
-use Rattle.std.specs.Prelude.{nat_lt, nat_le, not, ◌==◌, option_to_list}
+use Rattle.std.proofs.Common.{◌≡◌, ℕ, zero, suc, ◌+◌, ◌-◌, ◌<◌, ◌≤◌, true, false, List, [], ◌∷◌, ◌++◌, Option, Some, None, refl, sym, ap, subst, ◌∙◌, append_assoc, arith, inl, inr}
+use Rattle.std.specs.Prelude.{nat_lt, nat_le, not, ◌==◌, option_to_list, IsTrue}
 use Rattle.std.specs.List.{flat_map}
 use Rattle.std.proofs.lemmas.Bool.{lt-ltb, le-leb, ltb-false, or_parts, cases_Bool}
 use Rattle.std.proofs.lemmas.Bool.Decides.{nat_tests}
@@ -11,7 +11,8 @@ use Rattle.pe_head.specs.declared.directory.Directory.{Directory}
 use Rattle.pe_layout.specs.Image.{Image, is_inside, fault_at}
 use Rattle.pe_tables.specs.Ranges.{SameRanges, meets}
 use Rattle.pe_tables.specs.Fixups.{Block, Entry, block_at, blocks_from, blocks_of, ends_table, entries_of, fixup_of, fixups_in, width_of}
-use Rattle.pe_tables.specs.FixupFaults.{field_tests, entries_tests, blocks_tests, size_test, fixup_tests_at}
+use Rattle.pe_tables.specs.FixupFaults.{field_tests, entries_tests, blocks_tests, is_bad_size, size_test, fixup_tests_at}
+use Rattle.pe_tables.specs.TableFaults.{goes_past}
 use Rattle.pe_tables.specs.declared.fixups.Fixup.{Fixup}
 
 -- no block stands where the table ends
@@ -135,3 +136,29 @@ table-past i slots others d same le =
 
 pub not_equal_zero : (n : ℕ) → 0 < n → (n == 0) ≡ false
 not_equal_zero n some = grind (arith, nat_tests)
+
+module _ (i : Image) (others : List (ℕ × ℕ)) (d : Directory) (inside : d.rva + d.size ≤ i.size) where
+  all_blocks : blocks_of i d ≡ blocks_from (d.rva + d.size - d.rva) i (d.rva + d.size) d.rva
+  all_blocks = let fuel : d.size ≡ d.rva + d.size - d.rva = omega arith in ap (λ (n : ℕ). blocks_from n i (d.rva + d.size) d.rva) fuel
+
+  -- a table without a block
+  pub table-none : ends_table i (d.rva + d.size) d.rva ≡ true → (first_standing (fixup_tests_at i others (Some d)) ≡ None) × (blocks_of i d ≡ [])
+  table-none ends =
+      let none = blocks-end i (d.rva + d.size) d.rva d.size ends in (
+        table-past i others others d (λ test. refl) inside ∙ ap (λ (bs : List Block). first_standing (blocks_tests i others (d.rva + d.size) [] bs)) none ∙ blocks-none i others (d.rva + d.size) [],
+        none,
+      )
+
+  -- one whose first block has a bad size
+  pub table-bad : ends_table i (d.rva + d.size) d.rva ≡ false → is_bad_size (d.rva + d.size) d.rva (block_at i d.rva).size ≡ true → first_standing (fixup_tests_at i others (Some d)) ≡ Some (fault_at 33 i d.rva)
+  table-bad goes bad =
+      table-past i others others d (λ test. refl) inside ∙ ap (λ (bs : List Block). first_standing (blocks_tests i others (d.rva + d.size) [] bs)) all_blocks
+      ∙ blocks-bad_size i others (d.rva + d.size) d.rva [] goes bad
+
+  -- the size of the first block of a table has been asked
+  pub table-asked : ends_table i (d.rva + d.size) d.rva ≡ false → is_bad_size (d.rva + d.size) d.rva (block_at i d.rva).size ≡ false → IsTrue (goes_past 33 (fixup_tests_at i others (Some d)))
+  unfolding blocks_tests
+  table-asked goes sized =
+      subst (λ (bs : List Block). IsTrue (goes_past 33 (record { stands = not (is_inside i d.rva d.size); fault = fault_at 34 i d.rva } ∷ blocks_tests i others (d.rva + d.size) [] bs)))
+      (sym (all_blocks ∙ blocks-step i (d.rva + d.size) d.rva goes))
+      (rw (inside_test d.rva d.size i.size inside, sized) refl)

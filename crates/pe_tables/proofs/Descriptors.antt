@@ -1,6 +1,6 @@
 -- The descriptors of an import table, one after the other.
-use Rattle.std.proofs.Common.{◌≡◌, ℕ, zero, suc, ◌+◌, ◌-◌, ◌≤◌, true, false, List, [], ◌∷◌, ◌++◌, Some, None, refl, sym, ap, ◌∙◌, append_assoc, arith, inl, inr}
-use Rattle.std.specs.Prelude.{if◌then◌else◌}
+use Rattle.std.proofs.Common.{◌≡◌, ℕ, zero, suc, ◌+◌, ◌-◌, ◌≤◌, true, false, List, [], ◌∷◌, ◌++◌, Some, None, refl, sym, ap, ◌∙◌, append_assoc, arith, inl, inr, subst}
+use Rattle.std.specs.Prelude.{if◌then◌else◌, IsTrue}
 use Rattle.std.specs.List.{flat_map}
 use Rattle.std.proofs.lemmas.Bool.{cases_Bool}
 use Rattle.pe_view.specs.declared.fault.Fault.{Fault}
@@ -10,6 +10,8 @@ use Rattle.pe_layout.specs.Image.{Image}
 use Rattle.pe_tables.specs.Imports.{Import, descriptor_at, descriptors_from, ends_list, imports_in}
 use Rattle.pe_tables.specs.ImportFaults.{descriptor_tests, descriptors_tests}
 use Rattle.pe_tables.specs.declared.imports.Descriptor.{Descriptor}
+use Rattle.pe_tables.specs.TableFaults.{goes_past}
+use Rattle.pe_tables.proofs.Past.{past-in, past-later}
 use Rattle.pe_tables.proofs.Lookups.{inside_of, past_ends}
 
 -- the descriptors behind the first
@@ -75,6 +77,21 @@ module _ (i : Image) (before : List Import) (rva : ℕ) where
   descriptors-imports left n e =
       ap (λ ds. before ++ flat_map (imports_in i) ds) e
       ∙ sym (append_assoc before (imports_in i here) (flat_map (imports_in i) left))
+
+  -- the last fault of an import of the descriptor has been asked
+  pub descriptors-asked : (n : ℕ) → IsTrue (goes_past 31 (descriptor_tests i before here)) → IsTrue (goes_past 31 (descriptors_tests i before (descriptors_from n i rva)))
+  unfolding descriptors_tests
+  descriptors-asked n past =
+      subst (λ (ds : List Descriptor). IsTrue (goes_past 31 (descriptors_tests i before ds))) (sym (descriptors-first n i rva))
+      (past-in 31 (descriptor_tests i before here) (descriptors_tests i (before ++ imports_in i here) (descriptors_behind n i rva)) past)
+
+  -- that of an import of a later one
+  pub descriptors-asked_later : (left : List Descriptor) (n : ℕ) → descriptors_from n i rva ≡ here ∷ left → first_standing (descriptor_tests i before here) ≡ None
+      → IsTrue (goes_past 31 (descriptors_tests i (before ++ imports_in i here) left)) → IsTrue (goes_past 31 (descriptors_tests i before (descriptors_from n i rva)))
+  unfolding descriptors_tests
+  descriptors-asked_later left n e none past =
+      subst (λ (ds : List Descriptor). IsTrue (goes_past 31 (descriptors_tests i before ds))) (sym e)
+      (past-later 31 (descriptor_tests i before here) (descriptors_tests i (before ++ imports_in i here) left) none past)
 
 pub descriptors-none : (i : Image) (before : List Import) → first_standing (descriptors_tests i before []) ≡ None
 unfolding descriptors_tests

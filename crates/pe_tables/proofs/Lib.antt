@@ -22,6 +22,7 @@ pub mod Names
 pub mod Neighbours
 pub mod Pages
 pub mod Pairs
+pub mod Past
 pub mod Refusing
 pub mod Rising
 pub mod Rows

@@ -1,6 +1,6 @@
 -- The entries of a lookup table, one after the other.
-use Rattle.std.proofs.Common.{◌≡◌, ℕ, zero, suc, ◌+◌, ◌-◌, ◌<◌, ◌≤◌, Bool, true, false, List, [], ◌∷◌, ◌++◌, Some, None, refl, sym, ap, ◌∙◌, ◌||◌, append_assoc, arith, inl, inr}
-use Rattle.std.specs.Prelude.{nat_le, not, ◌==◌, option_to_list, if◌then◌else◌}
+use Rattle.std.proofs.Common.{◌≡◌, ℕ, zero, suc, ◌+◌, ◌-◌, ◌<◌, ◌≤◌, Bool, true, false, List, [], ◌∷◌, ◌++◌, Some, None, refl, sym, ap, ◌∙◌, ◌||◌, append_assoc, arith, inl, inr, subst}
+use Rattle.std.specs.Prelude.{nat_le, not, ◌==◌, option_to_list, if◌then◌else◌, IsTrue}
 use Rattle.std.specs.List.{filter_map}
 use Rattle.std.proofs.lemmas.Bool.{or_parts, cases_Bool}
 use Rattle.std.proofs.lemmas.Bool.Decides.{nat_tests}
@@ -10,6 +10,8 @@ use Rattle.pe_view.specs.FirstStanding.{first-past, first-in, none_stands}
 use Rattle.pe_layout.specs.Image.{Image, is_inside, fault_at}
 use Rattle.pe_tables.specs.Imports.{Import, Lookup, lookup_at, lookups_from, ends_table, import_of}
 use Rattle.pe_tables.specs.ImportFaults.{key_tests, slot_tests, lookup_tests, lookups_tests}
+use Rattle.pe_tables.specs.TableFaults.{goes_past}
+use Rattle.pe_tables.proofs.Past.{past-in, past-later}
 use Rattle.pe_tables.proofs.Entries.{filter_map-cons}
 
 pub inside_of : (n limit : ℕ) (rest : Bool) → (not (nat_le n limit) || rest) ≡ false → n ≤ limit
@@ -87,6 +89,21 @@ module _ (i : Image) (module_name : List ℕ) (before : List Import) (rva slot :
       ap (λ ls. before ++ filter_map (import_of i module_name) ls) e
       ∙ ap (λ (more : List Import). before ++ more) (filter_map-cons (import_of i module_name) here left)
       ∙ sym (append_assoc before (option_to_list (import_of i module_name here)) (filter_map (import_of i module_name) left))
+
+  -- the entry's last fault has been asked
+  pub lookups-asked : (n : ℕ) → IsTrue (goes_past 31 (lookup_tests i before here)) → IsTrue (goes_past 31 (lookups_tests i module_name before (lookups_from n i rva slot)))
+  unfolding lookups_tests
+  lookups-asked n past =
+      subst (λ (ls : List Lookup). IsTrue (goes_past 31 (lookups_tests i module_name before ls))) (sym (lookups-first n i rva slot))
+      (past-in 31 (lookup_tests i before here) (lookups_tests i module_name with_here (lookups_behind n i rva slot)) past)
+
+  -- that of a later one
+  pub lookups-asked_later : (left : List Lookup) (n : ℕ) → lookups_from n i rva slot ≡ here ∷ left → first_standing (lookup_tests i before here) ≡ None
+      → IsTrue (goes_past 31 (lookups_tests i module_name with_here left)) → IsTrue (goes_past 31 (lookups_tests i module_name before (lookups_from n i rva slot)))
+  unfolding lookups_tests
+  lookups-asked_later left n e none past =
+      subst (λ (ls : List Lookup). IsTrue (goes_past 31 (lookups_tests i module_name before ls))) (sym e)
+      (past-later 31 (lookup_tests i before here) (lookups_tests i module_name with_here left) none past)
 
 pub lookups-none : (i : Image) (module_name : List ℕ) (before : List Import) → first_standing (lookups_tests i module_name before []) ≡ None
 unfolding lookups_tests

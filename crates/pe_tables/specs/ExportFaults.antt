@@ -1,8 +1,8 @@
 -- What may be wrong with an export table, in the order in which it is asked: of the directory, of each name, of each entry
 -- of the address table.
-use Rattle.std.specs.Prelude.{ℕ, ◌+◌, ◌*◌, ◌^◌, ◌<◌, ◌≤◌, Bool, not, ◌&&◌, ◌==◌, List, [], ◌∷◌, ◌++◌, Option, Some, None, nat_lt, nat_le, is_none}
+use Rattle.std.specs.Prelude.{◌≡◌, ℕ, ◌+◌, ◌*◌, ◌^◌, ◌<◌, ◌≤◌, Bool, not, ◌&&◌, ◌==◌, List, [], ◌∷◌, ◌++◌, Option, Some, None, nat_lt, nat_le, is_none}
 use Rattle.std.specs.List.{flat_map, range_with_len}
-use Rattle.pe_view.specs.Faults.{Test}
+use Rattle.pe_view.specs.Faults.{Test, first_standing}
 use Rattle.pe_head.specs.declared.directory.Directory.{Directory}
 use Rattle.pe_layout.specs.Image.{Image, is_inside, fault_at}
 use Rattle.pe_tables.specs.declared.export_table.Table.{Table}
@@ -65,3 +65,8 @@ pub record IsInside (i : Image) (t : Table) : Type 0 where
   pub ordinals : 0 < t.name_count → t.ordinals + 2 * t.name_count ≤ i.size
   pub few_entries : t.entry_count ≤ 65536
   pub few_names : t.name_count ≤ 65536
+
+-- an export table of which none of faults 16 to 18 stands, and which has a name or an entry
+abbrev pub HasRows : Image → Option Directory → Type 0
+HasRows i None = ⊥
+HasRows i (Some d) = let t = table_at i d.rva in (first_standing (directory_tests i t) ≡ None) × (0 < t.name_count + t.entry_count)

@@ -46,6 +46,10 @@ entry_of i page rva = record { rva = rva; kind = number_at 2 i rva / 4096; field
 abbrev pub entry_at : Image → Block → ℕ → Entry
 entry_at i b k = entry_of i b.page (b.rva + 8 + 2 * k)
 
+-- so many entries of a block with this PageRVA, from the one at an RVA on
+abbrev pub entries_at : Image → ℕ → ℕ → ℕ → List Entry
+entries_at i page rva count = map (λ k. entry_of i page (rva + 2 * k)) (range_with_len 0 count)
+
 -- the entries of a block are those that end by its end
 abbrev pub entries_of : Image → Block → List Entry
 entries_of i b = map (entry_at i b) (range_with_len 0 ((b.size - 8) / 2))

@@ -7,6 +7,7 @@ pub mod Exported
 pub mod ExportFaults
 pub mod Exports
 pub mod ExportsView
+pub mod FirstBlock
 pub mod FixupFaults
 pub mod Fixups
 pub mod Forwarder

@@ -1,5 +1,5 @@
 -- What a table answers.
-use Rattle.std.specs.Prelude.{◌≡◌, List, Some, None, Result, Ok, Err}
+use Rattle.std.specs.Prelude.{◌≡◌, ◌==◌, ◌||◌, ℕ, Bool, false, if◌then◌else◌, List, [], ◌∷◌, Some, None, Result, Ok, Err}
 use Rattle.pe_view.specs.Faults.{Test, first_standing}
 use Rattle.pe_tables.specs.declared.error.TableError.{TableError}
 use Rattle.pe_tables.specs.declared.error.TableError.TheVariants.{Fault, Memory}
@@ -13,3 +13,8 @@ Refuses tests (Fault fault) = first_standing tests ≡ Some fault
 abbrev pub TableAnswers : {X : Type 0} → List Test → (X → Type 0) → Result X TableError → Type 0
 TableAnswers tests P (Ok x) = (first_standing tests ≡ None) × P x
 TableAnswers tests P (Err error) = Refuses tests error
+
+-- a test of this number has been asked, and up to it none stands
+abbrev pub goes_past : ℕ → List Test → Bool
+goes_past number [] = false
+goes_past number (t ∷ ts) = if t.stands then false else ((t.fault.number == number) || goes_past number ts)

@@ -1,9 +1,9 @@
 ghost use Rattle.std.specs.Prelude.{◌≡◌, ◌≢◌, ℕ, ◌+◌, ◌*◌, ◌<◌, ◌≤◌, ◌^◌, ◌↔◌, ◌++◌, [], IsTrue, IsOk, IfOk, OnOk, length, take, All, slice_index_or};
 ghost use Rattle.std.specs.List.{flat_map};
-ghost use Rattle.pe_tables.specs.Encoded.{FieldsAscend, page_of, type_of, entry_bytes, block_bytes, encoded};
+ghost use Rattle.pe_tables.specs.Encoded.{FieldsAscend, page_of, entry_bytes, block_bytes, encoded};
 ghost use Rattle.pe_tables.specs.declared.fixups.Fixup.{Fixup};
 
-use crate::fixups::{Fixup, FixupKind};
+use crate::fixups::Fixup;
 use std::alloc::{AllocError, Allocator};
 
 /// Whether the fields strictly ascend: the condition of [`encode_fixups`].
@@ -20,21 +20,11 @@ pub fn ascending(fixups: &[Fixup]) -> bool
     true
 }
 
-/// The type of an entry that stands for a kind.
-fn type_of(kind: FixupKind) -> u16
-    ensures { result ≡ type_of kind }
-{
-    match kind {
-        FixupKind::Bits32 => 3,
-        FixupKind::Bits64 => 10,
-    }
-}
-
 /// Adds the entry of a fixup.
 fn push_entry<A: Allocator>(bytes: &mut Vec<u8, A>, fixup: &Fixup) -> Result<(), AllocError>
     ensures { OnOk result (bytes.new.items ≡ bytes.old.items ++ entry_bytes fixup.now) }
 {
-    let entry = 4096 * type_of(fixup.kind) + (fixup.field % 4096) as u16;
+    let entry = 4096 * fixup.kind.entry_type() + (fixup.field % 4096) as u16;
     bytes.extend_from_slice(&entry.to_le_bytes())
 }
 

@@ -1,10 +1,10 @@
-ghost use Rattle.std.specs.Prelude.{◌≡◌, ◌<◌, None, Some, IsOk, IfOk, option_map, map, All, AllPairs, []};
+ghost use Rattle.std.specs.Prelude.{◌≡◌, ◌<◌, None, Some, IsOk, IsErrOf, IfOk, option_map, map, All, AllPairs, []};
 ghost use Rattle.std.specs.List.{filter_map, range_with_len};
 ghost use Rattle.pe_layout.specs.Layout.{image_of};
 ghost use Rattle.pe_tables.specs.TableFaults.{TableAnswers};
 ghost use Rattle.pe_tables.specs.Key.{target_view};
 ghost use Rattle.pe_tables.specs.Exports.{entry, target_of, named, names_of, by_entry, exports_of};
-ghost use Rattle.pe_tables.specs.ExportFaults.{IsInside, each_tests, name_tests, entry_tests, export_tests};
+ghost use Rattle.pe_tables.specs.ExportFaults.{IsInside, each_tests, name_tests, entry_tests, export_tests, HasRows};
 ghost use Rattle.pe_tables.specs.ExportsView.{name_view, ordinal_view, exports_view};
 ghost use Rattle.pe_tables.specs.NameIndex.{IsIndexOf};
 
@@ -147,18 +147,23 @@ fn index_names<'a, A: Allocator + Copy>(
 
 /// The exports of an image, or the first of faults 16 to 22.
 ///
-/// An image without the table has no exports, and then no memory is taken. ("PE Format", The .edata Section.)
+/// An image without the table, or whose table has no name and no entry, has no exports, and then no memory is taken; nor is
+/// any where one of faults 16 to 18 stands. ("PE Format", The .edata Section.)
 pub fn read_exports<'a, A: Allocator + Copy>(
     alloc: A,
     layout: &Layout<'a>,
 ) -> Result<Exports<'a, A>, TableError>
     ensures exact { TableAnswers (export_tests (image_of layout.now)) (λ exports. exports_view exports ≡ exports_of (image_of layout.now)) result }
     ensures absent { (image_of layout.now).directory 0 ≡ None → IsOk result }
+    ensures memory { IsErrOf result TableError.Memory → HasRows (image_of layout.now) ((image_of layout.now).directory 0) }
 {
     let Some(directory) = layout.directory(directory_index::EXPORT) else {
         return Ok(Exports::new(alloc));
     };
     let table = read_table(layout, directory.rva)?;
+    if table.name_count == 0 && table.entry_count == 0 {
+        return Ok(Exports::new(alloc));
+    }
     let names = read_names(alloc, layout, &table)?;
     let ordinals = read_ordinals(alloc, layout, directory, &table)?;
     let names = index_names(alloc, layout, directory, &table, &names)?;

@@ -1,20 +1,28 @@
-ghost use Rattle.std.specs.Prelude.{◌≡◌, ◌+◌, ◌-◌, ◌<◌, ◌≤◌, ◌^◌, [], ◌∷◌, None, Some, IsOk, IfOk, OnOk, MatchOption, map, option_to_list, true, false, ◌||◌};
+ghost use Rattle.std.specs.Prelude.{◌≡◌, ◌+◌, ◌*◌, ◌/◌, ◌<◌, ◌≤◌, ◌^◌, [], ◌∷◌, None, Some, IsOk, IsErrOf, IsTrue, IfOk, OnOk, map, option_to_list, true, false, ◌||◌};
+ghost use Rattle.std.specs.List.{filter_map};
 ghost use Rattle.pe_layout.specs.Layout.{image_of};
-ghost use Rattle.pe_layout.specs.Image.{number_at};
-ghost use Rattle.pe_tables.specs.TableFaults.{TableAnswers};
+ghost use Rattle.pe_view.specs.View.{bytes_of, size_of};
+ghost use Rattle.pe_layout.specs.Image.{number_at, bytes_at};
+ghost use Rattle.pe_tables.specs.TableFaults.{TableAnswers, goes_past};
 ghost use Rattle.pe_tables.specs.Ranges.{SameRanges, meets_any};
 ghost use Rattle.pe_tables.specs.RangesView.{ranges_in};
-ghost use Rattle.pe_tables.specs.Fixups.{IsBlockSize, width_of, range_of, slot_range, block_at, blocks_of, entry_of, entries_of, fixup_of, fixups_in, fixups_at, fixups_of};
+ghost use Rattle.pe_tables.specs.Fixups.{IsBlockSize, width_of, kind_of, range_of, slot_range, block_at, blocks_of, entry_of, entries_at, entries_of, fixup_of, fixups_in, fixups_at, fixups_of};
+ghost use Rattle.pe_tables.specs.Encoded.{type_of};
 ghost use Rattle.pe_tables.specs.FixupFaults.{is_bad_size, entry_tests, entries_tests, blocks_tests, fixup_tests};
 ghost use Rattle.pe_tables.specs.Import.{slots_of};
 ghost use Rattle.pe_tables.specs.Reading.{IsIndexed, Reads};
+ghost use Rattle.pe_tables.specs.FirstBlock.{FirstBlock};
 
 use crate::error::{TableError, fault_at};
 use crate::import::Import;
 use crate::ranges::Ranges;
 use pe_head::{Directory, directory_index};
 use pe_layout::Layout;
+use pe_view::View;
 use std::alloc::{AllocError, Allocator};
+
+/// How many entries of a block are read at once.
+const ENTRIES_AT_ONCE: u32 = 256;
 
 /// What a fixup's field is, and how it is relocated ("PE Format", Base Relocation Types).
 #[derive(Clone, Copy, Debug, PartialEq, Eq)]
@@ -33,6 +41,27 @@ impl FixupKind {
         match self {
             FixupKind::Bits32 => 4,
             FixupKind::Bits64 => 8,
+        }
+    }
+
+    /// The type that stands for it in an entry's high four bits: 3, HIGHLOW, or 10, DIR64.
+    pub(crate) fn entry_type(self) -> u16
+        ensures { result ≡ type_of self }
+    {
+        match self {
+            FixupKind::Bits32 => 3,
+            FixupKind::Bits64 => 10,
+        }
+    }
+
+    /// What a type stands for, where it names a field that is relocated.
+    fn of_type(entry_type: u16) -> Option<FixupKind>
+        ensures { result ≡ kind_of entry_type }
+    {
+        match entry_type {
+            3 => Some(FixupKind::Bits32),
+            10 => Some(FixupKind::Bits64),
+            _ => None,
         }
     }
 }
@@ -83,25 +112,27 @@ fn slot_ranges<A: Allocator + Copy>(
     Ok(ranges)
 }
 
-/// Reads the entry at an RVA of the image, of a block with this PageRVA, unless one of faults 35 to 38 stands.
+/// Reads an entry of a block with this PageRVA, which holds this number and stands at an RVA, unless one of faults 35 to 38
+/// stands.
 fn read_entry<A: Allocator + Copy>(
     layout: &Layout,
     slots: &Ranges<A>,
     found: &mut Found<A>,
     page: u32,
     rva: u32,
+    entry: u16,
 ) -> Result<(), TableError>
-    requires inside { rva + 2 ≤ (image_of layout.now).size }
+    requires value { entry ≡ number_at 2 (image_of layout.now) rva }
     requires indexed { IsIndexed found.old }
     ensures { TableAnswers (entry_tests (image_of layout.now) (ranges_in slots.now) found.old.fixups.items (entry_of (image_of layout.now) page rva))
         (λ _. Reads found.old found.new (option_to_list (fixup_of (entry_of (image_of layout.now) page rva)))) result }
 {
-    let entry = layout.u16_at(rva).unwrap();
-    let kind = match entry / 4096 {
-        0 => return Ok(()),
-        3 => FixupKind::Bits32,
-        10 => FixupKind::Bits64,
-        _ => return Err(fault_at(35, layout, rva)),
+    let entry_type = entry / 4096;
+    if entry_type == 0 {
+        return Ok(());
+    }
+    let Some(kind) = FixupKind::of_type(entry_type) else {
+        return Err(fault_at(35, layout, rva));
     };
     let field = u64::from(page) + u64::from(entry % 4096);
     if field + u64::from(kind.width()) > u64::from(layout.size()) {
@@ -122,6 +153,52 @@ fn read_entry<A: Allocator + Copy>(
     Ok(())
 }
 
+/// Reads the entries of a block with this PageRVA that stand in these bytes of the image, from an RVA on, unless one of
+/// faults 35 to 38 stands of one.
+fn read_entries<A: Allocator + Copy>(
+    layout: &Layout,
+    slots: &Ranges<A>,
+    found: &mut Found<A>,
+    page: u32,
+    rva: u32,
+    bytes: View,
+) -> Result<(), TableError>
+    requires bytes { bytes_of bytes ≡ bytes_at (image_of layout.now) rva (size_of bytes) }
+    requires small { rva + size_of bytes < 2 ^ 32 }
+    requires indexed { IsIndexed found.old }
+    ensures { TableAnswers (entries_tests (image_of layout.now) (ranges_in slots.now) found.old.fixups.items (entries_at (image_of layout.now) page rva (size_of bytes.entry / 2)))
+        (λ _. Reads found.old found.new (filter_map fixup_of (entries_at (image_of layout.now) page rva (size_of bytes.entry / 2)))) result }
+{
+    for index in 0..(bytes.len() / 2) as u32 {
+        let entry = bytes.u16_at(2 * u64::from(index)).unwrap();
+        read_entry(layout, slots, found, page, rva + 2 * index, entry)?;
+    }
+    Ok(())
+}
+
+/// Reads some entries of a block with this PageRVA, from the one at an RVA of the image on, unless one of faults 35 to 38
+/// stands of one.
+fn read_some_entries<A: Allocator + Copy>(
+    layout: &Layout,
+    slots: &Ranges<A>,
+    found: &mut Found<A>,
+    page: u32,
+    rva: u32,
+    count: u32,
+) -> Result<(), TableError>
+    requires few { count ≤ 256 }
+    requires inside { rva + 2 * count ≤ (image_of layout.now).size }
+    requires small { rva + 2 * count < 2 ^ 32 }
+    requires indexed { IsIndexed found.old }
+    ensures { TableAnswers (entries_tests (image_of layout.now) (ranges_in slots.now) found.old.fixups.items (entries_at (image_of layout.now) page rva count))
+        (λ _. Reads found.old found.new (filter_map fixup_of (entries_at (image_of layout.now) page rva count))) result }
+{
+    let mut buffer = [0; 2 * ENTRIES_AT_ONCE as usize];
+    let bytes = &mut buffer[..2 * count as usize];
+    layout.fill(rva, bytes);
+    read_entries(layout, slots, found, page, rva, View::new(bytes))
+}
+
 /// Reads the entries of the block at an RVA of the image, of `size` bytes, unless one of faults 35 to 38 stands of one.
 fn read_block<A: Allocator + Copy>(
     layout: &Layout,
@@ -139,8 +216,12 @@ fn read_block<A: Allocator + Copy>(
         (λ _. Reads found.old found.new (fixups_in (image_of layout.now) (block_at (image_of layout.now) rva))) result }
 {
     let page = layout.u32_at(rva).unwrap();
-    for index in 0..(size - 8) / 2 {
-        read_entry(layout, slots, found, page, rva + 8 + 2 * index)?;
+    let count = (size - 8) / 2;
+    let mut index = 0;
+    while index < count {
+        let some = (count - index).min(ENTRIES_AT_ONCE);
+        read_some_entries(layout, slots, found, page, rva + 8 + 2 * index, some)?;
+        index += some;
     }
     Ok(())
 }
@@ -166,6 +247,22 @@ fn is_bad_size(size: u32, rva: u32, end: u32) -> bool
     ensures { result ≡ is_bad_size end rva size }
 {
     size % 2 == 1 || size < 8 || size > end - rva
+}
+
+/// Whether a table that lies in the image has a block, unless fault 33 stands of its first.
+fn has_block(layout: &Layout, directory: Directory) -> Result<bool, TableError>
+    requires inside { directory.rva + directory.size ≤ (image_of layout.now).size }
+    requires small { directory.rva + directory.size < 2 ^ 32 }
+    ensures exact { FirstBlock (image_of layout.now) directory result }
+{
+    let end = directory.rva + directory.size;
+    match block_size(layout, directory.rva, end) {
+        None => Ok(false),
+        Some(size) if is_bad_size(size, directory.rva, end) => {
+            Err(fault_at(33, layout, directory.rva))
+        }
+        Some(_) => Ok(true),
+    }
 }
 
 /// Reads the blocks of a table that lies in the image, unless one of faults 33 and 35 to 38 stands of one.
@@ -197,7 +294,8 @@ fn read_blocks<A: Allocator + Copy>(
 /// The fixups of an image, in the order of its base relocation table, or the first of faults 33 to 38.
 ///
 /// `imports` are the image's imports: a field may share no byte with one of their slots. An image without the table has
-/// no fixups, and then no memory is taken. ("PE Format", The .reloc Section.)
+/// no fixups, and then no memory is taken; nor is any where fault 34 stands, or fault 33 of the first block. ("PE Format",
+/// The .reloc Section.)
 pub fn read_fixups<A: Allocator + Copy>(
     alloc: A,
     layout: &Layout,
@@ -205,12 +303,16 @@ pub fn read_fixups<A: Allocator + Copy>(
 ) -> Result<Vec<Fixup, A>, TableError>
     ensures exact { TableAnswers (fixup_tests (image_of layout.now) (slots_of imports.now)) (λ fixups. fixups.items ≡ fixups_of (image_of layout.now)) result }
     ensures absent { (image_of layout.now).directory 5 ≡ None → IsOk result }
+    ensures memory { IsErrOf result TableError.Memory → IsTrue (goes_past 33 (fixup_tests (image_of layout.now) (slots_of imports.now))) }
 {
     let Some(directory) = layout.directory(directory_index::BASE_RELOCATION) else {
         return Ok(Vec::new(alloc));
     };
     if !layout.contains(directory.rva, u64::from(directory.size)) {
         return Err(fault_at(34, layout, directory.rva));
+    }
+    if !has_block(layout, directory)? {
+        return Ok(Vec::new(alloc));
     }
     let slots = slot_ranges(alloc, imports, layout.slot_width())?;
     let mut found = Found {

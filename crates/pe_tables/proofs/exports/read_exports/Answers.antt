@@ -1,5 +1,5 @@
 -- The directory's faults come first, then those of the names, then those of the entries.
-use Rattle.std.proofs.Common.{◌≡◌, ◌∙◌, ◌++◌, ℕ, List, Option, None, sym, ap}
+use Rattle.std.proofs.Common.{◌≡◌, ◌∙◌, ◌++◌, ℕ, List, [], Option, None, refl, sym, ap}
 use Rattle.std.specs.Prelude.{map}
 use Rattle.std.specs.List.{filter_map, range_with_len}
 use Rattle.std.proofs.lemmas.Result.{err_from_is_err_and}
@@ -13,6 +13,7 @@ use Rattle.pe_tables.specs.ExportFaults.{directory_tests, name_tests, entry_test
 use Rattle.pe_tables.specs.ExportsView.{name_view}
 use Rattle.pe_tables.specs.NameIndex.{export_view}
 use Rattle.pe_tables.specs.declared.export_table.Table.{Table}
+use Rattle.pe_tables.proofs.Each.{each-none}
 use Rattle.pe_tables.proofs.Indexed.{searchable}
 use Rattle.pe_tables.proofs.Refusing.{refuses-whole}
 use Rattle.pe_tables.proofs.exports.read_exports.Goals as goal
@@ -22,10 +23,10 @@ returns-in_err-names-clause-exact g c =
     let i = image_of c.args.layout.now in
     let d : Directory = c.in-Some.directory in
     let t : Table = c.in_ok-table.table in
-    let same : t ≡ table_at i d.rva = c.in_ok-table.ensures.1.0 in
+    let same : t ≡ table_at i d.rva = c.in_ok-table.ensures.exact.1.0 in
     let names : List Test = each_tests (name_tests i t) t.name_count in
     let entries : List Test = each_tests (entry_tests i d t) t.entry_count in
-    let none : first_standing (directory_tests i t) ≡ None = ap (λ (t : Table). first_standing (directory_tests i t)) same ∙ c.in_ok-table.ensures.0 in
+    let none : first_standing (directory_tests i t) ≡ None = ap (λ (t : Table). first_standing (directory_tests i t)) same ∙ c.in_ok-table.ensures.exact.0 in
     let whole : first_standing (export_tests i) ≡ first_standing (names ++ entries) =
     ap (λ (o : Option Directory). first_standing (export_tests_at i o)) (sym c.in-Some.ensures)
     ∙ ap (λ (t : Table). first_standing (table_tests i d t)) (sym same)
@@ -38,10 +39,10 @@ returns-in_err-ordinals-clause-exact g c =
     let i = image_of c.args.layout.now in
     let d : Directory = c.in-Some.directory in
     let t : Table = c.in_ok-table.table in
-    let same : t ≡ table_at i d.rva = c.in_ok-table.ensures.1.0 in
+    let same : t ≡ table_at i d.rva = c.in_ok-table.ensures.exact.1.0 in
     let names : List Test = each_tests (name_tests i t) t.name_count in
     let entries : List Test = each_tests (entry_tests i d t) t.entry_count in
-    let none : first_standing (directory_tests i t) ≡ None = ap (λ (t : Table). first_standing (directory_tests i t)) same ∙ c.in_ok-table.ensures.0 in
+    let none : first_standing (directory_tests i t) ≡ None = ap (λ (t : Table). first_standing (directory_tests i t)) same ∙ c.in_ok-table.ensures.exact.0 in
     let whole : first_standing (export_tests i) ≡ first_standing entries =
     ap (λ (o : Option Directory). first_standing (export_tests_at i o)) (sym c.in-Some.ensures)
     ∙ ap (λ (t : Table). first_standing (table_tests i d t)) (sym same)
@@ -62,10 +63,10 @@ returns-clause-exact g c =
     let i = image_of c.args.layout.now in
     let d : Directory = c.in-Some.directory in
     let t : Table = c.in_ok-table.table in
-    let same : t ≡ table_at i d.rva = c.in_ok-table.ensures.1.0 in
+    let same : t ≡ table_at i d.rva = c.in_ok-table.ensures.exact.1.0 in
     let names : List Test = each_tests (name_tests i t) t.name_count in
     let entries : List Test = each_tests (entry_tests i d t) t.entry_count in
-    let none : first_standing (directory_tests i t) ≡ None = ap (λ (t : Table). first_standing (directory_tests i t)) same ∙ c.in_ok-table.ensures.0 in
+    let none : first_standing (directory_tests i t) ≡ None = ap (λ (t : Table). first_standing (directory_tests i t)) same ∙ c.in_ok-table.ensures.exact.0 in
     let whole : first_standing (export_tests i) ≡ None =
     ap (λ (o : Option Directory). first_standing (export_tests_at i o)) (sym c.in-Some.ensures)
     ∙ ap (λ (t : Table). first_standing (table_tests i d t)) (sym same)
@@ -78,4 +79,25 @@ returns-clause-exact g c =
       ap (λ (es : List (ℕ × Target)). record { ordinals = es; names = map export_view c.in_ok-names-2.names.exports.items }) ordinals
           ∙ ap (λ (es : List (List ℕ × Target)). record { ordinals = filter_map (by_entry i d t) (range_with_len 0 t.entry_count); names = es }) by_names
           ∙ ap (exports_in i d) same ∙ ap (exports_at i) c.in-Some.ensures,
+    )
+
+pub returns-then-table-eq0-2-clause-exact : goal.returns-then-table-eq0-2-clause-exact
+returns-then-table-eq0-2-clause-exact g c =
+    let i = image_of c.args.layout.now in
+    let d : Directory = c.in-Some.directory in
+    let t : Table = c.in_ok-table.table in
+    let same : t ≡ table_at i d.rva = c.in_ok-table.ensures.exact.1.0 in
+    let names : List Test = each_tests (name_tests i t) t.name_count in
+    let entries : List Test = each_tests (entry_tests i d t) t.entry_count in
+    let no_names : t.name_count ≡ 0 = c.if-table-eq0.true in
+    let no_entries : t.entry_count ≡ 0 = c.if-table-eq0-2.true in
+    let none : first_standing (directory_tests i t) ≡ None = ap (λ (t : Table). first_standing (directory_tests i t)) same ∙ c.in_ok-table.ensures.exact.0 in
+    let empty = c.new-then-table-eq0-2.ensures in
+    let all : exports_in i d t ≡ record { ordinals = []; names = [] } = rw (no_names, no_entries) refl in (
+      ap (λ (o : Option Directory). first_standing (export_tests_at i o)) (sym c.in-Some.ensures)
+          ∙ ap (λ (t : Table). first_standing (table_tests i d t)) (sym same)
+          ∙ first-past (directory_tests i t) (names ++ entries) none
+          ∙ first-past names entries (ap (λ (n : ℕ). first_standing (each_tests (name_tests i t) n)) no_names ∙ each-none (name_tests i t))
+          ∙ ap (λ (n : ℕ). first_standing (each_tests (entry_tests i d t) n)) no_entries ∙ each-none (entry_tests i d t),
+      rw (empty.ordinals, empty.names) refl ∙ sym all ∙ ap (exports_in i d) same ∙ ap (exports_at i) c.in-Some.ensures,
     )

@@ -1,57 +1,68 @@
--- One entry after the other.
-use Rattle.std.proofs.Common.{◌≡◌, ◌∙◌, ◌+◌, ◌-◌, ◌*◌, ◌/◌, ◌<◌, ◌≤◌, ◌++◌, ℕ, List, None, drop, sym, ap, subst}
-use Rattle.std.specs.Prelude.{option_to_list}
+-- Some entries after the others.
+use Rattle.std.proofs.Common.{◌≡◌, ◌∙◌, ◌+◌, ◌-◌, ◌*◌, ◌/◌, ◌<◌, ◌≤◌, ◌++◌, ℕ, List, None, drop, sym, ap, subst, arith}
 use Rattle.std.specs.List.{filter_map}
 use Rattle.std.proofs.lemmas.Result.{err_from_is_err_and}
 use Rattle.pe_view.specs.Faults.{first_standing}
 use Rattle.pe_layout.specs.Layout.{image_of}
 use Rattle.pe_tables.specs.RangesView.{ranges_in}
-use Rattle.pe_tables.specs.Fixups.{Entry, block_at, entry_at, entry_of, entries_of, fixup_of}
-use Rattle.pe_tables.specs.FixupFaults.{entry_tests, entries_tests}
+use Rattle.pe_tables.specs.Fixups.{Entry, block_at, entry_at, entries_at, entries_of, fixup_of}
+use Rattle.pe_tables.specs.FixupFaults.{entries_tests}
 use Rattle.pe_tables.specs.declared.fixups.Fixup.{Fixup}
 use Rattle.pe_tables.specs.Reading.{Reads}
-use Rattle.pe_tables.proofs.Entries.{entries-past, entries-in, fixups-past, entries-end, fixups-end}
+use Rattle.pe_tables.proofs.Entries.{part-past, part-in, part-fixups, block-parts, entries-end, fixups-end}
 use Rattle.pe_tables.proofs.Refusing.{refuses-whole}
 use Rattle.pe_tables.proofs.fixups.read_block.Goals as goal
 
-pub returns-in_err-read_entry : goal.returns-in_err-read_entry
-returns-in_err-read_entry g c =
+pub returns-in_err-read_some_entries : goal.returns-in_err-read_some_entries
+returns-in_err-read_some_entries g c =
     let i = image_of c.args.layout.now in
     let b = block_at i c.args.rva in
     let slots = ranges_in c.args.slots.now in
-    let n : ℕ = (b.size - 8) / 2 in
     let k : ℕ = c.loop-index.index in
+    let some : ℕ = c.min-some.result in
     let before = c.loop-index.found.fixups.items in
     let page : c.unwrap-page.result ≡ b.page = (rw c.unwrap-page.ensures at c.u32_at.ensures).1 in
-    let lt : k < n = rw (← c.requires.its_size) c.loop-index-test.true in
+    let least = c.min-some.ensures in
+    let within : k + some ≤ (b.size - 8) / 2 = rw (← c.requires.its_size) (omega (arith, least)) in
+    let here : List Entry = entries_at i b.page (b.rva + 8 + 2 * k) some in
+    let left : List Entry = drop (k + some) (entries_of i b) in
+    let parts : drop k (entries_of i b) ≡ here ++ left = block-parts i b k some within in
     let p = err_from_is_err_and c.from_residual.result c.from_residual.ensures.1 in
     rw (p.1, p.2)
-    (refuses-whole (entry_tests i slots before (entry_at i b k)) (entries_tests i slots c.args.found.now.fixups.items (entries_of i b))
-    (λ y some. sym c.loop-index.invariant.tests ∙ entries-in i slots (entry_at i b) n k lt before y some)
-    c.in_err-read_entry.field-0.0 (rw page at c.in_err-read_entry.ensures))
+    (refuses-whole (entries_tests i slots before here) (entries_tests i slots c.args.found.now.fixups.items (entries_of i b))
+    (λ y stands. sym c.loop-index.invariant.tests ∙ ap (λ (es : List Entry). first_standing (entries_tests i slots before es)) parts ∙ part-in i slots before here left y stands)
+    c.in_err-read_some_entries.field-0.0 (rw page at c.in_err-read_some_entries.ensures))
 
 pub loop-index-preserved : goal.loop-index-preserved
 loop-index-preserved g c =
     let i = image_of c.args.layout.now in
     let b = block_at i c.args.rva in
     let slots = ranges_in c.args.slots.now in
-    let n : ℕ = (b.size - 8) / 2 in
     let k : ℕ = c.loop-index.index in
+    let some : ℕ = c.min-some.result in
     let before = c.loop-index.found.fixups.items in
-    let left : List Entry = drop (k + 1) (entries_of i b) in
     let page : c.unwrap-page.result ≡ b.page = (rw c.unwrap-page.ensures at c.u32_at.ensures).1 in
+    let least = c.min-some.ensures in
+    let within : k + some ≤ (b.size - 8) / 2 = rw (← c.requires.its_size) (omega (arith, least)) in
+    let here : List Entry = entries_at i b.page (b.rva + 8 + 2 * k) some in
+    let left : List Entry = drop (k + some) (entries_of i b) in
+    let parts : drop k (entries_of i b) ≡ here ++ left = block-parts i b k some within in
     let Answered : ℕ → Type 0 = λ (page : ℕ).
-    let e = entry_of i page (c.args.rva + 8 + 2 * k) in (
-    first_standing (entry_tests i slots before e) ≡ None)
-    × Reads c.loop-index.found c.read_entry.new.found (option_to_list (fixup_of e)) in
-    let answered : Answered b.page = subst Answered page c.in_ok-read_entry.ensures in
-    let none : first_standing (entry_tests i slots before (entry_at i b k)) ≡ None = answered.0 in
-    let more : c.read_entry.new.found.fixups.items ≡ before ++ option_to_list (fixup_of (entry_at i b k)) = answered.1.fixups in
-    let lt : k < n = rw (← c.requires.its_size) c.loop-index-test.true in
+    let es = entries_at i page (c.args.rva + 8 + 2 * k) some in (
+    first_standing (entries_tests i slots before es) ≡ None)
+    × Reads c.loop-index.found c.read_some_entries.new.found (filter_map fixup_of es) in
+    let answered : Answered b.page = subst Answered page c.in_ok-read_some_entries.ensures in
+    let none : first_standing (entries_tests i slots before here) ≡ None = answered.0 in
+    let more : c.read_some_entries.new.found.fixups.items ≡ before ++ filter_map fixup_of here = answered.1.fixups in
     record {
+      within = omega (arith, least);
       indexed = answered.1.indexed;
-      tests = ap (λ (fs : List Fixup). first_standing (entries_tests i slots fs left)) more ∙ sym (entries-past i slots (entry_at i b) n k lt before none) ∙ c.loop-index.invariant.tests;
-      fixups = ap (λ (fs : List Fixup). fs ++ filter_map fixup_of left) more ∙ sym (fixups-past i slots (entry_at i b) n k lt before) ∙ c.loop-index.invariant.fixups;
+      tests =
+          ap (λ (fs : List Fixup). first_standing (entries_tests i slots fs left)) more ∙ sym (part-past i slots before here left none)
+          ∙ ap (λ (es : List Entry). first_standing (entries_tests i slots before es)) (sym parts) ∙ c.loop-index.invariant.tests;
+      fixups =
+          ap (λ (fs : List Fixup). fs ++ filter_map fixup_of left) more ∙ sym (part-fixups i slots before here left)
+          ∙ ap (λ (es : List Entry). before ++ filter_map fixup_of es) (sym parts) ∙ c.loop-index.invariant.fixups;
     }
 
 pub returns : goal.returns

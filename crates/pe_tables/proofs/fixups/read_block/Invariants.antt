@@ -1,4 +1,4 @@
-use Rattle.std.proofs.Common.{◌≡◌, ◌++◌, drop}
+use Rattle.std.proofs.Common.{◌≡◌, ◌+◌, ◌-◌, ◌*◌, ◌≤◌, ◌++◌, drop}
 use Rattle.std.specs.List.{filter_map}
 use Rattle.pe_view.specs.Faults.{first_standing}
 use Rattle.pe_layout.specs.Layout.{image_of}
@@ -13,7 +13,11 @@ invariant-loop-index g l =
     let i = image_of l.layout in
     let entries = entries_of i (block_at i l.rva) in
     record {
+      within : l.index ≤ l.count;
       indexed : IsIndexed l.found;
       tests : first_standing (entries_tests i (ranges_in l.slots) l.found.fixups.items (drop l.index entries)) ≡ first_standing (entries_tests i (ranges_in l.slots) l.initial.found.fixups.items entries);
       fixups : l.found.fixups.items ++ filter_map fixup_of (drop l.index entries) ≡ l.initial.found.fixups.items ++ fixups_in i (block_at i l.rva);
     }
+
+abbrev pub decreases-loop-index : goal.decreases-loop-index
+decreases-loop-index g l = l.count - l.index

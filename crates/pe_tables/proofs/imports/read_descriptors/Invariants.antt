@@ -1,9 +1,11 @@
 use Rattle.std.proofs.Common.{◌≡◌, ◌-◌, ◌++◌, []}
+use Rattle.std.specs.Prelude.{IsTrue}
 use Rattle.std.specs.List.{flat_map}
 use Rattle.pe_view.specs.Faults.{first_standing}
 use Rattle.pe_layout.specs.Layout.{image_of}
 use Rattle.pe_tables.specs.Imports.{descriptors_from, descriptors_of, imports_in}
 use Rattle.pe_tables.specs.ImportFaults.{descriptors_tests}
+use Rattle.pe_tables.specs.TableFaults.{goes_past}
 use Rattle.pe_tables.specs.ImportReading.{read_of, IsIndexed}
 use Rattle.pe_tables.proofs.imports.read_descriptors.Given as goal
 
@@ -14,6 +16,7 @@ invariant-loop-rva g l =
     record {
       indexed : IsIndexed i.slot_width l.found;
       tests : first_standing (descriptors_tests i (read_of l.found) left) ≡ first_standing (descriptors_tests i [] (descriptors_of i l.start));
+      past : IsTrue (goes_past 31 (descriptors_tests i (read_of l.found) left)) → IsTrue (goes_past 31 (descriptors_tests i [] (descriptors_of i l.start)));
       imports : read_of l.found ++ flat_map (imports_in i) left ≡ flat_map (imports_in i) (descriptors_of i l.start);
     }
 

@@ -1,9 +1,11 @@
 use Rattle.std.proofs.Common.{◌≡◌, ◌-◌, ◌++◌}
+use Rattle.std.specs.Prelude.{IsTrue}
 use Rattle.std.specs.List.{filter_map}
 use Rattle.pe_view.specs.Faults.{first_standing}
 use Rattle.pe_layout.specs.Layout.{image_of}
 use Rattle.pe_tables.specs.Imports.{lookups_from, lookups_of, import_of}
 use Rattle.pe_tables.specs.ImportFaults.{lookups_tests}
+use Rattle.pe_tables.specs.TableFaults.{goes_past}
 use Rattle.pe_tables.specs.ImportReading.{read_of, IsIndexed}
 use Rattle.pe_tables.proofs.imports.read_lookups.Given as goal
 
@@ -15,6 +17,7 @@ invariant-loop-rva g l =
     record {
       indexed : IsIndexed i.slot_width l.found;
       tests : first_standing (lookups_tests i l.«module» (read_of l.found) left) ≡ first_standing (lookups_tests i l.«module» (read_of l.initial.found) all);
+      past : IsTrue (goes_past 31 (lookups_tests i l.«module» (read_of l.found) left)) → IsTrue (goes_past 31 (lookups_tests i l.«module» (read_of l.initial.found) all));
       imports : read_of l.found ++ filter_map (import_of i l.«module») left ≡ read_of l.initial.found ++ filter_map (import_of i l.«module») all;
     }
 

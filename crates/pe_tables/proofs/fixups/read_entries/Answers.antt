@@ -1,0 +1,75 @@
+-- One entry after the other.
+use Rattle.std.proofs.Common.{◌≡◌, ◌∙◌, ◌+◌, ◌*◌, ◌/◌, ◌<◌, ◌≤◌, ◌++◌, ℕ, List, drop, sym, ap, arith}
+use Rattle.std.specs.Prelude.{option_to_list}
+use Rattle.std.specs.List.{filter_map}
+use Rattle.std.proofs.lemmas.Result.{err_from_is_err_and}
+use Rattle.pe_view.specs.Faults.{first_standing}
+use Rattle.pe_view.specs.Number.{num, byte_of}
+use Rattle.pe_view.specs.View.{bytes_of, size_of}
+use Rattle.pe_layout.specs.Image.{number_at}
+use Rattle.pe_layout.specs.Layout.{image_of}
+use Rattle.pe_tables.specs.RangesView.{ranges_in}
+use Rattle.pe_tables.specs.Fixups.{Entry, entry_of, entries_at, fixup_of}
+use Rattle.pe_tables.specs.FixupFaults.{entry_tests, entries_tests}
+use Rattle.pe_tables.specs.declared.fixups.Fixup.{Fixup}
+use Rattle.pe_tables.proofs.Entries.{entries-past, entries-in, fixups-past, entries-end, fixups-end, number_of_part}
+use Rattle.pe_tables.proofs.Refusing.{refuses-whole}
+use Rattle.pe_tables.proofs.fixups.read_entries.Goals as goal
+
+pub read_entry-requires-clause-value : goal.read_entry-requires-clause-value
+read_entry-requires-clause-value g c =
+    let i = image_of c.args.layout.now in
+    let k : ℕ = c.loop-index.index in
+    let n : ℕ = size_of c.args.bytes in
+    let from : c.from.result ≡ k = c.from.ensures in
+    let len : c.len.result ≡ n = c.len.ensures in
+    let lt : k < n / 2 = rw len at c.loop-index-test.true in
+    (rw c.unwrap-entry.ensures at c.u16_at.ensures).1 ∙ ap (λ (m : ℕ). num (byte_of (bytes_of c.args.bytes)) (2 * m) 2) from
+    ∙ number_of_part i c.args.rva n (2 * k) (bytes_of c.args.bytes) c.requires.bytes (omega arith)
+
+pub returns-in_err-read_entry : goal.returns-in_err-read_entry
+returns-in_err-read_entry g c =
+    let i = image_of c.args.layout.now in
+    let entry : ℕ → Entry = λ k. entry_of i c.args.page (c.args.rva + 2 * k) in
+    let slots = ranges_in c.args.slots.now in
+    let n : ℕ = size_of c.args.bytes / 2 in
+    let k : ℕ = c.loop-index.index in
+    let before = c.loop-index.found.fixups.items in
+    let lt : k < n = rw c.len.ensures at c.loop-index-test.true in
+    let p = err_from_is_err_and c.from_residual.result c.from_residual.ensures.1 in
+    rw (p.1, p.2)
+    (refuses-whole (entry_tests i slots before (entry k)) (entries_tests i slots c.args.found.now.fixups.items (entries_at i c.args.page c.args.rva n))
+    (λ y some. sym c.loop-index.invariant.tests ∙ entries-in i slots entry n k lt before y some)
+    c.in_err-read_entry.field-0.0 c.in_err-read_entry.ensures)
+
+pub loop-index-preserved : goal.loop-index-preserved
+loop-index-preserved g c =
+    let i = image_of c.args.layout.now in
+    let entry : ℕ → Entry = λ k. entry_of i c.args.page (c.args.rva + 2 * k) in
+    let slots = ranges_in c.args.slots.now in
+    let n : ℕ = size_of c.args.bytes / 2 in
+    let k : ℕ = c.loop-index.index in
+    let before = c.loop-index.found.fixups.items in
+    let left : List Entry = drop (k + 1) (entries_at i c.args.page c.args.rva n) in
+    let answered = c.in_ok-read_entry.ensures in
+    let more : c.read_entry.new.found.fixups.items ≡ before ++ option_to_list (fixup_of (entry k)) = answered.1.fixups in
+    let lt : k < n = rw c.len.ensures at c.loop-index-test.true in
+    record {
+      indexed = answered.1.indexed;
+      tests = ap (λ (fs : List Fixup). first_standing (entries_tests i slots fs left)) more ∙ sym (entries-past i slots entry n k lt before answered.0) ∙ c.loop-index.invariant.tests;
+      fixups = ap (λ (fs : List Fixup). fs ++ filter_map fixup_of left) more ∙ sym (fixups-past i slots entry n k lt before) ∙ c.loop-index.invariant.fixups;
+    }
+
+pub returns : goal.returns
+returns g c =
+    let i = image_of c.args.layout.now in
+    let entry : ℕ → Entry = λ k. entry_of i c.args.page (c.args.rva + 2 * k) in
+    let n : ℕ = size_of c.args.bytes / 2 in
+    let le : n ≤ c.loop-index.index = rw c.len.ensures at c.loop-index-test.false in
+    let before = c.loop-index.found.fixups.items in (
+      sym c.loop-index.invariant.tests ∙ entries-end i (ranges_in c.args.slots.now) entry n c.loop-index.index before le,
+      record {
+        fixups = sym (fixups-end entry n c.loop-index.index before le) ∙ c.loop-index.invariant.fixups;
+        indexed = c.loop-index.invariant.indexed;
+      },
+    )
