@@ -11,12 +11,14 @@ pub mod Entries
 pub mod ExportRows
 pub mod Exported
 pub mod Fields
+pub mod Forwarding
 pub mod Holding
 pub mod ImportRows
 pub mod Importing
 pub mod Indexed
 pub mod LastDot
 pub mod Lookups
+pub mod Meeting
 pub mod Named
 pub mod Names
 pub mod Neighbours

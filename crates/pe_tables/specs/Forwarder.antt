@@ -1,5 +1,5 @@
 -- Forwarders: exports of an image that are those of another module ("PE Format", Export Address Table).
-use Rattle.std.specs.Prelude.{ℕ, ◌+◌, ◌-◌, ◌*◌, Bool, ◌&&◌, ◌==◌, List, [], ◌∷◌, Option, Some, None, nat_lt, nat_le, if◌then◌else◌, option_map, option_and_then, length}
+use Rattle.std.specs.Prelude.{◌≡◌, ◌≢◌, ◌++◌, All, true, ℕ, ◌+◌, ◌-◌, ◌*◌, Bool, ◌&&◌, ◌==◌, List, [], ◌∷◌, Option, Some, None, nat_lt, nat_le, if◌then◌else◌, option_map, option_and_then, length}
 use Rattle.std.specs.List.{list_all}
 use Rattle.pe_head.specs.declared.directory.Directory.{Directory}
 use Rattle.pe_layout.specs.Image.{Image}
@@ -47,3 +47,15 @@ forwarder_of text = option_and_then forward_to (at_last_dot text)
 -- the forwarder whose text stands at an RVA
 abbrev pub forwarder_at : Image → ℕ → Option Target
 forwarder_at i rva = option_and_then forwarder_of (i.text rva)
+
+-- the text is that of a key: a name, or `#` and decimal digits that write an ordinal
+abbrev pub IsKeyText : List ℕ → Key → Type 0
+IsKeyText text (Name name) = text ≡ name
+IsKeyText text (Ordinal ordinal) = (digits : List ℕ) × (text ≡ 35 ∷ digits) × (list_all is_digit digits ≡ true) × (decimal_value 0 digits ≡ ordinal)
+
+-- the text is a module's name, a dot, and the text of a key, which has no dot
+pub record IsForwarderText (text module_name : List ℕ) (key : Key) : Type 0 where
+  pub key_text : List ℕ
+  pub parts : text ≡ module_name ++ 46 ∷ key_text
+  pub no_dot : All (λ (byte : ℕ). byte ≢ 46) key_text
+  pub names : IsKeyText key_text key

@@ -1,17 +1,18 @@
 //! What the definitions mean, as laws: each function has an empty body, and its contract is the law.
 
-ghost use Rattle.std.specs.Prelude.{◌≡◌, ◌≢◌, ◌+◌, ◌<◌, ◌≤◌, ◌^◌, ◌↔◌, ◌+ℤ◌, ℕ, ℤ, List, None, Some, All, AllPairs, Contains, length, map};
+ghost use Rattle.std.specs.Prelude.{◌≡◌, ◌≢◌, ◌+◌, ◌<◌, ◌≤◌, ◌^◌, ◌↔◌, ◌+ℤ◌, ℕ, ℤ, true, List, None, Some, All, AllPairs, Contains, length, map};
 ghost use Rattle.std.specs.List.{flat_map};
 ghost use Rattle.pe_head.specs.declared.directory.Directory.{Directory};
 ghost use Rattle.pe_view.specs.Faults.{first_standing};
 ghost use Rattle.pe_layout.specs.Image.{Image};
-ghost use Rattle.pe_tables.specs.Key.{Key, Ordinal, Name, Target, Rva};
+ghost use Rattle.pe_tables.specs.Key.{Key, Ordinal, Name, Target, Rva, Forward};
 ghost use Rattle.pe_tables.specs.Exports.{table_at, entry, target_of, name_entry, exports_at, exports_of, target_at};
 ghost use Rattle.pe_tables.specs.ExportFaults.{export_tests};
 ghost use Rattle.pe_tables.specs.Exported.{IsFirstName, IsUnnamed, IsUnnumbered};
 ghost use Rattle.pe_tables.specs.Fixups.{width_of, range_of, slot_range, fixups_at, fixups_of};
 ghost use Rattle.pe_tables.specs.FixupFaults.{fixup_tests};
-ghost use Rattle.pe_tables.specs.Ranges.{AreApart};
+ghost use Rattle.pe_tables.specs.Ranges.{meets_any, AreApart, HasCommon};
+ghost use Rattle.pe_tables.specs.Forwarder.{forwarder_of, IsForwarderText};
 ghost use Rattle.pe_tables.specs.Relocated.{shift};
 ghost use Rattle.pe_tables.specs.declared.fixups.FixupKind.{FixupKind};
 ghost use Rattle.pe_tables.specs.Chain.{IsNamed};
@@ -99,4 +100,16 @@ pub fn targets_are_inside()
 /// A field that is moved on by one difference of bases and then by another is moved on by their sum, modulo what it holds.
 pub fn shifts_compose()
     ensures { (kind : FixupKind) (v : ℕ) (d e : ℤ) → shift kind (shift kind v d) e ≡ shift kind v (d +ℤ e) }
+{}
+
+/// A range meets some others, of which none is empty, exactly where one of them has an RVA in common with it. So fault 30
+/// stands of a slot, and faults 37 and 38 of a field, exactly where an earlier slot, an earlier field or a slot has a byte of
+/// it.
+pub fn meeting_ranges_have_an_rva_in_common()
+    ensures { (start len : ℕ) (ranges : List (ℕ × ℕ)) → 0 < len → All (λ (range : ℕ × ℕ). 0 < range.1) ranges → (meets_any start len ranges ≡ true) ↔ HasCommon (start, len) ranges }
+{}
+
+/// The text of a forwarder is its module, a dot, and the text of its key, which has no dot: a name, or `#` and digits.
+pub fn forwarders_are_texts()
+    ensures { (text module_name : List ℕ) (key : Key) → forwarder_of text ≡ Some (Forward module_name key) → IsForwarderText text module_name key }
 {}
