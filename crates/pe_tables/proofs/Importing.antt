@@ -26,7 +26,7 @@ zero_not (suc n) ne = grind (arith, nat_tests)
 inside_test : (n limit : ℕ) → n ≤ limit → not (nat_le n limit) ≡ false
 inside_test n limit le = let e : nat_le n limit ≡ true = le-leb _ _ le in rw e refl
 
-has_entry : (i : Image) (rva slot : ℕ) → ends_table i (lookup_at i rva slot) ≡ false → HasEntry i rva
+pub has_entry : (i : Image) (rva slot : ℕ) → ends_table i (lookup_at i rva slot) ≡ false → HasEntry i rva
 has_entry i rva slot goes = (inside_of _ _ _ goes, not_zero _ (or_parts _ _ goes).1)
 
 pub table_goes : (i : Image) (rva slot : ℕ) → HasEntry i rva → ends_table i (lookup_at i rva slot) ≡ false
@@ -35,7 +35,7 @@ table_goes i rva slot has =
     let some = zero_not (number_at i.slot_width i rva) has.1 in
     rw (inside, some) refl
 
-has_descriptor : (i : Image) (rva : ℕ) → ends_list i (descriptor_at i rva) ≡ false → HasDescriptor i rva
+pub has_descriptor : (i : Image) (rva : ℕ) → ends_list i (descriptor_at i rva) ≡ false → HasDescriptor i rva
 has_descriptor i rva goes =
     let named = or_parts _ _ (or_parts _ _ goes).1 in
     (inside_of _ _ _ goes, not_zero _ named.0, not_zero _ named.1)
@@ -144,7 +144,7 @@ module _ (i : Image) (module_name : List ℕ) (import : Import) where
       (is ∙ sym (same_made (rva + i.slot_width + i.slot_width * k) (rva + i.slot_width * suc k) (slot + i.slot_width + i.slot_width * k) (slot + i.slot_width * suc k) (step rva i.slot_width k) (step slot i.slot_width k)))))
 
 -- the imports of a descriptor that does not end the list
-imports_here : (i : Image) (rva : ℕ) → HasDescriptor i rva
+pub imports_here : (i : Image) (rva : ℕ) → HasDescriptor i rva
     → imports_in i (descriptor_at i rva) ≡ filter_map (import_of i (module_of i (descriptor_at i rva))) (lookups_of i (descriptor_at i rva))
 imports_here i rva has = rw (list_goes i rva has) refl
 

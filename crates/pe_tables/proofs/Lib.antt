@@ -13,6 +13,7 @@ pub mod Exported
 pub mod Fields
 pub mod Forwarding
 pub mod Holding
+pub mod ImportOrder
 pub mod ImportRows
 pub mod Importing
 pub mod Indexed

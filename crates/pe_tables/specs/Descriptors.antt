@@ -1,5 +1,6 @@
 -- What an import table names, by the places in it ("PE Format", The .idata Section).
-use Rattle.std.specs.Prelude.{◌≡◌, ◌≢◌, ℕ, ◌+◌, ◌*◌, ◌≤◌, ◌==◌, ◌⊎◌, [], if◌then◌else◌, unwrap_or, IsSome, false}
+use Rattle.std.specs.Prelude.{◌≡◌, ◌≢◌, ℕ, ◌+◌, ◌*◌, ◌<◌, ◌≤◌, List, map, ◌==◌, ◌⊎◌, [], if◌then◌else◌, unwrap_or, IsSome, false}
+use Rattle.std.specs.List.{flat_map, range_with_len}
 use Rattle.pe_head.specs.declared.directory.Directory.{Directory}
 use Rattle.pe_layout.specs.Image.{Image, number_at}
 use Rattle.pe_tables.specs.Imports.{Import, is_ordinal, name_of, key_of}
@@ -65,3 +66,17 @@ HasTexts i rva k =
     IsSome (i.text (name_rva i rva))
     × (is_ordinal i (number_at i.slot_width i (table_rva i rva + i.slot_width * k)) ≡ false
     → IsSome (name_of i (number_at i.slot_width i (table_rva i rva + i.slot_width * k))))
+
+-- the list at an RVA has so many descriptors, and no more
+abbrev pub HasDescriptors : Image → ℕ → ℕ → Type 0
+HasDescriptors i list count = ((j : ℕ) → j < count → HasDescriptor i (descriptor_rva list j)) × ¬ (HasDescriptor i (descriptor_rva list count))
+
+-- the table at an RVA has so many entries, and no more
+abbrev pub HasEntries : Image → ℕ → ℕ → Type 0
+HasEntries i table count = ((k : ℕ) → k < count → HasEntry i (table + i.slot_width * k)) × ¬ (HasEntry i (table + i.slot_width * count))
+
+-- the imports of so many descriptors of the list at an RVA, by descriptor, and of each by entry, where descriptor j has
+-- counts j of them
+abbrev pub imports_in_order : Image → ℕ → ℕ → (ℕ → ℕ) → List Import
+imports_in_order i list count counts =
+    flat_map (λ j. map (import_at i (descriptor_rva list j)) (range_with_len 0 (counts j))) (range_with_len 0 count)

@@ -17,3 +17,7 @@ IsUnnamed i t text = (k : ℕ) → k < t.name_count → name_text i t k ≢ Some
 -- no entry of a table has the ordinal
 abbrev pub IsUnnumbered : Table → ℕ → Type 0
 IsUnnumbered t ordinal = (k : ℕ) → k < t.entry_count → ordinal ≢ t.ordinal_base + k
+
+-- two names of a table, of which one stands first before the other does
+abbrev pub StandsBefore : Image → Table → List ℕ → List ℕ → Type 0
+StandsBefore i t text later = (j : ℕ) × (k : ℕ) × IsFirstName i t text j × IsFirstName i t later k × (j < k)

@@ -21,7 +21,7 @@ ghost use Rattle.pe_tables.specs.Standing.{StandsAt, view};
 ghost use Rattle.pe_tables.specs.declared.fixups.Fixup.{Fixup};
 ghost use Rattle.pe_tables.specs.Imports.{Import, imports_at, imports_of};
 ghost use Rattle.pe_tables.specs.ImportFaults.{import_tests, import_tests_at};
-ghost use Rattle.pe_tables.specs.Descriptors.{IsInList, IsInTable, IsImported, IsApart, HasTexts, table_rva, descriptor_rva};
+ghost use Rattle.pe_tables.specs.Descriptors.{IsInList, IsInTable, IsImported, IsApart, HasTexts, HasDescriptors, HasEntries, imports_in_order, table_rva, descriptor_rva};
 
 /// The fixups of a table are exactly the entries of types 3 and 10 of the blocks to which its start leads.
 pub fn fixups_are_named()
@@ -112,4 +112,12 @@ pub fn meeting_ranges_have_an_rva_in_common()
 /// The text of a forwarder is its module, a dot, and the text of its key, which has no dot: a name, or `#` and digits.
 pub fn forwarders_are_texts()
     ensures { (text module_name : List ℕ) (key : Key) → forwarder_of text ≡ Some (Forward module_name key) → IsForwarderText text module_name key }
+{}
+
+/// The imports of a table stand by descriptor, and those of a descriptor by entry, up to the descriptor that ends the list and
+/// the entry that ends each table.
+pub fn imports_keep_their_order()
+    ensures { (i : Image) (d : Directory) (count : ℕ) (counts : ℕ → ℕ) → 0 < i.slot_width → HasDescriptors i d.rva count
+        → ((j : ℕ) → j < count → HasEntries i (table_rva i (descriptor_rva d.rva j)) (counts j))
+        → imports_at i (Some d) ≡ imports_in_order i d.rva count counts }
 {}
