@@ -26,7 +26,7 @@ stands-back i rva xs ys stands = λ k lt.
     let past : length xs + k - length xs ≡ k = omega arith in
     ap i.byte (sym at) ∙ stands (length xs + k) (omega (arith, length-append xs ys)) ∙ get_or-append_right xs ys (length xs + k) 0 (omega arith) ∙ ap (λ (n : ℕ). get_or ys n 0) past
 
-byte_at : (i : Image) (rva at k : ℕ) (bytes : List ℕ) → StandsAt i rva bytes → k < length bytes → at ≡ rva + k → i.byte at ≡ get_or bytes k 0
+pub byte_at : (i : Image) (rva at k : ℕ) (bytes : List ℕ) → StandsAt i rva bytes → k < length bytes → at ≡ rva + k → i.byte at ≡ get_or bytes k 0
 byte_at i rva at k bytes stands lt e = ap i.byte e ∙ stands k lt
 
 -- a number of 2 or of 4 bytes, read back
@@ -53,7 +53,7 @@ type_kind : (kind : FixupKind) → kind_of (type_of kind) ≡ Some kind
 type_kind Bits32 = refl
 type_kind Bits64 = refl
 
-type_small : (kind : FixupKind) → type_of kind < 16
+pub type_small : (kind : FixupKind) → type_of kind < 16
 type_small Bits32 = lit< tt
 type_small Bits64 = lit< tt
 
@@ -138,7 +138,7 @@ length-padding : (n : ℕ) → length {A = ℕ} (replicate n 0) ≡ n
 length-padding zero = refl
 length-padding (suc n) = omega (arith, length-padding n)
 
-length-block : (p : Page) → length (block_bytes p) ≡ block_size (length p.fixups)
+pub length-block : (p : Page) → length (block_bytes p) ≡ block_size (length p.fixups)
 length-block p =
     let n : ℕ = length p.fixups in
     let pads : List ℕ = replicate (2 * (n % 2)) 0 in
@@ -155,7 +155,7 @@ map-append : {X Y : Type 0} (f : X → Y) (xs ys : List X) → map f (xs ++ ys) 
 map-append f [] ys = refl
 map-append f (x ∷ xs) ys = ap (λ (zs : List _). f x ∷ zs) (map-append f xs ys)
 
-goes_on : (i : Image) (end rva n : ℕ) → rva + 8 ≤ end → (block_at i rva).size ≡ n → 0 < n → ends_table i end rva ≡ false
+pub goes_on : (i : Image) (end rva n : ℕ) → rva + 8 ≤ end → (block_at i rva).size ≡ n → 0 < n → ends_table i end rva ≡ false
 goes_on i end rva n le size some =
     let room : nat_lt end (rva + 8) ≡ false = le-ltb _ _ le in
     let more : ((block_at i rva).size == 0) ≡ false = ap (λ (x : ℕ). x == 0) size ∙ not_equal_zero n some in
@@ -205,7 +205,7 @@ all-before f (p ∷ ps) low all = elim (cases_Bool (p.page == page_of f)) [
       subst AllPages (sym e) (omega arith, (refl, tt), all))
 ]
 
-all-pages : (fs : List Fixup) → All (λ (f : Fixup). f.field < 2 ^ 32) fs → AllPages (pages_of fs)
+pub all-pages : (fs : List Fixup) → All (λ (f : Fixup). f.field < 2 ^ 32) fs → AllPages (pages_of fs)
 all-pages [] low = tt
 all-pages (f ∷ fs) low = all-before f (pages_of fs) (All-head (λ (g : Fixup). g.field < 2 ^ 32) f fs low) (all-pages fs (All-tail (λ (g : Fixup). g.field < 2 ^ 32) f fs low))
 

@@ -7,6 +7,7 @@ pub mod Decoded
 pub mod Descriptors
 pub mod Each
 pub mod Eaches
+pub mod EncodedFaults
 pub mod Entries
 pub mod ExportRows
 pub mod Exported
@@ -20,6 +21,7 @@ pub mod Indexed
 pub mod LastDot
 pub mod Lookups
 pub mod Meeting
+pub mod NameOrder
 pub mod Named
 pub mod Names
 pub mod Neighbours

@@ -1,5 +1,5 @@
 -- Bytes of a table that stand in an image, and what a fixup is apart from where its entry stands.
-use Rattle.std.specs.Prelude.{◌≡◌, ℕ, ◌+◌, ◌<◌, List, length, slice_index_or}
+use Rattle.std.specs.Prelude.{◌≡◌, ◌⊎◌, ℕ, ◌+◌, ◌<◌, List, length, slice_index_or}
 use Rattle.pe_layout.specs.Image.{Image}
 use Rattle.pe_tables.specs.declared.fixups.Fixup.{Fixup}
 use Rattle.pe_tables.specs.declared.fixups.FixupKind.{FixupKind}
@@ -11,3 +11,8 @@ StandsAt i rva bytes = (k : ℕ) → k < length bytes → i.byte (rva + k) ≡ s
 -- what a fixup relocates
 abbrev pub view : Fixup → ℕ × FixupKind
 view f = (f.field, f.kind)
+
+-- the numbers of the faults that an encoded table may have where it stands: that it passes the image, or that a field does,
+-- or meets an earlier one or a slot
+abbrev pub IsFieldFault : ℕ → Type 0
+IsFieldFault number = (number ≡ 34) ⊎ ((number ≡ 36) ⊎ ((number ≡ 37) ⊎ (number ≡ 38)))

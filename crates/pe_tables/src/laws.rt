@@ -3,21 +3,22 @@
 ghost use Rattle.std.specs.Prelude.{◌≡◌, ◌≢◌, ◌+◌, ◌<◌, ◌≤◌, ◌^◌, ◌↔◌, ◌+ℤ◌, ℕ, ℤ, true, List, None, Some, All, AllPairs, Contains, length, map};
 ghost use Rattle.std.specs.List.{flat_map};
 ghost use Rattle.pe_head.specs.declared.directory.Directory.{Directory};
+ghost use Rattle.pe_view.specs.declared.fault.Fault.{Fault};
 ghost use Rattle.pe_view.specs.Faults.{first_standing};
 ghost use Rattle.pe_layout.specs.Image.{Image};
 ghost use Rattle.pe_tables.specs.Key.{Key, Ordinal, Name, Target, Rva, Forward};
 ghost use Rattle.pe_tables.specs.Exports.{table_at, entry, target_of, name_entry, exports_at, exports_of, target_at};
 ghost use Rattle.pe_tables.specs.ExportFaults.{export_tests};
-ghost use Rattle.pe_tables.specs.Exported.{IsFirstName, IsUnnamed, IsUnnumbered};
+ghost use Rattle.pe_tables.specs.Exported.{IsFirstName, IsUnnamed, IsUnnumbered, StandsBefore};
 ghost use Rattle.pe_tables.specs.Fixups.{width_of, range_of, slot_range, fixups_at, fixups_of};
-ghost use Rattle.pe_tables.specs.FixupFaults.{fixup_tests};
+ghost use Rattle.pe_tables.specs.FixupFaults.{fixup_tests, fixup_tests_at};
 ghost use Rattle.pe_tables.specs.Ranges.{meets_any, AreApart, HasCommon};
 ghost use Rattle.pe_tables.specs.Forwarder.{forwarder_of, IsForwarderText};
 ghost use Rattle.pe_tables.specs.Relocated.{shift};
 ghost use Rattle.pe_tables.specs.declared.fixups.FixupKind.{FixupKind};
 ghost use Rattle.pe_tables.specs.Chain.{IsNamed};
 ghost use Rattle.pe_tables.specs.Encoded.{Page, IsPage, FieldsAscend, pages_of, encoded};
-ghost use Rattle.pe_tables.specs.Standing.{StandsAt, view};
+ghost use Rattle.pe_tables.specs.Standing.{StandsAt, IsFieldFault, view};
 ghost use Rattle.pe_tables.specs.declared.fixups.Fixup.{Fixup};
 ghost use Rattle.pe_tables.specs.Imports.{Import, imports_at, imports_of};
 ghost use Rattle.pe_tables.specs.ImportFaults.{import_tests, import_tests_at};
@@ -120,4 +121,15 @@ pub fn imports_keep_their_order()
     ensures { (i : Image) (d : Directory) (count : ℕ) (counts : ℕ → ℕ) → 0 < i.slot_width → HasDescriptors i d.rva count
         → ((j : ℕ) → j < count → HasEntries i (table_rva i (descriptor_rva d.rva j)) (counts j))
         → imports_at i (Some d) ≡ imports_in_order i d.rva count counts }
+{}
+
+/// The exports by name keep the order of the name pointer table: each text stands where it stands there first.
+pub fn names_keep_their_order()
+    ensures { (i : Image) (d : Directory) → AllPairs (λ (export later : List ℕ × Target). StandsBefore i (table_at i d.rva) export.0 later.0) (exports_at i (Some d)).names }
+{}
+
+/// Where an encoded table stands in an image as a whole directory, neither fault 33 nor fault 35 stands: its first fault is
+/// 34, 36, 37 or 38, if it has one. So where none of these stands it is read, and read back.
+pub fn encoded_has_field_faults_alone()
+    ensures { (i : Image) (d : Directory) (slots : List (ℕ × ℕ)) (fixups : List Fixup) (y : Fault) → All (λ (f : Fixup). f.field < 2 ^ 32) fixups → StandsAt i d.rva (encoded fixups) → d.size ≡ length (encoded fixups) → d.size < 2 ^ 32 → first_standing (fixup_tests_at i slots (Some d)) ≡ Some y → IsFieldFault y.number }
 {}

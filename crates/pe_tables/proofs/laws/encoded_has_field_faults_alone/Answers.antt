@@ -1,0 +1,5 @@
+use Rattle.pe_tables.proofs.EncodedFaults.{table-spares}
+use Rattle.pe_tables.proofs.laws.encoded_has_field_faults_alone.Goals as goal
+
+pub returns : goal.returns
+returns c = table-spares
