@@ -96,7 +96,7 @@ module _ (f : ℕ → Option Target) (base : ℕ) where
       let found : of_ordinal ordinal ((ordinal, target) ∷ rest) ≡ Some (ordinal, target) = rw (equal ordinal ordinal refl) refl in
       ap (option_map (λ (p : Numbered). p.1)) found
 
-  of_entry : (from n k : ℕ) → from ≤ k → k < from + n → option_map (λ p. p.1) (of_ordinal (base + k) (exported from n)) ≡ f k
+  pub of_entry : (from n k : ℕ) → from ≤ k → k < from + n → option_map (λ p. p.1) (of_ordinal (base + k) (exported from n)) ≡ f k
   of_entry from zero k low high = absurd (omega arith)
   of_entry from (suc n) k low high = elim (cases_eq k from) [
     | inl here ↦

@@ -10,14 +10,7 @@ use std::alloc::{AllocError, Allocator};
 pub fn ascending(fixups: &[Fixup]) -> bool
     ensures { IsTrue result ↔ FieldsAscend fixups.now }
 {
-    let mut least_next: u64 = 0;
-    for fixup in fixups {
-        if u64::from(fixup.field) < least_next {
-            return false;
-        }
-        least_next = u64::from(fixup.field) + 1;
-    }
-    true
+    fixups.is_sorted_by(|fixup, later| fixup.field < later.field)
 }
 
 /// Adds the entry of a fixup.

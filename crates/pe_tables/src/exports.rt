@@ -1,4 +1,4 @@
-ghost use Rattle.std.specs.Prelude.{◌≡◌, ◌<◌, None, Some, IsOk, IsErrOf, IfOk, option_map, map, All, AllPairs, []};
+ghost use Rattle.std.specs.Prelude.{◌≡◌, ◌<◌, None, Some, IsOk, IsErrOf, option_map, map, All, AllPairs, []};
 ghost use Rattle.std.specs.List.{filter_map, range_with_len};
 ghost use Rattle.pe_layout.specs.Layout.{image_of};
 ghost use Rattle.pe_tables.specs.TableFaults.{TableAnswers};
@@ -9,14 +9,14 @@ ghost use Rattle.pe_tables.specs.ExportsView.{name_view, ordinal_view, exports_v
 ghost use Rattle.pe_tables.specs.NameIndex.{IsIndexOf};
 
 use crate::error::{TableError, fault_at};
-use crate::export_lookup::Exports;
+use crate::export_lookup::{Exports, target_by_ordinal};
 use crate::export_table::{Table, read_table};
 use crate::forwarder::{forwarder_at, is_forwarder};
 use crate::key::Target;
 use crate::name_index::NameIndex;
 use pe_head::{Directory, directory_index};
 use pe_layout::Layout;
-use std::alloc::{AllocError, Allocator};
+use std::alloc::Allocator;
 
 /// A name of the name pointer table.
 #[derive(Clone, Copy)]
@@ -125,24 +125,30 @@ fn read_ordinals<'a, A: Allocator + Copy>(
     Ok(ordinals)
 }
 
-/// The exports by name.
-fn index_names<'a, A: Allocator + Copy>(
+/// Reads what the entries export, and says by it what these names do, unless fault 21 or 22 stands of an entry.
+fn read_entries<'a, A: Allocator + Copy>(
     alloc: A,
     layout: &Layout<'a>,
     directory: Directory,
     table: &Table,
     names: &[Name<'a>],
-) -> Result<NameIndex<'a, A>, AllocError>
+) -> Result<Exports<'a, A>, TableError>
     requires inside { IsInside (image_of layout.now) table.now }
     requires within { All (λ name. name.entry < table.now.entry_count) names.now }
-    ensures { IfOk result (IsIndexOf (λ index. target_of (image_of layout.now) directory (entry (image_of layout.now) table.now index)) (map name_view names.now)) }
+    ensures { TableAnswers (each_tests (entry_tests (image_of layout.now) directory table.now) table.now.entry_count)
+        (λ exports. (map ordinal_view exports.ordinals.items ≡ filter_map (by_entry (image_of layout.now) directory table.now) (range_with_len 0 table.now.entry_count))
+        × IsIndexOf (λ index. target_of (image_of layout.now) directory (entry (image_of layout.now) table.now index)) (map name_view names.now) exports.names) result }
 {
+    let ordinals = read_ordinals(alloc, layout, directory, table)?;
     let mut index = NameIndex::new(alloc);
     for name in names {
-        let value = layout.u32_at(table.addresses + 4 * name.entry).unwrap();
-        index.add(name.text, target_of(layout, directory, value))?;
+        let ordinal = u64::from(table.ordinal_base) + u64::from(name.entry);
+        index.add(name.text, target_by_ordinal(&ordinals, ordinal))?;
     }
-    Ok(index)
+    Ok(Exports {
+        ordinals,
+        names: index,
+    })
 }
 
 /// The exports of an image, or the first of faults 16 to 22.
@@ -165,7 +171,5 @@ pub fn read_exports<'a, A: Allocator + Copy>(
         return Ok(Exports::new(alloc));
     }
     let names = read_names(alloc, layout, &table)?;
-    let ordinals = read_ordinals(alloc, layout, directory, &table)?;
-    let names = index_names(alloc, layout, directory, &table, &names)?;
-    Ok(Exports { ordinals, names })
+    read_entries(alloc, layout, directory, &table, &names)
 }

@@ -4,7 +4,7 @@ use Rattle.pe_layout.specs.Layout.{image_of}
 use Rattle.pe_tables.specs.Exports.{entry, target_of}
 use Rattle.pe_tables.specs.ExportsView.{name_view}
 use Rattle.pe_tables.specs.NameIndex.{IsIndexOf}
-use Rattle.pe_tables.proofs.exports.index_names.Given as goal
+use Rattle.pe_tables.proofs.exports.read_entries.Given as goal
 
 abbrev pub invariant-loop-name : goal.invariant-loop-name
-invariant-loop-name g l = IsIndexOf (λ (k : ℕ). target_of (image_of l.layout) l.directory (entry (image_of l.layout) l.table k)) (map name_view (take l.name-index l.names)) l.index
+invariant-loop-name g l = IsIndexOf (λ (k : ℕ). target_of (image_of l.layout) l.fn.directory (entry (image_of l.layout) l.table k)) (map name_view (take l.name-index l.names)) l.index
