@@ -7,10 +7,10 @@ use Rattle.std.proofs.Math.Nat.{mul-suc}
 use Rattle.pe_head.specs.declared.directory.Directory.{Directory}
 use Rattle.pe_layout.specs.Image.{Image, number_at}
 use Rattle.pe_tables.specs.Imports.{Import, Lookup, descriptor_at, descriptors_from, ends_list, lookup_at, lookups_from, ends_table, key_of, import_of, module_of, imports_in, imports_at}
-use Rattle.pe_tables.specs.Descriptors.{descriptor_rva, addresses_rva, table_rva, HasDescriptor, HasEntry, HasDescriptors, HasEntries, import_at, imports_in_order}
+use Rattle.pe_tables.specs.ImportPlaces.{descriptor_rva, addresses_rva, table_rva, HasDescriptor, HasEntry, HasDescriptors, HasEntries, import_at, imports_in_order}
 use Rattle.pe_tables.specs.declared.imports.Descriptor.{Descriptor}
 use Rattle.pe_tables.proofs.Entries.{filter_map-cons}
-use Rattle.pe_tables.proofs.Importing.{has_entry, has_descriptor, table_goes, list_goes, imports_here}
+use Rattle.pe_tables.proofs.ImportPlaces.{has_entry, has_descriptor, table_goes, list_goes, imports_here}
 use Rattle.pe_tables.proofs.Lookups.{lookups-end, lookups-more}
 use Rattle.pe_tables.proofs.Descriptors.{descriptors-end, descriptors-more}
 

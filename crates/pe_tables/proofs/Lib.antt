@@ -1,6 +1,5 @@
 pub mod Beside
 pub mod Blocks
-pub mod Chain
 pub mod Counts
 pub mod Decimal
 pub mod Decoded
@@ -9,14 +8,15 @@ pub mod Each
 pub mod Eaches
 pub mod EncodedFaults
 pub mod Entries
+pub mod ExportPlaces
 pub mod ExportRows
-pub mod Exported
 pub mod Fields
+pub mod FixupPlaces
 pub mod Forwarding
 pub mod Holding
 pub mod ImportOrder
+pub mod ImportPlaces
 pub mod ImportRows
-pub mod Importing
 pub mod Indexed
 pub mod LastDot
 pub mod Lookups

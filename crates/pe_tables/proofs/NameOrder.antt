@@ -12,7 +12,7 @@ use Rattle.pe_head.specs.declared.directory.Directory.{Directory}
 use Rattle.pe_layout.specs.Image.{Image}
 use Rattle.pe_tables.specs.Key.{Target}
 use Rattle.pe_tables.specs.Exports.{table_at, entry, target_of, name_text, name_entry, named, first_of_each, by_name, exports_at}
-use Rattle.pe_tables.specs.Exported.{IsFirstName, StandsBefore}
+use Rattle.pe_tables.specs.ExportPlaces.{IsFirstName, StandsBefore}
 use Rattle.pe_tables.specs.declared.export_table.Table.{Table}
 use Rattle.pe_tables.proofs.Each.{given-push}
 use Rattle.pe_tables.proofs.Entries.{filter_map-cons}

@@ -8,11 +8,11 @@ use Rattle.pe_head.specs.declared.directory.Directory.{Directory}
 use Rattle.pe_layout.specs.Image.{Image, is_inside, number_at, fault_at}
 use Rattle.pe_tables.specs.Imports.{Import, Lookup, descriptor_at, descriptors_from, lookup_at, lookups_from, lookups_of, ends_table, is_null, is_ordinal, name_of, import_of, module_of, imports_in}
 use Rattle.pe_tables.specs.ImportFaults.{key_tests, slot_tests, lookup_tests, lookups_tests, module_tests, descriptor_tests, descriptors_tests, import_tests_at}
-use Rattle.pe_tables.specs.Descriptors.{descriptor_rva, addresses_rva, table_rva, HasDescriptor, HasEntry, IsInList, IsInTable, HasTexts}
+use Rattle.pe_tables.specs.ImportPlaces.{descriptor_rva, addresses_rva, table_rva, HasDescriptor, HasEntry, IsInList, IsInTable, HasTexts}
 use Rattle.pe_tables.specs.declared.imports.Descriptor.{Descriptor}
 use Rattle.pe_tables.proofs.Lookups.{lookups-more}
 use Rattle.pe_tables.proofs.Descriptors.{descriptors-more}
-use Rattle.pe_tables.proofs.Importing.{list_goes, table_goes, start, step, first_of, behind}
+use Rattle.pe_tables.proofs.ImportPlaces.{list_goes, table_goes, start, step, first_of, behind}
 
 some_text : (o : Option (List ℕ)) → is_none o ≡ false → IsSome o
 some_text None e = absurd cc

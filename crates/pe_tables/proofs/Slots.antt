@@ -12,7 +12,7 @@ use Rattle.pe_layout.specs.Image.{Image, is_inside, fault_at}
 use Rattle.pe_tables.specs.Ranges.{meets, meets_any}
 use Rattle.pe_tables.specs.Imports.{Import, Lookup, ends_table, ends_list, is_null, key_of, import_of, module_of, lookups_of, imports_in, imports_at}
 use Rattle.pe_tables.specs.ImportFaults.{range_of, key_tests, slot_tests, lookup_tests, lookups_tests, module_tests, descriptor_tests, descriptors_tests, import_tests_at}
-use Rattle.pe_tables.specs.Descriptors.{IsApart}
+use Rattle.pe_tables.specs.ImportPlaces.{IsApart}
 use Rattle.pe_tables.specs.declared.imports.Descriptor.{Descriptor}
 use Rattle.pe_tables.proofs.Beside.{none_at, apart_range, list_any-map}
 use Rattle.pe_tables.proofs.Entries.{filter_map-cons}

@@ -5,16 +5,16 @@ use Rattle.pe_tables.specs.RangesView.{ranges_in}
 use Rattle.pe_tables.specs.Imports.{Import}
 use Rattle.pe_tables.specs.ImportFaults.{range_of}
 use Rattle.pe_tables.specs.ImportView.{import_view}
-use Rattle.pe_tables.specs.declared.imports.Found.{Found}
+use Rattle.pe_tables.specs.declared.imports.FoundImports.{FoundImports}
 
-abbrev pub read_of : {A : Type 0} → Found A → List Import
+abbrev pub read_of : {A : Type 0} → FoundImports A → List Import
 read_of found = map import_view found.imports.items
 
 -- the ranges are the imports' slots
-abbrev pub IsIndexed : {A : Type 0} → ℕ → Found A → Type 0
+abbrev pub IsIndexed : {A : Type 0} → ℕ → FoundImports A → Type 0
 IsIndexed width found = SameRanges (ranges_in found.slots) (map (range_of width) (read_of found))
 
 -- some more imports have been read
-pub record Reads {A : Type 0} (width : ℕ) (old new : Found A) (more : List Import) : Type 0 where
+pub record Reads {A : Type 0} (width : ℕ) (old new : FoundImports A) (more : List Import) : Type 0 where
   pub imports : read_of new ≡ read_of old ++ more
   pub indexed : IsIndexed width new

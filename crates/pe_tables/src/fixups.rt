@@ -10,7 +10,7 @@ ghost use Rattle.pe_tables.specs.Fixups.{IsBlockSize, width_of, kind_of, range_o
 ghost use Rattle.pe_tables.specs.Encoded.{type_of};
 ghost use Rattle.pe_tables.specs.FixupFaults.{is_bad_size, entry_tests, entries_tests, blocks_tests, fixup_tests};
 ghost use Rattle.pe_tables.specs.Import.{slots_of};
-ghost use Rattle.pe_tables.specs.Reading.{IsIndexed, Reads};
+ghost use Rattle.pe_tables.specs.FixupReading.{IsIndexed, Reads};
 ghost use Rattle.pe_tables.specs.FirstBlock.{FirstBlock};
 
 use crate::error::{TableError, fault_at};
@@ -79,12 +79,12 @@ pub struct Fixup {
 
 /// The fixups that have been read, and the bytes of their fields.
 #[derive(Drop)]
-pub(crate) struct Found<A: Allocator> {
+pub(crate) struct FoundFixups<A: Allocator> {
     pub fixups: Vec<Fixup, A>,
     pub fields: Ranges<A>,
 }
 
-impl<A: Allocator + Copy> Found<A> {
+impl<A: Allocator + Copy> FoundFixups<A> {
     /// Adds a fixup whose field meets no other.
     fn add(&mut self, fixup: Fixup) -> Result<(), AllocError>
         requires indexed { IsIndexed self.old }
@@ -117,7 +117,7 @@ fn slot_ranges<A: Allocator + Copy>(
 fn read_entry<A: Allocator + Copy>(
     layout: &Layout,
     slots: &Ranges<A>,
-    found: &mut Found<A>,
+    found: &mut FoundFixups<A>,
     page: u32,
     rva: u32,
     entry: u16,
@@ -158,7 +158,7 @@ fn read_entry<A: Allocator + Copy>(
 fn read_entries<A: Allocator + Copy>(
     layout: &Layout,
     slots: &Ranges<A>,
-    found: &mut Found<A>,
+    found: &mut FoundFixups<A>,
     page: u32,
     rva: u32,
     bytes: View,
@@ -181,7 +181,7 @@ fn read_entries<A: Allocator + Copy>(
 fn read_some_entries<A: Allocator + Copy>(
     layout: &Layout,
     slots: &Ranges<A>,
-    found: &mut Found<A>,
+    found: &mut FoundFixups<A>,
     page: u32,
     rva: u32,
     count: u32,
@@ -203,7 +203,7 @@ fn read_some_entries<A: Allocator + Copy>(
 fn read_block<A: Allocator + Copy>(
     layout: &Layout,
     slots: &Ranges<A>,
-    found: &mut Found<A>,
+    found: &mut FoundFixups<A>,
     rva: u32,
     size: u32,
 ) -> Result<(), TableError>
@@ -269,7 +269,7 @@ fn has_block(layout: &Layout, directory: Directory) -> Result<bool, TableError>
 fn read_blocks<A: Allocator + Copy>(
     layout: &Layout,
     slots: &Ranges<A>,
-    found: &mut Found<A>,
+    found: &mut FoundFixups<A>,
     directory: Directory,
 ) -> Result<(), TableError>
     requires inside { directory.rva + directory.size ≤ (image_of layout.now).size }
@@ -315,11 +315,11 @@ pub fn read_fixups<A: Allocator + Copy>(
         return Ok(Vec::new(alloc));
     }
     let slots = slot_ranges(alloc, imports, layout.slot_width())?;
-    let mut found = Found {
+    let mut found = FoundFixups {
         fixups: Vec::new(alloc),
         fields: Ranges::new(alloc),
     };
     read_blocks(layout, &slots, &mut found, directory)?;
-    let Found { fixups, fields: _ } = found;
+    let FoundFixups { fixups, fields: _ } = found;
     Ok(fixups)
 }

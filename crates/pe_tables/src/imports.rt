@@ -56,12 +56,12 @@ impl Descriptor {
 
 /// The imports that have been read, and the bytes of their slots.
 #[derive(Drop)]
-pub(crate) struct Found<'a, A: Allocator> {
+pub(crate) struct FoundImports<'a, A: Allocator> {
     pub imports: Vec<Import<'a>, A>,
     pub slots: Ranges<A>,
 }
 
-impl<'a, A: Allocator + Copy> Found<'a, A> {
+impl<'a, A: Allocator + Copy> FoundImports<'a, A> {
     /// Adds an import, whose slot has `width` bytes as those of the others have.
     fn add(&mut self, import: Import<'a>, width: u32) -> Result<(), AllocError>
         requires { IsIndexed width self.old }
@@ -113,7 +113,7 @@ fn read_key<'a>(layout: &Layout<'a>, rva: u32, value: u64) -> Result<Key<'a>, Ta
 /// Asks faults 29 to 31 of the slot of the lookup entry at an RVA.
 fn check_slot<A: Allocator + Copy>(
     layout: &Layout,
-    found: &Found<A>,
+    found: &FoundImports<A>,
     rva: u32,
     slot: u32,
 ) -> Result<(), TableError>
@@ -138,7 +138,7 @@ fn check_slot<A: Allocator + Copy>(
 /// table goes on behind it.
 fn read_lookup<'a, A: Allocator + Copy>(
     layout: &Layout<'a>,
-    found: &mut Found<'a, A>,
+    found: &mut FoundImports<'a, A>,
     module: &'a [u8],
     rva: u32,
     slot: u32,
@@ -166,7 +166,7 @@ fn read_lookup<'a, A: Allocator + Copy>(
 /// Reads the lookup entries of a descriptor that names this module, unless one of faults 26 to 31 stands of one.
 fn read_lookups<'a, A: Allocator + Copy>(
     layout: &Layout<'a>,
-    found: &mut Found<'a, A>,
+    found: &mut FoundImports<'a, A>,
     module: &'a [u8],
     descriptor: Descriptor,
 ) -> Result<(), TableError>
@@ -219,7 +219,7 @@ fn module_name<'a>(layout: &Layout<'a>, descriptor: Descriptor) -> Result<&'a [u
 /// goes on behind it.
 fn read_descriptor<'a, A: Allocator + Copy>(
     layout: &Layout<'a>,
-    found: &mut Found<'a, A>,
+    found: &mut FoundImports<'a, A>,
     rva: u32,
 ) -> Result<bool, TableError>
     requires { IsIndexed (image_of layout.now).slot_width found.old }
@@ -243,7 +243,7 @@ fn read_descriptor<'a, A: Allocator + Copy>(
 /// Reads the descriptors from an RVA on, unless one of faults 24 to 32 stands of one.
 fn read_descriptors<'a, A: Allocator + Copy>(
     layout: &Layout<'a>,
-    found: &mut Found<'a, A>,
+    found: &mut FoundImports<'a, A>,
     start: u32,
 ) -> Result<(), TableError>
     requires indexed { IsIndexed (image_of layout.now).slot_width found.old }
@@ -275,11 +275,11 @@ pub fn read_imports<'a, A: Allocator + Copy>(
     let Some(directory) = layout.directory(directory_index::IMPORT) else {
         return Ok(Vec::new(alloc));
     };
-    let mut found = Found {
+    let mut found = FoundImports {
         imports: Vec::new(alloc),
         slots: Ranges::new(alloc),
     };
     read_descriptors(layout, &mut found, directory.rva)?;
-    let Found { imports, slots: _ } = found;
+    let FoundImports { imports, slots: _ } = found;
     Ok(imports)
 }

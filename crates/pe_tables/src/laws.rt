@@ -9,20 +9,20 @@ ghost use Rattle.pe_layout.specs.Image.{Image};
 ghost use Rattle.pe_tables.specs.Key.{Key, Ordinal, Name, Target, Rva, Forward};
 ghost use Rattle.pe_tables.specs.Exports.{table_at, entry, target_of, name_entry, exports_at, exports_of, target_at};
 ghost use Rattle.pe_tables.specs.ExportFaults.{export_tests};
-ghost use Rattle.pe_tables.specs.Exported.{IsFirstName, IsUnnamed, IsUnnumbered, StandsBefore};
+ghost use Rattle.pe_tables.specs.ExportPlaces.{IsFirstName, IsUnnamed, IsUnnumbered, StandsBefore};
 ghost use Rattle.pe_tables.specs.Fixups.{width_of, range_of, slot_range, fixups_at, fixups_of};
 ghost use Rattle.pe_tables.specs.FixupFaults.{fixup_tests, fixup_tests_at};
 ghost use Rattle.pe_tables.specs.Ranges.{meets_any, AreApart, HasCommon};
 ghost use Rattle.pe_tables.specs.Forwarder.{forwarder_of, IsForwarderText};
 ghost use Rattle.pe_tables.specs.Relocated.{shift};
 ghost use Rattle.pe_tables.specs.declared.fixups.FixupKind.{FixupKind};
-ghost use Rattle.pe_tables.specs.Chain.{IsNamed};
+ghost use Rattle.pe_tables.specs.FixupPlaces.{IsNamed};
 ghost use Rattle.pe_tables.specs.Encoded.{Page, IsPage, FieldsAscend, pages_of, encoded};
 ghost use Rattle.pe_tables.specs.Standing.{StandsAt, IsFieldFault, view};
 ghost use Rattle.pe_tables.specs.declared.fixups.Fixup.{Fixup};
 ghost use Rattle.pe_tables.specs.Imports.{Import, imports_at, imports_of};
 ghost use Rattle.pe_tables.specs.ImportFaults.{import_tests, import_tests_at};
-ghost use Rattle.pe_tables.specs.Descriptors.{IsInList, IsInTable, IsImported, IsApart, HasTexts, HasDescriptors, HasEntries, imports_in_order, table_rva, descriptor_rva};
+ghost use Rattle.pe_tables.specs.ImportPlaces.{IsInList, IsInTable, IsImported, IsApart, HasTexts, HasDescriptors, HasEntries, imports_in_order, table_rva, descriptor_rva};
 
 /// The fixups of a table are exactly the entries of types 3 and 10 of the blocks to which its start leads.
 pub fn fixups_are_named()

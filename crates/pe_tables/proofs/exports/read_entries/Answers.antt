@@ -14,7 +14,7 @@ use Rattle.pe_tables.specs.NameIndex.{IsIndexOf}
 use Rattle.pe_tables.specs.declared.exports.Name.{Name}
 use Rattle.pe_tables.specs.declared.export_table.Table.{Table}
 use Rattle.pe_tables.specs.declared.key.Target.{Target}
-use Rattle.pe_tables.proofs.Exported.{of_entry}
+use Rattle.pe_tables.proofs.ExportPlaces.{of_entry}
 use Rattle.pe_tables.proofs.Indexed.{index-step, searchable}
 use Rattle.pe_tables.proofs.Search.{found_mapped}
 use Rattle.pe_tables.proofs.exports.read_entries.Goals as goal

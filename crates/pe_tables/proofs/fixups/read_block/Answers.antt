@@ -8,7 +8,7 @@ use Rattle.pe_tables.specs.RangesView.{ranges_in}
 use Rattle.pe_tables.specs.Fixups.{Entry, block_at, entry_at, entries_at, entries_of, fixup_of}
 use Rattle.pe_tables.specs.FixupFaults.{entries_tests}
 use Rattle.pe_tables.specs.declared.fixups.Fixup.{Fixup}
-use Rattle.pe_tables.specs.Reading.{Reads}
+use Rattle.pe_tables.specs.FixupReading.{Reads}
 use Rattle.pe_tables.proofs.Entries.{part-past, part-in, part-fixups, block-parts, entries-end, fixups-end}
 use Rattle.pe_tables.proofs.Refusing.{refuses-whole}
 use Rattle.pe_tables.proofs.fixups.read_block.Goals as goal

@@ -5,7 +5,7 @@ use Rattle.pe_layout.specs.Layout.{image_of}
 use Rattle.pe_tables.specs.RangesView.{ranges_in}
 use Rattle.pe_tables.specs.Fixups.{block_at, entries_of, fixup_of, fixups_in}
 use Rattle.pe_tables.specs.FixupFaults.{entries_tests}
-use Rattle.pe_tables.specs.Reading.{IsIndexed}
+use Rattle.pe_tables.specs.FixupReading.{IsIndexed}
 use Rattle.pe_tables.proofs.fixups.read_block.Given as goal
 
 abbrev pub invariant-loop-index : goal.invariant-loop-index

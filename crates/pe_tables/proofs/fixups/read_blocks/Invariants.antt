@@ -5,7 +5,7 @@ use Rattle.pe_layout.specs.Layout.{image_of}
 use Rattle.pe_tables.specs.RangesView.{ranges_in}
 use Rattle.pe_tables.specs.Fixups.{blocks_from, blocks_of, fixups_in, fixups_at}
 use Rattle.pe_tables.specs.FixupFaults.{blocks_tests}
-use Rattle.pe_tables.specs.Reading.{IsIndexed}
+use Rattle.pe_tables.specs.FixupReading.{IsIndexed}
 use Rattle.pe_tables.proofs.fixups.read_blocks.Given as goal
 
 abbrev pub invariant-loop-size : goal.invariant-loop-size

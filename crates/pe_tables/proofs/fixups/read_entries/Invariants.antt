@@ -6,7 +6,7 @@ use Rattle.pe_tables.specs.RangesView.{ranges_in}
 use Rattle.pe_view.specs.View.{size_of}
 use Rattle.pe_tables.specs.Fixups.{entries_at, fixup_of}
 use Rattle.pe_tables.specs.FixupFaults.{entries_tests}
-use Rattle.pe_tables.specs.Reading.{IsIndexed}
+use Rattle.pe_tables.specs.FixupReading.{IsIndexed}
 use Rattle.pe_tables.proofs.fixups.read_entries.Given as goal
 
 abbrev pub invariant-loop-index : goal.invariant-loop-index

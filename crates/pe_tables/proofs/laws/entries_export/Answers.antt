@@ -1,4 +1,4 @@
-use Rattle.pe_tables.proofs.Exported.{entry-exports, unnumbered-exports}
+use Rattle.pe_tables.proofs.ExportPlaces.{entry-exports, unnumbered-exports}
 use Rattle.pe_tables.proofs.laws.entries_export.Goals as goal
 
 pub returns-clause-entry : goal.returns-clause-entry

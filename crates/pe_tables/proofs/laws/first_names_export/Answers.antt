@@ -1,4 +1,4 @@
-use Rattle.pe_tables.proofs.Exported.{first-exports, unnamed-exports}
+use Rattle.pe_tables.proofs.ExportPlaces.{first-exports, unnamed-exports}
 use Rattle.pe_tables.proofs.laws.first_names_export.Goals as goal
 
 pub returns-clause-first : goal.returns-clause-first

@@ -1,4 +1,4 @@
-use Rattle.pe_tables.proofs.Chain.{named, contained}
+use Rattle.pe_tables.proofs.FixupPlaces.{named, contained}
 use Rattle.pe_tables.proofs.laws.fixups_are_named.Goals as goal
 
 pub returns : goal.returns

@@ -1,4 +1,4 @@
-use Rattle.pe_tables.proofs.Importing.{named, contained}
+use Rattle.pe_tables.proofs.ImportPlaces.{named, contained}
 use Rattle.pe_tables.proofs.laws.imports_are_named.Goals as goal
 
 pub returns : goal.returns

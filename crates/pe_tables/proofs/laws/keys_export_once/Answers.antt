@@ -1,4 +1,4 @@
-use Rattle.pe_tables.proofs.Exported.{ordinals-ascend, names-apart}
+use Rattle.pe_tables.proofs.ExportPlaces.{ordinals-ascend, names-apart}
 use Rattle.pe_tables.proofs.laws.keys_export_once.Goals as goal
 
 pub returns-clause-ordinals : goal.returns-clause-ordinals

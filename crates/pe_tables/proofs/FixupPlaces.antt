@@ -10,7 +10,7 @@ use Rattle.pe_head.specs.declared.directory.Directory.{Directory}
 use Rattle.pe_layout.specs.Image.{Image, number_at}
 use Rattle.pe_tables.specs.Fixups.{Block, Entry, block_at, blocks_from, ends_table, entry_at, fixup_of, fixup_by, fixups_at, fixups_in, kind_of}
 use Rattle.pe_tables.specs.Encoded.{type_of}
-use Rattle.pe_tables.specs.Chain.{page_rva, block_size_at, HasBlock, LeadsTo, here, past, IsEntry, IsNamed}
+use Rattle.pe_tables.specs.FixupPlaces.{page_rva, block_size_at, HasBlock, LeadsTo, here, past, IsEntry, IsNamed}
 use Rattle.pe_tables.specs.declared.fixups.Fixup.{Fixup}
 use Rattle.pe_tables.specs.declared.fixups.FixupKind.{FixupKind}
 use Rattle.pe_tables.specs.declared.fixups.FixupKind.TheVariants.{Bits32, Bits64}

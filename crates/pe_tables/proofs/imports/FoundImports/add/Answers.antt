@@ -7,7 +7,7 @@ use Rattle.pe_tables.specs.Imports.{Import}
 use Rattle.pe_tables.specs.ImportFaults.{range_of}
 use Rattle.pe_tables.specs.ImportReading.{read_of}
 use Rattle.pe_tables.proofs.Beside.{all_equal, equal_self, list_any-map}
-use Rattle.pe_tables.proofs.imports.Found.add.Goals as goal
+use Rattle.pe_tables.proofs.imports.FoundImports.add.Goals as goal
 
 pub add-requires : goal.add-requires
 add-requires g c =

@@ -11,7 +11,7 @@ use Rattle.pe_head.specs.declared.directory.Directory.{Directory}
 use Rattle.pe_layout.specs.Image.{Image}
 use Rattle.pe_tables.specs.Key.{Target, Ordinal, Name}
 use Rattle.pe_tables.specs.Exports.{table_at, entry, target_of, name_text, name_entry, named, names_of, first_of_each, exports_at, target_at}
-use Rattle.pe_tables.specs.Exported.{IsFirstName, IsUnnamed, IsUnnumbered}
+use Rattle.pe_tables.specs.ExportPlaces.{IsFirstName, IsUnnamed, IsUnnumbered}
 use Rattle.pe_tables.specs.declared.export_table.Table.{Table}
 use Rattle.pe_tables.proofs.Names.{Named, has, differs, found_first}
 use Rattle.pe_tables.proofs.Search.{equal, unequal}

@@ -2,7 +2,7 @@
 use Rattle.pe_tables.proofs.Beside.{all_beside, fields_long, width_some}
 use Rattle.pe_tables.specs.RangesView.{ranges_in}
 use Rattle.pe_tables.specs.Fixups.{width_of}
-use Rattle.pe_tables.proofs.fixups.Found.add.Goals as goal
+use Rattle.pe_tables.proofs.fixups.FoundFixups.add.Goals as goal
 
 pub add-requires : goal.add-requires
 add-requires g c =

@@ -10,7 +10,7 @@ use Rattle.std.proofs.Math.Nat.{mul-suc}
 use Rattle.pe_head.specs.declared.directory.Directory.{Directory}
 use Rattle.pe_layout.specs.Image.{Image, number_at}
 use Rattle.pe_tables.specs.Imports.{Import, Lookup, descriptor_at, descriptors_from, ends_list, lookup_at, lookups_from, lookups_of, ends_table, key_of, import_of, module_of, imports_in, imports_at}
-use Rattle.pe_tables.specs.Descriptors.{descriptor_rva, name_rva, addresses_rva, table_rva, HasDescriptor, HasEntry, IsInList, IsInTable, IsImported}
+use Rattle.pe_tables.specs.ImportPlaces.{descriptor_rva, name_rva, addresses_rva, table_rva, HasDescriptor, HasEntry, IsInList, IsInTable, IsImported}
 use Rattle.pe_tables.specs.declared.imports.Descriptor.{Descriptor}
 use Rattle.pe_tables.proofs.Holding.{nothing, onto_cases, onto_here, onto_later}
 use Rattle.pe_tables.proofs.Lookups.{inside_of, lookups-end, lookups-more}
