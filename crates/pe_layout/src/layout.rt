@@ -101,7 +101,7 @@ impl<'a> Layout<'a> {
         ensures value { result ≡ is_inside (image_of self.now) rva len }
         ensures small { IsTrue result → rva + len ≤ 2 ^ 31 }
     {
-        let size = u64::from(self.headers.size_of_image);
+        let size = u64::from(self.size());
         len <= size && u64::from(rva) <= size - len
     }
 

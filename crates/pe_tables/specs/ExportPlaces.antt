@@ -1,7 +1,9 @@
 -- What an export table exports, by the places in it ("PE Format", The .edata Section).
-use Rattle.std.specs.Prelude.{◌≡◌, ◌≢◌, ◌<◌, ℕ, ◌+◌, List, Some}
+use Rattle.std.specs.Prelude.{◌≡◌, ◌≢◌, ◌<◌, ℕ, ◌+◌, List, Option, Some}
+use Rattle.pe_head.specs.declared.directory.Directory.{Directory}
 use Rattle.pe_layout.specs.Image.{Image}
-use Rattle.pe_tables.specs.Exports.{name_text}
+use Rattle.pe_tables.specs.Key.{Target}
+use Rattle.pe_tables.specs.Exports.{entry, name_text, target_of}
 use Rattle.pe_tables.specs.declared.export_table.Table.{Table}
 
 -- name k is the first of a table that has the text
@@ -21,3 +23,7 @@ IsUnnumbered t ordinal = (k : ℕ) → k < t.entry_count → ordinal ≢ t.ordin
 -- two names of a table, of which one stands first before the other does
 abbrev pub StandsBefore : Image → Table → List ℕ → List ℕ → Type 0
 StandsBefore i t text later = (j : ℕ) × (k : ℕ) × IsFirstName i t text j × IsFirstName i t later k × (j < k)
+
+-- what entry k of a table exports
+abbrev pub exported_at : Image → Directory → Table → ℕ → Option Target
+exported_at i d t k = target_of i d (entry i t k)

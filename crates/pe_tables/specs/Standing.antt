@@ -1,6 +1,8 @@
 -- Bytes of a table that stand in an image, and what a fixup is apart from where its entry stands.
-use Rattle.std.specs.Prelude.{◌≡◌, ◌⊎◌, ℕ, ◌+◌, ◌<◌, List, length, slice_index_or}
+use Rattle.std.specs.Prelude.{◌≡◌, ◌⊎◌, ℕ, ◌+◌, ◌^◌, ◌<◌, All, List, length, slice_index_or}
+use Rattle.pe_head.specs.declared.directory.Directory.{Directory}
 use Rattle.pe_layout.specs.Image.{Image}
+use Rattle.pe_tables.specs.Encoded.{encoded}
 use Rattle.pe_tables.specs.declared.fixups.Fixup.{Fixup}
 use Rattle.pe_tables.specs.declared.fixups.FixupKind.{FixupKind}
 
@@ -11,6 +13,13 @@ StandsAt i rva bytes = (k : ℕ) → k < length bytes → i.byte (rva + k) ≡ s
 -- what a fixup relocates
 abbrev pub view : Fixup → ℕ × FixupKind
 view f = (f.field, f.kind)
+
+-- the encoded table of these fixups stands in the image as a whole directory
+pub record StandsWhole (i : Image) (d : Directory) (fixups : List Fixup) : Type 0 where
+  pub fields : All (λ (f : Fixup). f.field < 2 ^ 32) fixups
+  pub bytes : StandsAt i d.rva (encoded fixups)
+  pub size : d.size ≡ length (encoded fixups)
+  pub small : d.size < 2 ^ 32
 
 -- the numbers of the faults that an encoded table may have where it stands: that it passes the image, or that a field does,
 -- or meets an earlier one or a slot

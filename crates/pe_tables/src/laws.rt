@@ -7,9 +7,9 @@ ghost use Rattle.pe_view.specs.declared.fault.Fault.{Fault};
 ghost use Rattle.pe_view.specs.Faults.{first_standing};
 ghost use Rattle.pe_layout.specs.Image.{Image};
 ghost use Rattle.pe_tables.specs.Key.{Key, Ordinal, Name, Target, Rva, Forward};
-ghost use Rattle.pe_tables.specs.Exports.{table_at, entry, target_of, name_entry, exports_at, exports_of, target_at};
+ghost use Rattle.pe_tables.specs.Exports.{table_at, name_entry, exports_at, exports_of, target_at};
 ghost use Rattle.pe_tables.specs.ExportFaults.{export_tests};
-ghost use Rattle.pe_tables.specs.ExportPlaces.{IsFirstName, IsUnnamed, IsUnnumbered, StandsBefore};
+ghost use Rattle.pe_tables.specs.ExportPlaces.{IsFirstName, IsUnnamed, IsUnnumbered, StandsBefore, exported_at};
 ghost use Rattle.pe_tables.specs.Fixups.{width_of, range_of, slot_range, fixups_at, fixups_of};
 ghost use Rattle.pe_tables.specs.FixupFaults.{fixup_tests, fixup_tests_at};
 ghost use Rattle.pe_tables.specs.Ranges.{meets_any, AreApart, HasCommon};
@@ -17,8 +17,8 @@ ghost use Rattle.pe_tables.specs.Forwarder.{forwarder_of, IsForwarderText};
 ghost use Rattle.pe_tables.specs.Relocated.{shift};
 ghost use Rattle.pe_tables.specs.declared.fixups.FixupKind.{FixupKind};
 ghost use Rattle.pe_tables.specs.FixupPlaces.{IsNamed};
-ghost use Rattle.pe_tables.specs.Encoded.{Page, IsPage, FieldsAscend, pages_of, encoded};
-ghost use Rattle.pe_tables.specs.Standing.{StandsAt, IsFieldFault, view};
+ghost use Rattle.pe_tables.specs.Encoded.{Page, IsPage, FieldsAscend, pages_of};
+ghost use Rattle.pe_tables.specs.Standing.{StandsWhole, IsFieldFault, view};
 ghost use Rattle.pe_tables.specs.declared.fixups.Fixup.{Fixup};
 ghost use Rattle.pe_tables.specs.Imports.{Import, imports_at, imports_of};
 ghost use Rattle.pe_tables.specs.ImportFaults.{import_tests, import_tests_at};
@@ -37,32 +37,40 @@ pub fn entries_ascend()
 /// The blocks of an encoded table are one for each page that has a field, pages ascending, each with that page's fixups, and
 /// they keep the fixups' order.
 pub fn pages_ascend()
-    ensures ascend { (fixups : List Fixup) → FieldsAscend fixups → AllPairs (λ (p q : Page). p.page < q.page) (pages_of fixups) }
+    ensures ascend { (fixups : List Fixup) → FieldsAscend fixups
+        → AllPairs (λ (p q : Page). p.page < q.page) (pages_of fixups) }
     ensures own { (fixups : List Fixup) → All IsPage (pages_of fixups) }
     ensures order { (fixups : List Fixup) → flat_map (λ (p : Page). p.fixups) (pages_of fixups) ≡ fixups }
 {}
 
 /// An encoded table that stands in an image as a whole directory is read back: the same fields and kinds in the same order.
 pub fn encoded_is_read_back()
-    ensures { (i : Image) (d : Directory) (fixups : List Fixup) → All (λ (f : Fixup). f.field < 2 ^ 32) fixups → StandsAt i d.rva (encoded fixups) → d.size ≡ length (encoded fixups) → d.size < 2 ^ 32 → map view (fixups_at i (Some d)) ≡ map view fixups }
+    ensures { (i : Image) (d : Directory) (fixups : List Fixup) → StandsWhole i d fixups
+        → map view (fixups_at i (Some d)) ≡ map view fixups }
 {}
 
 /// A name exports what the entry of the first name with its text does, and nothing where no name has its text.
 pub fn first_names_export()
-    ensures first { (i : Image) (d : Directory) (text : List ℕ) (k : ℕ) → IsFirstName i (table_at i d.rva) text k → target_at (exports_at i (Some d)) (Name text) ≡ target_of i d (entry i (table_at i d.rva) (name_entry i (table_at i d.rva) k)) }
-    ensures none { (i : Image) (d : Directory) (text : List ℕ) → IsUnnamed i (table_at i d.rva) text → target_at (exports_at i (Some d)) (Name text) ≡ None }
+    ensures first { (i : Image) (d : Directory) (text : List ℕ) (k : ℕ) → let t = table_at i d.rva in
+        IsFirstName i t text k → target_at (exports_at i (Some d)) (Name text) ≡ exported_at i d t (name_entry i t k) }
+    ensures none { (i : Image) (d : Directory) (text : List ℕ) → IsUnnamed i (table_at i d.rva) text
+        → target_at (exports_at i (Some d)) (Name text) ≡ None }
 {}
 
 /// An ordinal exports what its entry of the address table does, and nothing where the table has no such entry.
 pub fn entries_export()
-    ensures entry { (i : Image) (d : Directory) (k : ℕ) → k < (table_at i d.rva).entry_count → target_at (exports_at i (Some d)) (Ordinal ((table_at i d.rva).ordinal_base + k)) ≡ target_of i d (entry i (table_at i d.rva) k) }
-    ensures none { (i : Image) (d : Directory) (ordinal : ℕ) → IsUnnumbered (table_at i d.rva) ordinal → target_at (exports_at i (Some d)) (Ordinal ordinal) ≡ None }
+    ensures entry { (i : Image) (d : Directory) (k : ℕ) → let t = table_at i d.rva in
+        k < t.entry_count → target_at (exports_at i (Some d)) (Ordinal (t.ordinal_base + k)) ≡ exported_at i d t k }
+    ensures none { (i : Image) (d : Directory) (ordinal : ℕ) → IsUnnumbered (table_at i d.rva) ordinal
+        → target_at (exports_at i (Some d)) (Ordinal ordinal) ≡ None }
 {}
 
 /// No ordinal and no name is listed twice: the ordinals ascend, and the names differ.
 pub fn keys_export_once()
-    ensures ordinals { (i : Image) (d : Directory) → AllPairs (λ (export later : ℕ × Target). export.0 < later.0) (exports_at i (Some d)).ordinals }
-    ensures names { (i : Image) (d : Directory) → AllPairs (λ (export later : List ℕ × Target). export.0 ≢ later.0) (exports_at i (Some d)).names }
+    ensures ordinals { (i : Image) (d : Directory)
+        → AllPairs (λ (export later : ℕ × Target). export.0 < later.0) (exports_at i (Some d)).ordinals }
+    ensures names { (i : Image) (d : Directory)
+        → AllPairs (λ (export later : List ℕ × Target). export.0 ≢ later.0) (exports_at i (Some d)).names }
 {}
 
 /// The imports of a table are exactly what the lookup entries of its descriptors import: entry k of descriptor j, where no
@@ -74,28 +82,36 @@ pub fn imports_are_named()
 /// The slots of the imports of an image without a fault of its import table are in the image, share no byte with one another,
 /// and are at most 1,048,576.
 pub fn slots_are_apart()
-    ensures inside { (i : Image) → first_standing (import_tests i) ≡ None → All (λ (import : Import). import.slot + i.slot_width ≤ i.size) (imports_of i) }
+    ensures inside { (i : Image) → first_standing (import_tests i) ≡ None
+        → All (λ (import : Import). import.slot + i.slot_width ≤ i.size) (imports_of i) }
     ensures apart { (i : Image) → first_standing (import_tests i) ≡ None → AllPairs (IsApart i.slot_width) (imports_of i) }
     ensures few { (i : Image) → first_standing (import_tests i) ≡ None → length (imports_of i) ≤ 1048576 }
 {}
 
 /// Each text that an import table without a fault names is there: no import has an empty name for want of one.
 pub fn names_are_there()
-    ensures { (i : Image) (d : Directory) (j k : ℕ) → 0 < i.slot_width → first_standing (import_tests_at i (Some d)) ≡ None → IsInList i d.rva j → IsInTable i (table_rva i (descriptor_rva d.rva j)) k → HasTexts i (descriptor_rva d.rva j) k }
+    ensures { (i : Image) (d : Directory) (j k : ℕ) → let descriptor = descriptor_rva d.rva j in
+        0 < i.slot_width → first_standing (import_tests_at i (Some d)) ≡ None
+        → IsInList i d.rva j → IsInTable i (table_rva i descriptor) k → HasTexts i descriptor k }
 {}
 
 /// The fields of the fixups of an image without a fault of its base relocation table, which is asked beside these slots, are
 /// in the image, share no byte with one another or with a slot, and are fewer than 2^31.
 pub fn fields_are_apart()
-    ensures inside { (i : Image) (slots : List ℕ) → first_standing (fixup_tests i slots) ≡ None → All (λ (f : Fixup). f.field + width_of f.kind ≤ i.size) (fixups_of i) }
-    ensures apart { (i : Image) (slots : List ℕ) → first_standing (fixup_tests i slots) ≡ None → AllPairs (λ (f g : Fixup). AreApart (range_of f) (range_of g)) (fixups_of i) }
-    ensures off_slots { (i : Image) (slots : List ℕ) → first_standing (fixup_tests i slots) ≡ None → All (λ (f : Fixup). All (λ (slot : ℕ × ℕ). AreApart slot (range_of f)) (map (slot_range i.slot_width) slots)) (fixups_of i) }
-    ensures few { (i : Image) (slots : List ℕ) → i.size ≤ 2 ^ 31 → first_standing (fixup_tests i slots) ≡ None → length (fixups_of i) < 2 ^ 31 }
+    ensures inside { (i : Image) (slots : List ℕ) → first_standing (fixup_tests i slots) ≡ None
+        → All (λ (f : Fixup). f.field + width_of f.kind ≤ i.size) (fixups_of i) }
+    ensures apart { (i : Image) (slots : List ℕ) → first_standing (fixup_tests i slots) ≡ None
+        → AllPairs (λ (f g : Fixup). AreApart (range_of f) (range_of g)) (fixups_of i) }
+    ensures off_slots { (i : Image) (slots : List ℕ) → first_standing (fixup_tests i slots) ≡ None
+        → All (λ (f : Fixup). All (λ (slot : ℕ × ℕ). AreApart slot (range_of f)) (map (slot_range i.slot_width) slots)) (fixups_of i) }
+    ensures few { (i : Image) (slots : List ℕ) → i.size ≤ 2 ^ 31 → first_standing (fixup_tests i slots) ≡ None
+        → length (fixups_of i) < 2 ^ 31 }
 {}
 
 /// Each RVA that an image without a fault of its export table exports is in the image.
 pub fn targets_are_inside()
-    ensures { (i : Image) (key : Key) (rva : ℕ) → first_standing (export_tests i) ≡ None → target_at (exports_of i) key ≡ Some (Rva rva) → rva < i.size }
+    ensures { (i : Image) (key : Key) (rva : ℕ) → first_standing (export_tests i) ≡ None
+        → target_at (exports_of i) key ≡ Some (Rva rva) → rva < i.size }
 {}
 
 /// A field that is moved on by one difference of bases and then by another is moved on by their sum, modulo what it holds.
@@ -107,12 +123,14 @@ pub fn shifts_compose()
 /// stands of a slot, and faults 37 and 38 of a field, exactly where an earlier slot, an earlier field or a slot has a byte of
 /// it.
 pub fn meeting_ranges_have_an_rva_in_common()
-    ensures { (start len : ℕ) (ranges : List (ℕ × ℕ)) → 0 < len → All (λ (range : ℕ × ℕ). 0 < range.1) ranges → (meets_any start len ranges ≡ true) ↔ HasCommon (start, len) ranges }
+    ensures { (start len : ℕ) (ranges : List (ℕ × ℕ)) → 0 < len → All (λ (range : ℕ × ℕ). 0 < range.1) ranges
+        → (meets_any start len ranges ≡ true) ↔ HasCommon (start, len) ranges }
 {}
 
 /// The text of a forwarder is its module, a dot, and the text of its key, which has no dot: a name, or `#` and digits.
 pub fn forwarders_are_texts()
-    ensures { (text module_name : List ℕ) (key : Key) → forwarder_of text ≡ Some (Forward module_name key) → IsForwarderText text module_name key }
+    ensures { (text module_name : List ℕ) (key : Key) → forwarder_of text ≡ Some (Forward module_name key)
+        → IsForwarderText text module_name key }
 {}
 
 /// The imports of a table stand by descriptor, and those of a descriptor by entry, up to the descriptor that ends the list and
@@ -125,11 +143,13 @@ pub fn imports_keep_their_order()
 
 /// The exports by name keep the order of the name pointer table: each text stands where it stands there first.
 pub fn names_keep_their_order()
-    ensures { (i : Image) (d : Directory) → AllPairs (λ (export later : List ℕ × Target). StandsBefore i (table_at i d.rva) export.0 later.0) (exports_at i (Some d)).names }
+    ensures { (i : Image) (d : Directory) → let t = table_at i d.rva in
+        AllPairs (λ (export later : List ℕ × Target). StandsBefore i t export.0 later.0) (exports_at i (Some d)).names }
 {}
 
 /// Where an encoded table stands in an image as a whole directory, neither fault 33 nor fault 35 stands: its first fault is
 /// 34, 36, 37 or 38, if it has one. So where none of these stands it is read, and read back.
 pub fn encoded_has_field_faults_alone()
-    ensures { (i : Image) (d : Directory) (slots : List (ℕ × ℕ)) (fixups : List Fixup) (y : Fault) → All (λ (f : Fixup). f.field < 2 ^ 32) fixups → StandsAt i d.rva (encoded fixups) → d.size ≡ length (encoded fixups) → d.size < 2 ^ 32 → first_standing (fixup_tests_at i slots (Some d)) ≡ Some y → IsFieldFault y.number }
+    ensures { (i : Image) (d : Directory) (slots : List (ℕ × ℕ)) (fixups : List Fixup) (fault : Fault) → StandsWhole i d fixups
+        → first_standing (fixup_tests_at i slots (Some d)) ≡ Some fault → IsFieldFault fault.number }
 {}
