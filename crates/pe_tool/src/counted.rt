@@ -88,6 +88,3 @@ impl<T: Write> Sink for Counted<T> {
         self.failures
     }
 }
-
-#[cfg(test)]
-mod tests;

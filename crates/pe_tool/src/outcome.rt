@@ -38,6 +38,3 @@ pub fn status(answer: &Result<Outcome, ToolError>) -> u8
         Err(ToolError::Memory) => 4,
     }
 }
-
-#[cfg(test)]
-mod tests;

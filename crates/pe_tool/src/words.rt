@@ -99,6 +99,3 @@ pub fn parse_words(alloc: Global, words: &[String]) -> Result<Job, WordsError> {
         _ => Err(WordsError::Bad(String::from_str(alloc, "error: no command\n")?)),
     }
 }
-
-#[cfg(test)]
-mod tests;

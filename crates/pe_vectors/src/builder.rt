@@ -3,7 +3,7 @@ ghost use Rattle.pe_vectors.specs.declared.builder.TheConstants.{ROOM};
 
 use std::alloc::{AllocError, Global};
 
-/// The bytes that a file under construction has room for: the headers and the data of two sections.
+/// The bytes that a file under construction has room for: the headers and 0x400 bytes of data.
 const ROOM: usize = 0x600;
 
 /// Where the signature stands: the value of the field at 0x3c.
@@ -83,9 +83,17 @@ pub(crate) struct ImportDescriptor {
     pub address_table: u32,
 }
 
+/// The fields of a section's header that a file sets.
+#[derive(Clone, Copy)]
+pub(crate) struct Section {
+    pub virtual_size: u32,
+    pub virtual_address: u32,
+    pub size_of_raw_data: u32,
+    pub pointer_to_raw_data: u32,
+    pub characteristics: u32,
+}
+
 /// A file under construction: zeros, in which fields are set at their offsets.
-///
-/// Section k stands at the RVA 0x1000 * (k + 1), and its 0x200 bytes of data at the file offset 0x200 * (k + 1).
 #[derive(Drop)]
 pub(crate) struct Image {
     bytes: Vec<u8>,
@@ -133,19 +141,35 @@ impl Image {
         self.put_u32(start + 4, size);
     }
 
-    /// Sets the header of a section whose data is readable, writable and initialized.
+    /// Sets the header of a section whose data is readable, writable and initialized: section k stands at the RVA
+    /// 0x1000 * (k + 1), and its 0x200 bytes of data at the file offset 0x200 * (k + 1).
     pub fn section(&mut self, index: usize, name: &[u8], virtual_size: u32)
         requires at_most_two { index < 2 }
         requires short_name { length name.now ≤ 8 }
     {
-        let header = OPTIONAL_HEADER + self.form.fixed_size() + 16 * 8 + 40 * index;
         let number = index as u32 + 1;
+        let section = Section {
+            virtual_size,
+            virtual_address: 0x1000 * number,
+            size_of_raw_data: 0x200,
+            pointer_to_raw_data: 0x200 * number,
+            characteristics: 0xc000_0040,
+        };
+        self.section_header(index, name, &section);
+    }
+
+    /// Sets the header of a section.
+    pub fn section_header(&mut self, index: usize, name: &[u8], section: &Section)
+        requires at_most_three { index < 3 }
+        requires short_name { length name.now ≤ 8 }
+    {
+        let header = OPTIONAL_HEADER + self.form.fixed_size() + 16 * 8 + 40 * index;
         self.put_bytes(header, name);
-        self.put_u32(header + 8, virtual_size);
-        self.put_u32(header + 12, 0x1000 * number);
-        self.put_u32(header + 16, 0x200);
-        self.put_u32(header + 20, 0x200 * number);
-        self.put_u32(header + 36, 0xc000_0040);
+        self.put_u32(header + 8, section.virtual_size);
+        self.put_u32(header + 12, section.virtual_address);
+        self.put_u32(header + 16, section.size_of_raw_data);
+        self.put_u32(header + 20, section.pointer_to_raw_data);
+        self.put_u32(header + 36, section.characteristics);
     }
 
     /// Sets the fields of an export directory at a file offset.
@@ -196,6 +220,17 @@ impl Image {
         requires { offset + 8 ≤ ROOM }
     {
         self.put_bytes(offset, &value.to_le_bytes());
+    }
+
+    /// Sets as many bytes at a file offset, each one more than the one before it.
+    pub fn put_ascending(&mut self, offset: usize, len: usize, first: u8)
+        requires { offset + len ≤ ROOM }
+    {
+        let mut next = first;
+        for byte in &mut self.bytes[offset..offset + len] {
+            *byte = next;
+            next = next.wrapping_add(1);
+        }
     }
 
     /// The first `len` bytes, which are the whole file.

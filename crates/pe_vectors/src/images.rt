@@ -1,10 +1,11 @@
-//! The files V1, V2, V3, VA, VB, VC, VD and VS. The builders' clauses give each file's length alone; its bytes are shown by
+//! The files V1, V2, V3, VA, VB, VC, VD, VS and VR. The builders' clauses give each file's length alone; its bytes are shown by
 //! tests.
 
 ghost use Rattle.std.specs.Prelude.{◌≡◌, IfOk, vec_len};
 
 use crate::builder::{
     BASE_RELOCATION, EXPORT, ExportDirectory, Form, Heading, IMPORT, Image, ImportDescriptor,
+    Section,
 };
 use std::alloc::{AllocError, Global};
 
@@ -13,6 +14,9 @@ const I386: u16 = 0x14c;
 
 /// The machine of PE32+ files, AMD64.
 const AMD64: u16 = 0x8664;
+
+/// The machine of VR, ARM64.
+const ARM64: u16 = 0xaa64;
 
 /// The heading of a PE32 library with one section.
 const LIBRARY: Heading = Heading {
@@ -221,4 +225,145 @@ pub fn vs(alloc: Global) -> Result<Vec<u8>, AllocError>
     image.put_u32(0x430, 0x8000_0007);
     image.put_bytes(0x440, b"S.DLL");
     Ok(image.into_file(0x600))
+}
+
+/// VR, the rich one: every field that its dump shows has a value of its own, every kind of text has bytes that are escaped,
+/// and its tables, at 0x20000 and 0x30000, name RVAs over 65,535. The section of the exports has more bytes in the image
+/// than in the file, that of the imports and base relocations fewer, and the slots of one module stand in a third one, of
+/// which the file has none.
+pub fn vr(alloc: Global) -> Result<Vec<u8>, AllocError>
+    ensures { IfOk result (λ file. vec_len file ≡ 0x600) }
+{
+    let heading = Heading {
+        form: Form::Pe32Plus,
+        machine: ARM64,
+        number_of_sections: 3,
+        characteristics: 0x2022,
+        image_base: 0x3e3d_3c3b_3a39_0000,
+        size_of_image: 0x4_5678,
+    };
+    let mut image = Image::new(alloc, &heading)?;
+    put_rich_headers(&mut image);
+    put_rich_sections(&mut image);
+    put_rich_exports(&mut image);
+    put_rich_imports(&mut image);
+    put_rich_relocations(&mut image);
+    Ok(image.into_file(0x600))
+}
+
+/// The header fields of VR that may have any value, and its directories: their bytes ascend from 0x11 to 0xe8.
+fn put_rich_headers(image: &mut Image) {
+    // TimeDateStamp to NumberOfSymbols
+    image.put_ascending(0x48, 12, 0x11);
+    // MajorLinkerVersion to BaseOfCode
+    image.put_ascending(0x5a, 22, 0x21);
+    // MajorOperatingSystemVersion to Win32VersionValue
+    image.put_ascending(0x80, 16, 0x41);
+    // SizeOfHeaders
+    image.put_u32(0x94, 0x1e0);
+    // CheckSum to NumberOfRvaAndSizes
+    image.put_ascending(0x98, 48, 0x51);
+    image.directory(EXPORT, 0x2_0000, 0xa0);
+    image.directory(IMPORT, 0x3_0000, 0x3c);
+    // directories 2 to 4
+    image.put_ascending(0xd8, 24, 0x81);
+    image.directory(BASE_RELOCATION, 0x3_0100, 0x2a);
+    // directories 6 to 15
+    image.put_ascending(0xf8, 80, 0x99);
+}
+
+/// The section table of VR.
+fn put_rich_sections(image: &mut Image) {
+    let zero_filled = Section {
+        virtual_size: 0x2345,
+        virtual_address: 0x2_0000,
+        size_of_raw_data: 0x1f0,
+        pointer_to_raw_data: 0x200,
+        characteristics: 0x4000_0040,
+    };
+    image.section_header(0, b"\"a\\\x01", &zero_filled);
+    let cut = Section {
+        virtual_size: 0x1c8,
+        virtual_address: 0x3_0000,
+        size_of_raw_data: 0x200,
+        pointer_to_raw_data: 0x400,
+        characteristics: 0xe200_0060,
+    };
+    image.section_header(1, b"\x7f~ \x80\xff", &cut);
+    let without_data = Section {
+        virtual_size: 0,
+        virtual_address: 0x4_0000,
+        size_of_raw_data: 0x3456,
+        pointer_to_raw_data: 0,
+        characteristics: 0xc000_0080,
+    };
+    image.section_header(2, b"eight\tby", &without_data);
+}
+
+/// The export table of VR: entries 65,534 to 65,539, of which 65,535 exports nothing, 65,536 forwards by name and 65,537 by
+/// ordinal; names of four of them.
+fn put_rich_exports(image: &mut Image) {
+    let directory = ExportDirectory {
+        name: 0x2_0058,
+        ordinal_base: 65_534,
+        address_table_entries: 6,
+        number_of_name_pointers: 4,
+        address_table: 0x2_0028,
+        name_pointers: 0x2_0040,
+        ordinal_table: 0x2_0050,
+    };
+    image.export_directory(0x200, &directory);
+    image.put_u32(0x228, 0x4_3210);
+    image.put_u32(0x230, 0x2_0078);
+    image.put_u32(0x234, 0x2_0088);
+    image.put_u32(0x238, 0x3_0123);
+    image.put_u32(0x23c, 0x1_fedc);
+    image.put_u32(0x240, 0x2_0060);
+    image.put_u32(0x244, 0x2_0064);
+    image.put_u32(0x248, 0x2_0068);
+    image.put_u32(0x24c, 0x2_0070);
+    image.put_bytes(0x250, &[4, 0, 2, 0, 3, 0, 1, 0]);
+    image.put_bytes(0x258, b"vr.dll");
+    image.put_bytes(0x260, b"\"q\\");
+    image.put_bytes(0x264, b"\x7f\x80 ");
+    image.put_bytes(0x268, b"plain");
+    image.put_bytes(0x270, b"zero");
+    image.put_bytes(0x278, b"m\x1f.\xff.n\"m\\");
+    image.put_bytes(0x288, b"\\o\x7f.#0407");
+}
+
+/// The import table of VR: three entries of a module with a lookup table, and two of one without.
+fn put_rich_imports(image: &mut Image) {
+    let with_lookup_table = ImportDescriptor {
+        lookup_table: 0x3_0040,
+        name: 0x3_0090,
+        address_table: 0x4_0010,
+    };
+    image.import_descriptor(0x400, &with_lookup_table);
+    let without_lookup_table = ImportDescriptor {
+        lookup_table: 0,
+        name: 0x3_0098,
+        address_table: 0x3_0070,
+    };
+    image.import_descriptor(0x414, &without_lookup_table);
+    image.put_u64(0x440, 0x3_00a0);
+    image.put_u64(0x448, 0x8000_0000_0001_0309);
+    image.put_u64(0x450, 0x3_00b0);
+    image.put_u64(0x470, 0x8000_0000_0000_fffe);
+    image.put_u64(0x478, 0x3_00c0);
+    image.put_bytes(0x490, b"A\"b.DLL");
+    image.put_bytes(0x498, b"c\\\x80");
+    image.put_bytes(0x4a0, b"\x34\x12\x7fname");
+    image.put_bytes(0x4b0, b"\0\0g\"\\\x01");
+    image.put_bytes(0x4c0, b"\xff\xff\xff");
+}
+
+/// The base relocation table of VR: two blocks, each with a field of each kind, and a tail of zeros.
+fn put_rich_relocations(image: &mut Image) {
+    image.put_u32(0x500, 0x2_1000);
+    image.put_u32(0x504, 0x10);
+    image.put_bytes(0x508, &[0xbc, 0x0a, 0x34, 0x32, 0x08, 0xa0, 0x00, 0x00]);
+    image.put_u32(0x510, 0x4_1000);
+    image.put_u32(0x514, 0x10);
+    image.put_bytes(0x518, &[0xff, 0xaf, 0x10, 0x30, 0xff, 0x0f, 0x00, 0x00]);
 }

@@ -1,6 +1,9 @@
 //! Small image files with known bytes, made field by field at the offsets of "PE Format"; a source and a sink over memory
 //! that work in steps and fail on demand; and the tests that run several crates over them.
 //!
+//! One file, [`vr`], is rich: each field of its dump has a value of its own, and each kind of text bytes that are escaped, so
+//! that a text that names one value for another, or shows a text as it stands, is told.
+//!
 //! A builder uses none of the other crates, so that what they read is told apart from what they wrote:
 //!
 //! ```text
@@ -14,7 +17,7 @@ mod devices;
 mod images;
 
 pub use devices::{StepReader, StepWriter};
-pub use images::{v1, v2, v3, va, vb, vc, vd, vs};
+pub use images::{v1, v2, v3, va, vb, vc, vd, vr, vs};
 
 #[cfg(test)]
 mod tests;

@@ -1,3 +1,4 @@
+mod counted;
 mod dumps;
 mod exports;
 mod files;
@@ -7,4 +8,6 @@ mod images;
 mod imports;
 mod keys;
 mod layout;
+mod outcome;
 mod tool;
+mod words;

@@ -1,6 +1,7 @@
 //! Whole dumps, a line each.
 
-use std::alloc::{AllocError, Global};
+use super::files::{Vector, assert_holds};
+use std::alloc::Global;
 use std::process::Abort;
 
 /// The dump of V1.
@@ -126,8 +127,90 @@ const V3_DUMP: &[&str] = &[
     "end",
 ];
 
+/// The dump of VR.
+const VR_DUMP: &[&str] = &[
+    "format PE32+",
+    "pe-offset 0x00000040",
+    "Machine 0xaa64 ARM64",
+    "NumberOfSections 0x0003",
+    "TimeDateStamp 0x14131211",
+    "PointerToSymbolTable 0x18171615",
+    "NumberOfSymbols 0x1c1b1a19",
+    "SizeOfOptionalHeader 0x00f0",
+    "Characteristics 0x2022",
+    "Magic 0x020b",
+    "MajorLinkerVersion 0x21",
+    "MinorLinkerVersion 0x22",
+    "SizeOfCode 0x26252423",
+    "SizeOfInitializedData 0x2a292827",
+    "SizeOfUninitializedData 0x2e2d2c2b",
+    "AddressOfEntryPoint 0x3231302f",
+    "BaseOfCode 0x36353433",
+    "ImageBase 0x3e3d3c3b3a390000",
+    "SectionAlignment 0x00001000",
+    "FileAlignment 0x00000200",
+    "MajorOperatingSystemVersion 0x4241",
+    "MinorOperatingSystemVersion 0x4443",
+    "MajorImageVersion 0x4645",
+    "MinorImageVersion 0x4847",
+    "MajorSubsystemVersion 0x4a49",
+    "MinorSubsystemVersion 0x4c4b",
+    "Win32VersionValue 0x504f4e4d",
+    "SizeOfImage 0x00045678",
+    "SizeOfHeaders 0x000001e0",
+    "CheckSum 0x54535251",
+    "Subsystem 0x5655",
+    "DllCharacteristics 0x5857",
+    "SizeOfStackReserve 0x605f5e5d5c5b5a59",
+    "SizeOfStackCommit 0x6867666564636261",
+    "SizeOfHeapReserve 0x706f6e6d6c6b6a69",
+    "SizeOfHeapCommit 0x7877767574737271",
+    "LoaderFlags 0x7c7b7a79",
+    "NumberOfRvaAndSizes 0x807f7e7d",
+    "Directory 0 0x00020000 0x000000a0",
+    "Directory 1 0x00030000 0x0000003c",
+    "Directory 2 0x84838281 0x88878685",
+    "Directory 3 0x8c8b8a89 0x908f8e8d",
+    "Directory 4 0x94939291 0x98979695",
+    "Directory 5 0x00030100 0x0000002a",
+    "Directory 6 0x9c9b9a99 0xa09f9e9d",
+    "Directory 7 0xa4a3a2a1 0xa8a7a6a5",
+    "Directory 8 0xacabaaa9 0xb0afaead",
+    "Directory 9 0xb4b3b2b1 0xb8b7b6b5",
+    "Directory 10 0xbcbbbab9 0xc0bfbebd",
+    "Directory 11 0xc4c3c2c1 0xc8c7c6c5",
+    "Directory 12 0xcccbcac9 0xd0cfcecd",
+    "Directory 13 0xd4d3d2d1 0xd8d7d6d5",
+    "Directory 14 0xdcdbdad9 0xe0dfdedd",
+    "Directory 15 0xe4e3e2e1 0xe8e7e6e5",
+    "section 0 \"\\x22a\\x5c\\x01\" va 0x00020000 extent 0x00002345 raw 0x00000200 rawlen 0x000001f0 flags 0x40000040",
+    "section 1 \"\\x7f~ \\x80\\xff\" va 0x00030000 extent 0x000001c8 raw 0x00000400 rawlen 0x000001c8 flags 0xe2000060",
+    "section 2 \"eight\\x09by\" va 0x00040000 extent 0x00003456 raw 0x00000000 rawlen 0x00000000 flags 0xc0000080",
+    "export #65534 rva 0x00043210",
+    "export #65536 forward \"m\\x1f.\\xff\" \"n\\x22m\\x5c\"",
+    "export #65537 forward \"\\x5co\\x7f\" #407",
+    "export #65538 rva 0x00030123",
+    "export #65539 rva 0x0001fedc",
+    "export \"\\x22q\\x5c\" rva 0x00030123",
+    "export \"\\x7f\\x80 \" forward \"m\\x1f.\\xff\" \"n\\x22m\\x5c\"",
+    "export \"plain\" forward \"\\x5co\\x7f\" #407",
+    "import \"A\\x22b.DLL\" \"\\x7fname\" slot 0x00040010",
+    "import \"A\\x22b.DLL\" #777 slot 0x00040018",
+    "import \"A\\x22b.DLL\" \"g\\x22\\x5c\\x01\" slot 0x00040020",
+    "import \"c\\x5c\\x80\" #65534 slot 0x00030070",
+    "import \"c\\x5c\\x80\" \"\\xff\" slot 0x00030078",
+    "fixup 0x00021234 32",
+    "fixup 0x00021008 64",
+    "fixup 0x00041fff 64",
+    "fixup 0x00041010 32",
+    "end",
+];
+
 /// What differs in a dump from another one: a line of that one, and the lines in its place.
 type Change = (&'static str, &'static [&'static str]);
+
+/// A dump that stands as a whole.
+const NO_CHANGES: &[Change] = &[];
 
 /// The dump of V2, from that of V1.
 const V2_CHANGES: &[Change] = &[
@@ -256,46 +339,61 @@ const VS_CHANGES: &[Change] = &[
     ),
 ];
 
+/// What stands in the place of a line that differs.
+fn change_of(changes: &[Change], line: &str) -> Option<&'static [&'static str]> {
+    for (changed, others) in changes {
+        if **changed == *line {
+            return Some(others);
+        }
+    }
+    None
+}
+
+/// Adds lines, each ended by 0a.
+fn push_lines(rt: &impl Abort, text: &mut String, lines: &[&str]) {
+    for line in lines {
+        text.push_str(line).expect(rt, "memory");
+        text.push('\n').expect(rt, "memory");
+    }
+}
+
 /// The text of a dump: the lines of another one with what differs, each change of one of its lines.
-fn text_of(
-    rt: &impl Abort,
-    alloc: Global,
-    lines: &[&str],
-    changes: &[Change],
-) -> Result<String, AllocError> {
+fn text_of(rt: &impl Abort, alloc: Global, lines: &[&str], changes: &[Change]) -> String {
     let mut text = String::new(alloc);
     let mut changed = 0_usize;
     for line in lines {
-        match changes.iter().find(|change| change.0 == *line) {
-            None => push_line(&mut text, line)?,
-            Some((_, others)) => {
-                changed = changed.wrapping_add(1);
-                for other in *others {
-                    push_line(&mut text, other)?;
-                }
-            }
+        if let Some(others) = change_of(changes, line) {
+            changed = changed.wrapping_add(1);
+            push_lines(rt, &mut text, others);
+        } else {
+            push_lines(rt, &mut text, &[*line]);
         }
     }
-    assert_eq!(rt; changed, changes.len());
-    Ok(text)
+    assert_holds(rt, changed, changed == changes.len());
+    text
 }
 
-/// Adds a line, ended by 0a.
-fn push_line(text: &mut String, line: &str) -> Result<(), AllocError> {
-    text.push_str(line)?;
-    text.push('\n')
+/// The dump of a file.
+pub(super) fn dump_text(rt: &impl Abort, alloc: Global, vector: Vector) -> String {
+    let (lines, changes) = match vector {
+        Vector::V1 => (V1_DUMP, NO_CHANGES),
+        Vector::V2 => (V1_DUMP, V2_CHANGES),
+        Vector::V3 => (V3_DUMP, NO_CHANGES),
+        Vector::Va => (V1_DUMP, VA_CHANGES),
+        Vector::Vb => (V1_DUMP, VB_CHANGES),
+        Vector::Vc => (V1_DUMP, VC_CHANGES),
+        Vector::Vd => (V3_DUMP, VD_CHANGES),
+        Vector::Vs => (V1_DUMP, VS_CHANGES),
+        Vector::Vr => (VR_DUMP, NO_CHANGES),
+    };
+    text_of(rt, alloc, lines, changes)
 }
 
-/// The dumps of all the files, in the order of `vectors`.
-pub(super) fn dumps(rt: &impl Abort, alloc: Global) -> Result<[String; 8], AllocError> {
-    Ok([
-        text_of(rt, alloc, V1_DUMP, &[])?,
-        text_of(rt, alloc, V1_DUMP, V2_CHANGES)?,
-        text_of(rt, alloc, V3_DUMP, &[])?,
-        text_of(rt, alloc, V1_DUMP, VA_CHANGES)?,
-        text_of(rt, alloc, V1_DUMP, VB_CHANGES)?,
-        text_of(rt, alloc, V1_DUMP, VC_CHANGES)?,
-        text_of(rt, alloc, V3_DUMP, VD_CHANGES)?,
-        text_of(rt, alloc, V1_DUMP, VS_CHANGES)?,
-    ])
+/// The dump of V1 with another line of the Machine field.
+pub(super) fn machine_dump(
+    rt: &impl Abort,
+    alloc: Global,
+    line: &'static [&'static str],
+) -> String {
+    text_of(rt, alloc, V1_DUMP, &[("Machine 0x014c I386", line)])
 }

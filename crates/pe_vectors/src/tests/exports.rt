@@ -1,14 +1,13 @@
 //! What `pe_tables` reads of export tables, and what it finds by ordinal and by name.
 
-use super::files::{IMAGE, Piece, put, put_pieces};
+use super::files::{
+    Piece, Vector, assert_holds, assert_number, assert_refused, changed, file_of, layout_of,
+    push_number, put, with_data,
+};
 use super::keys::same_target;
-use crate::{v1, va, vb};
-use pe_layout::Layout;
-use pe_tables::{Exports, Key, TableError, Target, read_exports};
-use pe_view::{Fault, Place, View};
+use pe_tables::{Exports, Key, Target, read_exports};
 use std::alloc::Global;
 use std::process::Abort;
-use std::test::Fail;
 
 /// The exports by ordinal, and those by name.
 type Listing = (
@@ -19,78 +18,83 @@ type Listing = (
 /// A file changed, and its exports or the fault that stands, by number and RVA.
 type Case = (&'static [Piece], Result<Listing, (u16, u32)>);
 
-/// Asserts that each ordinal and each name of a list is found.
-fn assert_found(rt: &impl Abort, exports: &Exports<'_, Global>) -> Result<(), Fail> {
+/// Whether each ordinal of the list is found that 32 bits hold.
+fn finds_ordinals(exports: &Exports<'_, Global>) -> bool {
     for (ordinal, target) in exports.ordinals() {
-        if let Ok(ordinal) = u32::try_from(*ordinal) {
-            assert_eq!(rt; exports.by_ordinal(ordinal), Some(*target), "{ordinal}");
+        if let Ok(ordinal) = u32::try_from(*ordinal)
+            && exports.by_ordinal(ordinal) != Some(*target)
+        {
+            return false;
         }
     }
+    true
+}
+
+/// Whether each name of the list is found.
+fn finds_names(exports: &Exports<'_, Global>) -> bool {
     for (name, target) in exports.names() {
-        assert_eq!(rt; exports.by_name(name), Some(*target), "{name:?}");
+        if exports.by_name(name) != Some(*target) {
+            return false;
+        }
     }
-    Ok(())
+    true
 }
 
-/// Asserts that a case has these exports by ordinal.
-fn assert_ordinals(
+/// Whether two lists have the same exports by ordinal.
+fn same_ordinals(found: &[(u64, Target)], expected: &[(u64, Target)]) -> bool {
+    if found.len() != expected.len() {
+        return false;
+    }
+    for index in 0..found.len() {
+        let (ordinal, target) = &found[index];
+        let (other, expected) = &expected[index];
+        if *ordinal != *other || !same_target(target, expected) {
+            return false;
+        }
+    }
+    true
+}
+
+/// Whether two lists have the same exports by name.
+fn same_names(found: &[(&[u8], Target)], expected: &[(&[u8], Target)]) -> bool {
+    if found.len() != expected.len() {
+        return false;
+    }
+    for index in 0..found.len() {
+        let (name, target) = &found[index];
+        let (other, expected) = &expected[index];
+        if **name != **other || !same_target(target, expected) {
+            return false;
+        }
+    }
+    true
+}
+
+/// Asserts that a case has these exports, in its lists and by look-ups.
+fn assert_listed(
     rt: &impl Abort,
-    found: &[(u64, Target)],
-    expected: &[(u64, Target)],
-    index: usize,
+    case: usize,
+    exports: &Exports<'_, Global>,
+    ordinals: &[(u64, Target)],
+    names: &[(&[u8], Target)],
 ) {
-    assert_eq!(rt; found.len(), expected.len(), "in case {index}");
-    for ((ordinal, target), (other, expected)) in found.iter().zip(expected.iter()) {
-        assert_eq!(rt; *ordinal, *other, "in case {index}");
-        assert!(rt; same_target(target, expected), "in case {index}");
-    }
+    assert_holds(rt, case, same_ordinals(exports.ordinals(), ordinals));
+    assert_holds(rt, case, same_names(exports.names(), names));
+    assert_holds(rt, case, finds_ordinals(exports) && finds_names(exports));
 }
 
-/// Asserts that a case has these exports by name.
-fn assert_names(
-    rt: &impl Abort,
-    found: &[(&[u8], Target)],
-    expected: &[(&[u8], Target)],
-    index: usize,
-) {
-    assert_eq!(rt; found.len(), expected.len(), "in case {index}");
-    for ((name, target), (other, expected)) in found.iter().zip(expected.iter()) {
-        assert!(rt; **name == **other, "in case {index}");
-        assert!(rt; same_target(target, expected), "in case {index}");
-    }
-}
-
-/// Asserts what a file of at most 0x600 bytes is read as in each case.
-fn assert_exports(rt: &impl Abort, alloc: Global, file: &[u8], cases: &[Case]) -> Result<(), Fail> {
+/// Asserts what a file is read as in each case.
+fn assert_exports(rt: &impl Abort, alloc: Global, vector: Vector, cases: &[Case]) {
     for (index, (pieces, expected)) in cases.iter().enumerate() {
-        let mut changed = [0; 0x600];
-        assert!(rt; file.len() <= 0x600);
-        put(&mut changed, 0, file);
-        put_pieces(rt, &mut changed, pieces);
-        let layout = Layout::new(View::new(&changed), IMAGE)?;
-        let found = read_exports(alloc, &layout);
+        let file = changed(rt, &file_of(rt, alloc, vector), pieces);
+        let found = read_exports(alloc, &layout_of(rt, &file));
         match *expected {
             Ok((ordinals, names)) => {
-                let exports = found?;
-                assert_ordinals(rt, exports.ordinals(), ordinals, index);
-                assert_names(rt, exports.names(), names, index);
-                assert_found(rt, &exports)?;
+                assert_listed(rt, index, &found.expect(rt, "exports"), ordinals, names);
             }
-            Err((number, rva)) => {
-                let fault = Fault {
-                    number,
-                    image: IMAGE,
-                    place: Place::Rva(rva),
-                };
-                assert_eq!(rt;
-                    found.err(),
-                    Some(TableError::Fault(fault)),
-                    "in case {index}"
-                );
-            }
+            Err(at) => assert_refused(rt, index, found.err(), at),
         }
     }
-    Ok(())
 }
 
 /// The exports of VB by ordinal.
@@ -179,8 +183,8 @@ const TABLES: &[Case] = &[
 ];
 
 #[test]
-fn an_export_table_and_its_places(rt: HostRuntime) -> Result<(), Fail> {
-    assert_exports(&rt, rt.alloc(), &vb(rt.alloc())?, TABLES)
+fn an_export_table_and_its_places(rt: HostRuntime) {
+    assert_exports(&rt, rt.alloc(), Vector::Vb, TABLES);
 }
 
 /// VB, in cases of its names and its entries.
@@ -250,8 +254,8 @@ const NAMES_AND_ENTRIES: &[Case] = &[
 ];
 
 #[test]
-fn names_and_entries(rt: HostRuntime) -> Result<(), Fail> {
-    assert_exports(&rt, rt.alloc(), &vb(rt.alloc())?, NAMES_AND_ENTRIES)
+fn names_and_entries(rt: HostRuntime) {
+    assert_exports(&rt, rt.alloc(), Vector::Vb, NAMES_AND_ENTRIES);
 }
 
 /// VB with several names: pointers at 0x1060, the entries of the names at 0x106c, texts from 0x1074 on.
@@ -371,8 +375,8 @@ const SEVERAL_NAMES: &[Case] = &[
 ];
 
 #[test]
-fn the_first_of_equal_names_counts(rt: HostRuntime) -> Result<(), Fail> {
-    assert_exports(&rt, rt.alloc(), &vb(rt.alloc())?, SEVERAL_NAMES)
+fn the_first_of_equal_names_counts(rt: HostRuntime) {
+    assert_exports(&rt, rt.alloc(), Vector::Vb, SEVERAL_NAMES);
 }
 
 /// A forwarder of VA, exported by ordinal 1 and by the name `f`.
@@ -403,115 +407,156 @@ const FORWARDERS: &[Forwarder] = &[
     (b"b.#18446744073709551623", None),
 ];
 
+/// Asserts what a forwarder of VA is read as.
+fn assert_forwarder(rt: &impl Abort, alloc: Global, case: usize, forwarder: &Forwarder) {
+    let (text, expected) = forwarder;
+    let mut file = changed(rt, &file_of(rt, alloc, Vector::Va), &[]);
+    assert!(rt; text.len() < 0x1f);
+    put(&mut file, 0x260, &[0; 0x20]);
+    put(&mut file, 0x260, text);
+    let found = read_exports(alloc, &layout_of(rt, &file));
+    match *expected {
+        Some((module, key)) => {
+            let target = Target::Forward { module, key };
+            let exports = found.expect(rt, "exports");
+            assert_listed(rt, case, &exports, &[(1, target)], &[(b"f", target)]);
+        }
+        None => assert_refused(rt, case, found.err(), (22, 0x1048)),
+    }
+}
+
 #[test]
-fn forwarders_are_split_at_their_last_dot(rt: HostRuntime) -> Result<(), Fail> {
-    for (text, expected) in FORWARDERS {
-        let mut file = va(rt.alloc())?;
-        assert!(rt; file.len() == 0x400 && text.len() < 0x1f);
-        put(&mut file, 0x260, &[0; 0x20]);
-        put(&mut file, 0x260, text);
-        let layout = Layout::new(View::new(&file), IMAGE)?;
-        let found = read_exports(rt.alloc(), &layout);
-        match *expected {
-            Some((module, key)) => {
-                let target = Target::Forward { module, key };
-                let exports = found?;
-                assert_eq!(rt; exports.ordinals(), &[(1, target)][..], "{text:?}");
-                assert_eq!(rt; exports.names(), &[(&b"f"[..], target)][..], "{text:?}");
-                assert_eq!(rt; exports.by_ordinal(1), Some(target), "{text:?}");
-                assert_eq!(rt; exports.by_name(b"f"), Some(target), "{text:?}");
-            }
-            None => {
-                let fault = Fault {
-                    number: 22,
-                    image: IMAGE,
-                    place: Place::Rva(0x1048),
-                };
-                assert_eq!(rt; found.err(), Some(TableError::Fault(fault)), "{text:?}");
-            }
+fn forwarders_are_split_at_their_last_dot(rt: HostRuntime) {
+    for (index, forwarder) in FORWARDERS.iter().enumerate() {
+        assert_forwarder(&rt, rt.alloc(), index, forwarder);
+    }
+}
+
+/// VB changed, and names and ordinals that it then doesn't export.
+type Absent = (&'static [Piece], &'static [&'static [u8]], &'static [u32]);
+
+const ABSENT: &[Absent] = &[
+    (
+        &[],
+        &[b"", b"f", b"h", b"gg", b"G", b"g\0"],
+        &[0, 4, 6, 8, 0xffff_ffff],
+    ),
+    // a name whose entry is 0
+    (&[(0x258, &[0x01])], &[b"g"], &[6]),
+];
+
+/// Whether one of the names is exported.
+fn finds_a_name(exports: &Exports<'_, Global>, names: &[&[u8]]) -> bool {
+    for name in names {
+        if exports.by_name(name).is_some() {
+            return true;
         }
     }
-    Ok(())
+    false
 }
 
-#[test]
-fn what_is_not_exported_is_not_found(rt: HostRuntime) -> Result<(), Fail> {
-    let file = vb(rt.alloc())?;
-    let layout = Layout::new(View::new(&file), IMAGE)?;
-    let exports = read_exports(rt.alloc(), &layout)?;
-    for ordinal in [0, 4, 6, 8, u32::MAX] {
-        assert_eq!(rt; exports.by_ordinal(ordinal), None, "{ordinal}");
+/// Whether one of the ordinals is exported.
+fn finds_an_ordinal(exports: &Exports<'_, Global>, ordinals: &[u32]) -> bool {
+    for ordinal in ordinals {
+        if exports.by_ordinal(*ordinal).is_some() {
+            return true;
+        }
     }
-    for name in [&b""[..], b"f", b"h", b"gg", b"G", b"g\0"] {
-        assert_eq!(rt; exports.by_name(name), None, "{name:?}");
+    false
+}
+
+#[test]
+fn what_is_not_exported_is_not_found(rt: HostRuntime) {
+    for (index, (pieces, names, ordinals)) in ABSENT.iter().enumerate() {
+        let file = changed(&rt, &file_of(&rt, rt.alloc(), Vector::Vb), pieces);
+        let exports = read_exports(rt.alloc(), &layout_of(&rt, &file)).expect(&rt, "exports");
+        assert_holds(&rt, index, !finds_a_name(&exports, names));
+        assert_holds(&rt, index, !finds_an_ordinal(&exports, ordinals));
     }
-    Ok(())
 }
 
 #[test]
-fn a_name_whose_entry_is_0_exports_nothing(rt: HostRuntime) -> Result<(), Fail> {
-    let mut file = vb(rt.alloc())?;
-    put_pieces(&rt, &mut file, &[(0x258, &[0x01])]);
-    let layout = Layout::new(View::new(&file), IMAGE)?;
-    let exports = read_exports(rt.alloc(), &layout)?;
-    assert_eq!(rt; exports.names(), &[][..]);
-    assert_eq!(rt; exports.by_name(b"g"), None);
-    assert_eq!(rt; exports.by_ordinal(6), None);
-    Ok(())
-}
-
-#[test]
-fn an_image_without_the_table_exports_nothing(rt: HostRuntime) -> Result<(), Fail> {
-    assert_exports(&rt, rt.alloc(), &v1(rt.alloc())?, &[(&[], Ok((&[], &[])))])
+fn an_image_without_the_table_exports_nothing(rt: HostRuntime) {
+    assert_exports(&rt, rt.alloc(), Vector::V1, &[(&[], Ok((&[], &[])))]);
 }
 
 /// The most entries that a table has, and the most names.
 const MOST: u32 = 65_536;
 
-#[test]
-fn a_table_of_65536_names(rt: HostRuntime) -> Result<(), Fail> {
-    // behind the directory's 40 bytes: addresses, name pointers, entries, and texts of 5 bytes with their zero
-    let addresses = 0x1028;
-    let pointers = addresses + 4 * MOST;
-    let entries = pointers + 4 * MOST;
-    let texts = entries + 2 * MOST;
-    let mut table = Vec::new(rt.alloc());
-    for field in [0, 0, 0, 0, 1, MOST, MOST, addresses, pointers, entries] {
-        table.extend_from_slice(&field.to_le_bytes())?;
-    }
+/// Where the parts of the largest table stand: behind the directory's 40 bytes addresses, name pointers, and entries, and
+/// then texts of 5 bytes with their zero.
+const ADDRESSES: u32 = 0x1028;
+
+const POINTERS: u32 = ADDRESSES + 4 * MOST;
+
+const ENTRIES: u32 = POINTERS + 4 * MOST;
+
+const TEXTS: u32 = ENTRIES + 2 * MOST;
+
+/// Adds as many numbers of 4 bytes, each a step above the one before.
+fn push_column(rt: &impl Abort, table: &mut Vec<u8>, first: u32, step: u32) {
     for index in 0..MOST {
-        table.extend_from_slice(&(0x10_0000 + index).to_le_bytes())?;
+        push_number(rt, table, first.wrapping_add(step.wrapping_mul(index)));
     }
+}
+
+/// Adds the entries of the names, which fall.
+fn push_entries(rt: &impl Abort, table: &mut Vec<u8>) {
     for index in 0..MOST {
-        table.extend_from_slice(&(texts + 5 * index).to_le_bytes())?;
+        let entry = (MOST - 1 - index) as u16;
+        table
+            .extend_from_slice(&entry.to_le_bytes())
+            .expect(rt, "memory");
     }
+}
+
+/// Adds the names' texts, `0000` to `ffff`.
+fn push_texts(rt: &impl Abort, alloc: Global, table: &mut Vec<u8>) {
+    let mut text = String::new(alloc);
     for index in 0..MOST {
-        table.extend_from_slice(&((MOST - 1 - index) as u16).to_le_bytes())?;
+        write!(text, "{index:04x}\0").expect(rt, "memory");
     }
-    for index in 0..MOST {
-        table.extend_from_slice(format!(in rt.alloc(); "{index:04x}\0")?.as_str().as_bytes())?;
+    table
+        .extend_from_slice(text.as_bytes())
+        .expect(rt, "memory");
+}
+
+/// The largest table.
+fn largest_table(rt: &impl Abort, alloc: Global) -> Vec<u8> {
+    let mut table = Vec::new(alloc);
+    for field in [0, 0, 0, 0, 1, MOST, MOST, ADDRESSES, POINTERS, ENTRIES] {
+        push_number(rt, &mut table, field);
     }
-    let size = u32::try_from(table.len())?;
-    let mut file = v1(rt.alloc())?;
-    assert!(rt; file.len() == 0x400);
-    put(&mut file, 0x90, &0x20_0000_u32.to_le_bytes());
-    put(&mut file, 0xb8, &0x1000_u32.to_le_bytes());
-    put(&mut file, 0xbc, &40_u32.to_le_bytes());
-    put(&mut file, 0x140, &size.to_le_bytes());
-    put(&mut file, 0x148, &size.to_le_bytes());
-    file.truncate(0x200);
-    file.extend_from_slice(&table)?;
-    let layout = Layout::new(View::new(&file), IMAGE)?;
-    let exports = read_exports(rt.alloc(), &layout)?;
-    assert_eq!(rt; exports.ordinals().len(), 65_536);
-    assert_eq!(rt; exports.names().len(), 65_536);
+    push_column(rt, &mut table, 0x10_0000, 1);
+    push_column(rt, &mut table, TEXTS, 5);
+    push_entries(rt, &mut table);
+    push_texts(rt, alloc, &mut table);
+    table
+}
+
+/// Asserts what the largest table exports.
+fn assert_largest(rt: &impl Abort, exports: &Exports<'_, Global>) {
+    assert_number(rt, 0, exports.ordinals().len() as u64, 65_536);
+    assert_number(rt, 0, exports.names().len() as u64, 65_536);
     for (text, index) in [(&b"0000"[..], 0), (b"1234", 0x1234), (b"ffff", 0xffff)] {
-        let target = Target::Rva(0x10_0000 + MOST - 1 - index);
-        assert_eq!(rt; exports.by_name(text), Some(target), "{text:?}");
-        assert_eq!(rt; exports.by_ordinal(MOST - index), Some(target), "{text:?}");
+        let target = Some(Target::Rva(0x10_0000 + MOST - 1 - index));
+        assert_holds(rt, index as usize, exports.by_name(text) == target);
+        assert_holds(
+            rt,
+            index as usize,
+            exports.by_ordinal(MOST - index) == target,
+        );
     }
-    assert_eq!(rt; exports.by_name(b"10000"), None);
-    assert_eq!(rt; exports.by_ordinal(0), None);
-    assert_eq!(rt; exports.by_ordinal(MOST + 1), None);
-    Ok(())
+    assert_holds(rt, 0, !finds_a_name(exports, &[b"10000"]));
+    assert_holds(rt, 0, !finds_an_ordinal(exports, &[0, MOST + 1]));
+}
+
+#[test]
+fn a_table_of_65536_names(rt: HostRuntime) {
+    // SizeOfImage, and a directory of 40 bytes
+    let pieces: &[Piece] = &[(0x91, &[0x00, 0x20]), (0xb9, &[0x10]), (0xbc, &[0x28])];
+    let table = largest_table(&rt, rt.alloc());
+    let file = with_data(&rt, rt.alloc(), pieces, &table);
+    let exports = read_exports(rt.alloc(), &layout_of(&rt, &file)).expect(&rt, "exports");
+    assert_largest(&rt, &exports);
 }

@@ -1,10 +1,12 @@
 //! Files written byte by byte, for what a test compares with and what it reads.
 
-ghost use Rattle.std.specs.Prelude.{◌+◌, ◌≤◌, length};
+ghost use Rattle.std.specs.Prelude.{◌+◌, ◌≤◌, vec_len, length};
 
-use crate::{v1, v2, v3, va, vb, vc, vd, vs};
-use pe_view::{Fault, Place};
-use std::alloc::{AllocError, Global};
+use crate::{v1, v2, v3, va, vb, vc, vd, vr, vs};
+use pe_layout::Layout;
+use pe_tables::TableError;
+use pe_view::{Fault, Place, View};
+use std::alloc::Global;
 use std::process::Abort;
 
 /// Bytes at a file offset.
@@ -43,18 +45,83 @@ pub(super) fn number(rt: &impl Abort, file: &[u8], offset: usize, width: usize) 
     u64::from_le_bytes(bytes)
 }
 
+/// One of the files.
+#[derive(Clone, Copy)]
+pub(super) enum Vector {
+    V1,
+    V2,
+    V3,
+    Va,
+    Vb,
+    Vc,
+    Vd,
+    Vs,
+    Vr,
+}
+
 /// All the files.
-pub(super) fn vectors(alloc: Global) -> Result<[Vec<u8>; 8], AllocError> {
-    Ok([
-        v1(alloc)?,
-        v2(alloc)?,
-        v3(alloc)?,
-        va(alloc)?,
-        vb(alloc)?,
-        vc(alloc)?,
-        vd(alloc)?,
-        vs(alloc)?,
-    ])
+pub(super) const VECTORS: [Vector; 9] = [
+    Vector::V1,
+    Vector::V2,
+    Vector::V3,
+    Vector::Va,
+    Vector::Vb,
+    Vector::Vc,
+    Vector::Vd,
+    Vector::Vs,
+    Vector::Vr,
+];
+
+/// The bytes of a file.
+pub(super) fn file_of(rt: &impl Abort, alloc: Global, vector: Vector) -> Vec<u8>
+    ensures { vec_len result ≤ 0x600 }
+{
+    let file = match vector {
+        Vector::V1 => v1(alloc),
+        Vector::V2 => v2(alloc),
+        Vector::V3 => v3(alloc),
+        Vector::Va => va(alloc),
+        Vector::Vb => vb(alloc),
+        Vector::Vc => vc(alloc),
+        Vector::Vd => vd(alloc),
+        Vector::Vs => vs(alloc),
+        Vector::Vr => vr(alloc),
+    };
+    file.expect(rt, "memory")
+}
+
+/// A file of at most 0x600 bytes, filled up with zeros and changed.
+pub(super) fn changed(rt: &impl Abort, file: &[u8], pieces: &[Piece]) -> [u8; 0x600] {
+    let mut changed = [0; 0x600];
+    assert!(rt; file.len() <= 0x600);
+    put(&mut changed, 0, file);
+    put_pieces(rt, &mut changed, pieces);
+    changed
+}
+
+/// The layout of an accepted file.
+pub(super) fn layout_of<'a>(rt: &impl Abort, file: &'a [u8]) -> Layout<'a> {
+    Layout::new(View::new(file), IMAGE).expect(rt, "a layout")
+}
+
+/// V1 with other bytes in its section, which ends the file.
+pub(super) fn with_data(rt: &impl Abort, alloc: Global, pieces: &[Piece], data: &[u8]) -> Vec<u8> {
+    let mut file = file_of(rt, alloc, Vector::V1);
+    put_pieces(rt, &mut file, pieces);
+    let size = u32::try_from(data.len()).expect(rt, "a size").to_le_bytes();
+    assert!(rt; file.len() == 0x400);
+    put(&mut file, 0x140, &size);
+    put(&mut file, 0x148, &size);
+    file.truncate(0x200);
+    file.extend_from_slice(data).expect(rt, "memory");
+    file
+}
+
+/// Adds a number of 4 bytes.
+pub(super) fn push_number(rt: &impl Abort, table: &mut Vec<u8>, number: u32) {
+    table
+        .extend_from_slice(&number.to_le_bytes())
+        .expect(rt, "memory");
 }
 
 /// The image number that tests of faults hand in.
@@ -62,6 +129,20 @@ pub(super) const IMAGE: u16 = 3;
 
 /// A file cut to a length and changed, and the fault that stands, by number and file offset; None where it is accepted.
 pub(super) type Case = (usize, &'static [Piece], Option<(u16, u64)>);
+
+/// Asserts the fault of a case.
+fn assert_fault(rt: &impl Abort, case: usize, found: Option<Fault>, expected: Option<Fault>) {
+    assert_eq!(rt; found, expected, "in case {case}");
+}
+
+/// The fault of the image at a place.
+fn fault(number: u16, place: Place) -> Fault {
+    Fault {
+        number,
+        image: IMAGE,
+        place,
+    }
+}
 
 /// Asserts the fault that a call answers of a file of at most 0x600 bytes in each case.
 pub(super) fn assert_cases<F: Fn(&[u8]) -> Option<Fault>>(
@@ -73,15 +154,36 @@ pub(super) fn assert_cases<F: Fn(&[u8]) -> Option<Fault>>(
     requires { F.IsAlwaysCallable fault_of }
 {
     for (index, (len, pieces, expected)) in cases.iter().enumerate() {
-        let mut changed = [0; 0x600];
-        assert!(rt; file.len() <= 0x600 && *len <= file.len());
-        put(&mut changed, 0, file);
-        put_pieces(rt, &mut changed, pieces);
-        let expected = expected.map(|(number, offset)| Fault {
-            number,
-            image: IMAGE,
-            place: Place::File(offset),
-        });
-        assert_eq!(rt; fault_of(&changed[..*len]), expected, "in case {index}");
+        let changed = changed(rt, file, pieces);
+        assert!(rt; *len <= file.len() && *len <= 0x600);
+        let expected = match *expected {
+            Some((number, offset)) => Some(fault(number, Place::File(offset))),
+            None => None,
+        };
+        assert_fault(rt, index, fault_of(&changed[..*len]), expected);
     }
+}
+
+/// Asserts that a case of a table's reading is refused by a fault at an RVA.
+pub(super) fn assert_refused(
+    rt: &impl Abort,
+    case: usize,
+    error: Option<TableError>,
+    at: (u16, u32),
+) {
+    let found = match error {
+        Some(TableError::Fault(fault)) => Some(fault),
+        _ => None,
+    };
+    assert_fault(rt, case, found, Some(fault(at.0, Place::Rva(at.1))));
+}
+
+/// Asserts that a number of a case is the one that it is to be.
+pub(super) fn assert_number(rt: &impl Abort, case: usize, found: u64, expected: u64) {
+    assert_eq!(rt; found, expected, "in case {case:#x}");
+}
+
+/// Asserts what holds of a case.
+pub(super) fn assert_holds(rt: &impl Abort, case: usize, holds: bool) {
+    assert!(rt; holds, "in case {case:#x}");
 }

@@ -1,13 +1,11 @@
 //! What `pe_tables` reads of base relocation tables, and what it writes.
 
-use super::files::{IMAGE, Piece, put, put_pieces};
-use crate::{v1, v2, v3, vc};
-use pe_layout::Layout;
-use pe_tables::{Fixup, FixupKind, Import, Key, TableError, ascending, encode_fixups, read_fixups};
-use pe_view::{Fault, Place, View};
+use super::files::{
+    Piece, Vector, assert_holds, assert_refused, changed, file_of, layout_of, with_data,
+};
+use pe_tables::{Fixup, FixupKind, Import, Key, ascending, encode_fixups, read_fixups};
 use std::alloc::Global;
 use std::process::Abort;
-use std::test::Fail;
 
 /// A fixup by the RVA of its entry, the RVA of its field and the field's bits.
 type Row = (u32, u32, u32);
@@ -33,56 +31,54 @@ fn fixup((entry, field, bits): Row) -> Fixup {
 }
 
 /// The fixups of rows, in their order.
-fn fixups(alloc: Global, rows: &[Row]) -> Result<Vec<Fixup>, Fail> {
+fn fixups(rt: &impl Abort, alloc: Global, rows: &[Row]) -> Vec<Fixup> {
     let mut fixups = Vec::new(alloc);
     for row in rows {
-        fixups.push(fixup(*row))?;
+        fixups.push(fixup(*row)).expect(rt, "memory");
     }
-    Ok(fixups)
+    fixups
 }
 
 /// Imports with these slots.
-fn imports(alloc: Global, slots: &[u32]) -> Result<Vec<Import<'static>>, Fail> {
+fn imports(rt: &impl Abort, alloc: Global, slots: &[u32]) -> Vec<Import<'static>> {
     let mut imports = Vec::new(alloc);
     for slot in slots {
-        imports.push(Import {
+        let import = Import {
             module: b"a.dll",
             key: Key::Ordinal(1),
             slot: *slot,
-        })?;
+        };
+        imports.push(import).expect(rt, "memory");
     }
-    Ok(imports)
+    imports
 }
 
-/// Asserts what a file of at most 0x600 bytes is read as in each case.
-fn assert_fixups(rt: &impl Abort, alloc: Global, file: &[u8], cases: &[Case]) -> Result<(), Fail> {
-    for (index, (pieces, slots, expected)) in cases.iter().enumerate() {
-        let mut changed = [0; 0x600];
-        assert!(rt; file.len() <= 0x600);
-        put(&mut changed, 0, file);
-        put_pieces(rt, &mut changed, pieces);
-        let layout = Layout::new(View::new(&changed), IMAGE)?;
-        let found = read_fixups(alloc, &layout, &imports(alloc, slots)?);
-        match *expected {
-            Ok(rows) => {
-                let found = found?;
-                assert_eq!(rt; &found[..], &fixups(alloc, rows)?[..], "in case {index}");
-            }
-            Err((number, rva)) => {
-                let fault = Fault {
-                    number,
-                    image: IMAGE,
-                    place: Place::Rva(rva),
-                };
-                assert_eq!(rt;
-                    found.err(),
-                    Some(TableError::Fault(fault)),
-                    "in case {index}"
-                );
-            }
+/// Whether fixups are those of the rows.
+fn same_fixups(found: &[Fixup], rows: &[Row]) -> bool {
+    if found.len() != rows.len() {
+        return false;
+    }
+    for index in 0..found.len() {
+        if found[index] != fixup(rows[index]) {
+            return false;
         }
     }
-    Ok(())
+    true
+}
+
+/// Asserts what a file is read as in each case.
+fn assert_fixups(rt: &impl Abort, alloc: Global, vector: Vector, cases: &[Case]) {
+    for (index, (pieces, slots, expected)) in cases.iter().enumerate() {
+        let file = changed(rt, &file_of(rt, alloc, vector), pieces);
+        let found = read_fixups(alloc, &layout_of(rt, &file), &imports(rt, alloc, slots));
+        match *expected {
+            Ok(rows) => {
+                let found = found.expect(rt, "fixups");
+                assert_holds(rt, index, same_fixups(&found, rows));
+            }
+            Err(at) => assert_refused(rt, index, found.err(), at),
+        }
+    }
 }
 
 /// V2, whose table at 0x2000 stands at the file offset 0x400, in cases of its directory, blocks and entries.
@@ -162,8 +158,8 @@ const ONE_BLOCK: &[Case] = &[
 ];
 
 #[test]
-fn a_table_of_one_block(rt: HostRuntime) -> Result<(), Fail> {
-    assert_fixups(&rt, rt.alloc(), &v2(rt.alloc())?, ONE_BLOCK)
+fn a_table_of_one_block(rt: HostRuntime) {
+    assert_fixups(&rt, rt.alloc(), Vector::V2, ONE_BLOCK);
 }
 
 /// V2 with a directory and a section of 0x18 bytes, for two blocks.
@@ -246,8 +242,8 @@ const TWO_BLOCKS: &[Case] = &[
 ];
 
 #[test]
-fn a_table_of_two_blocks(rt: HostRuntime) -> Result<(), Fail> {
-    assert_fixups(&rt, rt.alloc(), &v2(rt.alloc())?, TWO_BLOCKS)
+fn a_table_of_two_blocks(rt: HostRuntime) {
+    assert_fixups(&rt, rt.alloc(), Vector::V2, TWO_BLOCKS);
 }
 
 /// V3: its slots have 8 bytes.
@@ -258,8 +254,8 @@ const WIDE_SLOTS: &[Case] = &[
 ];
 
 #[test]
-fn slots_of_pe32_plus_have_eight_bytes(rt: HostRuntime) -> Result<(), Fail> {
-    assert_fixups(&rt, rt.alloc(), &v3(rt.alloc())?, WIDE_SLOTS)
+fn slots_of_pe32_plus_have_eight_bytes(rt: HostRuntime) {
+    assert_fixups(&rt, rt.alloc(), Vector::V3, WIDE_SLOTS);
 }
 
 /// VC with V2's section `.reloc`, its directory and the entry of a field at 0x1033.
@@ -283,18 +279,13 @@ const AN_IMPORT: &[Case] = &[(
 )];
 
 #[test]
-fn a_field_in_the_slot_of_an_import(rt: HostRuntime) -> Result<(), Fail> {
-    assert_fixups(&rt, rt.alloc(), &vc(rt.alloc())?, AN_IMPORT)
+fn a_field_in_the_slot_of_an_import(rt: HostRuntime) {
+    assert_fixups(&rt, rt.alloc(), Vector::Vc, AN_IMPORT);
 }
 
 #[test]
-fn an_image_without_the_table_has_no_fixups(rt: HostRuntime) -> Result<(), Fail> {
-    assert_fixups(
-        &rt,
-        rt.alloc(),
-        &v1(rt.alloc())?,
-        &[(&[], &[0x1000], Ok(&[]))],
-    )
+fn an_image_without_the_table_has_no_fixups(rt: HostRuntime) {
+    assert_fixups(&rt, rt.alloc(), Vector::V1, &[(&[], &[0x1000], Ok(&[]))]);
 }
 
 /// Fixups, and the bytes of their table.
@@ -323,53 +314,71 @@ const ENCODED: &[(&[Row], &[u8])] = &[
 ];
 
 #[test]
-fn tables_are_encoded(rt: HostRuntime) -> Result<(), Fail> {
-    for (rows, bytes) in ENCODED {
-        let fixups = fixups(rt.alloc(), rows)?;
+fn tables_are_encoded(rt: HostRuntime) {
+    for (index, (rows, bytes)) in ENCODED.iter().enumerate() {
+        let fixups = fixups(&rt, rt.alloc(), rows);
         assert!(rt; ascending(&fixups));
-        let encoded = encode_fixups(rt.alloc(), &fixups)?;
-        assert_eq!(rt; &encoded[..], *bytes);
+        let encoded = encode_fixups(rt.alloc(), &fixups).expect(&rt, "memory");
+        assert_holds(&rt, index, *encoded == **bytes);
     }
-    Ok(())
 }
 
+/// Fixups, and whether their fields ascend.
+const ORDERS: &[(&[Row], bool)] = &[
+    (&[(0, 0x1008, 32), (0, 0x1008, 64)], false),
+    (&[(0, 0, 32), (0, 0x1008, 32), (0, 0x1007, 32)], false),
+    (&[(9, 0, 32), (8, 1, 64)], true),
+];
+
 #[test]
-fn fields_that_do_not_ascend(rt: HostRuntime) -> Result<(), Fail> {
-    let equal = fixups(rt.alloc(), &[(0, 0x1008, 32), (0, 0x1008, 64)])?;
-    assert!(rt; !ascending(&equal));
-    let falling = fixups(rt.alloc(), &[(0, 0, 32), (0, 0x1008, 32), (0, 0x1007, 32)])?;
-    assert!(rt; !ascending(&falling));
-    let from_zero = fixups(rt.alloc(), &[(9, 0, 32), (8, 1, 64)])?;
-    assert!(rt; ascending(&from_zero));
-    Ok(())
+fn fields_that_do_not_ascend(rt: HostRuntime) {
+    for (index, (rows, expected)) in ORDERS.iter().enumerate() {
+        let fixups = fixups(&rt, rt.alloc(), rows);
+        assert_holds(&rt, index, ascending(&fixups) == *expected);
+    }
 }
 
 /// How many fixups the long table has.
 const MANY: u32 = 1_000_000;
 
-#[test]
-fn a_table_of_a_million_fixups(rt: HostRuntime) -> Result<(), Fail> {
-    let mut many = Vec::new(rt.alloc());
+/// The fixups of the long table.
+fn many_fixups(rt: &impl Abort, alloc: Global) -> Vec<Fixup> {
+    let mut many = Vec::new(alloc);
     for index in 0..MANY {
-        many.push(fixup((0, 4 * index, 32)))?;
+        many.push(fixup((0, 4 * index, 32))).expect(rt, "memory");
     }
-    assert!(rt; ascending(&many));
-    let table = encode_fixups(rt.alloc(), &many)?;
-    let size = u32::try_from(table.len())?;
-    let mut file = v1(rt.alloc())?;
-    assert!(rt; file.len() == 0x400);
-    put(&mut file, 0x92, &[0x80]);
-    put(&mut file, 0xe0, &0x1000_u32.to_le_bytes());
-    put(&mut file, 0xe4, &size.to_le_bytes());
-    put(&mut file, 0x140, &size.to_le_bytes());
-    put(&mut file, 0x148, &size.to_le_bytes());
-    file.truncate(0x200);
-    file.extend_from_slice(&table)?;
-    let layout = Layout::new(View::new(&file), IMAGE)?;
-    let found = read_fixups(rt.alloc(), &layout, &[])?;
-    assert_eq!(rt; found.len(), many.len());
-    for (read, written) in found.iter().zip(many.iter()) {
-        assert_eq!(rt; (read.field, read.kind), (written.field, written.kind));
+    many
+}
+
+/// A file with the table of fixups: 976 blocks of 1,024 entries and one of 576, of 0x1ea308 bytes.
+fn encoded_file(rt: &impl Abort, alloc: Global, fixups: &[Fixup]) -> Vec<u8> {
+    assert!(rt; ascending(fixups));
+    let table = encode_fixups(alloc, fixups).expect(rt, "memory");
+    let pieces: &[Piece] = &[
+        (0x92, &[0x80]),
+        (0xe0, &[0x00, 0x10, 0x00, 0x00, 0x08, 0xa3, 0x1e, 0x00]),
+    ];
+    with_data(rt, alloc, pieces, &table)
+}
+
+/// Whether two lists have the same fields and kinds.
+fn same_fields(found: &[Fixup], expected: &[Fixup]) -> bool {
+    if found.len() != expected.len() {
+        return false;
     }
-    Ok(())
+    for index in 0..found.len() {
+        let (found, expected) = (&found[index], &expected[index]);
+        if found.field != expected.field || found.kind != expected.kind {
+            return false;
+        }
+    }
+    true
+}
+
+#[test]
+fn a_table_of_a_million_fixups(rt: HostRuntime) {
+    let many = many_fixups(&rt, rt.alloc());
+    let file = encoded_file(&rt, rt.alloc(), &many);
+    let found = read_fixups(rt.alloc(), &layout_of(&rt, &file), &[]).expect(&rt, "fixups");
+    assert_holds(&rt, 0, same_fields(&found, &many));
 }

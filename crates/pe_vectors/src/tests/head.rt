@@ -1,13 +1,12 @@
 //! What `pe_head` reads of headers.
 
 use super::files::{
-    Case, IMAGE, Piece, assert_cases, bytes_from, number, put, put_pieces, vectors,
+    Case, IMAGE, Piece, VECTORS, Vector, assert_cases, assert_holds, assert_number, bytes_from,
+    changed, file_of, number, put, put_pieces,
 };
-use crate::{v1, v3};
 use pe_head::{Directory, Headers, Magic, SectionHeader, read_headers};
 use pe_view::{Fault, View};
 use std::process::Abort;
-use std::test::Fail;
 
 /// A field's offset and width.
 pub(super) type Field = (usize, usize);
@@ -169,7 +168,7 @@ fn section_values(section: &SectionHeader) -> [u64; 9] {
 fn assert_values(rt: &impl Abort, values: &[u64], header: &[u8], fields: &[Field]) {
     assert_eq!(rt; values.len(), fields.len());
     for (value, (offset, width)) in values.iter().zip(fields) {
-        assert_eq!(rt; *value, number(rt, header, *offset, *width), "at {offset}");
+        assert_number(rt, *offset, *value, number(rt, header, *offset, *width));
     }
 }
 
@@ -177,8 +176,8 @@ fn assert_values(rt: &impl Abort, values: &[u64], header: &[u8], fields: &[Field
 fn assert_directories(rt: &impl Abort, directories: &[Directory], bytes: &[u8]) {
     let mut rest = bytes;
     for directory in directories {
-        assert_eq!(rt; u64::from(directory.rva), number(rt, rest, 0, 4));
-        assert_eq!(rt; u64::from(directory.size), number(rt, rest, 4, 4));
+        assert_number(rt, 0, u64::from(directory.rva), number(rt, rest, 0, 4));
+        assert_number(rt, 4, u64::from(directory.size), number(rt, rest, 4, 4));
         rest = bytes_from(rt, rest, 8);
     }
 }
@@ -193,37 +192,52 @@ fn assert_sections(rt: &impl Abort, sections: &[SectionHeader], table: &[u8]) {
     }
 }
 
-/// Asserts that each field of a file's headers was read from its place in the file.
-fn assert_headers(rt: &impl Abort, file: &[u8]) -> Result<Headers, Fail> {
-    let headers = read_headers(View::new(file), 0)?;
-    let signature = bytes_from(rt, file, headers.pe_offset as usize);
-    let coff = bytes_from(rt, signature, 4);
-    let optional = bytes_from(rt, signature, 24);
-    assert_eq!(rt; u64::from(headers.pe_offset), number(rt, file, 0x3c, 4));
-    assert_values(rt, &coff_values(&headers), coff, COFF_FIELDS);
+/// The headers of an accepted file.
+fn headers_of(rt: &impl Abort, file: &[u8]) -> Headers {
+    read_headers(View::new(file), 0).expect(rt, "headers")
+}
 
+/// Asserts that the optional header's fields and its directories were read from their places.
+fn assert_optional_header(rt: &impl Abort, headers: &Headers, optional: &[u8]) {
     let (magic, fields, fixed_size) = match headers.magic {
         Magic::Pe32 => (0x10b, PE32_FIELDS, 96),
         Magic::Pe32Plus => (0x20b, PE32_PLUS_FIELDS, 112),
     };
-    assert_eq!(rt; number(rt, optional, 0, 2), magic);
-    assert_values(rt, &optional_values(&headers), optional, fields);
+    assert_number(rt, 0, number(rt, optional, 0, 2), magic);
+    assert_values(rt, &optional_values(headers), optional, fields);
+    let directories = headers.directories.as_slice();
+    let count = number(rt, optional, fixed_size - 4, 4).min(16);
+    assert_number(rt, fixed_size, directories.len() as u64, count);
+    assert_directories(rt, directories, bytes_from(rt, optional, fixed_size));
+}
 
-    let count = number(rt, optional, fixed_size - 4, 4).min(16) as usize;
-    assert_eq!(rt; headers.directories.len(), count);
-    assert_directories(
+/// Asserts that each field of a file's headers was read from its place in the file.
+fn assert_headers(rt: &impl Abort, file: &[u8]) -> Headers {
+    let headers = headers_of(rt, file);
+    let signature = bytes_from(rt, file, headers.pe_offset as usize);
+    let optional = bytes_from(rt, signature, 24);
+    assert_number(
         rt,
-        headers.directories.as_slice(),
-        bytes_from(rt, optional, fixed_size),
+        0x3c,
+        u64::from(headers.pe_offset),
+        number(rt, file, 0x3c, 4),
     );
-
-    let table = bytes_from(rt, optional, usize::from(headers.size_of_optional_header));
-    assert_eq!(rt;
-        headers.sections.len(),
-        usize::from(headers.number_of_sections)
+    assert_values(
+        rt,
+        &coff_values(&headers),
+        bytes_from(rt, signature, 4),
+        COFF_FIELDS,
     );
-    assert_sections(rt, headers.sections.as_slice(), table);
-    Ok(headers)
+    assert_optional_header(rt, &headers, optional);
+    let sections = headers.sections.as_slice();
+    assert_holds(
+        rt,
+        0,
+        sections.len() == usize::from(headers.number_of_sections),
+    );
+    let size = usize::from(headers.size_of_optional_header);
+    assert_sections(rt, sections, bytes_from(rt, optional, size));
+    headers
 }
 
 /// A file in which the bytes near each other differ, so that a field read elsewhere has another value.
@@ -245,28 +259,22 @@ const ACCEPTED: &[Piece] = &[
     (0x94, &[0xa1, 0x03, 0x00, 0x00]),
 ];
 
-#[test]
-fn every_field_is_read_from_its_place(rt: HostRuntime) -> Result<(), Fail> {
-    let mut file = distinct_bytes();
-    put_pieces(&rt, &mut file, ACCEPTED);
-    put_pieces(
-        &rt,
-        &mut file,
-        &[(0x54, &[0xe0, 0x00]), (0x58, &[0x0b, 0x01])],
-    );
-    let headers = assert_headers(&rt, &file)?;
-    assert_eq!(rt; headers.magic, Magic::Pe32);
-    assert!(rt; headers.base_of_data.is_some());
+/// What makes such a file one of PE32, and one of PE32+.
+const FORM: [&[Piece]; 2] = [
+    &[(0x54, &[0xe0, 0x00]), (0x58, &[0x0b, 0x01])],
+    &[(0x54, &[0xf0, 0x00]), (0x58, &[0x0b, 0x02])],
+];
 
-    put_pieces(
-        &rt,
-        &mut file,
-        &[(0x54, &[0xf0, 0x00]), (0x58, &[0x0b, 0x02])],
-    );
-    let headers = assert_headers(&rt, &file)?;
-    assert_eq!(rt; headers.magic, Magic::Pe32Plus);
-    assert_eq!(rt; headers.base_of_data, None);
-    Ok(())
+#[test]
+fn every_field_is_read_from_its_place(rt: HostRuntime) {
+    for (index, form) in FORM.iter().enumerate() {
+        let mut file = distinct_bytes();
+        put_pieces(&rt, &mut file, ACCEPTED);
+        put_pieces(&rt, &mut file, form);
+        let headers = assert_headers(&rt, &file);
+        assert_holds(&rt, index, (headers.magic == Magic::Pe32) == (index == 0));
+        assert_holds(&rt, index, headers.base_of_data.is_some() == (index == 0));
+    }
 }
 
 /// V1's optional header behind Magic, in the format's order.
@@ -302,46 +310,52 @@ const V1_OPTIONAL: [u64; 29] = [
     16, // NumberOfRvaAndSizes
 ];
 
-#[test]
-fn v1_has_the_named_header_values(rt: HostRuntime) -> Result<(), Fail> {
-    let headers = read_headers(View::new(&v1(rt.alloc())?), 0)?;
-    assert_eq!(rt; coff_values(&headers), [0x14c, 1, 0, 0, 0, 0xe0, 0x2102]);
-    assert_eq!(rt; optional_values(&headers), V1_OPTIONAL);
-    let values = headers.sections.as_slice().first().map(section_values);
-    assert_eq!(rt;
-        values,
-        Some([0x10, 0x1000, 0x200, 0x200, 0, 0, 0, 0, 0xc000_0040])
-    );
-    Ok(())
-}
-
-#[test]
-fn v3_has_the_named_header_values(rt: HostRuntime) -> Result<(), Fail> {
-    let headers = read_headers(View::new(&v3(rt.alloc())?), 0)?;
-    assert_eq!(rt; coff_values(&headers), [0x8664, 2, 0, 0, 0, 0xf0, 0x2022]);
-    assert_eq!(rt; headers.image_base, 0x1_8000_0000);
-    let directory = headers.directories.as_slice().get(5).copied();
-    assert_eq!(rt;
-        directory,
-        Some(Directory {
-            rva: 0x2000,
-            size: 0x0c
-        })
-    );
-    let values = headers.sections.as_slice().last().map(section_values);
-    assert_eq!(rt;
-        values,
-        Some([0x0c, 0x2000, 0x200, 0x400, 0, 0, 0, 0, 0xc000_0040])
-    );
-    Ok(())
-}
-
-#[test]
-fn every_vector_is_read_field_by_field(rt: HostRuntime) -> Result<(), Fail> {
-    for file in &vectors(rt.alloc())? {
-        let _ = assert_headers(&rt, file)?;
+/// Asserts values one by one.
+fn assert_named(rt: &impl Abort, values: &[u64], expected: &[u64]) {
+    assert!(rt; values.len() == expected.len());
+    for index in 0..values.len() {
+        assert_number(rt, index, values[index], expected[index]);
     }
-    Ok(())
+}
+
+/// Asserts the values of a file's COFF header and of its last section.
+fn assert_outer(rt: &impl Abort, headers: &Headers, coff: &[u64], section: &[u64]) {
+    assert_named(rt, &coff_values(headers), coff);
+    let last = headers.sections.as_slice().last().expect(rt, "a section");
+    assert_named(rt, &section_values(last), section);
+}
+
+#[test]
+fn v1_has_the_named_header_values(rt: HostRuntime) {
+    let headers = headers_of(&rt, &file_of(&rt, rt.alloc(), Vector::V1));
+    let section = [0x10, 0x1000, 0x200, 0x200, 0, 0, 0, 0, 0xc000_0040];
+    assert_outer(&rt, &headers, &[0x14c, 1, 0, 0, 0, 0xe0, 0x2102], &section);
+    assert_named(&rt, &optional_values(&headers), &V1_OPTIONAL);
+}
+
+#[test]
+fn v3_has_the_named_header_values(rt: HostRuntime) {
+    let headers = headers_of(&rt, &file_of(&rt, rt.alloc(), Vector::V3));
+    let section = [0x0c, 0x2000, 0x200, 0x400, 0, 0, 0, 0, 0xc000_0040];
+    assert_outer(&rt, &headers, &[0x8664, 2, 0, 0, 0, 0xf0, 0x2022], &section);
+    assert_number(&rt, 0x70, headers.image_base, 0x1_8000_0000);
+    let directory = headers
+        .directories
+        .as_slice()
+        .get(5)
+        .expect(&rt, "a directory");
+    assert_named(
+        &rt,
+        &[u64::from(directory.rva), u64::from(directory.size)],
+        &[0x2000, 0x0c],
+    );
+}
+
+#[test]
+fn every_vector_is_read_field_by_field(rt: HostRuntime) {
+    for vector in VECTORS {
+        let _ = assert_headers(&rt, &file_of(&rt, rt.alloc(), vector));
+    }
 }
 
 /// V1 at the last value that passes each of faults 2 to 5 and at the first that does not.
@@ -509,67 +523,63 @@ fn header_fault(file: &[u8]) -> Option<Fault> {
 
 // Fault 1 needs a file of more than 2^32 bytes, so no test asks it; that it is asked first, at its place, is proved.
 #[test]
-fn each_fault_stands_from_its_boundary_on(rt: HostRuntime) -> Result<(), Fail> {
-    let file = v1(rt.alloc())?;
-    assert_cases(&rt, &file, SIGNATURES, header_fault);
-    assert_cases(&rt, &file, FORMS, header_fault);
-    assert_cases(&rt, &file, SIZES, header_fault);
-    Ok(())
+fn each_fault_stands_from_its_boundary_on(rt: HostRuntime) {
+    let file = file_of(&rt, rt.alloc(), Vector::V1);
+    for cases in [SIGNATURES, FORMS, SIZES] {
+        assert_cases(&rt, &file, cases, header_fault);
+    }
 }
 
 #[test]
-fn the_least_fault_counts(rt: HostRuntime) -> Result<(), Fail> {
-    assert_cases(&rt, &v1(rt.alloc())?, LEAST, header_fault);
-    Ok(())
+fn the_least_fault_counts(rt: HostRuntime) {
+    let file = file_of(&rt, rt.alloc(), Vector::V1);
+    assert_cases(&rt, &file, LEAST, header_fault);
 }
 
 #[test]
-fn each_fault_of_pe32_plus_stands_from_its_boundary_on(rt: HostRuntime) -> Result<(), Fail> {
-    assert_cases(&rt, &v3(rt.alloc())?, PE32_PLUS, header_fault);
-    Ok(())
+fn each_fault_of_pe32_plus_stands_from_its_boundary_on(rt: HostRuntime) {
+    let file = file_of(&rt, rt.alloc(), Vector::V3);
+    assert_cases(&rt, &file, PE32_PLUS, header_fault);
 }
 
 #[test]
-fn a_number_of_directories_over_16_is_kept_and_gives_16(rt: HostRuntime) -> Result<(), Fail> {
-    let mut file = v1(rt.alloc())?;
-    put_pieces(&rt, &mut file, &[(0xb4, &[0xff, 0xff, 0xff, 0xff])]);
-    let headers = read_headers(View::new(&file), 0)?;
-    assert_eq!(rt; headers.number_of_rva_and_sizes, 0xffff_ffff);
-    assert_eq!(rt; headers.directories.len(), 16);
-    Ok(())
+fn a_number_of_directories_over_16_is_kept_and_gives_16(rt: HostRuntime) {
+    let pieces: &[Piece] = &[(0xb4, &[0xff, 0xff, 0xff, 0xff])];
+    let file = changed(&rt, &file_of(&rt, rt.alloc(), Vector::V1), pieces);
+    let headers = headers_of(&rt, &file);
+    assert_holds(&rt, 0, headers.number_of_rva_and_sizes == 0xffff_ffff);
+    assert_holds(&rt, 0, headers.directories.len() == 16);
 }
 
 #[test]
-fn ninety_six_sections_are_read(rt: HostRuntime) -> Result<(), Fail> {
+fn ninety_six_sections_are_read(rt: HostRuntime) {
     let mut file = [0; 0x1200];
-    put(&mut file, 0, &v1(rt.alloc())?);
-    put_pieces(
-        &rt,
-        &mut file,
-        &[(0x46, &[0x60]), (0x94, &[0x38, 0x10]), (0x1010, b".last")],
-    );
-    let headers = assert_headers(&rt, &file)?;
-    assert_eq!(rt; headers.sections.len(), 96);
-    assert_eq!(rt;
-        headers.sections.as_slice().last().map(|s| s.name),
-        Some(*b".last\0\0\0")
-    );
-    Ok(())
+    put(&mut file, 0, &file_of(&rt, rt.alloc(), Vector::V1));
+    let pieces: &[Piece] = &[(0x46, &[0x60]), (0x94, &[0x38, 0x10]), (0x1010, b".last")];
+    put_pieces(&rt, &mut file, pieces);
+    let headers = assert_headers(&rt, &file);
+    let sections = headers.sections.as_slice();
+    assert_holds(&rt, 0, sections.len() == 96);
+    let last = sections.last().expect(&rt, "a section");
+    assert_holds(&rt, 0, last.name == *b".last\0\0\0");
 }
 
 #[test]
-fn the_signature_may_stand_anywhere(rt: HostRuntime) -> Result<(), Fail> {
-    let vector = v1(rt.alloc())?;
+fn the_signature_may_stand_anywhere(rt: HostRuntime) {
+    let vector = changed(&rt, &file_of(&rt, rt.alloc(), Vector::V1), &[]);
     // Up to 0x18 the field at 0x3c is one with fields of the optional header.
     for pe_offset in [2_u8, 4, 5, 0x18, 0x41, 0xe0] {
         let mut file = [0; 0x400];
         put(&mut file, 0, b"MZ");
         put(&mut file, usize::from(pe_offset), &vector[0x40..0x160]);
         put(&mut file, 0x3c, &[pe_offset, 0, 0, 0]);
-        let headers = assert_headers(&rt, &file)?;
-        assert_eq!(rt; headers.pe_offset, u32::from(pe_offset));
+        let headers = assert_headers(&rt, &file);
+        assert_holds(
+            &rt,
+            usize::from(pe_offset),
+            headers.pe_offset == u32::from(pe_offset),
+        );
     }
-    Ok(())
 }
 
 /// VirtualSize, SizeOfRawData and PointerToRawData of a section, and its extent and rawlen.
@@ -595,20 +605,24 @@ const LENGTHS: &[[u32; 5]] = &[
 
 #[test]
 fn a_section_takes_its_extent_and_the_file_holds_rawlen_of_it(rt: HostRuntime) {
-    for [
-        virtual_size,
-        size_of_raw_data,
-        pointer_to_raw_data,
-        extent,
-        rawlen,
-    ] in LENGTHS {
+    for (index, lengths) in LENGTHS.iter().enumerate() {
         let section = SectionHeader {
-            virtual_size: *virtual_size,
-            size_of_raw_data: *size_of_raw_data,
-            pointer_to_raw_data: *pointer_to_raw_data,
+            virtual_size: lengths[0],
+            size_of_raw_data: lengths[1],
+            pointer_to_raw_data: lengths[2],
             ..SectionHeader::default()
         };
-        assert_eq!(rt; section.extent(), *extent, "of {section:?}");
-        assert_eq!(rt; section.rawlen(), *rawlen, "of {section:?}");
+        assert_number(
+            &rt,
+            index,
+            u64::from(section.extent()),
+            u64::from(lengths[3]),
+        );
+        assert_number(
+            &rt,
+            index,
+            u64::from(section.rawlen()),
+            u64::from(lengths[4]),
+        );
     }
 }

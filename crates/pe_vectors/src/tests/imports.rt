@@ -1,14 +1,13 @@
 //! What `pe_tables` reads of import tables.
 
-use super::files::{IMAGE, Piece, put, put_pieces};
-use super::keys::same_key;
-use crate::{v1, vc, vd};
-use pe_layout::Layout;
-use pe_tables::{Import, Key, TableError, read_imports};
-use pe_view::{Fault, Place, View};
+use super::files::{
+    Piece, Vector, assert_holds, assert_number, assert_refused, changed, file_of, layout_of,
+    push_number, with_data,
+};
+use super::keys::same_import;
+use pe_tables::{Import, Key, read_imports};
 use std::alloc::Global;
 use std::process::Abort;
-use std::test::Fail;
 
 /// A file changed, and its imports or the fault that stands, by number and RVA.
 type Case = (
@@ -16,44 +15,32 @@ type Case = (
     Result<&'static [Import<'static>], (u16, u32)>,
 );
 
-/// A fault of the image at an RVA.
-fn fault(number: u16, rva: u32) -> Fault {
-    Fault {
-        number,
-        image: IMAGE,
-        place: Place::Rva(rva),
+/// Whether two lists have the same imports.
+fn same_imports(found: &[Import], expected: &[Import]) -> bool {
+    if found.len() != expected.len() {
+        return false;
     }
-}
-
-/// Asserts that a case has these imports.
-fn assert_listed(rt: &impl Abort, found: &[Import], expected: &[Import], index: usize) {
-    assert_eq!(rt; found.len(), expected.len(), "in case {index}");
-    for (import, other) in found.iter().zip(expected.iter()) {
-        assert!(rt; *import.module == *other.module, "in case {index}");
-        assert!(rt; same_key(&import.key, &other.key), "in case {index}");
-        assert_eq!(rt; import.slot, other.slot, "in case {index}");
-    }
-}
-
-/// Asserts what a file of at most 0x600 bytes is read as in each case.
-fn assert_imports(rt: &impl Abort, alloc: Global, file: &[u8], cases: &[Case]) -> Result<(), Fail> {
-    for (index, (pieces, expected)) in cases.iter().enumerate() {
-        let mut changed = [0; 0x600];
-        assert!(rt; file.len() <= 0x600);
-        put(&mut changed, 0, file);
-        put_pieces(rt, &mut changed, pieces);
-        let layout = Layout::new(View::new(&changed), IMAGE)?;
-        let found = read_imports(alloc, &layout);
-        match *expected {
-            Ok(imports) => assert_listed(rt, &found?, imports, index),
-            Err((number, rva)) => assert_eq!(rt;
-                found.err(),
-                Some(TableError::Fault(fault(number, rva))),
-                "in case {index}"
-            ),
+    for index in 0..found.len() {
+        if !same_import(&found[index], &expected[index]) {
+            return false;
         }
     }
-    Ok(())
+    true
+}
+
+/// Asserts what a file is read as in each case.
+fn assert_imports(rt: &impl Abort, alloc: Global, vector: Vector, cases: &[Case]) {
+    for (index, (pieces, expected)) in cases.iter().enumerate() {
+        let file = changed(rt, &file_of(rt, alloc, vector), pieces);
+        let found = read_imports(alloc, &layout_of(rt, &file));
+        match *expected {
+            Ok(imports) => {
+                let found = found.expect(rt, "imports");
+                assert_holds(rt, index, same_imports(&found, imports));
+            }
+            Err(at) => assert_refused(rt, index, found.err(), at),
+        }
+    }
 }
 
 /// The import of VC, of the name `f`.
@@ -124,8 +111,8 @@ const DESCRIPTORS: &[Case] = &[
 ];
 
 #[test]
-fn a_descriptor(rt: HostRuntime) -> Result<(), Fail> {
-    assert_imports(&rt, rt.alloc(), &vc(rt.alloc())?, DESCRIPTORS)
+fn a_descriptor(rt: HostRuntime) {
+    assert_imports(&rt, rt.alloc(), Vector::Vc, DESCRIPTORS);
 }
 
 /// VC, in cases of the entry of its lookup table at 0x1028, and of its slot.
@@ -217,8 +204,8 @@ const ENTRIES: &[Case] = &[
 ];
 
 #[test]
-fn lookup_entries(rt: HostRuntime) -> Result<(), Fail> {
-    assert_imports(&rt, rt.alloc(), &vc(rt.alloc())?, ENTRIES)
+fn lookup_entries(rt: HostRuntime) {
+    assert_imports(&rt, rt.alloc(), Vector::Vc, ENTRIES);
 }
 
 /// VC with a second descriptor, which has the same lookup table and another address table.
@@ -312,8 +299,8 @@ const TWO_DESCRIPTORS: &[Case] = &[
 ];
 
 #[test]
-fn two_descriptors(rt: HostRuntime) -> Result<(), Fail> {
-    assert_imports(&rt, rt.alloc(), &vc(rt.alloc())?, TWO_DESCRIPTORS)
+fn two_descriptors(rt: HostRuntime) {
+    assert_imports(&rt, rt.alloc(), Vector::Vc, TWO_DESCRIPTORS);
 }
 
 /// The import of VD.
@@ -409,56 +396,59 @@ const WIDE_ENTRIES: &[Case] = &[
 ];
 
 #[test]
-fn entries_of_pe32_plus_have_eight_bytes(rt: HostRuntime) -> Result<(), Fail> {
-    assert_imports(&rt, rt.alloc(), &vd(rt.alloc())?, WIDE_ENTRIES)
+fn entries_of_pe32_plus_have_eight_bytes(rt: HostRuntime) {
+    assert_imports(&rt, rt.alloc(), Vector::Vd, WIDE_ENTRIES);
 }
 
 #[test]
-fn an_image_without_the_table_imports_nothing(rt: HostRuntime) -> Result<(), Fail> {
-    assert_imports(&rt, rt.alloc(), &v1(rt.alloc())?, &[(&[], Ok(&[]))])
+fn an_image_without_the_table_imports_nothing(rt: HostRuntime) {
+    assert_imports(&rt, rt.alloc(), Vector::V1, &[(&[], Ok(&[]))]);
 }
 
 /// How many imports an image may have.
 const MOST: u32 = 1_048_576;
 
-/// An image of 0x1000000 bytes that imports so many ordinals of one module, each ordinal 1: its lookup table is at 0x1030.
-fn many_imports(rt: &impl Abort, alloc: Global, count: u32) -> Result<Vec<u8>, Fail> {
+/// A table at 0x1000 that imports so many ordinals of one module, each ordinal 1: its lookup table is at 0x1030.
+fn many_imports(rt: &impl Abort, alloc: Global, count: u32) -> Vec<u8> {
     let mut table = Vec::new(alloc);
     for field in [0x1030, 0, 0, 0x1028, 0x80_0000, 0, 0, 0, 0, 0, 0x61, 0] {
-        table.extend_from_slice(&u32::to_le_bytes(field))?;
+        push_number(rt, &mut table, field);
     }
     for _ in 0..count {
-        table.extend_from_slice(&0x8000_0001_u32.to_le_bytes())?;
+        push_number(rt, &mut table, 0x8000_0001);
     }
-    table.extend_from_slice(&[0; 4])?;
-    let size = u32::try_from(table.len())?;
-    let mut file = v1(alloc)?;
-    assert!(rt; file.len() == 0x400);
-    put(&mut file, 0x90, &0x100_0000_u32.to_le_bytes());
-    put(&mut file, 0xc0, &0x1000_u32.to_le_bytes());
-    put(&mut file, 0x140, &size.to_le_bytes());
-    put(&mut file, 0x148, &size.to_le_bytes());
-    file.truncate(0x200);
-    file.extend_from_slice(&table)?;
-    Ok(file)
+    push_number(rt, &mut table, 0);
+    table
+}
+
+/// The image of 0x1000000 bytes with this table.
+fn file_with(rt: &impl Abort, alloc: Global, table: &[u8]) -> Vec<u8> {
+    with_data(
+        rt,
+        alloc,
+        &[(0x91, &[0x00, 0x00, 0x01]), (0xc1, &[0x10])],
+        table,
+    )
 }
 
 #[test]
-fn an_import_over_the_limit_is_refused(rt: HostRuntime) -> Result<(), Fail> {
-    let file = many_imports(&rt, rt.alloc(), MOST)?;
-    let layout = Layout::new(View::new(&file), IMAGE)?;
-    let imports = read_imports(rt.alloc(), &layout)?;
-    assert_eq!(rt; imports.len(), 1_048_576);
+fn as_many_imports_as_the_limit_are_read(rt: HostRuntime) {
+    let table = many_imports(&rt, rt.alloc(), MOST);
+    let file = file_with(&rt, rt.alloc(), &table);
+    let imports = read_imports(rt.alloc(), &layout_of(&rt, &file)).expect(&rt, "imports");
+    assert_number(&rt, 0, imports.len() as u64, 1_048_576);
     let last = Import {
         module: b"a",
         key: Key::Ordinal(1),
         slot: 0xbf_fffc,
     };
-    assert_eq!(rt; imports.last(), Some(&last));
+    assert_holds(&rt, 0, imports.last() == Some(&last));
+}
 
-    let file = many_imports(&rt, rt.alloc(), MOST + 1)?;
-    let layout = Layout::new(View::new(&file), IMAGE)?;
-    let found = read_imports(rt.alloc(), &layout);
-    assert_eq!(rt; found.err(), Some(TableError::Fault(fault(31, 0x40_1030))));
-    Ok(())
+#[test]
+fn an_import_over_the_limit_is_refused(rt: HostRuntime) {
+    let table = many_imports(&rt, rt.alloc(), MOST + 1);
+    let file = file_with(&rt, rt.alloc(), &table);
+    let found = read_imports(rt.alloc(), &layout_of(&rt, &file));
+    assert_refused(&rt, 0, found.err(), (31, 0x40_1030));
 }

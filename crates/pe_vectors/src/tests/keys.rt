@@ -1,6 +1,6 @@
-//! Keys and targets of different origin, compared by what they say.
+//! Keys, targets and imports of different origin, compared by what they say.
 
-use pe_tables::{Key, Target};
+use pe_tables::{Import, Key, Target};
 
 pub(super) fn same_key(key: &Key, other: &Key) -> bool {
     match (key, other) {
@@ -22,4 +22,10 @@ pub(super) fn same_target(target: &Target, other: &Target) -> bool {
         ) => **module == **other && same_key(key, other_key),
         _ => false,
     }
+}
+
+pub(super) fn same_import(import: &Import, other: &Import) -> bool {
+    *import.module == *other.module
+        && same_key(&import.key, &other.key)
+        && import.slot == other.slot
 }

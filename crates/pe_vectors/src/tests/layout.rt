@@ -1,15 +1,14 @@
 //! What `pe_layout` shows of laid-out images.
 
 use super::files::{
-    Case, IMAGE, Piece, assert_cases, bytes_from, number, put, put_pieces, vectors,
+    Case, IMAGE, Piece, VECTORS, Vector, assert_cases, assert_holds, bytes_from, changed, file_of,
+    layout_of, number, put, put_pieces,
 };
-use crate::{v1, v2, v3};
 use pe_head::Directory;
 use pe_layout::{Layout, Located};
 use pe_view::{Fault, View};
 use std::alloc::Global;
 use std::process::Abort;
-use std::test::Fail;
 
 /// The number of 4 bytes at an offset.
 fn word(rt: &impl Abort, file: &[u8], offset: usize) -> u64 {
@@ -38,12 +37,12 @@ fn lay_section(rt: &impl Abort, image: &mut [u8], file: &[u8], header: &[u8]) {
 }
 
 /// The laid-out image of a file, by the rule: the headers, each section's raw bytes at its place, and zeros.
-fn laid_out(rt: &impl Abort, alloc: Global, file: &[u8]) -> Result<Vec<u8>, Fail> {
+fn laid_out(rt: &impl Abort, alloc: Global, file: &[u8]) -> Vec<u8> {
     let signature = bytes_from(rt, file, word(rt, file, 0x3c) as usize);
     let optional = bytes_from(rt, signature, 24);
     let size_of_image = word(rt, optional, 56) as usize;
     let size_of_headers = word(rt, optional, 60) as usize;
-    let mut image = vec![in alloc; 0; size_of_image]?;
+    let mut image = vec![in alloc; 0; size_of_image].expect(rt, "memory");
     assert!(rt; size_of_headers <= file.len() && size_of_headers <= image.len());
     put(&mut image, 0, &file[..size_of_headers]);
     let mut table = bytes_from(rt, optional, number(rt, signature, 20, 2) as usize);
@@ -51,34 +50,30 @@ fn laid_out(rt: &impl Abort, alloc: Global, file: &[u8]) -> Result<Vec<u8>, Fail
         lay_section(rt, &mut image, file, table);
         table = bytes_from(rt, table, 40);
     }
-    Ok(image)
+    image
 }
 
-/// Asserts that the byte at each RVA is the one that the rule lays there, and that none follows.
-fn assert_bytes(rt: &impl Abort, layout: &Layout, image: &[u8]) -> Result<(), Fail> {
-    for (rva, byte) in image.iter().enumerate() {
-        assert_eq!(rt;
-            layout.byte(u32::try_from(rva)?),
-            Some(*byte),
-            "at {rva:#x}"
-        );
+/// Whether the byte at each RVA is the one that the rule lays there, and none follows.
+fn has_bytes(layout: &Layout, image: &[u8]) -> bool {
+    let size = layout.size();
+    if size as usize != image.len() {
+        return false;
     }
-    assert_eq!(rt; layout.byte(u32::try_from(image.len())?), None);
-    assert_eq!(rt; layout.byte(0xffff_ffff), None);
-    Ok(())
+    for rva in 0..size {
+        if layout.byte(rva) != Some(image[rva as usize]) {
+            return false;
+        }
+    }
+    layout.byte(size).is_none() && layout.byte(0xffff_ffff).is_none()
 }
 
 #[test]
-fn each_byte_of_each_vector_is_the_one_that_the_rule_lays_there(
-    rt: HostRuntime,
-) -> Result<(), Fail> {
-    for file in &vectors(rt.alloc())? {
-        let layout = Layout::new(View::new(file), IMAGE)?;
-        let image = laid_out(&rt, rt.alloc(), file)?;
-        assert_bytes(&rt, &layout, &image)?;
-        assert_eq!(rt; u64::from(layout.size()), image.len() as u64);
+fn each_byte_of_each_vector_is_the_one_that_the_rule_lays_there(rt: HostRuntime) {
+    for (index, vector) in VECTORS.iter().enumerate() {
+        let file = file_of(&rt, rt.alloc(), *vector);
+        let image = laid_out(&rt, rt.alloc(), &file);
+        assert_holds(&rt, index, has_bytes(&layout_of(&rt, &file), &image));
     }
-    Ok(())
 }
 
 /// V1 in the cases of faults 13 to 15, and of faults of the headers that come before them.
@@ -196,115 +191,121 @@ fn layout_fault(file: &[u8]) -> Option<Fault> {
 }
 
 #[test]
-fn a_slot_has_four_bytes_in_pe32_and_eight_in_pe32_plus(rt: HostRuntime) -> Result<(), Fail> {
-    let file = v2(rt.alloc())?;
-    assert_eq!(rt; Layout::new(View::new(&file), IMAGE)?.slot_width(), 4);
-    let file = v3(rt.alloc())?;
-    assert_eq!(rt; Layout::new(View::new(&file), IMAGE)?.slot_width(), 8);
-    Ok(())
-}
-
-#[test]
-fn each_section_fault_stands_from_its_boundary_on(rt: HostRuntime) -> Result<(), Fail> {
-    assert_cases(&rt, &v1(rt.alloc())?, ONE_SECTION, layout_fault);
-    assert_cases(&rt, &v2(rt.alloc())?, TWO_SECTIONS, layout_fault);
-    Ok(())
-}
-
-#[test]
-fn a_layout_shows_its_headers_and_its_number(rt: HostRuntime) -> Result<(), Fail> {
-    let file = v1(rt.alloc())?;
-    let layout = Layout::new(View::new(&file), IMAGE)?;
-    assert_eq!(rt; layout.image(), IMAGE);
-    assert_eq!(rt; layout.headers().image_base, 0x1000_0000);
-    Ok(())
-}
-
-#[test]
-fn bytes_past_virtual_size_are_zero_although_the_file_has_them(
-    rt: HostRuntime,
-) -> Result<(), Fail> {
-    let file = v1(rt.alloc())?;
-    let layout = Layout::new(View::new(&file), IMAGE)?;
-    assert_eq!(rt; layout.byte(0x100f), Some(0x0f));
-    assert_eq!(rt; layout.byte(0x1010), Some(0));
-    assert_eq!(rt; file.get(0x210).copied(), Some(0x10));
-    Ok(())
-}
-
-#[test]
-fn a_virtual_size_of_0_stands_for_the_size_of_raw_data(rt: HostRuntime) -> Result<(), Fail> {
-    let mut file = v1(rt.alloc())?;
-    put_pieces(&rt, &mut file, &[(0x140, &[0x00])]);
-    let layout = Layout::new(View::new(&file), IMAGE)?;
-    assert_eq!(rt; layout.byte(0x11ff), Some(0xff));
-    assert_eq!(rt; layout.byte(0x1200), Some(0));
-    assert_eq!(rt; layout.locate(0x1200), Located::Gap);
-    Ok(())
-}
-
-/// An RVA, and what stands there.
-type Place = (u32, Located);
-
-/// Asserts what `locate` answers.
-fn assert_located(rt: &impl Abort, layout: &Layout, places: &[Place]) {
-    for (rva, expected) in places {
-        assert_eq!(rt; layout.locate(*rva), *expected, "at {rva:#x}");
+fn a_slot_has_four_bytes_in_pe32_and_eight_in_pe32_plus(rt: HostRuntime) {
+    for (vector, width) in [(Vector::V2, 4), (Vector::V3, 8)] {
+        let file = file_of(&rt, rt.alloc(), vector);
+        assert_holds(&rt, 0, layout_of(&rt, &file).slot_width() == width);
     }
 }
 
 #[test]
-fn locate_names_the_piece_and_the_file_offset(rt: HostRuntime) -> Result<(), Fail> {
-    let mut file = v2(rt.alloc())?;
-    // `.data` gets 0x300 bytes of the image, of which the file holds 0x200.
-    put_pieces(&rt, &mut file, &[(0x140, &[0x00, 0x03])]);
-    let layout = Layout::new(View::new(&file), IMAGE)?;
-    assert_located(
-        &rt,
-        &layout,
-        &[
-            (0, Located::Header { file: 0 }),
-            (0x1ff, Located::Header { file: 0x1ff }),
-            (0x200, Located::Gap),
-            (0xfff, Located::Gap),
-            (
-                0x1000,
-                Located::Raw {
-                    section: 0,
-                    file: 0x200,
-                },
-            ),
-            (
-                0x11ff,
-                Located::Raw {
-                    section: 0,
-                    file: 0x3ff,
-                },
-            ),
-            (0x1200, Located::Zero { section: 0 }),
-            (0x12ff, Located::Zero { section: 0 }),
-            (0x1300, Located::Gap),
-            (
-                0x2000,
-                Located::Raw {
-                    section: 1,
-                    file: 0x400,
-                },
-            ),
-            (
-                0x200b,
-                Located::Raw {
-                    section: 1,
-                    file: 0x40b,
-                },
-            ),
-            (0x200c, Located::Gap),
-            (0x2fff, Located::Gap),
-            (0x3000, Located::Outside),
-            (0xffff_ffff, Located::Outside),
-        ],
-    );
-    Ok(())
+fn each_section_fault_stands_from_its_boundary_on(rt: HostRuntime) {
+    let file = file_of(&rt, rt.alloc(), Vector::V1);
+    assert_cases(&rt, &file, ONE_SECTION, layout_fault);
+    let file = file_of(&rt, rt.alloc(), Vector::V2);
+    assert_cases(&rt, &file, TWO_SECTIONS, layout_fault);
+}
+
+#[test]
+fn a_layout_shows_its_headers_and_its_number(rt: HostRuntime) {
+    let file = file_of(&rt, rt.alloc(), Vector::V1);
+    let layout = layout_of(&rt, &file);
+    assert_holds(&rt, 0, layout.image() == IMAGE);
+    assert_holds(&rt, 0, layout.headers().image_base == 0x1000_0000);
+}
+
+/// V1 changed, an RVA, and the byte and what stands there.
+type Byte = (&'static [Piece], u32, Option<u8>, Located);
+
+const BYTES: &[Byte] = &[
+    (
+        &[],
+        0x100f,
+        Some(0x0f),
+        Located::Raw {
+            section: 0,
+            file: 0x20f,
+        },
+    ),
+    // a byte past VirtualSize is zero, although the file has 0x10 there
+    (&[(0x210, &[0x10])], 0x1010, Some(0), Located::Gap),
+    // a VirtualSize of 0 stands for SizeOfRawData
+    (
+        &[(0x140, &[0x00])],
+        0x11ff,
+        Some(0xff),
+        Located::Raw {
+            section: 0,
+            file: 0x3ff,
+        },
+    ),
+    (&[(0x140, &[0x00])], 0x1200, Some(0), Located::Gap),
+    // the largest image ends at 2^31
+    (LARGEST, 0x7fff_ffff, Some(0), Located::Gap),
+    (LARGEST, 0x8000_0000, None, Located::Outside),
+];
+
+#[test]
+fn a_byte_and_what_stands_there(rt: HostRuntime) {
+    for (index, (pieces, rva, byte, located)) in BYTES.iter().enumerate() {
+        let file = changed(&rt, &file_of(&rt, rt.alloc(), Vector::V1), pieces);
+        let layout = layout_of(&rt, &file);
+        assert_holds(&rt, index, layout.byte(*rva) == *byte);
+        assert_holds(&rt, index, layout.locate(*rva) == *located);
+    }
+}
+
+/// V2 where `.data` has 0x300 bytes of the image, of which the file holds 0x200: an RVA, and what stands there.
+const PLACES: &[(u32, Located)] = &[
+    (0, Located::Header { file: 0 }),
+    (0x1ff, Located::Header { file: 0x1ff }),
+    (0x200, Located::Gap),
+    (0xfff, Located::Gap),
+    (
+        0x1000,
+        Located::Raw {
+            section: 0,
+            file: 0x200,
+        },
+    ),
+    (
+        0x11ff,
+        Located::Raw {
+            section: 0,
+            file: 0x3ff,
+        },
+    ),
+    (0x1200, Located::Zero { section: 0 }),
+    (0x12ff, Located::Zero { section: 0 }),
+    (0x1300, Located::Gap),
+    (
+        0x2000,
+        Located::Raw {
+            section: 1,
+            file: 0x400,
+        },
+    ),
+    (
+        0x200b,
+        Located::Raw {
+            section: 1,
+            file: 0x40b,
+        },
+    ),
+    (0x200c, Located::Gap),
+    (0x2fff, Located::Gap),
+    (0x3000, Located::Outside),
+    (0xffff_ffff, Located::Outside),
+];
+
+#[test]
+fn locate_names_the_piece_and_the_file_offset(rt: HostRuntime) {
+    let pieces: &[Piece] = &[(0x140, &[0x00, 0x03])];
+    let file = changed(&rt, &file_of(&rt, rt.alloc(), Vector::V2), pieces);
+    let layout = layout_of(&rt, &file);
+    for (rva, expected) in PLACES {
+        assert_holds(&rt, *rva as usize, layout.locate(*rva) == *expected);
+    }
 }
 
 /// What V2 becomes where `.reloc` begins at the end of `.data`, and the headers' last byte is not zero.
@@ -375,45 +376,32 @@ const AT_THE_LARGEST_END: &[Numbers] = &[
     (0x8000_0000, None, None, None),
 ];
 
-/// Asserts the numbers of a file with changed pieces.
-fn assert_numbers(
-    rt: &impl Abort,
-    file: &mut [u8],
-    pieces: &[Piece],
-    numbers: &[Numbers],
-) -> Result<(), Fail> {
-    put_pieces(rt, file, pieces);
-    let layout = Layout::new(View::new(file), IMAGE)?;
+/// A file changed, and its numbers.
+const NUMBERS: &[(Vector, &[Piece], &[Numbers])] = &[
+    (Vector::V2, TOUCHING, CROSSING),
+    (Vector::V1, &[(0x90, &[0x10, 0x10, 0x00, 0x00])], AT_THE_END),
+    (Vector::V1, LARGEST, AT_THE_LARGEST_END),
+];
+
+/// Asserts the numbers of a layout.
+fn assert_numbers(rt: &impl Abort, layout: &Layout, numbers: &[Numbers]) {
     for (rva, two, four, eight) in numbers {
-        assert_eq!(rt; layout.u16_at(*rva), *two, "at {rva:#x}");
-        assert_eq!(rt; layout.u32_at(*rva), *four, "at {rva:#x}");
-        assert_eq!(rt; layout.u64_at(*rva), *eight, "at {rva:#x}");
+        assert_holds(rt, *rva as usize, layout.u16_at(*rva) == *two);
+        assert_holds(rt, *rva as usize, layout.u32_at(*rva) == *four);
+        assert_holds(rt, *rva as usize, layout.u64_at(*rva) == *eight);
     }
-    Ok(())
 }
 
 #[test]
-fn numbers_cross_pieces_and_end_with_the_image(rt: HostRuntime) -> Result<(), Fail> {
-    assert_numbers(&rt, &mut v2(rt.alloc())?, TOUCHING, CROSSING)?;
-    let small: &[Piece] = &[(0x90, &[0x10, 0x10, 0x00, 0x00])];
-    assert_numbers(&rt, &mut v1(rt.alloc())?, small, AT_THE_END)?;
-    assert_numbers(&rt, &mut v1(rt.alloc())?, LARGEST, AT_THE_LARGEST_END)
+fn numbers_cross_pieces_and_end_with_the_image(rt: HostRuntime) {
+    for (vector, pieces, numbers) in NUMBERS {
+        let file = changed(&rt, &file_of(&rt, rt.alloc(), *vector), pieces);
+        assert_numbers(&rt, &layout_of(&rt, &file), numbers);
+    }
 }
 
 /// What gives a file the largest SizeOfImage, 2^31.
 const LARGEST: &[Piece] = &[(0x90, &[0x00, 0x00, 0x00, 0x80])];
-
-#[test]
-fn the_largest_image_ends_at_2_to_the_31(rt: HostRuntime) -> Result<(), Fail> {
-    let mut file = v1(rt.alloc())?;
-    put_pieces(&rt, &mut file, LARGEST);
-    let layout = Layout::new(View::new(&file), IMAGE)?;
-    assert_eq!(rt; layout.byte(0x7fff_ffff), Some(0));
-    assert_eq!(rt; layout.byte(0x8000_0000), None);
-    assert_eq!(rt; layout.locate(0x7fff_ffff), Located::Gap);
-    assert_eq!(rt; layout.locate(0x8000_0000), Located::Outside);
-    Ok(())
-}
 
 /// An RVA, and the text there.
 type Text = (u32, Option<&'static [u8]>);
@@ -427,20 +415,11 @@ fn is_same_text(first: Option<&[u8]>, second: Option<&[u8]>) -> bool {
     }
 }
 
-/// Asserts the texts of a file with changed pieces.
-fn assert_texts(
-    rt: &impl Abort,
-    file: &mut [u8],
-    pieces: &[Piece],
-    texts: &[Text],
-) -> Result<(), Fail> {
-    put_pieces(rt, file, pieces);
-    let layout = Layout::new(View::new(file), IMAGE)?;
+/// Asserts the texts of a layout.
+fn assert_texts(rt: &impl Abort, layout: &Layout, texts: &[Text]) {
     for (rva, text) in texts {
-        let found = layout.name_at(*rva);
-        assert!(rt; is_same_text(found, *text), "{found:?} at {rva:#x}");
+        assert_holds(rt, *rva as usize, is_same_text(layout.name_at(*rva), *text));
     }
-    Ok(())
 }
 
 /// Texts of V1 with text at the end of the headers, and at the beginning and the end of `.data`.
@@ -477,30 +456,30 @@ const ZERO_FILLED: &[Text] = &[
     (0x1300, Some(b"")),
 ];
 
-#[test]
-fn a_text_ends_inside_its_piece(rt: HostRuntime) -> Result<(), Fail> {
-    let texts: &[Piece] = &[(0x1fe, b"ab"), (0x200, b"name\0"), (0x20e, b"xy")];
-    assert_texts(&rt, &mut v1(rt.alloc())?, texts, TEXTS)?;
-    assert_texts(
-        &rt,
-        &mut v1(rt.alloc())?,
-        &[(0x140, &[0x00, 0x03])],
-        ZERO_FILLED,
-    )?;
+/// A file changed, and its texts.
+const NAMED: &[(Vector, &[Piece], &[Text])] = &[
+    (
+        Vector::V1,
+        &[(0x1fe, b"ab"), (0x200, b"name\0"), (0x20e, b"xy")],
+        TEXTS,
+    ),
+    (Vector::V1, &[(0x140, &[0x00, 0x03])], ZERO_FILLED),
     // a zero byte of the next piece ends no text, though no gap stands between
-    assert_texts(
-        &rt,
-        &mut v2(rt.alloc())?,
-        TOUCHING,
-        &[(0x100e, None), (0x1010, Some(b""))],
-    )?;
+    (Vector::V2, TOUCHING, &[(0x100e, None), (0x1010, Some(b""))]),
     // a section without raw data is all zeros
-    assert_texts(
-        &rt,
-        &mut v1(rt.alloc())?,
+    (
+        Vector::V1,
         &[(0x14c, &[0x00, 0x00])],
         &[(0x1001, Some(b""))],
-    )
+    ),
+];
+
+#[test]
+fn a_text_ends_inside_its_piece(rt: HostRuntime) {
+    for (vector, pieces, texts) in NAMED {
+        let file = changed(&rt, &file_of(&rt, rt.alloc(), *vector), pieces);
+        assert_texts(&rt, &layout_of(&rt, &file), texts);
+    }
 }
 
 /// Changes of V2, the index of a directory, and its RVA and Size; None where it is absent.
@@ -532,18 +511,22 @@ const DIRECTORIES: &[Present] = &[
     ),
 ];
 
-#[test]
-fn a_directory_is_present_where_the_headers_hold_it_and_its_rva_is_not_0(
-    rt: HostRuntime,
-) -> Result<(), Fail> {
-    for (pieces, index, expected) in DIRECTORIES {
-        let mut file = v2(rt.alloc())?;
-        put_pieces(&rt, &mut file, pieces);
-        let layout = Layout::new(View::new(&file), IMAGE)?;
-        let expected = expected.map(|(rva, size)| Directory { rva, size });
-        assert_eq!(rt; layout.directory(*index), expected, "at {index}");
+/// Whether a directory is the one of this RVA and Size, or both are absent.
+fn is_directory(found: Option<Directory>, expected: Option<(u32, u32)>) -> bool {
+    match (found, expected) {
+        (Some(found), Some((rva, size))) => found.rva == rva && found.size == size,
+        (None, None) => true,
+        _ => false,
     }
-    Ok(())
+}
+
+#[test]
+fn a_directory_is_present_where_the_headers_hold_it_and_its_rva_is_not_0(rt: HostRuntime) {
+    for (case, (pieces, index, expected)) in DIRECTORIES.iter().enumerate() {
+        let file = changed(&rt, &file_of(&rt, rt.alloc(), Vector::V2), pieces);
+        let found = layout_of(&rt, &file).directory(*index);
+        assert_holds(&rt, case, is_directory(found, *expected));
+    }
 }
 
 /// A small image: headers up to 0x16e, then two sections that touch, an empty one, one without raw data, one whose raw
@@ -595,42 +578,47 @@ const SMALL: &[Piece] = &[
     (0x16c, b"abcdefghijklmnopqrst"),
 ];
 
-/// Asserts what `fill` answers for a range and leaves in the buffer, where `image` has the bytes of the laid-out image.
-fn assert_filled(
-    rt: &impl Abort,
-    layout: &Layout,
-    image: &[u8],
-    rva: usize,
-    len: usize,
-) -> Result<(), Fail> {
-    let mut buffer = [0xee; 0x1a0];
-    assert!(rt; len <= buffer.len());
-    let filled = layout.fill(u32::try_from(rva)?, &mut buffer[..len]);
-    if rva <= image.len() && len <= image.len() - rva {
-        assert!(rt; filled, "{len} at {rva:#x}");
-        assert!(rt; buffer[..len] == image[rva..rva + len], "{len} at {rva:#x}");
-    } else {
-        assert!(rt; !filled, "{len} at {rva:#x}");
-        assert!(rt;
-            buffer[..len].iter().all(|byte| *byte == 0xee),
-            "{len} at {rva:#x}"
-        );
+/// Whether no byte of a buffer was written.
+fn is_untouched(buffer: &[u8]) -> bool {
+    for byte in buffer {
+        if *byte != 0xee {
+            return false;
+        }
     }
-    Ok(())
+    true
+}
+
+/// Whether `fill` gives the bytes of the laid-out image, and leaves the buffer where the range isn't in it.
+fn is_filled(layout: &Layout, image: &[u8], rva: u32, buffer: &mut [u8]) -> bool {
+    let filled = layout.fill(rva, buffer);
+    let start = rva as usize;
+    if start <= image.len() && buffer.len() <= image.len() - start {
+        filled && image[start..].starts_with(buffer)
+    } else {
+        !filled && is_untouched(buffer)
+    }
+}
+
+/// Asserts what `fill` answers for a range of at most 0x1a0 bytes.
+fn assert_filled(rt: &impl Abort, layout: &Layout, image: &[u8], rva: u32, len: usize) {
+    let mut buffer = [0xee; 0x1a0];
+    assert!(rt; len <= 0x1a0);
+    assert_holds(rt, len, is_filled(layout, image, rva, &mut buffer[..len]));
 }
 
 #[test]
-fn fill_gives_what_byte_gives_for_every_range(rt: HostRuntime) -> Result<(), Fail> {
+fn fill_gives_what_byte_gives_for_every_range(rt: HostRuntime) {
     let mut file = [0; 0x180];
     put_pieces(&rt, &mut file, SMALL);
-    let layout = Layout::new(View::new(&file), IMAGE)?;
-    let image = laid_out(&rt, rt.alloc(), &file)?;
-    assert_bytes(&rt, &layout, &image)?;
-    for rva in 0..image.len() + 3 {
-        for len in 0..image.len() + 3 - rva {
-            assert_filled(&rt, &layout, &image, rva, len)?;
+    let layout = layout_of(&rt, &file);
+    let image = laid_out(&rt, rt.alloc(), &file);
+    assert_holds(&rt, 0, has_bytes(&layout, &image));
+    // the image has 0x19a bytes
+    for rva in 0..0x19d_u32 {
+        for len in 0..0x19d - rva {
+            assert_filled(&rt, &layout, &image, rva, len as usize);
         }
     }
     // a range that would wrap
-    assert_filled(&rt, &layout, &image, 0xffff_ffff, 2)
+    assert_filled(&rt, &layout, &image, 0xffff_ffff, 2);
 }

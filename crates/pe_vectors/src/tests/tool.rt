@@ -2,65 +2,77 @@
 
 ghost use Rattle.std.specs.Prelude.{◌≡◌, ◌<◌};
 
-use super::dumps::dumps;
-use super::files::{Piece, put, put_pieces, vectors};
+use super::dumps::{dump_text, machine_dump};
+use super::files::{
+    Piece, Vector, assert_holds, assert_number, bytes_from, changed, file_of, put, put_pieces,
+};
 use super::head::{COFF_FIELDS, Field, PE32_FIELDS, PE32_PLUS_FIELDS, distinct_bytes};
-use crate::{StepReader, StepWriter, v1, vs};
+use crate::{StepReader, StepWriter};
 use pe_tool::{Failed, Outcome, Sink, Source, ToolError, check, dump, status};
-use std::alloc::{AllocError, Global};
+use std::alloc::Global;
 use std::process::Abort;
-use std::test::Fail;
 
-#[test]
-fn a_reader_gives_its_bytes_in_steps(rt: HostRuntime) -> Result<(), Fail> {
-    let mut reader = StepReader::new(b"abcdefg", 3, Some(1));
-    let mut buffer = [0; 4];
-    for (expected, failures) in [
-        (Ok(&b"abc"[..]), 0),
-        (Err(Failed), 1),
-        (Ok(b"def"), 1),
-        (Ok(b"g"), 1),
-        (Ok(b""), 1),
-        (Ok(b""), 1),
-    ] {
-        assert!(rt; reader.failures() < 5);
-        let given = reader.read(&mut buffer);
-        assert_eq!(rt; reader.failures(), failures);
-        match (given, expected) {
-            (Ok(count), Ok(bytes)) => assert_eq!(rt; buffer.get(..count), Some(bytes)),
-            (given, expected) => assert!(rt; given.is_err() && expected.is_err()),
-        }
+/// Whether a read answered with these bytes, or failed.
+fn has_given(buffer: &[u8], given: Result<usize, Failed>, expected: Option<&[u8]>) -> bool {
+    match (given, expected) {
+        (Ok(count), Some(bytes)) => buffer.get(..count) == Some(bytes),
+        (Err(Failed), None) => true,
+        _ => false,
     }
-    Ok(())
 }
 
+/// What each read of `abcdefg` by 3 bytes gives, the second of which fails, and the failures then.
+const READS: &[(Option<&[u8]>, u64)] = &[
+    (Some(b"abc"), 0),
+    (None, 1),
+    (Some(b"def"), 1),
+    (Some(b"g"), 1),
+    (Some(b""), 1),
+    (Some(b""), 1),
+];
+
 #[test]
-fn a_writer_takes_steps_until_its_room_is_full(rt: HostRuntime) -> Result<(), Fail> {
-    let mut writer = StepWriter::new(rt.alloc(), 5, 3, Some(1))?;
-    for (answer, taken) in [
-        (Ok(3), &b"abc"[..]),
-        (Err(Failed), b"abc"),
-        (Ok(2), b"abcab"),
-        (Err(Failed), b"abcab"),
-    ] {
-        assert!(rt; writer.failures() < 5);
-        assert_eq!(rt; writer.write(b"abcd"), answer);
-        assert_eq!(rt; writer.taken(), taken);
+fn a_reader_gives_its_bytes_in_steps(rt: HostRuntime) {
+    let mut reader = StepReader::new(b"abcdefg", 3, Some(1));
+    let mut buffer = [0; 4];
+    for (index, (expected, failures)) in READS.iter().enumerate() {
+        assert!(rt; reader.failures() < 5);
+        let given = reader.read(&mut buffer);
+        assert_holds(&rt, index, has_given(&buffer, given, *expected));
+        assert_number(&rt, index, reader.failures(), *failures);
     }
-    assert_eq!(rt; writer.failures(), 2);
-    assert_eq!(rt; writer.write(b""), Ok(0));
-    Ok(())
+}
+
+/// What each write of `abcd` by 3 bytes answers, the second of which fails and the fourth of which finds no room, and what
+/// was then taken.
+const WRITES: &[(Result<usize, Failed>, &[u8])] = &[
+    (Ok(3), b"abc"),
+    (Err(Failed), b"abc"),
+    (Ok(2), b"abcab"),
+    (Err(Failed), b"abcab"),
+];
+
+#[test]
+fn a_writer_takes_steps_until_its_room_is_full(rt: HostRuntime) {
+    let mut writer = StepWriter::new(rt.alloc(), 5, 3, Some(1)).expect(&rt, "memory");
+    for (index, (answer, taken)) in WRITES.iter().enumerate() {
+        assert!(rt; writer.failures() < 5);
+        assert_holds(&rt, index, writer.write(b"abcd") == *answer);
+        assert_holds(&rt, index, writer.taken() == *taken);
+    }
+    assert!(rt; writer.failures() == 2);
+    assert_holds(&rt, 0, writer.write(b"") == Ok(0));
 }
 
 /// An engine that reads one file and writes a text.
-#[derive(Clone, Copy, Debug)]
+#[derive(Clone, Copy)]
 enum Engine {
     Check,
     Dump,
 }
 
 /// How the reader and the writer of a run work: the most bytes a call, and the read and the write that fail.
-#[derive(Clone, Copy, Debug)]
+#[derive(Clone, Copy)]
 struct Devices {
     step: usize,
     failing_read: Option<u64>,
@@ -80,65 +92,101 @@ fn steps_of(step: usize) -> Devices
 
 /// What an engine answered, and the writer with what it wrote.
 fn run(
-    alloc: Global,
-    engine: Engine,
-    file: &[u8],
-    devices: Devices,
-) -> Result<(Result<Outcome, ToolError>, StepWriter), AllocError>
-    requires { 0 < devices.step }
-{
-    let mut reader = StepReader::new(file, devices.step, devices.failing_read);
-    let mut writer = StepWriter::new(alloc, 0x2000, devices.step, devices.failing_write)?;
-    let answer = match engine {
-        Engine::Check => check(alloc, &mut reader, &mut writer),
-        Engine::Dump => dump(alloc, &mut reader, &mut writer),
-    };
-    Ok((answer, writer))
-}
-
-/// Asserts that an engine accepts a file and writes a text.
-fn assert_done(
     rt: &impl Abort,
     alloc: Global,
     engine: Engine,
     file: &[u8],
+    devices: Devices,
+) -> (Result<Outcome, ToolError>, StepWriter)
+    requires { 0 < devices.step }
+{
+    let mut reader = StepReader::new(file, devices.step, devices.failing_read);
+    let mut writer = StepWriter::new(alloc, 0x2000, devices.step, devices.failing_write).expect(
+        rt, "memory",
+    );
+    let answer = match engine {
+        Engine::Check => check(alloc, &mut reader, &mut writer),
+        Engine::Dump => dump(alloc, &mut reader, &mut writer),
+    };
+    (answer, writer)
+}
+
+/// Asserts that an engine accepts a file and writes a text, over devices of so many bytes a call.
+fn assert_written(
+    rt: &impl Abort,
+    alloc: Global,
+    engine: Engine,
+    file: &[u8],
+    step: usize,
     text: &str,
-) -> Result<(), Fail> {
-    let (answer, writer) = run(alloc, engine, file, steps_of(4096))?;
-    assert_eq!(rt; answer, Ok(Outcome::Done));
-    assert_eq!(rt; status(&answer), 0);
-    assert!(rt; writer.taken() == text.as_bytes(), "{text}");
-    Ok(())
+)
+    requires { 0 < step }
+{
+    let (answer, writer) = run(rt, alloc, engine, file, steps_of(step));
+    assert_holds(rt, step, answer == Ok(Outcome::Done));
+    assert_holds(rt, step, status(&answer) == 0);
+    assert!(rt;
+        writer.taken() == text.as_bytes(),
+        "in steps of {step}: {text}"
+    );
+}
+
+/// Asserts that an engine accepts a file and writes a text.
+fn assert_done(rt: &impl Abort, alloc: Global, engine: Engine, file: &[u8], text: &str) {
+    assert_written(rt, alloc, engine, file, 4096, text);
+}
+
+/// A file, what `check` prints of it, and how many lines its dump has.
+const ACCEPTED: &[(Vector, &str, usize)] = &[
+    (Vector::V1, "accepted PE32 sections 1\n", 57),
+    (Vector::V2, "accepted PE32 sections 2\n", 59),
+    (Vector::V3, "accepted PE32+ sections 2\n", 58),
+    (Vector::Va, "accepted PE32 sections 1\n", 59),
+    (Vector::Vb, "accepted PE32 sections 1\n", 60),
+    (Vector::Vc, "accepted PE32 sections 1\n", 58),
+    (Vector::Vd, "accepted PE32+ sections 1\n", 57),
+    (Vector::Vs, "accepted PE32 sections 2\n", 62),
+    (Vector::Vr, "accepted PE32+ sections 3\n", 75),
+];
+
+#[test]
+fn check_of_each_vector_prints_its_form_and_its_sections(rt: HostRuntime) {
+    for (vector, line, _) in ACCEPTED {
+        let file = file_of(&rt, rt.alloc(), *vector);
+        assert_done(&rt, rt.alloc(), Engine::Check, &file, line);
+    }
 }
 
 #[test]
-fn check_of_each_vector_prints_its_form_and_its_sections(rt: HostRuntime) -> Result<(), Fail> {
-    let lines = [
-        "accepted PE32 sections 1\n",
-        "accepted PE32 sections 2\n",
-        "accepted PE32+ sections 2\n",
-        "accepted PE32 sections 1\n",
-        "accepted PE32 sections 1\n",
-        "accepted PE32 sections 1\n",
-        "accepted PE32+ sections 1\n",
-        "accepted PE32 sections 2\n",
-    ];
-    for (file, line) in vectors(rt.alloc())?.iter().zip(lines) {
-        assert_done(&rt, rt.alloc(), Engine::Check, file, line)?;
+fn dump_of_each_vector_prints_what_it_holds(rt: HostRuntime) {
+    for (vector, _, lines) in ACCEPTED {
+        let file = file_of(&rt, rt.alloc(), *vector);
+        let text = dump_text(&rt, rt.alloc(), *vector);
+        assert_holds(&rt, *lines, text.as_str().lines().count() == *lines);
+        assert_done(&rt, rt.alloc(), Engine::Dump, &file, text.as_str());
     }
-    Ok(())
 }
 
+/// V1's Machine field, and its line.
+const MACHINES: &[(&[u8; 2], &[&str])] = &[
+    (&[0x4c, 0x01], &["Machine 0x014c I386"]),
+    (&[0x64, 0x86], &["Machine 0x8664 AMD64"]),
+    (&[0x64, 0xaa], &["Machine 0xaa64 ARM64"]),
+    (&[0xc0, 0x01], &["Machine 0x01c0 ARM"]),
+    (&[0xc4, 0x01], &["Machine 0x01c4 ARMNT"]),
+    (&[0xc2, 0x01], &["Machine 0x01c2 other"]),
+    (&[0x00, 0x00], &["Machine 0x0000 other"]),
+];
+
 #[test]
-fn dump_of_each_vector_prints_what_it_holds(rt: HostRuntime) -> Result<(), Fail> {
-    let texts = dumps(&rt, rt.alloc())?;
-    for (file, text) in vectors(rt.alloc())?.iter().zip(texts.iter()) {
-        assert_done(&rt, rt.alloc(), Engine::Dump, file, text.as_str())?;
+fn each_machine_has_its_name(rt: HostRuntime) {
+    let vector = file_of(&rt, rt.alloc(), Vector::V1);
+    for (field, line) in MACHINES {
+        let mut file = changed(&rt, &vector, &[]);
+        put(&mut file, 0x44, *field);
+        let text = machine_dump(&rt, rt.alloc(), line);
+        assert_done(&rt, rt.alloc(), Engine::Dump, &file, text.as_str());
     }
-    for (text, lines) in texts.iter().zip([57, 59, 58, 59, 60, 58, 57, 62]) {
-        assert_eq!(rt; text.as_str().lines().count(), lines);
-    }
-    Ok(())
 }
 
 /// V1 cut to a length and changed, and the line by which it is refused.
@@ -179,62 +227,71 @@ const REFUSALS: &[Refusal] = &[
     ),
 ];
 
-/// Asserts that an engine refuses a file with a line and nothing else.
-fn assert_refused(
-    rt: &impl Abort,
-    alloc: Global,
-    engine: Engine,
-    file: &[u8],
-    line: &str,
-) -> Result<(), Fail> {
-    let (answer, writer) = run(alloc, engine, file, steps_of(4096))?;
-    assert!(rt; matches!(answer, Ok(Outcome::Refused(_))), "{line}");
-    assert_eq!(rt; status(&answer), 1);
-    assert!(rt; writer.taken() == line.as_bytes(), "{line}");
-    Ok(())
+/// Asserts that each engine refuses a file with a line and nothing else.
+fn assert_refusals(rt: &impl Abort, alloc: Global, file: &[u8], line: &str) {
+    for engine in [Engine::Check, Engine::Dump] {
+        let (answer, writer) = run(rt, alloc, engine, file, steps_of(4096));
+        assert_holds(rt, 0, matches!(answer, Ok(Outcome::Refused(_))));
+        assert_holds(rt, 1, status(&answer) == 1);
+        assert!(rt; writer.taken() == line.as_bytes(), "{line}");
+    }
 }
 
 #[test]
-fn a_refused_file_gives_the_line_of_its_fault(rt: HostRuntime) -> Result<(), Fail> {
+fn a_refused_file_gives_the_line_of_its_fault(rt: HostRuntime) {
+    let vector = file_of(&rt, rt.alloc(), Vector::V1);
     for (len, pieces, line) in REFUSALS {
-        let mut file = v1(rt.alloc())?;
-        put_pieces(&rt, &mut file, pieces);
-        file.truncate(*len);
-        assert_refused(&rt, rt.alloc(), Engine::Check, &file, line)?;
-        assert_refused(&rt, rt.alloc(), Engine::Dump, &file, line)?;
+        let file = changed(&rt, &vector, pieces);
+        assert!(rt; *len <= 0x400);
+        assert_refusals(&rt, rt.alloc(), &file[..*len], line);
     }
-    Ok(())
 }
 
-/// A vector by its place among all of them, changed, and the line by which it is refused.
-type TableRefusal = (usize, &'static [Piece], &'static str);
+/// A file changed, and the line by which it is refused.
+type TableRefusal = (Vector, &'static [Piece], &'static str);
 
 const TABLE_REFUSALS: &[TableRefusal] = &[
-    // VB, VA: exports
-    (4, &[(0x258, &[0x03])], "fault 20 image 0 rva 0x00001058\n"),
+    // exports
     (
-        4,
+        Vector::Vb,
+        &[(0x258, &[0x03])],
+        "fault 20 image 0 rva 0x00001058\n",
+    ),
+    (
+        Vector::Vb,
         &[(0x248, &[0x00, 0x30])],
         "fault 21 image 0 rva 0x00001048\n",
     ),
-    (3, &[(0x262, &[0x00])], "fault 22 image 0 rva 0x00001048\n"),
-    // VC, VD: imports
     (
-        5,
+        Vector::Va,
+        &[(0x262, &[0x00])],
+        "fault 22 image 0 rva 0x00001048\n",
+    ),
+    // imports
+    (
+        Vector::Vc,
         &[(0x200, &[0x00, 0x00]), (0x204, &[0x01])],
         "fault 32 image 0 rva 0x00001000\n",
     ),
-    (6, &[(0x254, &[0x01])], "fault 28 image 0 rva 0x00001050\n"),
-    // V2: base relocations
-    (1, &[(0x404, &[0x09])], "fault 33 image 0 rva 0x00002000\n"),
     (
-        1,
+        Vector::Vd,
+        &[(0x254, &[0x01])],
+        "fault 28 image 0 rva 0x00001050\n",
+    ),
+    // base relocations
+    (
+        Vector::V2,
+        &[(0x404, &[0x09])],
+        "fault 33 image 0 rva 0x00002000\n",
+    ),
+    (
+        Vector::V2,
         &[(0x40a, &[0x08, 0x30])],
         "fault 37 image 0 rva 0x0000200a\n",
     ),
     // VC with V2's section `.reloc`, its directory and the entry of a field in the import's slot
     (
-        5,
+        Vector::Vc,
         &[
             (0x46, &[0x02]),
             (0xe0, &[0x00, 0x20, 0x00, 0x00, 0x0c]),
@@ -251,19 +308,19 @@ const TABLE_REFUSALS: &[TableRefusal] = &[
         ],
         "fault 38 image 0 rva 0x00002008\n",
     ),
-    // VS: an import's fault, which an export's comes before, which one of the sections comes before
+    // an import's fault, which an export's comes before, which one of the sections comes before
     (
-        7,
+        Vector::Vs,
         &[(0x428, &[0xfe, 0xff, 0x01, 0x00])],
         "fault 27 image 0 rva 0x00002028\n",
     ),
     (
-        7,
+        Vector::Vs,
         &[(0x258, &[0x03]), (0x428, &[0xfe, 0xff, 0x01, 0x00])],
         "fault 20 image 0 rva 0x00001058\n",
     ),
     (
-        7,
+        Vector::Vs,
         &[
             (0x16c, &[0x80, 0x10]),
             (0x258, &[0x03]),
@@ -272,7 +329,7 @@ const TABLE_REFUSALS: &[TableRefusal] = &[
         "fault 20 image 0 rva 0x00001058\n",
     ),
     (
-        7,
+        Vector::Vs,
         &[
             (0x16c, &[0x7f, 0x10]),
             (0x258, &[0x03]),
@@ -283,25 +340,15 @@ const TABLE_REFUSALS: &[TableRefusal] = &[
 ];
 
 #[test]
-fn a_refused_table_gives_the_line_of_its_fault(rt: HostRuntime) -> Result<(), Fail> {
-    let files = vectors(rt.alloc())?;
+fn a_refused_table_gives_the_line_of_its_fault(rt: HostRuntime) {
     for (vector, pieces, line) in TABLE_REFUSALS {
-        let Some(file) = files.get(*vector) else {
-            return Err(Fail::from("a vector"));
-        };
-        let mut changed = [0; 0x600];
-        assert!(rt; file.len() <= 0x600);
-        put(&mut changed, 0, file);
-        put_pieces(&rt, &mut changed, pieces);
-        assert_refused(&rt, rt.alloc(), Engine::Check, &changed, line)?;
-        assert_refused(&rt, rt.alloc(), Engine::Dump, &changed, line)?;
+        let file = changed(&rt, &file_of(&rt, rt.alloc(), *vector), pieces);
+        assert_refusals(&rt, rt.alloc(), &file, line);
     }
-    Ok(())
 }
 
-/// The names of the COFF header's fields.
+/// The names of the COFF header's fields behind Machine.
 const COFF_NAMES: &[&str] = &[
-    "Machine",
     "NumberOfSections",
     "TimeDateStamp",
     "PointerToSymbolTable",
@@ -343,47 +390,47 @@ const OPTIONAL_NAMES: &[&str] = &[
     "NumberOfRvaAndSizes",
 ];
 
-/// Writes a line for each field of a header that has bytes: its name, and its bytes from the last to the first.
+/// Adds a line: a text, the bytes of a field from the last to the first, and a text behind them.
+fn push_field(rt: &impl Abort, text: &mut String, name: &str, field: &[u8], end: &str) {
+    write!(text, "{name} 0x").expect(rt, "memory");
+    for byte in field.iter().rev() {
+        write!(text, "{byte:02x}").expect(rt, "memory");
+    }
+    text.push_str(end).expect(rt, "memory");
+}
+
+/// Adds a line for each field of a header that has bytes.
 fn push_fields(
     rt: &impl Abort,
     text: &mut String,
     names: &[&str],
     header: &[u8],
     fields: &[Field],
-) -> Result<(), AllocError> {
-    assert_eq!(rt; names.len(), fields.len());
-    for (name, (offset, width)) in names.iter().zip(fields) {
-        assert!(rt; *offset <= header.len() && *width <= header.len() - *offset);
-        if *width == 0 {
-            continue;
+) {
+    assert!(rt; names.len() == fields.len());
+    for index in 0..names.len() {
+        let (offset, width) = fields[index];
+        let rest = bytes_from(rt, header, offset);
+        assert!(rt; width <= rest.len());
+        if width > 0 {
+            push_field(rt, text, names[index], &rest[..width], "\n");
         }
-        write!(text, "{name} 0x")?;
-        for byte in header[*offset..*offset + *width].iter().rev() {
-            write!(text, "{byte:02x}")?;
-        }
-        let other = if *name == "Machine" { " other" } else { "" };
-        writeln!(text, "{other}")?;
     }
-    Ok(())
 }
 
-/// The dump of a file without directories and sections.
-fn dump_of(
-    rt: &impl Abort,
-    alloc: Global,
-    file: &[u8],
-    format: &str,
-    fields: &[Field],
-) -> Result<String, AllocError> {
-    assert!(rt; file.len() >= 0x200);
+/// The dump of a file without directories and sections, whose machine has no name.
+fn dump_of(rt: &impl Abort, alloc: Global, file: &[u8], format: &str, fields: &[Field]) -> String {
     let mut text = String::new(alloc);
-    writeln!(text, "format {format}")?;
-    writeln!(text, "pe-offset 0x00000040")?;
-    push_fields(rt, &mut text, COFF_NAMES, &file[0x44..], COFF_FIELDS)?;
-    push_fields(rt, &mut text, &["Magic"], &file[0x58..], &[(0, 2)])?;
-    push_fields(rt, &mut text, OPTIONAL_NAMES, &file[0x58..], fields)?;
-    writeln!(text, "end")?;
-    Ok(text)
+    text.push_str(format).expect(rt, "memory");
+    let coff = bytes_from(rt, file, 0x44);
+    let optional = bytes_from(rt, file, 0x58);
+    assert!(rt; coff.len() >= 2);
+    push_field(rt, &mut text, "Machine", &coff[..2], " other\n");
+    push_fields(rt, &mut text, COFF_NAMES, coff, &COFF_FIELDS[1..]);
+    push_fields(rt, &mut text, &["Magic"], optional, &[(0, 2)]);
+    push_fields(rt, &mut text, OPTIONAL_NAMES, optional, fields);
+    text.push_str("end\n").expect(rt, "memory");
+    text
 }
 
 /// What the headers of a file of distinct bytes need in either form: no sections, sizes.
@@ -397,25 +444,31 @@ const NO_SECTIONS: &[Piece] = &[
     (0x94, &[0xa1, 0x03, 0x00, 0x00]),
 ];
 
-#[test]
-fn dump_prints_each_field_under_its_name(rt: HostRuntime) -> Result<(), Fail> {
-    let mut file = distinct_bytes();
-    put_pieces(&rt, &mut file, NO_SECTIONS);
-    put_pieces(
-        &rt,
-        &mut file,
-        &[(0x58, &[0x0b, 0x01]), (0xb4, &[0x00, 0x00, 0x00, 0x00])],
-    );
-    let text = dump_of(&rt, rt.alloc(), &file, "PE32", PE32_FIELDS)?;
-    assert_done(&rt, rt.alloc(), Engine::Dump, &file, text.as_str())?;
+/// A form: what makes such a file one of it, the first lines of its dump, and the fields of its optional header.
+type Form = (&'static [Piece], &'static str, &'static [Field]);
 
-    put_pieces(
-        &rt,
-        &mut file,
+const FORMS: &[Form] = &[
+    (
+        &[(0x58, &[0x0b, 0x01]), (0xb4, &[0x00, 0x00, 0x00, 0x00])],
+        "format PE32\npe-offset 0x00000040\n",
+        PE32_FIELDS,
+    ),
+    (
         &[(0x58, &[0x0b, 0x02]), (0xc4, &[0x00, 0x00, 0x00, 0x00])],
-    );
-    let text = dump_of(&rt, rt.alloc(), &file, "PE32+", PE32_PLUS_FIELDS)?;
-    assert_done(&rt, rt.alloc(), Engine::Dump, &file, text.as_str())
+        "format PE32+\npe-offset 0x00000040\n",
+        PE32_PLUS_FIELDS,
+    ),
+];
+
+#[test]
+fn dump_prints_each_field_under_its_name(rt: HostRuntime) {
+    for (pieces, format, fields) in FORMS {
+        let mut file = distinct_bytes();
+        put_pieces(&rt, &mut file, NO_SECTIONS);
+        put_pieces(&rt, &mut file, pieces);
+        let text = dump_of(&rt, rt.alloc(), &file, format, fields);
+        assert_done(&rt, rt.alloc(), Engine::Dump, &file, text.as_str());
+    }
 }
 
 /// The name of a section that is not all letters, and as it is printed.
@@ -431,129 +484,121 @@ const NAMES: &[(&[u8; 8], &str)] = &[
     ),
 ];
 
-#[test]
-fn dump_escapes_what_is_not_plain_in_a_name(rt: HostRuntime) -> Result<(), Fail> {
-    let [whole, ..] = dumps(&rt, rt.alloc())?;
-    let (before, after) = whole.as_str().split_once(".data").ok_or("a section")?;
-    for (name, printed) in NAMES {
-        let mut file = v1(rt.alloc())?;
-        assert!(rt; file.len() >= 0x140);
-        put(&mut file, 0x138, *name);
-        let text = format!(in rt.alloc(); "{before}{printed}{after}")?;
-        assert_done(&rt, rt.alloc(), Engine::Dump, &file, text.as_str())?;
-    }
-    Ok(())
+/// Asserts how the name of V1's section is printed, between these parts of its dump.
+fn assert_name(rt: &impl Abort, alloc: Global, parts: (&str, &str), name: &[u8; 8], printed: &str) {
+    let mut file = changed(rt, &file_of(rt, alloc, Vector::V1), &[]);
+    put(&mut file, 0x138, name);
+    let (before, after) = parts;
+    let text = format!(in alloc; "{before}{printed}{after}").expect(rt, "memory");
+    assert_done(rt, alloc, Engine::Dump, &file, text.as_str());
 }
 
 #[test]
-fn any_steps_give_the_same_text(rt: HostRuntime) -> Result<(), Fail> {
-    let texts = dumps(&rt, rt.alloc())?;
-    for (file, text) in vectors(rt.alloc())?.iter().zip(texts.iter()) {
-        for step in [1_usize, 7, 64, 4096] {
-            let (answer, writer) = run(rt.alloc(), Engine::Dump, file, steps_of(step))?;
-            assert_eq!(rt; answer, Ok(Outcome::Done));
-            assert!(rt;
-                writer.taken() == text.as_str().as_bytes(),
-                "in steps of {step}"
-            );
-        }
+fn dump_escapes_what_is_not_plain_in_a_name(rt: HostRuntime) {
+    let whole = dump_text(&rt, rt.alloc(), Vector::V1);
+    let parts = whole.as_str().split_once(".data").expect(&rt, "a section");
+    for (name, printed) in NAMES {
+        assert_name(&rt, rt.alloc(), parts, name, printed);
     }
-    for step in [1_usize, 7, 64, 4096] {
-        let (answer, writer) = run(rt.alloc(), Engine::Check, &v1(rt.alloc())?, steps_of(step))?;
-        assert_eq!(rt; answer, Ok(Outcome::Done));
-        assert_eq!(rt; writer.taken(), b"accepted PE32 sections 1\n".as_slice());
+}
+
+/// How many bytes devices give or take a call.
+const STEPS: &[usize] = &[1, 7, 64, 4096];
+
+/// Asserts that an engine writes a text in any steps.
+fn assert_any_steps(rt: &impl Abort, alloc: Global, engine: Engine, file: &[u8], text: &str) {
+    for step in STEPS {
+        assert!(rt; *step > 0);
+        assert_written(rt, alloc, engine, file, *step, text);
     }
-    Ok(())
+}
+
+#[test]
+fn any_steps_give_the_same_text(rt: HostRuntime) {
+    for (vector, line, _) in ACCEPTED {
+        let file = file_of(&rt, rt.alloc(), *vector);
+        let text = dump_text(&rt, rt.alloc(), *vector);
+        assert_any_steps(&rt, rt.alloc(), Engine::Check, &file, line);
+        assert_any_steps(&rt, rt.alloc(), Engine::Dump, &file, text.as_str());
+    }
 }
 
 /// Asserts what an engine answers where each of its reads fails in turn: that reading failed, and nothing was written.
-fn assert_reads_fail(
-    rt: &impl Abort,
-    alloc: Global,
-    engine: Engine,
-    file: &[u8],
-    step: usize,
-) -> Result<(), Fail>
+fn assert_reads_fail(rt: &impl Abort, alloc: Global, engine: Engine, file: &[u8], step: usize)
     requires { 0 < step }
 {
-    for call in 0..0x1000 {
+    for call in 0..0x1000_u64 {
         let devices = Devices {
             failing_read: Some(call),
             ..steps_of(step)
         };
-        let (answer, writer) = run(alloc, engine, file, devices)?;
+        let (answer, writer) = run(rt, alloc, engine, file, devices);
         if answer == Ok(Outcome::Done) {
-            assert!(rt; call > 1, "no read has failed");
-            return Ok(());
+            assert_holds(rt, step, call > 1);
+            return;
         }
-        assert_eq!(rt; answer, Err(ToolError::Read), "at {call} of {step} bytes");
-        assert_eq!(rt; status(&answer), 3);
-        assert!(rt; writer.taken().is_empty(), "at {call} of {step} bytes");
+        assert_holds(
+            rt,
+            step,
+            answer == Err(ToolError::Read) && status(&answer) == 3,
+        );
+        assert_holds(rt, step, writer.taken().is_empty());
     }
-    Err(Fail::from("a read fails in each run"))
+    assert_holds(rt, step, false);
 }
 
 /// Asserts what an engine answers where each of its writes fails in turn: that writing failed, after a beginning of the
 /// text.
-fn assert_writes_fail(
-    rt: &impl Abort,
-    alloc: Global,
-    engine: Engine,
-    file: &[u8],
-    step: usize,
-) -> Result<(), Fail>
+fn assert_writes_fail(rt: &impl Abort, alloc: Global, engine: Engine, file: &[u8], step: usize)
     requires { 0 < step }
 {
-    let (_, whole) = run(alloc, engine, file, steps_of(step))?;
-    for call in 0..0x1000 {
+    let (_, whole) = run(rt, alloc, engine, file, steps_of(step));
+    for call in 0..0x1000_u64 {
         let devices = Devices {
             failing_write: Some(call),
             ..steps_of(step)
         };
-        let (answer, writer) = run(alloc, engine, file, devices)?;
+        let (answer, writer) = run(rt, alloc, engine, file, devices);
         if answer == Ok(Outcome::Done) {
-            assert!(rt; call > 0, "no write has failed");
-            return Ok(());
+            assert_holds(rt, step, call > 0);
+            return;
         }
-        assert_eq!(rt; answer, Err(ToolError::Write), "at {call} of {step} bytes");
-        assert_eq!(rt; status(&answer), 3);
-        assert!(rt;
-            whole.taken().starts_with(writer.taken()),
-            "at {call} of {step} bytes"
+        assert_holds(
+            rt,
+            step,
+            answer == Err(ToolError::Write) && status(&answer) == 3,
         );
-        assert!(rt;
-            writer.taken().len() < whole.taken().len(),
-            "at {call} of {step} bytes"
-        );
+        assert_holds(rt, step, whole.taken().starts_with(writer.taken()));
+        assert_holds(rt, step, writer.taken().len() < whole.taken().len());
     }
-    Err(Fail::from("a write fails in each run"))
+    assert_holds(rt, step, false);
+}
+
+/// Asserts what an engine answers where each call of its devices fails in turn.
+fn assert_failures(rt: &impl Abort, alloc: Global, engine: Engine, file: &[u8], steps: &[usize]) {
+    for step in steps {
+        assert!(rt; *step > 0);
+        assert_reads_fail(rt, alloc, engine, file, *step);
+        assert_writes_fail(rt, alloc, engine, file, *step);
+    }
 }
 
 #[test]
-fn each_read_and_each_write_that_fails_is_told(rt: HostRuntime) -> Result<(), Fail> {
-    let file = v1(rt.alloc())?;
-    for step in [1_usize, 7, 64, 4096] {
-        for engine in [Engine::Check, Engine::Dump] {
-            assert_reads_fail(&rt, rt.alloc(), engine, &file, step)?;
-            assert_writes_fail(&rt, rt.alloc(), engine, &file, step)?;
-        }
-    }
+fn each_read_and_each_write_that_fails_is_told(rt: HostRuntime) {
+    let file = file_of(&rt, rt.alloc(), Vector::V1);
+    assert_failures(&rt, rt.alloc(), Engine::Check, &file, STEPS);
+    assert_failures(&rt, rt.alloc(), Engine::Dump, &file, STEPS);
     // a file with exports and imports
-    let file = vs(rt.alloc())?;
-    for step in [64_usize, 4096] {
-        assert_reads_fail(&rt, rt.alloc(), Engine::Dump, &file, step)?;
-        assert_writes_fail(&rt, rt.alloc(), Engine::Dump, &file, step)?;
-    }
-    Ok(())
+    let file = file_of(&rt, rt.alloc(), Vector::Vs);
+    assert_failures(&rt, rt.alloc(), Engine::Dump, &file, &[64, 4096]);
 }
 
 #[test]
-fn a_writer_without_room_fails_after_a_beginning(rt: HostRuntime) -> Result<(), Fail> {
-    let file = v1(rt.alloc())?;
+fn a_writer_without_room_fails_after_a_beginning(rt: HostRuntime) {
+    let file = file_of(&rt, rt.alloc(), Vector::V1);
     let mut reader = StepReader::new(&file, 4096, None);
-    let mut writer = StepWriter::new(rt.alloc(), 10, 4096, None)?;
+    let mut writer = StepWriter::new(rt.alloc(), 10, 4096, None).expect(&rt, "memory");
     let answer = check(rt.alloc(), &mut reader, &mut writer);
-    assert_eq!(rt; answer, Err(ToolError::Write));
-    assert_eq!(rt; writer.taken(), b"accepted P".as_slice());
-    Ok(())
+    assert_holds(&rt, 0, answer == Err(ToolError::Write));
+    assert_holds(&rt, 0, writer.taken() == b"accepted P".as_slice());
 }
