@@ -1,6 +1,7 @@
 pub mod Adding
 pub mod Numbering
 pub mod Phases
+pub mod Pieces
 pub mod Plain
 pub mod Reports
 pub mod Rows

@@ -22,3 +22,4 @@ pub mod Refusal
 pub mod TableLines
 pub mod Text
 pub mod TextWriter
+pub mod WholeFile
