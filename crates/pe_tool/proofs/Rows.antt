@@ -97,9 +97,9 @@ unfolding import_line key_text quoted escaped hex digits
 import_by_ordinal = refl
 
 field_of_32_bits : fixup_line (record { entry = 0x3008; field = 0x1008; kind = Bits32 }) ≡ codes "fixup 0x00001008 32\n"
-unfolding fixup_line hex
+unfolding fixup_line hex digits
 field_of_32_bits = refl
 
 field_of_64_bits : fixup_line (record { entry = 0x300a; field = 0x1ff8; kind = Bits64 }) ≡ codes "fixup 0x00001ff8 64\n"
-unfolding fixup_line hex
+unfolding fixup_line hex digits
 field_of_64_bits = refl
