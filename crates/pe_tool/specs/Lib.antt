@@ -1,13 +1,11 @@
-pub use Rattle.pe_tables.specs.ExportFaults
+pub use Rattle.pe_view.specs.Faults
+pub use Rattle.pe_head.specs.Head
+pub use Rattle.pe_layout.specs.Image
 pub use Rattle.pe_tables.specs.Exports
-pub use Rattle.pe_tables.specs.ExportsView
-pub use Rattle.pe_tables.specs.FixupFaults
 pub use Rattle.pe_tables.specs.Fixups
-pub use Rattle.pe_tables.specs.ImportFaults
 pub use Rattle.pe_tables.specs.Imports
-pub use Rattle.pe_tables.specs.ImportView
 pub use Rattle.pe_tables.specs.Key
-pub mod Accepted
+pub use Rattle.pe_image.specs.ImageTests
 pub mod Counted
 pub mod Device
 pub mod Dump
@@ -16,7 +14,6 @@ pub mod FaultLine
 pub mod Field
 pub mod Format
 pub mod HeaderFields
-pub mod ImageTests
 pub mod Outcome
 pub mod Refusal
 pub mod TableLines

@@ -1,7 +1,5 @@
 -- The phases in which an image is asked for its faults, one after another.
-use Rattle.std.proofs.Common.{◌≡◌, ℕ, ◌<◌, ◌≤◌, List, ◌++◌, length, map, sym, ap, None, Result, Ok, Err, refl, ◌∙◌, arith}
-use Rattle.std.specs.Prelude.{OnErr, IsErrOf}
-use Rattle.std.specs.declared.alloc.AllocError.{AllocError}
+use Rattle.std.proofs.Common.{◌≡◌, ℕ, ◌<◌, ◌≤◌, List, ◌++◌, length, map, sym, ap, None, refl, ◌∙◌, arith}
 use Rattle.std.proofs.lemmas.Bool.{ltb-false}
 use Rattle.std.proofs.lemmas.Simd.{map-map}
 use Rattle.pe_view.specs.Faults.{Test, first_standing}
@@ -20,9 +18,6 @@ use Rattle.pe_tables.specs.TableFaults.{Refuses}
 use Rattle.pe_tables.specs.declared.import.Import.{Import}
 use Rattle.pe_tables.specs.declared.error.TableError.{TableError}
 use Rattle.pe_tables.specs.declared.error.TableError.TheVariants as errors
-use Rattle.pe_tool.specs.declared.outcome.Outcome.{Outcome}
-use Rattle.pe_tool.specs.declared.text_writer.TextWriter.{TextWriter}
-use Rattle.pe_tool.specs.Refusal.{IsRefusal}
 
 -- the first phase refuses
 pub refused-in : (front rest : List Test) (error : TableError) → Refuses front error → Refuses (front ++ rest) error
@@ -38,26 +33,17 @@ same_image : (m n : ℕ) (h k : Headers) (f g : List ℕ) → m ≡ n → h ≡ 
 same_image m n h k f g p q r = rw (p, q, r) refl
 
 -- what the layout of a file shows is the file's image
-pub image-of : (file : List ℕ) (l : Layout) → IsLayoutOf file 0 l → image_of l ≡ image_of_file 0 file
+pub image-of : (number : ℕ) (file : List ℕ) (l : Layout) → IsLayoutOf file number l → image_of l ≡ image_of_file number file
 unfolding image_of
-image-of file l is = same_image l.image 0 (headers_of l) (head_of file) (file_of l) file is.number is.headers is.bytes
+image-of number file l is = same_image l.image number (headers_of l) (head_of file) (file_of l) file is.number is.headers is.bytes
 
 -- a file without faults 1 to 15 is not empty
-pub has_bytes : (file : List ℕ) → first_standing (layout_tests 0 file) ≡ None → 0 < length file
+pub has_bytes : (number : ℕ) (file : List ℕ) → first_standing (layout_tests number file) ≡ None → 0 < length file
 unfolding head_tests
-has_bytes file none =
-    let head = (none-append (head_tests 0 file) (placing_tests 0 (head_of file) (length file)) none).0 in
-    let enough : 64 ≤ length file = ltb-false _ _ (none_stands (head_tests 0 file) 1 _ head refl) in
+has_bytes number file none =
+    let head = (none-append (head_tests number file) (placing_tests number (head_of file) (length file)) none).0 in
+    let enough : 64 ≤ length file = ltb-false _ _ (none_stands (head_tests number file) 1 _ head refl) in
     omega (arith, enough)
-
--- where memory is refused for an image, its file is not empty
-pub reads-refused : {W X : Type 0} (taken : W → List ℕ) (failures : W → ℕ) (old new : TextWriter W) (file : List ℕ) (error : TableError) (result : Result Outcome AllocError)
-    → IsRefusal taken failures old new error result → (IsErrOf {T = X} (Err error) errors.Memory → first_standing (layout_tests 0 file) ≡ None)
-    → OnErr result (0 < length file)
-reads-refused taken failures old new file (errors.Fault y) (Ok outcome) refused memory = tt
-reads-refused taken failures old new file (errors.Fault y) (Err e) refused memory = let no = refused.0 in cc
-reads-refused taken failures old new file errors.Memory (Ok outcome) refused memory = tt
-reads-refused taken failures old new file errors.Memory (Err e) refused memory = has_bytes file (memory refl)
 
 -- the slots of imports that have been read are those of the imports
 pub own_slots : (imports : List Import) (listed : List table.Import) → map import_view imports ≡ listed → slots_of imports ≡ map (λ m. m.slot) listed
