@@ -1,10 +1,10 @@
 ghost use Rattle.std.specs.Prelude.{◌≡◌, ◌≢◌, ◌<◌, None, length, IsErrOf};
 ghost use Rattle.pe_view.specs.Faults.{first_standing};
 ghost use Rattle.pe_layout.specs.SectionFaults.{layout_tests};
-ghost use Rattle.pe_layout.specs.Layout.{IsLayoutOf};
+ghost use Rattle.pe_layout.specs.Layout.{image_of, IsLayoutOf};
 ghost use Rattle.pe_tables.specs.TableFaults.{TableAnswers};
-ghost use Rattle.pe_image.specs.ImageTests.{image_tests};
-ghost use Rattle.pe_image.specs.ImageOf.{IsImageOf};
+ghost use Rattle.pe_image.specs.ImageTests.{table_tests, image_tests};
+ghost use Rattle.pe_image.specs.ImageOf.{HoldsTablesOf, IsImageOf};
 
 use pe_layout::Layout;
 use pe_tables::{Exports, Fixup, Import, TableError, read_exports, read_fixups, read_imports};
@@ -29,7 +29,28 @@ fn lay_out(file: &[u8], number: u16) -> Result<Layout<'_>, TableError>
     ensures exact { TableAnswers (layout_tests number file.now) (IsLayoutOf file.now number) result }
     ensures no_memory { result ≢ Err TableError.Memory }
 {
-    Layout::new(View::new(file), number).map_err(TableError::Fault)
+    match Layout::new(View::new(file), number) {
+        Ok(layout) => Ok(layout),
+        Err(fault) => Err(TableError::Fault(fault)),
+    }
+}
+
+/// Asks for the faults of an image's tables phase by phase, each where the ones before have none, and keeps what it read.
+fn read_tables<A: Allocator + Copy>(
+    alloc: A,
+    layout: Layout<'_>,
+) -> Result<Image<'_, A>, TableError>
+    ensures { TableAnswers (table_tests (image_of layout.entry)) (HoldsTablesOf layout.entry) result }
+{
+    let exports = read_exports(alloc, &layout)?;
+    let imports = read_imports(alloc, &layout)?;
+    let fixups = read_fixups(alloc, &layout, &imports)?;
+    Ok(Image {
+        layout,
+        exports,
+        imports,
+        fixups,
+    })
 }
 
 /// Reads an image whole: `file` is all of its file, and faults name the image by `number`.
@@ -50,13 +71,5 @@ pub fn read_image<A: Allocator + Copy>(
     ensures not_empty { IsErrOf result TableError.Memory → 0 < length file.now }
 {
     let layout = lay_out(file, number)?;
-    let exports = read_exports(alloc, &layout)?;
-    let imports = read_imports(alloc, &layout)?;
-    let fixups = read_fixups(alloc, &layout, &imports)?;
-    Ok(Image {
-        layout,
-        exports,
-        imports,
-        fixups,
-    })
+    read_tables(alloc, layout)
 }
