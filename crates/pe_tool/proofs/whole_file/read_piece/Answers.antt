@@ -18,3 +18,9 @@ returns-then-is_err-clause-piece g c =
     let same : length (front ++ []) ≡ c.args.filled = ap length (append-nil front) ∙ length-take-le c.args.filled c.args.bytes.now.items (search rules) in
     let some : 0 < c.args.filled = search rules in
     ([], sym (append-nil _), omega (arith, same, c.requires.more), (omega (arith, same, some), refl))
+
+pub returns-in-Err-clause-piece : goal.returns-in-Err-clause-piece
+returns-in-Err-clause-piece g c =
+    let front = take c.args.filled c.args.bytes.now.items in
+    let same : length (front ++ []) ≡ c.args.filled = ap length (append-nil front) ∙ length-take-le c.args.filled c.args.bytes.now.items (search rules) in
+    ([], c.in-Err.ensures.given ∙ sym (append-nil _), omega (arith, same, c.requires.more), c.in-Err.ensures.failures)
