@@ -1,7 +1,8 @@
 pub mod Adding
 pub mod Numbering
-pub mod Phases
+pub mod Pieces
 pub mod Plain
+pub mod Refusing
 pub mod Reports
 pub mod Rows
 pub mod Token

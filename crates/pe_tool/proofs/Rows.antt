@@ -31,9 +31,25 @@ at_item : place_text (Item 256) ≡ codes "item 256"
 unfolding place_text digits
 at_item = refl
 
-machine : machine_line 0x8664 ≡ codes "Machine 0x8664 AMD64\n"
+i386 : machine_line 0x14c ≡ codes "Machine 0x014c I386\n"
 unfolding machine_line hex
-machine = refl
+i386 = refl
+
+amd64 : machine_line 0x8664 ≡ codes "Machine 0x8664 AMD64\n"
+unfolding machine_line hex
+amd64 = refl
+
+arm64 : machine_line 0xaa64 ≡ codes "Machine 0xaa64 ARM64\n"
+unfolding machine_line hex
+arm64 = refl
+
+arm : machine_line 0x1c0 ≡ codes "Machine 0x01c0 ARM\n"
+unfolding machine_line hex
+arm = refl
+
+armnt : machine_line 0x1c4 ≡ codes "Machine 0x01c4 ARMNT\n"
+unfolding machine_line hex
+armnt = refl
 
 other_machine : machine_line 0xabc ≡ codes "Machine 0x0abc other\n"
 unfolding machine_line hex
@@ -66,6 +82,25 @@ section_0 : section_line 0 data_section ≡ codes "section 0 \".data\" va 0x0000
 unfolding data_section section_line quoted escaped hex digits
 section_0 = refl
 
+-- .bss$abc, a name of 8 characters without a zero byte; the file holds less of the section than the image
+longer_section : SectionHeader
+longer_section = record {
+  name = 0x2e ∷ 0x62 ∷ 0x73 ∷ 0x73 ∷ 0x24 ∷ 0x61 ∷ 0x62 ∷ 0x63 ∷ [];
+  virtual_size = 0x3004;
+  virtual_address = 0x5000;
+  size_of_raw_data = 0x600;
+  pointer_to_raw_data = 0x1200;
+  pointer_to_relocations = 0;
+  pointer_to_linenumbers = 0;
+  number_of_relocations = 0;
+  number_of_linenumbers = 0;
+  characteristics = 0x40000040;
+}
+
+section_11 : section_line 11 longer_section ≡ codes "section 11 \".bss$abc\" va 0x00005000 extent 0x00003004 raw 0x00001200 rawlen 0x00000600 flags 0x40000040\n"
+unfolding longer_section section_line quoted escaped hex digits
+section_11 = refl
+
 escapes : quoted (0x41 ∷ 0x22 ∷ 0x5c ∷ 0x1f ∷ 0x20 ∷ 0x7e ∷ 0x7f ∷ 0xff ∷ []) ≡ codes "\"A\\x22\\x5c\\x1f ~\\x7f\\xff\""
 unfolding quoted escaped hex
 escapes = refl
@@ -77,6 +112,11 @@ by_ordinal = refl
 by_name : name_line (codes "f", Forward (codes "b") (Ordinal 7)) ≡ codes "export \"f\" forward \"b\" #7\n"
 unfolding name_line target_text key_text quoted escaped digits
 by_name = refl
+
+-- a"b\, and a byte that is no character of ASCII
+by_escaped_name : name_line (0x61 ∷ 0x22 ∷ 0x62 ∷ 0x5c ∷ 0xff ∷ [], ExportedRva 0x2ffc) ≡ codes "export \"a\\x22b\\x5c\\xff\" rva 0x00002ffc\n"
+unfolding name_line target_text quoted escaped hex
+by_escaped_name = refl
 
 by_other_name : name_line (codes "g", Forward (codes "c.d") (Name (codes "h"))) ≡ codes "export \"g\" forward \"c.d\" \"h\"\n"
 unfolding name_line target_text key_text quoted escaped
@@ -96,10 +136,15 @@ import_by_ordinal : import_line (record { module_name = codes "B"; key = Ordinal
 unfolding import_line key_text quoted escaped hex digits
 import_by_ordinal = refl
 
+import_escaped : import_line (record { module_name = 0x22 ∷ 0x41 ∷ 0xff ∷ []; key = Name (0x5c ∷ 0x66 ∷ []); slot = 0x1038 })
+    ≡ codes "import \"\\x22A\\xff\" \"\\x5cf\" slot 0x00001038\n"
+unfolding import_line key_text quoted escaped hex
+import_escaped = refl
+
 field_of_32_bits : fixup_line (record { entry = 0x3008; field = 0x1008; kind = Bits32 }) ≡ codes "fixup 0x00001008 32\n"
-unfolding fixup_line hex
+unfolding fixup_line hex digits
 field_of_32_bits = refl
 
 field_of_64_bits : fixup_line (record { entry = 0x300a; field = 0x1ff8; kind = Bits64 }) ≡ codes "fixup 0x00001ff8 64\n"
-unfolding fixup_line hex
+unfolding fixup_line hex digits
 field_of_64_bits = refl

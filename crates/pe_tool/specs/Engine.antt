@@ -6,6 +6,7 @@ use Rattle.pe_layout.specs.Image.{image_of_file}
 use Rattle.pe_tables.specs.Exports.{exports_of}
 use Rattle.pe_tables.specs.Imports.{imports_of}
 use Rattle.pe_tables.specs.Fixups.{fixups_of}
+use Rattle.pe_image.specs.ImageTests.{image_tests}
 use Rattle.pe_tool.specs.declared.outcome.Outcome.{Outcome}
 use Rattle.pe_tool.specs.declared.outcome.Outcome.TheVariants.{Done, Refused}
 use Rattle.pe_tool.specs.declared.outcome.ToolError.{ToolError}
@@ -13,13 +14,12 @@ use Rattle.pe_tool.specs.declared.outcome.ToolError.TheVariants.{Read, Write, Me
 use Rattle.pe_tool.specs.Dump.{dump_text}
 use Rattle.pe_tool.specs.FaultLine.{fault_line}
 use Rattle.pe_tool.specs.Format.{accepted_line}
-use Rattle.pe_tool.specs.ImageTests.{image_tests}
 use Rattle.pe_tool.specs.TextWriter.{IsBeginning}
 
 -- the text of an image's file, and whether it is refused: its lines where no fault stands, else the line of the first
 abbrev pub IsImageText : (List ℕ → List ℕ) → List ℕ → Outcome → List ℕ → Type 0
-IsImageText lines file Done text = (first_standing (image_tests file) ≡ None) × (text ≡ lines file)
-IsImageText lines file (Refused fault) text = (first_standing (image_tests file) ≡ Some fault) × (text ≡ fault_line fault)
+IsImageText lines file Done text = (first_standing (image_tests 0 file) ≡ None) × (text ≡ lines file)
+IsImageText lines file (Refused fault) text = (first_standing (image_tests 0 file) ≡ Some fault) × (text ≡ fault_line fault)
 
 -- what `check` writes of a file
 abbrev pub IsCheckText : List ℕ → Outcome → List ℕ → Type 0

@@ -1,11 +1,10 @@
 -- The lines of a dump that show what an image's tables hold.
-use Rattle.std.specs.Prelude.{ℕ, List, ◌++◌, codes, decimal, flat_map}
+use Rattle.std.specs.Prelude.{ℕ, ◌*◌, List, ◌++◌, codes, decimal, flat_map}
 use Rattle.pe_tables.specs.Key.{Key, Ordinal, Name, Target, Rva, Forward}
 use Rattle.pe_tables.specs.Exports.{Exports}
 use Rattle.pe_tables.specs.Imports.{Import}
 use Rattle.pe_tables.specs.declared.fixups.Fixup.{Fixup}
-use Rattle.pe_tables.specs.declared.fixups.FixupKind.{FixupKind}
-use Rattle.pe_tables.specs.declared.fixups.FixupKind.TheVariants.{Bits32, Bits64}
+use Rattle.pe_tables.specs.Fixups.{width_of}
 use Rattle.pe_tool.specs.Text.{hex, quoted}
 
 -- by what an export is looked up
@@ -34,11 +33,6 @@ export_lines e = flat_map ordinal_line e.ordinals ++ flat_map name_line e.names
 unfoldable pub import_line : Import → List ℕ
 import_line i = codes "import " ++ quoted i.module_name ++ codes " " ++ key_text i.key ++ codes " slot 0x" ++ hex 8 i.slot ++ codes "\n"
 
--- how many bits a fixup's field has
-abbrev pub bits_text : FixupKind → List ℕ
-bits_text Bits32 = codes "32"
-bits_text Bits64 = codes "64"
-
--- a fixup: the RVA of its field
+-- a fixup: the RVA of its field, and how many bits the field has
 unfoldable pub fixup_line : Fixup → List ℕ
-fixup_line f = codes "fixup 0x" ++ hex 8 f.field ++ codes " " ++ bits_text f.kind ++ codes "\n"
+fixup_line f = codes "fixup 0x" ++ hex 8 f.field ++ codes " " ++ decimal (8 * width_of f.kind) ++ codes "\n"

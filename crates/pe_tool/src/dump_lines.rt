@@ -10,7 +10,6 @@ ghost use Rattle.pe_tool.specs.HeaderFields.{field_line, base_of_data_fields};
 ghost use Rattle.pe_tool.specs.Text.{numbered};
 ghost use Rattle.pe_tool.specs.Dump.{format_line, pe_offset_line, machine_name, machine_line, directory_line, name_of, section_line, field_lines, dump_text};
 
-use crate::accepted::Accepted;
 use crate::device::Sink;
 use crate::field::Field;
 use crate::format::format_name;
@@ -18,6 +17,7 @@ use crate::header_fields::{coff_fields, standard_fields, windows_fields};
 use crate::table_lines::{write_exports, write_fixups, write_imports};
 use crate::text_writer::TextWriter;
 use pe_head::{Directory, Headers, Magic, SectionHeader, machine};
+use pe_image::Image;
 use pe_view::View;
 use std::alloc::Allocator;
 
@@ -171,10 +171,7 @@ fn write_sections<W: Sink>(text: &mut TextWriter<W>, sections: &[SectionHeader])
 
 /// Adds the lines of a dump.
 #[tactic(auto, unfolding(crate::specs::Dump::dump_text))]
-pub(crate) fn write_dump<A: Allocator + Copy, W: Sink>(
-    text: &mut TextWriter<W>,
-    image: &Accepted<A>,
-)
+pub(crate) fn write_dump<A: Allocator + Copy, W: Sink>(text: &mut TextWriter<W>, image: &Image<A>)
     requires { IsReady W.failures text.old }
     ensures { Adds W.taken W.failures text.old text.new
         (dump_text (headers_of image.now.layout) (exports_view image.now.exports)

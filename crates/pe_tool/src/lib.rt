@@ -13,7 +13,6 @@
 //! [`parse_words`] reads the program's command line.
 #![tactic(auto)]
 
-mod accepted;
 mod counted;
 mod device;
 mod digits;

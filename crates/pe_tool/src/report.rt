@@ -4,13 +4,13 @@ ghost use Rattle.pe_tool.specs.TextWriter.{IsReady, Adds};
 ghost use Rattle.pe_tool.specs.Refusal.{IsRefusal};
 ghost use Rattle.pe_tool.specs.Engine.{IsCheckText, IsDumpText};
 
-use crate::accepted::judge;
 use crate::device::Sink;
 use crate::dump_lines::write_dump;
 use crate::fault_line::write_fault_line;
 use crate::format::write_accepted_line;
 use crate::outcome::Outcome;
 use crate::text_writer::TextWriter;
+use pe_image::read_image;
 use pe_tables::TableError;
 use std::alloc::{AllocError, Allocator};
 
@@ -58,7 +58,7 @@ impl Report for Check {
         text: &mut TextWriter<W>,
         file: &[u8],
     ) -> Result<Outcome, AllocError> {
-        match judge(alloc, file) {
+        match read_image(alloc, file, 0) {
             Ok(image) => {
                 write_accepted_line(text, image.layout.headers());
                 Ok(Outcome::Done)
@@ -79,7 +79,7 @@ impl Report for Dump {
         text: &mut TextWriter<W>,
         file: &[u8],
     ) -> Result<Outcome, AllocError> {
-        match judge(alloc, file) {
+        match read_image(alloc, file, 0) {
             Ok(image) => {
                 write_dump(text, &image);
                 Ok(Outcome::Done)

@@ -156,18 +156,15 @@ impl<'w, W: Sink> TextWriter<'w, W> {
         self.hex(hex_width(number), number);
     }
 
-    /// Adds a byte of a quoted text.
+    /// Adds a byte of a quoted text that doesn't stand for itself: `\x` and two digits.
     #[tactic(auto, unfolding(crate::specs::Text::escaped))]
     fn escaped(&mut self, byte: u8)
-        requires { IsReady W.failures self.old }
+        requires ready { IsReady W.failures self.old }
+        requires not_plain { is_plain byte ≡ false }
         ensures { Adds W.taken W.failures self.old self.new (escaped byte) }
     {
-        if is_plain(byte) {
-            self.byte(byte);
-        } else {
-            self.text(b"\\x");
-            self.hex(2, byte as u64);
-        }
+        self.text(b"\\x");
+        self.hex(2, byte as u64);
     }
 
     /// Adds some bytes of a quoted text, from the first on, and answers how many: those that stand for themselves at once.

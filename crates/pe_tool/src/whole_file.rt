@@ -1,9 +1,10 @@
-ghost use Rattle.std.specs.Prelude.{◌≡◌, ◌+◌, ◌-◌, ◌^◌, ◌<◌, ◌≤◌, ℕ, List, ◌++◌, length};
+ghost use Rattle.std.specs.Prelude.{◌≡◌, ◌+◌, ◌-◌, ◌^◌, ◌<◌, ◌≤◌, ℕ, List, [], ◌++◌, length, take, vec_len, OnOk, OnErr};
 ghost use Rattle.pe_tool.specs.Engine.{Collects};
+ghost use Rattle.pe_tool.specs.WholeFile.{ReadsPiece};
 
 use crate::device::Source;
 use crate::outcome::ToolError;
-use std::alloc::Allocator;
+use std::alloc::{AllocError, Allocator};
 
 /// The most bytes that are read: one more than a file may have.
 const READ_LIMIT: usize = (1 << 32) + 1;
@@ -11,7 +12,72 @@ const READ_LIMIT: usize = (1 << 32) + 1;
 /// The most bytes that one read asks for.
 const PIECE: usize = 1 << 16;
 
-/// Reads to the source's end, or one byte more than a file may have.
+/// Reads the first piece of a file, and takes no memory before a byte came.
+fn read_first<A: Allocator + Copy, R: Source>(
+    reader: &mut R,
+    bytes: &mut Vec<u8, A>,
+) -> Result<usize, ToolError>
+    requires counts { R.failures reader.old < 2 ^ 64 - 1 }
+    requires empty { bytes.old.items ≡ [] }
+    ensures piece { ReadsPiece (R.given reader.old) (R.given reader.new) (R.ended reader.new)
+        (R.failures reader.old) (R.failures reader.new) [] bytes.new.items result }
+    ensures few { vec_len bytes.new ≤ 2 ^ 16 }
+{
+    let mut piece = [0u8; PIECE];
+    let Ok(count) = reader.read(&mut piece) else {
+        return Err(ToolError::Read);
+    };
+    if bytes.extend_from_slice(&piece[..count]).is_err() {
+        return Err(ToolError::Memory);
+    }
+    Ok(count)
+}
+
+/// Makes room behind the bytes that fill the buffer's beginning, where none is left.
+fn make_room<A: Allocator>(bytes: &mut Vec<u8, A>, filled: usize) -> Result<(), AllocError>
+    requires within { filled ≤ vec_len bytes.old }
+    requires more { filled < 2 ^ 32 + 1 }
+    requires few { vec_len bytes.old ≤ 2 ^ 32 + 1 }
+    ensures front { take filled bytes.new.items ≡ take filled bytes.old.items }
+    ensures room { OnOk result (filled < vec_len bytes.new) }
+    ensures full { OnErr result (filled ≡ vec_len bytes.old) }
+    ensures few { vec_len bytes.new ≤ 2 ^ 32 + 1 }
+{
+    if filled < bytes.len() {
+        return Ok(());
+    }
+    let room = PIECE.min(READ_LIMIT - filled);
+    bytes.resize(filled + room, 0)
+}
+
+/// Reads a piece of a file behind the bytes that fill the buffer's beginning, and answers how many bytes it has.
+fn read_piece<A: Allocator + Copy, R: Source>(
+    reader: &mut R,
+    bytes: &mut Vec<u8, A>,
+    filled: usize,
+) -> Result<usize, ToolError>
+    requires counts { R.failures reader.old < 2 ^ 64 - 1 }
+    requires within { filled ≤ vec_len bytes.old }
+    requires more { filled < 2 ^ 32 + 1 }
+    requires few { vec_len bytes.old ≤ 2 ^ 32 + 1 }
+    ensures piece { ReadsPiece (R.given reader.old) (R.given reader.new) (R.ended reader.new)
+        (R.failures reader.old) (R.failures reader.new) (take filled bytes.old.items) bytes.new.items result }
+    ensures few { vec_len bytes.new ≤ 2 ^ 32 + 1 }
+{
+    if bytes.is_empty() {
+        return read_first(reader, bytes);
+    }
+    if make_room(bytes, filled).is_err() {
+        return Err(ToolError::Memory);
+    }
+    match reader.read(&mut bytes[filled..]) {
+        Ok(count) => Ok(count),
+        Err(_) => Err(ToolError::Read),
+    }
+}
+
+/// Reads to the source's end, or one byte more than a file may have. The source writes straight into the file's buffer, all
+/// but the first piece.
 pub(crate) fn read_whole<A: Allocator + Copy, R: Source>(
     alloc: A,
     reader: &mut R,
@@ -23,18 +89,14 @@ pub(crate) fn read_whole<A: Allocator + Copy, R: Source>(
         × (length input ≤ 2 ^ 32 + 1) }
 {
     let mut bytes = Vec::new(alloc);
-    let mut piece = [0u8; PIECE];
-    while bytes.len() < READ_LIMIT {
-        let room = PIECE.min(READ_LIMIT - bytes.len());
-        let Ok(count) = reader.read(&mut piece[..room]) else {
-            return Err(ToolError::Read);
-        };
+    let mut filled = 0;
+    while filled < READ_LIMIT {
+        let count = read_piece(reader, &mut bytes, filled)?;
         if count == 0 {
+            bytes.truncate(filled);
             return Ok(bytes);
         }
-        if bytes.extend_from_slice(&piece[..count]).is_err() {
-            return Err(ToolError::Memory);
-        }
+        filled += count;
     }
     Ok(bytes)
 }

@@ -12,6 +12,6 @@ use Rattle.pe_tables.specs.FixupFaults.{fixup_tests}
 unfoldable pub table_tests : Image → List Test
 table_tests i = export_tests i ++ (import_tests i ++ fixup_tests i (map (λ m. m.slot) (imports_of i)))
 
--- the tests of the file of an image that has number 0, in the order in which its faults count
-unfoldable pub image_tests : List ℕ → List Test
-image_tests file = layout_tests 0 file ++ table_tests (image_of_file 0 file)
+-- the tests of the file of an image that has a number, in the order in which its faults count: 1 to 38
+unfoldable pub image_tests : ℕ → List ℕ → List Test
+image_tests number file = layout_tests number file ++ table_tests (image_of_file number file)

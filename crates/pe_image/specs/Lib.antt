@@ -1,0 +1,15 @@
+pub use Rattle.pe_view.specs.Faults
+pub use Rattle.pe_layout.specs.Image
+pub use Rattle.pe_layout.specs.Layout
+pub use Rattle.pe_layout.specs.SectionFaults
+pub use Rattle.pe_tables.specs.ExportFaults
+pub use Rattle.pe_tables.specs.Exports
+pub use Rattle.pe_tables.specs.ExportsView
+pub use Rattle.pe_tables.specs.FixupFaults
+pub use Rattle.pe_tables.specs.Fixups
+pub use Rattle.pe_tables.specs.ImportFaults
+pub use Rattle.pe_tables.specs.Imports
+pub use Rattle.pe_tables.specs.ImportView
+pub use Rattle.pe_tables.specs.TableFaults
+pub mod ImageOf
+pub mod ImageTests

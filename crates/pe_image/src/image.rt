@@ -1,0 +1,75 @@
+ghost use Rattle.std.specs.Prelude.{◌≡◌, ◌≢◌, ◌<◌, None, length, IsErrOf};
+ghost use Rattle.pe_view.specs.Faults.{first_standing};
+ghost use Rattle.pe_layout.specs.SectionFaults.{layout_tests};
+ghost use Rattle.pe_layout.specs.Layout.{image_of, IsLayoutOf};
+ghost use Rattle.pe_tables.specs.TableFaults.{TableAnswers};
+ghost use Rattle.pe_image.specs.ImageTests.{table_tests, image_tests};
+ghost use Rattle.pe_image.specs.ImageOf.{HoldsTablesOf, IsImageOf};
+
+use pe_layout::Layout;
+use pe_tables::{Exports, Fixup, Import, TableError, read_exports, read_fixups, read_imports};
+use pe_view::View;
+use std::alloc::Allocator;
+
+/// An image without a fault, and what its tables hold. It borrows the image's file.
+#[derive(Drop)]
+pub struct Image<'a, A: Allocator> {
+    /// The headers and sections, and the bytes that they lay out.
+    pub layout: Layout<'a>,
+    /// What the image exports, by ordinal and by name; nothing where it has no export table.
+    pub exports: Exports<'a, A>,
+    /// What the image imports, in the order of its import table.
+    pub imports: Vec<Import<'a>, A>,
+    /// The fields that change with the image's base, in the order of its base relocation table.
+    pub fixups: Vec<Fixup, A>,
+}
+
+/// The layout of an image's file, or the first of faults 1 to 15.
+fn lay_out(file: &[u8], number: u16) -> Result<Layout<'_>, TableError>
+    ensures exact { TableAnswers (layout_tests number file.now) (IsLayoutOf file.now number) result }
+    ensures no_memory { result ≢ Err TableError.Memory }
+{
+    match Layout::new(View::new(file), number) {
+        Ok(layout) => Ok(layout),
+        Err(fault) => Err(TableError::Fault(fault)),
+    }
+}
+
+/// Asks for the faults of an image's tables phase by phase, each where the ones before have none, and keeps what it read.
+fn read_tables<A: Allocator + Copy>(
+    alloc: A,
+    layout: Layout<'_>,
+) -> Result<Image<'_, A>, TableError>
+    ensures { TableAnswers (table_tests (image_of layout.entry)) (HoldsTablesOf layout.entry) result }
+{
+    let exports = read_exports(alloc, &layout)?;
+    let imports = read_imports(alloc, &layout)?;
+    let fixups = read_fixups(alloc, &layout, &imports)?;
+    Ok(Image {
+        layout,
+        exports,
+        imports,
+        fixups,
+    })
+}
+
+/// Reads an image whole: `file` is all of its file, and faults name the image by `number`.
+///
+/// Faults are asked phase by phase: headers and sections (1 to 15), exports (16 to 22), imports (24 to 32), base relocations
+/// beside the slots of the imports (33 to 38). The answer is [`TableError::Fault`] with the first one that stands, or
+/// [`TableError::Memory`] where a growth was refused, in a phase before which no fault stands; that never comes where one of
+/// faults 1 to 15 stands, and so never of an empty file. An error leaves nothing: all memory that was taken is given back.
+///
+/// ("PE Format": Optional Header, Section Table, The .edata Section, The .idata Section, The .reloc Section.)
+pub fn read_image<A: Allocator + Copy>(
+    alloc: A,
+    file: &[u8],
+    number: u16,
+) -> Result<Image<'_, A>, TableError>
+    ensures exact { TableAnswers (image_tests number file.now) (IsImageOf number file.now) result }
+    ensures memory { IsErrOf result TableError.Memory → first_standing (layout_tests number file.now) ≡ None }
+    ensures not_empty { IsErrOf result TableError.Memory → 0 < length file.now }
+{
+    let layout = lay_out(file, number)?;
+    read_tables(alloc, layout)
+}
