@@ -12,6 +12,9 @@ const READ_LIMIT: usize = (1 << 32) + 1;
 /// The most bytes that one read asks for.
 const PIECE: usize = 1 << 16;
 
+/// The most bytes that are cleared at once: so few are cleared by vector stores, more by a slower string instruction.
+const CLEARED: usize = 1 << 11;
+
 /// Reads the first piece of a file, and takes no memory before a byte came.
 fn read_first<A: Allocator + Copy, R: Source>(
     reader: &mut R,
@@ -46,8 +49,12 @@ fn make_room<A: Allocator>(bytes: &mut Vec<u8, A>, filled: usize) -> Result<(), 
     if filled < bytes.len() {
         return Ok(());
     }
-    let room = PIECE.min(READ_LIMIT - filled);
-    bytes.resize(filled + room, 0)
+    let len = filled + PIECE.min(READ_LIMIT - filled);
+    while bytes.len() < len {
+        let cleared = CLEARED.min(len - bytes.len());
+        bytes.resize(bytes.len() + cleared, 0)?;
+    }
+    Ok(())
 }
 
 /// Reads a piece of a file behind the bytes that fill the buffer's beginning, and answers how many bytes it has.
