@@ -10,4 +10,5 @@ mod keys;
 mod layout;
 mod outcome;
 mod tool;
+mod whole;
 mod words;
