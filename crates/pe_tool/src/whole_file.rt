@@ -36,8 +36,10 @@ fn read_first<A: Allocator + Copy, R: Source>(
     Ok(count)
 }
 
-/// Makes room behind the bytes that fill the buffer's beginning, where none is left.
+/// Makes room behind the bytes that fill the buffer's beginning, where none is left: as much as they take, and at most a
+/// piece. What stands there is zero bytes until it is read.
 fn make_room<A: Allocator>(bytes: &mut Vec<u8, A>, filled: usize) -> Result<(), AllocError>
+    requires some { 0 < vec_len bytes.old }
     requires within { filled ≤ vec_len bytes.old }
     requires more { filled < 2 ^ 32 + 1 }
     requires few { vec_len bytes.old ≤ 2 ^ 32 + 1 }
