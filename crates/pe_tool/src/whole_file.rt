@@ -51,7 +51,7 @@ fn make_room<A: Allocator>(bytes: &mut Vec<u8, A>, filled: usize) -> Result<(), 
     if filled < bytes.len() {
         return Ok(());
     }
-    let len = filled + PIECE.min(READ_LIMIT - filled);
+    let len = filled + filled.min(PIECE).min(READ_LIMIT - filled);
     while bytes.len() < len {
         let cleared = CLEARED.min(len - bytes.len());
         bytes.resize(bytes.len() + cleared, 0)?;

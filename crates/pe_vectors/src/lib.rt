@@ -1,8 +1,8 @@
 //! Small image files with known bytes, made field by field at the offsets of "PE Format"; a source and a sink over memory
 //! that work in steps and fail on demand; and the tests that run several crates over them.
 //!
-//! One file, [`vr`], is rich: each field of its dump has a value of its own, and each kind of text bytes that are escaped, so
-//! that a text that names one value for another, or shows a text as it stands, is told.
+//! One file, [`vr`], is rich: each field that its dump shows has a value of its own, and each kind of text bytes that are
+//! escaped. So a dump that shows one value for another, or a byte as it stands, differs from the one that is written down.
 //!
 //! A builder uses none of the other crates, so that what they read is told apart from what they wrote:
 //!
