@@ -1,5 +1,5 @@
 -- What is true of the headers of a file without a fault, for the layers above.
-use Rattle.std.proofs.Common.{◌≡◌, ℕ, ◌+◌, ◌^◌, ◌≤◌, Bool, true, false, List, length, None, refl, inl, inr}
+use Rattle.std.proofs.Common.{◌≡◌, ℕ, ◌+◌, ◌^◌, ◌≤◌, List, length, None, refl, inl, inr}
 use Rattle.std.proofs.lemmas.Bool.{or_parts, ltb-false, cases_Bool}
 use Rattle.pe_view.specs.Faults.{first_standing}
 use Rattle.pe_view.specs.FirstStanding.{none_stands}

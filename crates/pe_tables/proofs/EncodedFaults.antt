@@ -1,22 +1,22 @@
 -- The faults that an encoded table may have where it stands as a whole directory.
 use Rattle.std.proofs.Common.{◌≡◌, ◌⊎◌, ℕ, zero, suc, ◌+◌, ◌-◌, ◌*◌, ◌/◌, ◌%◌, ◌^◌, ◌<◌, ◌≤◌, Bool, true, false, cond, List, [], ◌∷◌, ◌++◌, length, Option, Some, None, refl, sym, ap, subst, ◌∙◌, length-append, append_assoc, arith, inl, inr}
-use Rattle.std.specs.Prelude.{map, not, replicate, All, ◌==◌, ◌||◌, nat_lt, option_to_list}
-use Rattle.std.specs.List.{flat_map, filter_map, range_with_len}
-use Rattle.std.proofs.lemmas.Bool.{le-ltb, cases_Bool}
+use Rattle.std.specs.Prelude.{map, not, replicate, All, ◌==◌, nat_lt, option_to_list}
+use Rattle.std.specs.List.{flat_map, range_with_len}
+use Rattle.std.proofs.lemmas.Bool.{le-ltb}
 use Rattle.std.proofs.lemmas.Option.{same_Some}
 use Rattle.pe_view.specs.declared.fault.Fault.{Fault}
 use Rattle.pe_view.specs.Faults.{Test, first_standing}
 use Rattle.pe_view.specs.Number.{little}
 use Rattle.pe_head.specs.declared.directory.Directory.{Directory}
-use Rattle.pe_layout.specs.Image.{Image, number_at, is_inside, fault_at}
+use Rattle.pe_layout.specs.Image.{Image, number_at}
 use Rattle.pe_tables.specs.Fixups.{Block, Entry, block_at, blocks_from, blocks_of, entry_of, entries_of, fixup_of, fixups_in, is_known}
-use Rattle.pe_tables.specs.FixupFaults.{field_tests, entry_tests, entries_tests, is_bad_size, size_test, blocks_tests, fixup_tests_at}
+use Rattle.pe_tables.specs.FixupFaults.{field_tests, entry_tests, entries_tests, is_bad_size, blocks_tests, fixup_tests_at}
 use Rattle.pe_tables.specs.Encoded.{Page, pages_of, type_of, entry_bytes, block_size, block_bytes, encoded}
 use Rattle.pe_tables.specs.Standing.{StandsAt, IsFieldFault}
 use Rattle.pe_tables.specs.declared.fixups.Fixup.{Fixup}
 use Rattle.pe_tables.specs.declared.fixups.FixupKind.{FixupKind}
 use Rattle.pe_tables.specs.declared.fixups.FixupKind.TheVariants.{Bits32, Bits64}
-use Rattle.pe_tables.proofs.Blocks.{blocks-end, blocks-step}
+use Rattle.pe_tables.proofs.Blocks.{blocks-step}
 use Rattle.pe_tables.proofs.Decoded.{stands-front, stands-back, byte_at, reads_2, type_small, IsBlockOf, block_read, length-block, goes_on, AllPages, all-pages}
 
 -- of these tests only such stand as are of a field or of the whole directory
@@ -127,8 +127,7 @@ chain-spares i slots end rva before (p ∷ ps) stands is small all =
     let fits : rva + block_size (length p.fixups) ≤ end = omega arith in
     let sized : is_bad_size end rva (block_at i rva).size ≡ false = ap (is_bad_size end rva) b.size_is ∙ good_size end rva (length p.fixups) fits in
     let left = blocks_from (end - (rva + (block_at i rva).size)) i end (rva + (block_at i rva).size) in
-    subst (λ (bs : List Block). Spares (blocks_tests i slots end before bs)) (sym (blocks-step i end rva goes))
-    (
+    subst (λ (bs : List Block). Spares (blocks_tests i slots end before bs)) (sym (blocks-step i end rva goes)) (
       inl sized,
       spares-append (entries_tests i slots before (entries_of i (block_at i rva))) (blocks_tests i slots end (before ++ fixups_in i (block_at i rva)) left)
           (entries-spare i slots before (entries_of i (block_at i rva)) (block_known i rva p own b.size_is))

@@ -1,13 +1,13 @@
 -- The texts of forwarders.
-use Rattle.std.proofs.Common.{◌≡◌, ◌≢◌, ℕ, zero, suc, ◌-◌, Bool, true, false, cond, List, [], ◌∷◌, ◌++◌, length, Option, Some, None, refl, sym, ap, subst, ◌∙◌, arith, inl, inr}
+use Rattle.std.proofs.Common.{◌≡◌, ◌≢◌, ℕ, Bool, true, false, cond, List, [], ◌∷◌, ◌++◌, length, Option, Some, None, refl, sym, ap, subst, ◌∙◌, arith, inl, inr}
 use Rattle.std.specs.Prelude.{◌==◌, ◌&&◌, All, nat_lt, nat_le, option_map, option_and_then}
 use Rattle.std.specs.List.{list_all}
 use Rattle.std.proofs.lemmas.Bool.{cases_Bool, and_parts, eqb-true}
 use Rattle.std.proofs.lemmas.Bool.Decides.{nat_tests}
 use Rattle.std.proofs.lemmas.List.Elements.{All-nil, All-cons}
 use Rattle.std.proofs.lemmas.Option.{same_Some}
-use Rattle.pe_tables.specs.Key.{Key, Ordinal, Name, Target, Forward}
-use Rattle.pe_tables.specs.Forwarder.{is_digit, decimal_value, ordinal_key, key_of, at_dot, at_last_dot, forward_to, forwarder_of, IsKeyText, IsForwarderText}
+use Rattle.pe_tables.specs.Key.{Key, Ordinal, Forward}
+use Rattle.pe_tables.specs.Forwarder.{is_digit, decimal_value, key_of, at_dot, at_last_dot, forward_to, forwarder_of, IsKeyText, IsForwarderText}
 
 no_dot_byte : (byte : ℕ) → (byte == 46) ≡ false → byte ≢ 46
 no_dot_byte byte other is = grind (arith, nat_tests)

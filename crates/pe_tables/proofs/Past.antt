@@ -1,7 +1,6 @@
 -- How far the tests of a table have been asked.
-use Rattle.std.proofs.Common.{◌≡◌, ℕ, Bool, true, false, cond, List, [], ◌∷◌, ◌++◌, None, refl, ap, subst}
+use Rattle.std.proofs.Common.{◌≡◌, ℕ, Bool, true, false, cond, List, [], ◌∷◌, ◌++◌, None, refl}
 use Rattle.std.specs.Prelude.{◌==◌, ◌||◌, IsTrue}
-use Rattle.std.proofs.lemmas.Bool.{cases_Bool}
 use Rattle.pe_view.specs.Faults.{Test, first_standing}
 use Rattle.pe_view.specs.FirstStanding.{none-append, none_stands}
 use Rattle.pe_tables.specs.TableFaults.{goes_past}

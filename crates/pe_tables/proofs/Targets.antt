@@ -1,18 +1,18 @@
 -- Each RVA that an image without a fault of its export table exports is in the image.
-use Rattle.std.proofs.Common.{◌≡◌, ◌∙◌, ◌+◌, ◌<◌, ◌≤◌, ◌*◌, ◌⊎◌, ℕ, zero, suc, Bool, true, false, cond, List, [], ◌∷◌, ◌++◌, length, map, Option, None, Some, refl, sym, ap, subst, arith, inl, inr}
-use Rattle.std.specs.Prelude.{not, ◌&&◌, ◌==◌, nat_lt, nat_le, filter}
-use Rattle.std.specs.List.{filter_map, flat_map, find, range_with_len}
+use Rattle.std.proofs.Common.{◌≡◌, ◌+◌, ◌<◌, ◌≤◌, ◌*◌, ℕ, Bool, true, false, cond, List, [], ◌∷◌, ◌++◌, length, Option, None, Some, refl, sym, subst, arith, inl, inr}
+use Rattle.std.specs.Prelude.{not, ◌==◌, nat_lt}
+use Rattle.std.specs.List.{find, range_with_len}
 use Rattle.std.specs.Option.{option_map, option_and_then}
 use Rattle.std.specs.Str.{bytes_eq}
 use Rattle.std.proofs.lemmas.Bool.{cases_Bool, leb-false}
 use Rattle.std.proofs.lemmas.Option.{same_Some}
-use Rattle.pe_view.specs.Faults.{Test, first_standing}
+use Rattle.pe_view.specs.Faults.{first_standing}
 use Rattle.pe_view.specs.FirstStanding.{none-append, none_stands}
 use Rattle.pe_head.specs.declared.directory.Directory.{Directory}
 use Rattle.pe_layout.specs.Image.{Image, is_inside}
 use Rattle.pe_tables.specs.Key.{Key, Ordinal, Name, Target, Rva, Forward}
-use Rattle.pe_tables.specs.Forwarder.{is_forwarder, forwarder_at, forwarder_of, forward_to, key_of, at_last_dot}
-use Rattle.pe_tables.specs.Exports.{Exports, table_at, entry, target_of, by_entry, by_name, named, name_entry, name_text, names_of, first_of_each, exports_at, exports_of, target_at}
+use Rattle.pe_tables.specs.Forwarder.{is_forwarder, forwarder_of, forward_to, key_of, at_last_dot}
+use Rattle.pe_tables.specs.Exports.{table_at, entry, target_of, by_entry, by_name, named, name_entry, name_text, names_of, first_of_each, exports_at, exports_of, target_at}
 use Rattle.pe_tables.specs.ExportFaults.{value_tests, entry_tests, name_tests, directory_tests, each_tests, export_tests, export_tests_at}
 use Rattle.pe_tables.proofs.Lookups.{leb-≤}
 use Rattle.pe_tables.proofs.Eaches.{Each, each_some, each_filter, each_range, flat_none}

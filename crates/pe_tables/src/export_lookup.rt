@@ -27,7 +27,10 @@ fn first_from(exports: &[(u64, Target)], ordinal: u64) -> usize
 }
 
 /// What an ordinal exports.
-pub(crate) fn target_by_ordinal<'a>(exports: &[(u64, Target<'a>)], ordinal: u64) -> Option<Target<'a>>
+pub(crate) fn target_by_ordinal<'a>(
+    exports: &[(u64, Target<'a>)],
+    ordinal: u64,
+) -> Option<Target<'a>>
     requires { AllPairs (λ export later. export.0 < later.0) exports.now }
     ensures { result ≡ option_map (λ export. export.1) (find (λ export. export.0 == ordinal) exports.now) }
 {

@@ -1,4 +1,4 @@
-use Rattle.std.proofs.Common.{◌≡◌, ◌+◌, ◌-◌, ◌*◌, ◌≤◌, ◌++◌, drop}
+use Rattle.std.proofs.Common.{◌≡◌, ◌-◌, ◌≤◌, ◌++◌, drop}
 use Rattle.std.specs.List.{filter_map}
 use Rattle.pe_view.specs.Faults.{first_standing}
 use Rattle.pe_layout.specs.Layout.{image_of}

@@ -6,7 +6,6 @@ use Rattle.std.proofs.lemmas.Result.{err_from_is_err_and}
 use Rattle.pe_view.specs.Faults.{first_standing}
 use Rattle.pe_view.specs.Number.{num, byte_of}
 use Rattle.pe_view.specs.View.{bytes_of, size_of}
-use Rattle.pe_layout.specs.Image.{number_at}
 use Rattle.pe_layout.specs.Layout.{image_of}
 use Rattle.pe_tables.specs.RangesView.{ranges_in}
 use Rattle.pe_tables.specs.Fixups.{Entry, entry_of, entries_at, fixup_of}

@@ -28,8 +28,8 @@ loop-rva-init g c =
           ap (λ (found : List Import). first_standing (descriptors_tests i found (descriptors_from (i.size - start) i start))) none
           ∙ ap (λ (ds : List Descriptor). first_standing (descriptors_tests i [] ds)) same;
       past = λ later.
-      subst (λ (ds : List Descriptor). IsTrue (goes_past 31 (descriptors_tests i [] ds))) same
-      (subst (λ (found : List Import). IsTrue (goes_past 31 (descriptors_tests i found (descriptors_from (i.size - start) i start)))) none later);
+          subst (λ (ds : List Descriptor). IsTrue (goes_past 31 (descriptors_tests i [] ds))) same
+          (subst (λ (found : List Import). IsTrue (goes_past 31 (descriptors_tests i found (descriptors_from (i.size - start) i start)))) none later);
       imports =
           ap (λ (found : List Import). found ++ flat_map (imports_in i) (descriptors_from (i.size - start) i start)) none
           ∙ ap (flat_map (imports_in i)) same;
@@ -77,8 +77,8 @@ loop-rva-preserved g c =
           ap (λ (found : List Import). first_standing (descriptors_tests i found left)) more
           ∙ sym (descriptors-past i before rva left (i.size - rva) step c.in_ok-read_descriptor.ensures.exact.0) ∙ c.loop-rva.invariant.tests;
       past = λ later. c.loop-rva.invariant.past
-      (descriptors-asked_later i before rva left (i.size - rva) step c.in_ok-read_descriptor.ensures.exact.0
-      (subst (λ (found : List Import). IsTrue (goes_past 31 (descriptors_tests i found left))) more later));
+          (descriptors-asked_later i before rva left (i.size - rva) step c.in_ok-read_descriptor.ensures.exact.0
+          (subst (λ (found : List Import). IsTrue (goes_past 31 (descriptors_tests i found left))) more later));
       imports =
           ap (λ (found : List Import). found ++ flat_map (imports_in i) left) more
           ∙ sym (descriptors-imports i before rva left (i.size - rva) step) ∙ c.loop-rva.invariant.imports;

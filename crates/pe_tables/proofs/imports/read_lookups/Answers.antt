@@ -96,9 +96,9 @@ loop-rva-preserved g c =
           ∙ ap (λ (found : List Import). first_standing (lookups_tests i name found left)) more
           ∙ sym (lookups-past i name before rva slot left (i.size - rva) step c.in_ok-read_lookup.ensures.exact.0) ∙ c.loop-rva.invariant.tests;
       past = λ later. c.loop-rva.invariant.past
-      (lookups-asked_later i name before rva slot left (i.size - rva) step c.in_ok-read_lookup.ensures.exact.0
-      (subst (λ (found : List Import). IsTrue (goes_past 31 (lookups_tests i name found left))) more
-      (subst (λ (ls : List Lookup). IsTrue (goes_past 31 (lookups_tests i name (read_of c.read_lookup.new.found) ls))) at later)));
+          (lookups-asked_later i name before rva slot left (i.size - rva) step c.in_ok-read_lookup.ensures.exact.0
+          (subst (λ (found : List Import). IsTrue (goes_past 31 (lookups_tests i name found left))) more
+          (subst (λ (ls : List Lookup). IsTrue (goes_past 31 (lookups_tests i name (read_of c.read_lookup.new.found) ls))) at later)));
       imports =
           ap (λ (ls : List Lookup). read_of c.read_lookup.new.found ++ filter_map (import_of i name) ls) at
           ∙ ap (λ (found : List Import). found ++ filter_map (import_of i name) left) more
