@@ -64,7 +64,7 @@ fn run_meets(run: &[(u32, u32)], start: u32, len: u32) -> bool
     ends_behind(last, last_len, start)
 }
 
-/// Whether some of these ranges has an RVA in common with the `len` bytes at `start`, as [`run_meets`] tells it.
+/// Whether one of these ranges has an RVA in common with the `len` bytes at `start`, as [`run_meets`] tells it.
 fn others_meet<A: Allocator>(others: &BTreeMap<u32, u32, A>, start: u32, len: u32) -> bool
     requires ascending { IsAscending others.now.entries }
     requires small { start + len < 2 ^ 32 }
