@@ -1,0 +1,77 @@
+-- What an image that has been read is, and how a search goes on from it.
+use Rattle.std.proofs.Common.{◌≡◌, ◌∙◌, ◌<◌, ◌+◌, ℕ, suc, List, [], ◌∷◌, Bool, not, cond, length, map, get_or, Option, None, Some, refl, sym, ap}
+use Rattle.std.specs.Prelude.{option_map, nat_lt, position, ◌||◌}
+use Rattle.std.specs.List.{list_any, position_or_len, prefix_len}
+use Rattle.std.specs.Str.{bytes_eq, str_to_ascii_lowercase}
+use Rattle.std.specs.Option.{option_and_then}
+use Rattle.std.proofs.lemmas.Option.{slice_get-map, slice_get_read}
+use Rattle.std.proofs.lemmas.List.{length-map}
+use Rattle.pe_tables.specs.ImportView.{import_view}
+use Rattle.pe_tables.specs.Key.{Key, Target, Rva, Forward}
+use Rattle.pe_tables.specs.Exports.{target_at}
+use Rattle.pe_set.specs.Set.{Module, named, forwarded_name}
+use Rattle.pe_set.specs.Search.{target_in, from_target, from_image, resolve_in}
+use Rattle.pe_set.specs.NamesView.{lowered}
+use Rattle.pe_set.specs.SetView.{module_view, modules_view}
+use Rattle.pe_set.specs.declared.reading.Module as code_module
+use Rattle.pe_set.specs.declared.search.Resolution.TheVariants.{Bound, Missing, Unknown}
+
+pub own_imports : {A : Type 0} (m : code_module.Module A) → (module_view m).imports ≡ map import_view m.image.imports.items
+unfolding module_view
+own_imports m = refl
+
+pub own_base : {A : Type 0} (m : code_module.Module A) → (module_view m).base ≡ m.base
+unfolding module_view
+own_base m = refl
+
+pub own_name : {A : Type 0} (m : code_module.Module A) → (module_view m).name ≡ m.name.now
+unfolding module_view
+own_name m = refl
+
+-- ---- places in lists that are made of others
+prefix_len-map : {X Y : Type 0} (p : Y → Bool) (f : X → Y) (xs : List X) → prefix_len p (map f xs) ≡ prefix_len (λ x. p (f x)) xs
+prefix_len-map p f [] = refl
+prefix_len-map p f (x ∷ xs) = ap (λ n. cond (p (f x)) (1 + n) 0) (prefix_len-map p f xs)
+
+pub position-map : {X Y : Type 0} (p : Y → Bool) (f : X → Y) (xs : List X) → position p (map f xs) ≡ position (λ x. p (f x)) xs
+position-map p f xs =
+    ap (λ n. cond (nat_lt n (length (map f xs))) (Some n) None) (prefix_len-map (λ y. not (p y)) f xs)
+    ∙ ap (λ n. cond (nat_lt (position_or_len (λ x. p (f x)) xs) n) (Some (position_or_len (λ x. p (f x)) xs)) None) (length-map xs f)
+
+pub list_any-map : {X Y : Type 0} (p : Y → Bool) (f : X → Y) (xs : List X) → list_any p (map f xs) ≡ list_any (λ x. p (f x)) xs
+list_any-map p f [] = refl
+list_any-map p f (x ∷ xs) = ap (λ (b : Bool). p (f x) || b) (list_any-map p f xs)
+
+-- ---- one step of a search
+module _ (s : List Module) (name : List ℕ) (key : Key) (n : ℕ) where
+  pub resolve_missing : named s name ≡ None → resolve_in (suc n) s name key ≡ Some Missing
+  resolve_missing nowhere = ap (from_image s (resolve_in n s) key) nowhere
+
+  module _ (i : ℕ) (here : named s name ≡ Some i) where
+    pub resolve_unknown : target_in s key i ≡ None → resolve_in (suc n) s name key ≡ Some Unknown
+    resolve_unknown lacks = ap (from_image s (resolve_in n s) key) here ∙ ap (from_target (resolve_in n s) i) lacks
+
+    pub resolve_bound : (rva : ℕ) → target_in s key i ≡ Some (Rva rva) → resolve_in (suc n) s name key ≡ Some (Bound i rva)
+    resolve_bound rva is = ap (from_image s (resolve_in n s) key) here ∙ ap (from_target (resolve_in n s) i) is
+
+    pub resolve_hop : (to : List ℕ) (next : Key) → target_in s key i ≡ Some (Forward to next) → resolve_in (suc n) s name key ≡ resolve_in n s (forwarded_name to) next
+    resolve_hop to next is = ap (from_image s (resolve_in n s) key) here ∙ ap (from_target (resolve_in n s) i) is
+
+-- the number that the names give is that of the image
+pub named_in : {A : Type 0} (ms : List (code_module.Module A)) (names : List (List ℕ)) (buffer name : List ℕ) → names ≡ lowered (modules_view ms) → buffer ≡ str_to_ascii_lowercase name
+    → position (λ other. bytes_eq buffer other) names ≡ named (modules_view ms) name
+named_in ms names buffer name is low =
+    ap (λ ns. position (λ other. bytes_eq buffer other) ns) is
+    ∙ ap (λ b. position (λ other. bytes_eq b other) (lowered (modules_view ms))) low
+    ∙ position-map (λ other. bytes_eq (str_to_ascii_lowercase name) other) (λ (m : Module). str_to_ascii_lowercase m.name) (modules_view ms)
+
+-- what the image of a number exports
+pub target_is : {A : Type 0} (ms : List (code_module.Module A)) (m : code_module.Module A) (i : ℕ) (key : Key) (o : Option Target) → i < length ms → m ≡ get_or ms i m
+    → o ≡ target_at (module_view m).exports key → target_in (modules_view ms) key i ≡ o
+target_is ms m i key o lt is found =
+    ap (option_and_then (λ (m : Module). target_at m.exports key)) (slice_get-map module_view ms i ∙ ap (option_map module_view) (slice_get_read ms (length ms) i m refl lt is))
+    ∙ sym found
+
+-- there are as many names as images
+pub names_count : {A : Type 0} (ms : List (code_module.Module A)) (names : List (List ℕ)) → names ≡ lowered (modules_view ms) → length names ≡ length ms
+names_count ms names is = ap length is ∙ length-map (modules_view ms) (λ (m : Module). str_to_ascii_lowercase m.name) ∙ length-map ms module_view

@@ -1,0 +1,275 @@
+-- Sets of images as the definitions see them, written out: their places, their searches, their bindings.
+use Rattle.std.proofs.Common.{◌≡◌, ℕ, ◌+◌, ◌-◌, false, List, [], ◌∷◌, ◌++◌, Some, None, get_or, map, refl, codes}
+use Rattle.std.specs.List.{range_with_len}
+use Rattle.pe_view.specs.declared.fault.Place.TheVariants.{Rva, Address, Item}
+use Rattle.pe_view.specs.Faults.{first_standing}
+use Rattle.pe_head.specs.declared.optional.Magic.TheVariants.{Pe32, Pe32Plus}
+use Rattle.pe_layout.specs.Image.{Image}
+use Rattle.pe_tables.specs.Key.{Key, Ordinal, Name, Target, Forward}
+use Rattle.pe_tables.specs.Key as keys
+use Rattle.pe_tables.specs.Imports.{Import}
+use Rattle.pe_set.specs.Set.{Module, named, rebased}
+use Rattle.pe_set.specs.Search.{resolve}
+use Rattle.pe_set.specs.SearchEnds.{hop, after}
+use Rattle.pe_set.specs.Bindings.{bindings_of}
+use Rattle.pe_set.specs.SetFaults.{placing_tests, places_tests, imports_tests}
+use Rattle.pe_set.specs.declared.entry.Policy.TheVariants.{Strict, Known}
+use Rattle.pe_set.specs.declared.search.Resolution.TheVariants.{Bound, Missing, Unknown, Endless}
+
+-- an image of 0x3000 bytes, of which those from an RVA on are these
+abbrev image : ℕ → ℕ → List ℕ → ℕ → Image
+image number at bytes image_base = record {
+  number = number;
+  size = 0x3000;
+  byte = λ rva. get_or bytes (rva - at) 0;
+  text = λ _. None;
+  directory = λ _. None;
+  slot_width = 4;
+  image_base = image_base;
+  is_stripped = false;
+}
+
+-- a PE32 image with tables, at a base
+abbrev with_tables : List ℕ → ℕ → Image → List (ℕ × Target) → List (List ℕ × Target) → List Import → Module
+with_tables name base image ordinals names imports =
+    record { name = name; base = base; magic = Pe32; image = image; exports = record { ordinals = ordinals; names = names }; imports = imports; fixups = [] }
+
+-- `a.dll` exports number 1, which is `f`: it forwards them to number 7 of `b`
+abbrev forwarding : Module
+forwarding = with_tables (codes "a.dll") 0x10000000 (image 0 0 [] 0x10000000) ((1, Forward (codes "b") (Ordinal 7)) ∷ []) ((codes "f", Forward (codes "b") (Ordinal 7)) ∷ []) []
+
+-- `b.dll` exports numbers 5 and 7
+abbrev exporting : Module
+exporting = with_tables (codes "b.dll") 0x20000000 (image 1 0 [] 0x20000000) ((5, keys.Rva 0x1004) ∷ (7, keys.Rva 0x1010) ∷ []) [] []
+
+-- `c.exe` imports by these keys of these modules, each with a slot
+abbrev importing : List Import → Module
+importing imports = with_tables (codes "c.exe") 0x400000 (image 2 0x1030 (0x38 ∷ 0x10 ∷ []) 0x400000) [] [] imports
+
+-- an import by a key of a module, with its slot
+abbrev import : List ℕ → Key → ℕ → Import
+import name key slot = record { module_name = name; key = key; slot = slot }
+
+-- it imports `f` from `A.DLL`
+abbrev importing_f : Module
+importing_f = importing (import (codes "A.DLL") (Name (codes "f")) 0x1030 ∷ [])
+
+-- all three
+abbrev three : List Module
+three = forwarding ∷ exporting ∷ importing_f ∷ []
+
+-- ---- searches
+-- a name finds an image without regard to its case
+found_in_other_case : named three (codes "B.DLL") ≡ Some 1
+found_in_other_case = refl
+
+-- one hop goes on to the module and the key of a forwarder
+one_hop : hop three (codes "A.DLL", Name (codes "f")) ≡ Some (codes "b.dll", Ordinal 7)
+one_hop = refl
+
+-- no second one goes on from an RVA
+no_second_hop : after 2 three (codes "A.DLL", Name (codes "f")) ≡ None
+no_second_hop = refl
+
+-- without a hop
+found : resolve three (codes "b.dll") (Ordinal 5) ≡ Bound 1 0x1004
+unfolding resolve
+found = refl
+
+-- it ends at the exporter, not at the module that forwards
+found_through : resolve three (codes "A.DLL") (Name (codes "f")) ≡ Bound 1 0x1010
+unfolding resolve
+found_through = refl
+
+-- between the numbers that `b.dll` exports
+below_7 : resolve three (codes "b.dll") (Ordinal 6) ≡ Unknown
+unfolding resolve
+below_7 = refl
+
+-- below the first that it exports
+below_5 : resolve three (codes "b.dll") (Ordinal 4) ≡ Unknown
+unfolding resolve
+below_5 = refl
+
+-- case counts in the names of exports
+export_in_other_case : resolve three (codes "a.dll") (Name (codes "F")) ≡ Unknown
+unfolding resolve
+export_in_other_case = refl
+
+-- `.dll` is added to what forwarders name, not to what imports name
+import_without_dot : resolve three (codes "b") (Ordinal 5) ≡ Missing
+unfolding resolve
+import_without_dot = refl
+
+-- a forwarder leaves the set
+forwarded_out : resolve (forwarding ∷ importing_f ∷ []) (codes "A.DLL") (Name (codes "f")) ≡ Missing
+unfolding resolve
+forwarded_out = refl
+
+-- a forwarder names a key that is not exported
+forwarded_wrong : resolve (with_tables (codes "a.dll") 0x10000000 (image 0 0 [] 0x10000000) ((1, Forward (codes "b") (Ordinal 6)) ∷ []) [] [] ∷ exporting ∷ []) (codes "a.dll") (Ordinal 1) ≡ Unknown
+unfolding resolve
+forwarded_wrong = refl
+
+-- ---- how many hops a search may make
+-- `f.dll` forwards each of its numbers below n + 1 to the next, and has an RVA at the last
+abbrev chain : ℕ → Module
+chain n = with_tables (codes "f.dll") 0x20000000 (image 0 0 [] 0x20000000) (map (λ k. (k, Forward (codes "f") (Ordinal (k + 1)))) (range_with_len 1 n) ++ (n + 1, keys.Rva 0x1004) ∷ []) [] []
+
+-- `c.exe` imports its number 1
+abbrev importing_1 : Module
+importing_1 = importing (import (codes "F.DLL") (Ordinal 1) 0x1030 ∷ [])
+
+-- 64 hops
+as_many_hops_as_may_be : resolve (chain 64 ∷ []) (codes "F.DLL") (Ordinal 1) ≡ Bound 0 0x1004
+unfolding resolve
+as_many_hops_as_may_be = refl
+
+-- a 65th
+one_hop_too_many : resolve (chain 65 ∷ []) (codes "F.DLL") (Ordinal 1) ≡ Endless
+unfolding resolve
+one_hop_too_many = refl
+
+-- a search that begins one hop later ends
+one_hop_later : resolve (chain 65 ∷ []) (codes "F.DLL") (Ordinal 2) ≡ Bound 0 0x1004
+unfolding resolve
+one_hop_later = refl
+
+-- ---- bindings
+-- through one forwarder
+bound_through : bindings_of three ≡ record { image = 2; slot = 0x1030; exporter = 1; rva = 0x1010 } ∷ []
+unfolding bindings_of resolve
+bound_through = refl
+
+-- through 64
+bound_after_64 : bindings_of (chain 64 ∷ importing_1 ∷ []) ≡ record { image = 1; slot = 0x1030; exporter = 0; rva = 0x1004 } ∷ []
+unfolding bindings_of resolve
+bound_after_64 = refl
+
+-- a slot whose module is not in the set is not bound, the others are, in the order of the imports
+the_others_are_bound : bindings_of (exporting ∷ importing (import (codes "b.dll") (Ordinal 7) 0x1038 ∷ import (codes "d.dll") (Ordinal 1) 0x1030 ∷ import (codes "B.dll") (Ordinal 5) 0x1034 ∷ []) ∷ [])
+    ≡ record { image = 1; slot = 0x1038; exporter = 0; rva = 0x1010 } ∷ record { image = 1; slot = 0x1034; exporter = 0; rva = 0x1004 } ∷ []
+unfolding bindings_of resolve
+the_others_are_bound = refl
+
+-- an image may import from itself
+bound_to_itself : bindings_of (with_tables (codes "s.dll") 0x20000000 (image 0 0 [] 0x20000000) ((7, keys.Rva 0x1010) ∷ []) [] (import (codes "S.DLL") (Ordinal 7) 0x2030 ∷ []) ∷ [])
+    ≡ record { image = 0; slot = 0x2030; exporter = 0; rva = 0x1010 } ∷ []
+unfolding bindings_of resolve
+bound_to_itself = refl
+
+-- by image
+bound_by_image : bindings_of (importing (import (codes "b.dll") (Ordinal 7) 0x1030 ∷ []) ∷ exporting ∷ with_tables (codes "d.exe") 0x500000 (image 2 0 [] 0x500000) [] [] (import (codes "b.dll") (Ordinal 5) 0x1028 ∷ []) ∷ [])
+    ≡ record { image = 0; slot = 0x1030; exporter = 1; rva = 0x1010 } ∷ record { image = 2; slot = 0x1028; exporter = 1; rva = 0x1004 } ∷ []
+unfolding bindings_of resolve
+bound_by_image = refl
+
+-- bases bear on no binding
+bound_at_other_bases : bindings_of (rebased (0x30000000 ∷ 0x40000000 ∷ []) three) ≡ bindings_of three
+unfolding bindings_of resolve
+bound_at_other_bases = refl
+
+-- ---- faults of imports
+-- none, where all searches come to an RVA
+all_bound : first_standing (imports_tests Strict three) ≡ None
+unfolding imports_tests resolve
+all_bound = refl
+
+-- 48: without `b.dll`
+not_there : first_standing (imports_tests Strict (forwarding ∷ importing_f ∷ [])) ≡ Some (record { number = 48; image = 1; place = Rva 0x1030 })
+unfolding imports_tests resolve
+not_there = refl
+
+-- that is no fault where only what is known is bound
+left_alone : first_standing (imports_tests Known (forwarding ∷ importing_f ∷ [])) ≡ None
+unfolding imports_tests resolve
+left_alone = refl
+
+-- and such a slot is not bound
+left_unbound : bindings_of (forwarding ∷ importing_f ∷ []) ≡ []
+unfolding bindings_of resolve
+left_unbound = refl
+
+-- 48: alone
+all_alone : first_standing (imports_tests Strict (importing_f ∷ [])) ≡ Some (record { number = 48; image = 0; place = Rva 0x1030 })
+unfolding imports_tests resolve
+all_alone = refl
+
+-- `c.exe` imports a number that `b.dll` does not export
+abbrev importing_6 : Module
+importing_6 = importing (import (codes "b.dll") (Ordinal 6) 0x1030 ∷ [])
+
+-- 49: the module is there and the export is not
+not_exported : first_standing (imports_tests Strict (exporting ∷ importing_6 ∷ [])) ≡ Some (record { number = 49; image = 1; place = Rva 0x1030 })
+unfolding imports_tests resolve
+not_exported = refl
+
+-- and also where only what is known is bound: the module is known
+not_exported_known : first_standing (imports_tests Known (exporting ∷ importing_6 ∷ [])) ≡ Some (record { number = 49; image = 1; place = Rva 0x1030 })
+unfolding imports_tests resolve
+not_exported_known = refl
+
+-- 50: one forwarder too many
+too_many_hops : first_standing (imports_tests Strict (chain 65 ∷ importing_1 ∷ [])) ≡ Some (record { number = 50; image = 1; place = Rva 0x1030 })
+unfolding imports_tests resolve
+too_many_hops = refl
+
+-- `a.dll` forwards `f` to itself
+abbrev circling : Module
+circling = with_tables (codes "a.dll") 0x10000000 (image 0 0 [] 0x10000000) [] ((codes "f", Forward (codes "a") (Name (codes "f"))) ∷ []) []
+
+-- 50: a circle of one
+endless : first_standing (imports_tests Known (circling ∷ importing_f ∷ [])) ≡ Some (record { number = 50; image = 1; place = Rva 0x1030 })
+unfolding imports_tests resolve
+endless = refl
+
+-- 50: a circle of two, as `b.dll` forwards number 7 back
+endless_by_two : first_standing (imports_tests Strict (forwarding ∷ with_tables (codes "b.dll") 0x20000000 (image 1 0 [] 0x20000000) ((7, Forward (codes "a") (Name (codes "f"))) ∷ []) [] [] ∷ importing_f ∷ []))
+    ≡ Some (record { number = 50; image = 2; place = Rva 0x1030 })
+unfolding imports_tests resolve
+endless_by_two = refl
+
+-- the first import with a fault decides, whatever its number
+first_import : first_standing (imports_tests Strict (exporting ∷ importing (import (codes "b.dll") (Ordinal 5) 0x1030 ∷ import (codes "b.dll") (Ordinal 6) 0x1034 ∷ import (codes "d.dll") (Ordinal 5) 0x1038 ∷ []) ∷ []))
+    ≡ Some (record { number = 49; image = 1; place = Rva 0x1034 })
+unfolding imports_tests resolve
+first_import = refl
+
+-- ---- faults of places
+-- none, where images are apart
+all_fit : first_standing (places_tests three) ≡ None
+unfolding places_tests
+all_fit = refl
+
+-- `b.dll` as a PE32+ image
+abbrev plus : Module
+plus = record exporting { magic = Pe32Plus; base = 0x180000000 }
+
+-- 43: a PE32+ image behind a PE32 one
+other_magic : first_standing (places_tests (forwarding ∷ plus ∷ [])) ≡ Some (record { number = 43; image = 1; place = Item 1 })
+unfolding places_tests
+other_magic = refl
+
+-- 43 is asked of the first image, not of the one before
+magic_of_the_first : first_standing (placing_tests (forwarding ∷ plus ∷ exporting ∷ []) 2 exporting) ≡ None
+magic_of_the_first = refl
+
+-- PE32+ images alone
+all_plus : first_standing (places_tests (record forwarding { magic = Pe32Plus } ∷ plus ∷ [])) ≡ None
+unfolding places_tests
+all_plus = refl
+
+-- 47 has the number of the later of two images
+overlapping : first_standing (places_tests (exporting ∷ exporting ∷ [])) ≡ Some (record { number = 47; image = 1; place = Address 0x20000000 })
+unfolding places_tests
+overlapping = refl
+
+-- all faults of an image count before those of the next: 44 of the second before 43 of the third
+by_image : first_standing (places_tests (forwarding ∷ record exporting { base = 0x20008000 } ∷ plus ∷ [])) ≡ Some (record { number = 44; image = 1; place = Address 0x20008000 })
+unfolding places_tests
+by_image = refl
+
+-- and 43 counts before the others of one image
+magic_before_base : first_standing (places_tests (forwarding ∷ record plus { base = 0x180008000 } ∷ [])) ≡ Some (record { number = 43; image = 1; place = Item 1 })
+unfolding places_tests
+magic_before_base = refl

@@ -1,0 +1,115 @@
+-- Each class is asked behind classes without a fault.
+use Rattle.std.proofs.Common.{◌≡◌, ◌∙◌, ◌++◌, List, length, ap, subst, sym, arith, inl, inr, None}
+use Rattle.std.proofs.lemmas.Result.{err_from_is_err_and}
+use Rattle.pe_view.specs.Faults.{first_standing}
+use Rattle.pe_view.specs.FirstStanding.{first-past}
+use Rattle.pe_set.specs.Bindings.{bindings_of}
+use Rattle.pe_set.specs.NamesView.{AreDistinct}
+use Rattle.pe_set.specs.Set.{Module, modules_of}
+use Rattle.pe_set.specs.SetFaults.{Refuses, set_tests, names_tests, files_tests, places_tests, imports_tests}
+use Rattle.pe_set.specs.SetView.{entries_of, modules_view}
+use Rattle.pe_set.proofs.Classes.{refused_in, refused_past, few_images, count_modules}
+use Rattle.pe_set.proofs.Distinct.{few_entries, distinct}
+use Rattle.pe_set.proofs.judging.judge.Goals as goal
+
+pub returns-in_err-check_names-clause-exact : goal.returns-in_err-check_names-clause-exact
+unfolding set_tests
+returns-in_err-check_names-clause-exact g c =
+    let es = entries_of c.args.set.now in
+    let s = modules_of es in
+    let p = err_from_is_err_and c.from_residual.result c.from_residual.ensures.1 in
+    rw (p.1, p.2) (refused_in (names_tests es) (files_tests es ++ (places_tests s ++ imports_tests c.args.policy s)) c.in_err-check_names.field-0.0 c.in_err-check_names.ensures.exact)
+
+pub read_modules-requires : goal.read_modules-requires
+read_modules-requires g c = few_images c.args.set.now (few_entries (entries_of c.args.set.now) c.in_ok-check_names.ensures.exact.0)
+
+pub returns-in_err-modules-clause-exact : goal.returns-in_err-modules-clause-exact
+unfolding set_tests
+returns-in_err-modules-clause-exact g c =
+    let es = entries_of c.args.set.now in
+    let s = modules_of es in
+    let p = err_from_is_err_and c.from_residual-in_err-modules.result c.from_residual-in_err-modules.ensures.1 in
+    let error = c.in_err-modules.field-0.0 in
+    rw (p.1, p.2)
+    (refused_past (names_tests es) (files_tests es ++ (places_tests s ++ imports_tests c.args.policy s)) error c.in_ok-check_names.ensures.exact.0
+    (refused_in (files_tests es) (places_tests s ++ imports_tests c.args.policy s) error c.in_err-modules.ensures.exact))
+
+pub check_places-requires : goal.check_places-requires
+check_places-requires g c =
+    let few = few_images c.args.set.now (few_entries (entries_of c.args.set.now) c.in_ok-check_names.ensures.exact.0) in
+    let count = count_modules c.args.set.now c.in_ok-modules.modules.items c.in_ok-modules.ensures.exact.1 in
+    rw c.deref.ensures.value (omega arith)
+
+pub returns-in_err-check_places-clause-exact : goal.returns-in_err-check_places-clause-exact
+unfolding set_tests
+returns-in_err-check_places-clause-exact g c =
+    let es = entries_of c.args.set.now in
+    let s = modules_of es in
+    let p = err_from_is_err_and c.from_residual-in_err-check_places.result c.from_residual-in_err-check_places.ensures.1 in
+    let error = c.in_err-check_places.field-0.0 in
+    let is = ap modules_view c.deref.ensures.value ∙ c.in_ok-modules.ensures.exact.1 in
+    let refused = subst (λ (s : List Module). Refuses (places_tests s) error) is c.in_err-check_places.ensures.exact in
+    rw (p.1, p.2)
+    (refused_past (names_tests es) (files_tests es ++ (places_tests s ++ imports_tests c.args.policy s)) error c.in_ok-check_names.ensures.exact.0
+    (refused_past (files_tests es) (places_tests s ++ imports_tests c.args.policy s) error c.in_ok-modules.ensures.exact.0
+    (refused_in (places_tests s) (imports_tests c.args.policy s) error refused)))
+
+pub new-requires : goal.new-requires
+new-requires g c =
+    let es = entries_of c.args.set.now in
+    subst AreDistinct (sym (ap modules_view c.deref-2.ensures.value ∙ c.in_ok-modules.ensures.exact.1)) (distinct es c.in_ok-check_names.ensures.exact.0)
+
+pub bind-requires-clause-few : goal.bind-requires-clause-few
+bind-requires-clause-few g c =
+    let few = few_images c.args.set.now (few_entries (entries_of c.args.set.now) c.in_ok-check_names.ensures.exact.0) in
+    let count = count_modules c.args.set.now c.in_ok-modules.modules.items c.in_ok-modules.ensures.exact.1 in
+    rw c.deref-3.ensures.value (omega arith)
+
+pub returns-in_err-bindings-clause-exact : goal.returns-in_err-bindings-clause-exact
+unfolding set_tests
+returns-in_err-bindings-clause-exact g c =
+    let es = entries_of c.args.set.now in
+    let s = modules_of es in
+    let p = err_from_is_err_and c.from_residual-in_err-bindings.result c.from_residual-in_err-bindings.ensures.1 in
+    let error = c.in_err-bindings.field-0.0 in
+    let placed = ap modules_view c.deref.ensures.value ∙ c.in_ok-modules.ensures.exact.1 in
+    let none = subst (λ (s : List Module). first_standing (places_tests s) ≡ None) placed c.in_ok-check_places.ensures.exact.0 in
+    let is = ap modules_view c.deref-3.ensures.value ∙ c.in_ok-modules.ensures.exact.1 in
+    let refused = subst (λ (s : List Module). Refuses (imports_tests c.args.policy s) error) is c.in_err-bindings.ensures.exact in
+    rw (p.1, p.2)
+    (refused_past (names_tests es) (files_tests es ++ (places_tests s ++ imports_tests c.args.policy s)) error c.in_ok-check_names.ensures.exact.0
+    (refused_past (files_tests es) (places_tests s ++ imports_tests c.args.policy s) error c.in_ok-modules.ensures.exact.0
+    (refused_past (places_tests s) (imports_tests c.args.policy s) error none refused)))
+
+pub returns-clause-exact : goal.returns-clause-exact
+unfolding set_tests
+returns-clause-exact g c =
+    let es = entries_of c.args.set.now in
+    let s = modules_of es in
+    let placed = ap modules_view c.deref.ensures.value ∙ c.in_ok-modules.ensures.exact.1 in
+    let none = subst (λ (s : List Module). first_standing (places_tests s) ≡ None) placed c.in_ok-check_places.ensures.exact.0 in
+    let is = ap modules_view c.deref-3.ensures.value ∙ c.in_ok-modules.ensures.exact.1 in
+    let no_import = subst (λ (s : List Module). first_standing (imports_tests c.args.policy s) ≡ None) is c.in_ok-bindings.ensures.exact.0 in (
+      first-past (names_tests es) (files_tests es ++ (places_tests s ++ imports_tests c.args.policy s)) c.in_ok-check_names.ensures.exact.0
+          ∙ first-past (files_tests es) (places_tests s ++ imports_tests c.args.policy s) c.in_ok-modules.ensures.exact.0
+          ∙ first-past (places_tests s) (imports_tests c.args.policy s) none
+          ∙ no_import,
+      record { modules = c.in_ok-modules.ensures.exact.1; bindings = c.in_ok-bindings.ensures.exact.1 ∙ ap bindings_of is },
+    )
+
+pub returns-in_err-modules-clause-no_memory : goal.returns-in_err-modules-clause-no_memory
+returns-in_err-modules-clause-no_memory g c = λ e refused.
+    let few = few_images c.args.set.now (few_entries (entries_of c.args.set.now) c.in_ok-check_names.ensures.exact.0) in
+    elim e [ inl none ↦ (let h = c.in_err-modules.ensures.empty none in absurd cc) | inr many ↦ absurd (omega arith) ]
+
+pub returns-in_err-names-clause-no_memory : goal.returns-in_err-names-clause-no_memory
+returns-in_err-names-clause-no_memory g c = λ e refused.
+    let few = few_images c.args.set.now (few_entries (entries_of c.args.set.now) c.in_ok-check_names.ensures.exact.0) in
+    let count = count_modules c.args.set.now c.in_ok-modules.modules.items c.in_ok-modules.ensures.exact.1 in
+    elim e [ inl none ↦ (let h = c.in_err-names.ensures.empty (ap length c.deref-2.ensures.value ∙ count ∙ none) in absurd cc) | inr many ↦ absurd (omega arith) ]
+
+pub returns-in_err-bindings-clause-no_memory : goal.returns-in_err-bindings-clause-no_memory
+returns-in_err-bindings-clause-no_memory g c = λ e refused.
+    let few = few_images c.args.set.now (few_entries (entries_of c.args.set.now) c.in_ok-check_names.ensures.exact.0) in
+    let count = count_modules c.args.set.now c.in_ok-modules.modules.items c.in_ok-modules.ensures.exact.1 in
+    elim e [ inl none ↦ (let h = c.in_err-bindings.ensures.empty (ap length c.deref-3.ensures.value ∙ count ∙ none) in absurd cc) | inr many ↦ absurd (omega arith) ]

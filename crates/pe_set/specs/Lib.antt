@@ -1,0 +1,16 @@
+pub use Rattle.pe_image.specs.ImageTests
+pub use Rattle.pe_tables.specs.Exports
+pub use Rattle.pe_tables.specs.Fixups
+pub use Rattle.pe_tables.specs.Imports
+pub use Rattle.pe_tables.specs.TableFaults
+pub mod Bindings
+pub mod BoundImports
+pub mod NamesView
+pub mod Numbered
+pub mod Placement
+pub mod Search
+pub mod SearchEnds
+pub mod Set
+pub mod SetFaults
+pub mod SetView
+pub mod Sound

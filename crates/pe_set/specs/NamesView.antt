@@ -1,0 +1,18 @@
+-- The names by which images are found.
+use Rattle.std.specs.Prelude.{◌≡◌, ℕ, List, map, take, slice_get, Some, false}
+use Rattle.std.specs.List.{list_any}
+use Rattle.std.specs.Str.{str_to_ascii_lowercase}
+use Rattle.pe_set.specs.Set.{Module, same_name}
+use Rattle.pe_set.specs.declared.search.Names.{Names}
+
+-- as they are held, in lower case
+abbrev pub names_in : {A : Type 0} → Names A → List (List ℕ)
+names_in names = map (λ name. name.items) names.names.keys
+
+-- the names of images in lower case
+abbrev pub lowered : List Module → List (List ℕ)
+lowered s = map (λ (m : Module). str_to_ascii_lowercase m.name) s
+
+-- no image has the name of an earlier one
+abbrev pub AreDistinct : List Module → Type 0
+AreDistinct s = (i : ℕ) (m : Module) → slice_get s i ≡ Some m → list_any (λ (before : Module). same_name m.name before.name) (take i s) ≡ false

@@ -1,0 +1,109 @@
+ghost use Rattle.std.specs.Prelude.{◌≡◌, ◌++◌, ◌≤◌, length, IsOk};
+ghost use Rattle.std.specs.List.{flat_map, filter_map};
+ghost use Rattle.pe_tables.specs.ImportView.{import_view};
+ghost use Rattle.pe_set.specs.NamesView.{names_in, lowered};
+ghost use Rattle.pe_set.specs.SetView.{modules_view};
+ghost use Rattle.pe_set.specs.Bindings.{bound_to, binding_of, bindings_of};
+ghost use Rattle.pe_set.specs.SetFaults.{MapAnswers, end_tests, import_tests, imports_tests};
+ghost use Rattle.std.specs.Prelude.{map};
+
+use crate::entry::Policy;
+use crate::error::{MapError, fault};
+use crate::reading::Module;
+use crate::search::{Names, Resolution, resolve};
+use pe_tables::Import;
+use pe_view::Place;
+use std::alloc::Allocator;
+
+/// A slot of an image that holds the address of an export.
+#[derive(Clone, Copy, Debug, PartialEq, Eq)]
+pub struct Binding {
+    /// The number of the image that has the slot.
+    pub image: u16,
+    /// The RVA of the slot.
+    pub slot: u32,
+    /// The number of the image that has the export.
+    pub exporter: u16,
+    /// The RVA of the export.
+    pub rva: u32,
+}
+
+/// What a slot is bound to where the search for its import ends in this way, or the fault that this is: 48, 49 or 50.
+fn bound(
+    policy: Policy,
+    image: u16,
+    slot: u32,
+    resolution: Resolution,
+) -> Result<Option<Binding>, MapError>
+    ensures { MapAnswers (end_tests policy image slot resolution) (λ binding. binding ≡ bound_to image slot resolution) result }
+{
+    match resolution {
+        Resolution::Bound {
+            image: exporter,
+            rva,
+        } => Ok(Some(Binding {
+            image,
+            slot,
+            exporter,
+            rva,
+        })),
+        Resolution::Missing => match policy {
+            Policy::Strict => Err(fault(48, image, Place::Rva(slot))),
+            Policy::Known => Ok(None),
+        },
+        Resolution::Unknown => Err(fault(49, image, Place::Rva(slot))),
+        Resolution::Endless => Err(fault(50, image, Place::Rva(slot))),
+    }
+}
+
+/// Binds the imports of image `number`, or answers the first of their faults 48 to 50. `buffer` has room for names while it runs.
+fn bind_imports<'a, A: Allocator + Copy>(
+    modules: &[Module<'a, A>],
+    names: &Names<A>,
+    policy: Policy,
+    number: u16,
+    imports: &[Import<'a>],
+    bindings: &mut Vec<Binding, A>,
+    buffer: &mut Vec<u8, A>,
+) -> Result<(), MapError>
+    requires few { length modules.now ≤ 256 }
+    requires named { names_in names.now ≡ lowered (modules_view modules.now) }
+    ensures { MapAnswers (flat_map (import_tests policy (modules_view modules.now) number) (map import_view imports.now))
+        (λ _. bindings.new.items ≡ bindings.old.items ++ filter_map (binding_of (modules_view modules.now) number) (map import_view imports.now)) result }
+{
+    for import in imports {
+        let resolution = resolve(modules, names, import, buffer)?;
+        if let Some(binding) = bound(policy, number, import.slot, resolution)? {
+            bindings.push(binding)?;
+        }
+    }
+    Ok(())
+}
+
+/// Binds the imports of all images, image by image, or answers the first of their faults 48 to 50.
+pub(crate) fn bind<A: Allocator + Copy>(
+    alloc: A,
+    modules: &[Module<A>],
+    names: &Names<A>,
+    policy: Policy,
+) -> Result<Vec<Binding, A>, MapError>
+    requires few { length modules.now ≤ 256 }
+    requires named { names_in names.now ≡ lowered (modules_view modules.now) }
+    ensures exact { MapAnswers (imports_tests policy (modules_view modules.now)) (λ bindings. bindings.items ≡ bindings_of (modules_view modules.now)) result }
+    ensures empty { length modules.now ≡ 0 → IsOk result }
+{
+    let mut bindings = Vec::new(alloc);
+    let mut buffer = Vec::new(alloc);
+    for (index, module) in modules.iter().enumerate() {
+        bind_imports(
+            modules,
+            names,
+            policy,
+            index as u16,
+            module.image.imports.as_slice(),
+            &mut bindings,
+            &mut buffer,
+        )?;
+    }
+    Ok(bindings)
+}

@@ -1,0 +1,58 @@
+ghost use Rattle.std.specs.Prelude.{◌≡◌};
+
+use pe_tables::TableError;
+use pe_view::{Fault, Place};
+use std::alloc::{AllocError, AllocFailed};
+
+/// Why a set of images is not accepted, or not mapped.
+#[derive(Clone, Copy, Debug, PartialEq, Eq)]
+pub enum MapError {
+    /// The set breaks a rule: this is its first fault.
+    Fault(Fault),
+    /// A growth of memory was refused.
+    Memory,
+}
+
+impl From<AllocError> for MapError {
+    ghost use Rattle.pe_set.specs.declared.error.MapError.TheVariants.{Memory};
+
+    ghost from_gives = { λ _ error. error ≡ Memory };
+
+    fn from(_error: AllocError) -> MapError {
+        MapError::Memory
+    }
+}
+
+impl<T: Drop> From<AllocFailed<T>> for MapError {
+    ghost use Rattle.pe_set.specs.declared.error.MapError.TheVariants.{Memory};
+
+    ghost from_gives = { λ _ error. error ≡ Memory };
+
+    fn from(_error: AllocFailed<T>) -> MapError {
+        MapError::Memory
+    }
+}
+
+impl From<TableError> for MapError {
+    ghost use Rattle.pe_set.specs.SetFaults.{map_error};
+
+    ghost from_gives = { λ error mapped. mapped ≡ map_error error };
+
+    fn from(error: TableError) -> MapError {
+        match error {
+            TableError::Fault(fault) => MapError::Fault(fault),
+            TableError::Memory => MapError::Memory,
+        }
+    }
+}
+
+/// A fault of image `image` at a place.
+pub(crate) fn fault(number: u16, image: u16, place: Place) -> MapError
+    ensures { result ≡ MapError.Fault (record { number = number; image = image; place = place }) }
+{
+    MapError::Fault(Fault {
+        number,
+        image,
+        place,
+    })
+}

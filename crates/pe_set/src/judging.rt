@@ -1,0 +1,46 @@
+ghost use Rattle.std.specs.Prelude.{◌≡◌, ◌≢◌, ◌<◌, ◌⊎◌, Err, None, IsErrOf, length};
+ghost use Rattle.pe_view.specs.Faults.{first_standing};
+ghost use Rattle.pe_set.specs.SetView.{entries_of, IsAcceptedFrom};
+ghost use Rattle.pe_set.specs.SetFaults.{MapAnswers, names_tests, set_tests};
+
+use crate::binding::{Binding, bind};
+use crate::entry::{Policy, SetEntry};
+use crate::error::MapError;
+use crate::names::check_names;
+use crate::placing::check_places;
+use crate::reading::{Module, read_modules};
+use crate::search::Names;
+use std::alloc::Allocator;
+
+/// The images of a set in which no fault stands, and what their imports are bound to.
+#[derive(Drop)]
+pub struct Accepted<'a, A: Allocator> {
+    /// The images, in the order of the set's entries.
+    pub modules: Vec<Module<'a, A>, A>,
+    /// The slots that are bound: image by image, and those of an image in the order of its imports.
+    pub bindings: Vec<Binding, A>,
+}
+
+/// Reads the images of a set and judges the set. An image has the number of its entry, counted from 0, and so do its faults.
+///
+/// Faults are looked for class by class, and in a class only where those before it have none: the names of the entries (41, 42);
+/// each file on its own (1 to 38), image by image; where the images stand (43 to 47), image by image; their imports (48 to 50),
+/// image by image, and in each image in the order of its imports. An error is [`MapError::Fault`] with the first fault, or
+/// [`MapError::Memory`] where a growth of memory was refused. It is never the latter where a name has a fault, and so not for
+/// more than 256 entries, nor for a set of no entries. On an error all memory that was taken has been given back.
+pub fn judge<'a, A: Allocator + Copy>(
+    alloc: A,
+    set: &[SetEntry<'a>],
+    policy: Policy,
+) -> Result<Accepted<'a, A>, MapError>
+    ensures exact { MapAnswers (set_tests policy (entries_of set.now)) (IsAcceptedFrom (entries_of set.now)) result }
+    ensures no_memory { (length set.now ≡ 0) ⊎ (256 < length set.now) → result ≢ Err MapError.Memory }
+    ensures named { IsErrOf result MapError.Memory → first_standing (names_tests (entries_of set.now)) ≡ None }
+{
+    check_names(set)?;
+    let modules = read_modules(alloc, set)?;
+    check_places(&modules)?;
+    let names = Names::new(alloc, &modules)?;
+    let bindings = bind(alloc, &modules, &names, policy)?;
+    Ok(Accepted { modules, bindings })
+}

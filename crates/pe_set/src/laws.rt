@@ -1,0 +1,63 @@
+//! What the definitions mean, as laws. The contract of each function here is a law, and its body only calls the laws of other
+//! crates on which that rests.
+
+ghost use Rattle.std.specs.Prelude.{◌≡◌, ◌↔◌, ℕ, List, None, Some, slice_set, map};
+ghost use Rattle.pe_view.specs.Faults.{first_standing};
+ghost use Rattle.pe_tables.specs.Key.{Key};
+ghost use Rattle.pe_tables.specs.Imports.{Import};
+ghost use Rattle.pe_set.specs.Set.{Entry, Module, modules_of, placement_of, bases_of, at_bases, rebased};
+ghost use Rattle.pe_set.specs.Search.{resolve};
+ghost use Rattle.pe_set.specs.SearchEnds.{EndsAs};
+ghost use Rattle.pe_set.specs.declared.search.Resolution.{Resolution};
+ghost use Rattle.pe_set.specs.Bindings.{binding_of, bindings_of};
+ghost use Rattle.pe_set.specs.BoundImports.{IsBindingOf};
+ghost use Rattle.pe_set.specs.declared.binding.Binding.{Binding};
+ghost use Rattle.pe_set.specs.Placement.{move_tests};
+ghost use Rattle.pe_set.specs.SetFaults.{set_tests, places_tests};
+ghost use Rattle.pe_set.specs.Sound.{IsSound};
+ghost use Rattle.pe_set.specs.declared.entry.Policy.{Policy};
+
+/// Each search ends in exactly one way: bound to an RVA of an image, at a module that is not in the set, at an export that is
+/// not there, or with a further forwarder after all the hops that it may make.
+pub fn searches_end_in_one_way()
+    ensures ends { (s : List Module) (name : List ℕ) (key : Key) → EndsAs s (name, key) (resolve s name key) }
+    ensures one { (s : List Module) (name : List ℕ) (key : Key) (end : Resolution) → EndsAs s (name, key) end → end ≡ resolve s name key }
+{}
+
+/// The slot of an import is bound exactly where its search ends at an RVA of an image, and then to that RVA of that image.
+pub fn slots_are_bound_to_their_exports()
+    ensures { (s : List Module) (i : ℕ) (x : Import) (b : Binding) → (binding_of s i x ≡ Some b) ↔ IsBindingOf s i x b }
+{
+    searches_end_in_one_way();
+}
+
+/// The fields and bound slots of an accepted set lie in its images and share no byte, the exports to which they are bound lie in
+/// its images, and its images share no address.
+pub fn accepted_sets_are_sound()
+    ensures { (policy : Policy) (es : List Entry) → first_standing (set_tests policy es) ≡ None → IsSound (modules_of es) }
+{
+    pe_layout::laws::images_are_small();
+    pe_tables::laws::slots_are_apart();
+    pe_tables::laws::fields_are_apart();
+    pe_tables::laws::targets_are_inside();
+}
+
+/// Other bases change where images stand and nothing else: what a slot is bound to does not depend on them.
+pub fn bases_change_no_binding()
+    ensures images { (bases : List ℕ) (es : List Entry) → modules_of (at_bases bases es) ≡ rebased bases (modules_of es) }
+    ensures bindings { (bases : List ℕ) (es : List Entry) → bindings_of (modules_of (at_bases bases es)) ≡ bindings_of (modules_of es) }
+{}
+
+/// The bases of a set bear on faults 44 to 47 alone: a set that is accepted at some bases is accepted at all others at which its
+/// images may stand.
+pub fn accepted_where_placed()
+    ensures { (policy : Policy) (es : List Entry) (bases : List ℕ) → first_standing (set_tests policy es) ≡ None
+        → first_standing (places_tests (modules_of (at_bases bases es))) ≡ None → first_standing (set_tests policy (at_bases bases es)) ≡ None }
+{}
+
+/// A set that is accepted is still accepted after a move of one of its images, where the move has no fault.
+pub fn moves_keep_acceptance()
+    ensures { (policy : Policy) (es : List Entry) (i base : ℕ) → first_standing (set_tests policy es) ≡ None
+        → first_standing (move_tests (map placement_of (modules_of es)) i base) ≡ None
+        → first_standing (set_tests policy (at_bases (slice_set (bases_of es) i base) es)) ≡ None }
+{}

@@ -1,0 +1,33 @@
+//! Sets of images that are to stand in one address space: whether a set has a fault, and which is the first; what each image
+//! holds, and what each import is bound to.
+//!
+//! [`judge`] reads all files of a set and looks for faults in the one order in which they count: names, files, places, imports.
+//! It is the ground of every space of images: `pe_space` maps what it accepts.
+//!
+//! ```text
+//! let set = [SetEntry { name: b"a.dll", file, base: 0x1000_0000 }];
+//! let accepted = judge(alloc, &set, Policy::Strict)?;
+//! let mut own_slots = 0;
+//! for binding in &accepted.bindings {
+//!     own_slots += u32::from(binding.image == 0);
+//! }
+//! ```
+#![tactic(auto)]
+
+mod binding;
+mod entry;
+mod error;
+mod judging;
+pub mod laws;
+mod names;
+mod placement;
+mod placing;
+mod reading;
+mod search;
+
+pub use binding::Binding;
+pub use entry::{Policy, SetEntry};
+pub use error::MapError;
+pub use judging::{Accepted, judge};
+pub use placement::{Placed, base_fault};
+pub use reading::Module;

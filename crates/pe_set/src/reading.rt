@@ -1,0 +1,74 @@
+ghost use Rattle.std.specs.Prelude.{◌≡◌, ◌≤◌, length, map, IsOk};
+ghost use Rattle.pe_set.specs.Set.{modules_of};
+ghost use Rattle.pe_set.specs.SetView.{entries_of, module_view};
+ghost use Rattle.pe_set.specs.SetFaults.{MapAnswers, files_tests};
+
+use crate::entry::SetEntry;
+use crate::error::MapError;
+use crate::placement::Placed;
+use pe_head::Magic;
+use pe_image::{Image, read_image};
+use std::alloc::Allocator;
+
+/// An image of a set: its name, its base, and what its file holds. It borrows both the name and the file.
+#[derive(Drop)]
+pub struct Module<'a, A: Allocator> {
+    /// The name by which other images import from it.
+    pub name: &'a [u8],
+    /// The address of its first byte.
+    pub base: u64,
+    /// Its layout and its tables.
+    pub image: Image<'a, A>,
+}
+
+impl<'a, A: Allocator + Copy> Placed for Module<'a, A> {
+    ghost use Rattle.pe_set.specs.Set.{placement_of};
+    ghost use Rattle.pe_set.specs.SetView.{module_view};
+
+    ghost placement = { λ m. placement_of (module_view m) };
+
+    #[tactic(auto, unfolding(crate::specs::SetView::module_view))]
+    fn base(&self) -> u64 {
+        self.base
+    }
+
+    #[tactic(auto, unfolding(crate::specs::SetView::module_view))]
+    fn size(&self) -> u32 {
+        self.image.layout.size()
+    }
+
+    #[tactic(auto, unfolding(crate::specs::SetView::module_view))]
+    fn magic(&self) -> Magic {
+        self.image.layout.headers().magic
+    }
+
+    #[tactic(auto, unfolding(crate::specs::SetView::module_view))]
+    fn image_base(&self) -> u64 {
+        self.image.layout.image_base()
+    }
+
+    #[tactic(auto, unfolding(crate::specs::SetView::module_view))]
+    fn is_stripped(&self) -> bool {
+        self.image.layout.is_stripped()
+    }
+}
+
+/// Reads the images of a set, or answers the first of their faults 1 to 38.
+pub(crate) fn read_modules<'a, A: Allocator + Copy>(
+    alloc: A,
+    set: &[SetEntry<'a>],
+) -> Result<Vec<Module<'a, A>, A>, MapError>
+    requires { length set.now ≤ 256 }
+    ensures exact { MapAnswers (files_tests (entries_of set.now)) (λ modules. map module_view modules.items ≡ modules_of (entries_of set.now)) result }
+    ensures empty { length set.now ≡ 0 → IsOk result }
+{
+    let mut modules = Vec::with_capacity(alloc, set.len())?;
+    for (index, entry) in set.iter().enumerate() {
+        modules.push(Module {
+            name: entry.name,
+            base: entry.base,
+            image: read_image(alloc, entry.file, index as u16)?,
+        })?;
+    }
+    Ok(modules)
+}
