@@ -1,0 +1,133 @@
+-- What stands at an address, and from it on.
+use Rattle.std.proofs.Common.{◌≡◌, ℕ, zero, suc, ◌+◌, ◌-◌, ◌<◌, ◌≤◌, Bool, true, false, cond, List, [], ◌∷◌, length, map, drop, take, get_or, refl, ap, ◌∙◌, sym, subst, arith, inl, inr}
+use Rattle.std.specs.Prelude.{Option, Some, unwrap_or, Ok, Err, nat_le, ◌==◌}
+use borrow.Author.Tests.{le-leb, lt-leb}
+use Rattle.std.proofs.lemmas.Bool.{cases_eq}
+use Rattle.std.proofs.lemmas.List.{length-map, drop_more}
+use Rattle.std.proofs.lemmas.Simd.{map-map}
+use Rattle.pe_set.specs.declared.binding.Binding.{Binding}
+use Rattle.pe_set.specs.Placement.{Placement}
+use Rattle.pe_space.specs.Content.{Image, Content, placement_of, image_of, is_in, placed_from, holder_from, byte_at, byte_of, byte_in, bytes_from, window_fault, window_in, window_at}
+use Rattle.pe_space.specs.Memory.{memory_of}
+use Rattle.pe_space.specs.Held.{Held, images_of, memories_of}
+use Rattle.pe_space.specs.Placing.{IsPlaced}
+use Rattle.pe_space.specs.Kept.{kept_content, IsKept}
+use Rattle.pe_space.proofs.SlotsAndFields.{is_in-true, true-is_in}
+use Rattle.pe_space.proofs.Holding.{image_read, memory_read}
+
+-- image k of these holds the address
+abbrev pub Holds : List Image → ℕ → ℕ → Type 0
+Holds images a k = (k < length images) × (is_in (image_of images k).base (image_of images k).size a ≡ true)
+
+inside_step : (n : ℕ) (image : Image) (images : List Image) (a j : ℕ) → (holder_from (n + 1) images a ≡ Some j → (k : ℕ) × (j ≡ n + 1 + k) × Holds images a k)
+    → (t : Bool) → is_in image.base image.size a ≡ t → cond t (Some n) (holder_from (n + 1) images a) ≡ Some j → (k : ℕ) × (j ≡ n + k) × Holds (image ∷ images) a k
+inside_step n image images a j more true is h = (0, (let e : n ≡ j = cc in omega arith), (omega arith, is))
+inside_step n image images a j more false is h = let m = more h in (suc m.0, (let e = m.1 in omega arith), (let lt = m.2.0 in omega arith, m.2.1))
+
+pub holder_inside : (n : ℕ) (images : List Image) (a j : ℕ) → holder_from n images a ≡ Some j → (k : ℕ) × (j ≡ n + k) × Holds images a k
+holder_inside n [] a j h = cc
+holder_inside n (image ∷ images) a j h = inside_step n image images a j (holder_inside (n + 1) images a j) (is_in image.base image.size a) refl h
+
+some_step : (n : ℕ) (images : List Image) (a : ℕ) (t : Bool) → ((t ≡ false) → (j : ℕ) × (holder_from (n + 1) images a ≡ Some j)) → (j : ℕ) × (cond t (Some n) (holder_from (n + 1) images a) ≡ Some j)
+some_step n images a true more = (n, refl)
+some_step n images a false more = more refl
+
+holder_some : (n : ℕ) (images : List Image) (a k : ℕ) → Holds images a k → (j : ℕ) × (holder_from n images a ≡ Some j)
+holder_some n [] a k h = absurd (let lt = h.0 in omega arith)
+holder_some n (image ∷ images) a zero h = some_step n images a (is_in image.base image.size a) (λ no_hit. let is = h.1 in cc)
+holder_some n (image ∷ images) a (suc k) h = some_step n images a (is_in image.base image.size a) (λ _. holder_some (n + 1) images a k (let lt = h.0 in omega arith, h.1))
+
+-- no two images hold an address
+pub holder_is : (c : Content) (a j : ℕ) → IsPlaced c → Holds c.images a j → holder_from 0 c.images a ≡ Some j
+holder_is c a j placed here =
+    let some = holder_some 0 c.images a j here in
+    let there = holder_inside 0 c.images a some.0 some.1 in
+    elim (cases_eq there.0 j) [
+      | inl same ↦ some.1 ∙ ap (λ (n : ℕ). Some n) (let e = there.1 in omega arith)
+      | inr ne ↦
+          let one = is_in-true _ _ a here.1 in
+          let other = is_in-true _ _ a there.2.1 in
+          let a0 = one.0 in let a1 = one.1 in let b0 = other.0 in let b1 = other.1 in
+          elim (placed.apart there.0 j there.2.0 here.0 ne) [ inl before ↦ absurd (omega arith) | inr after ↦ absurd (omega arith) ]
+    ]
+
+-- where the images of memories stand
+pub placed_so : (hs xs : List Held) → xs ≡ hs → map placement_of (images_of hs) ≡ map (λ (h : Held). placement_of h.image) xs
+placed_so hs xs same = map-map placement_of (λ (h : Held). h.image) hs ∙ ap (map (λ (h : Held). placement_of h.image)) (sym same)
+
+-- the number that a search of them gave
+pub held_by : (hs xs : List Held) (a : ℕ) (o : Option ℕ) → xs ≡ hs → o ≡ placed_from 0 (map (λ (h : Held). placement_of h.image) xs) a → holder_from 0 (images_of hs) a ≡ o
+held_by hs xs a o same is = ap (λ (ps : List Placement). placed_from 0 ps a) (placed_so hs xs same) ∙ sym is
+
+-- what is known of the image that holds an address
+pub record Found (hs : List Held) (bs : List Binding) (a j : ℕ) (h : Held) : Type 0 where
+  pub low : h.image.base ≤ a
+  pub high : a < h.image.base + h.image.size
+  pub place : j < length hs
+  pub image : h.image ≡ image_of (images_of hs) j
+  pub memory : h.memory ≡ memory_of (memories_of hs) j
+
+pub found_at : (hs : List Held) (bs : List Binding) (a j : ℕ) (h : Held) → holder_from 0 (images_of hs) a ≡ Some j → h ≡ get_or hs j h → Found hs bs a j h
+found_at hs bs a j h found is =
+    let at = holder_inside 0 (images_of hs) a j found in
+    let e : at.0 ≡ j = (let e = at.1 in omega arith) in
+    let holds : Holds (images_of hs) a j = subst (Holds (images_of hs) a) e at.2 in
+    let lt : j < length hs = (let small = holds.0 in let n = length-map hs (λ (x : Held). x.image) in omega arith) in
+    let image = image_read hs j h lt is in
+    let range = is_in-true _ _ a holds.1 in
+    record {
+      low = subst (λ (m : Image). m.base ≤ a) (sym image) range.0;
+      high = subst (λ (m : Image). a < m.base + m.size) (sym image) range.1;
+      place = lt;
+      image = image;
+      memory = memory_read hs j h lt is;
+    }
+
+-- a byte of the image that holds an address
+pub byte_here : (hs : List Held) (bs : List Binding) (a j : ℕ) (h : Held) → IsKept hs bs → Found hs bs a j h → (b : ℕ) → h.image.base ≤ b → b < h.image.base + h.image.size
+    → byte_at (kept_content hs bs) b ≡ Some (get_or h.memory (b - h.image.base) 0)
+byte_here hs bs a j h kept found b low high =
+    let c = kept_content hs bs in
+    let count = length-map hs (λ (x : Held). x.image) in
+    let place = found.place in
+    let holds : Holds c.images b j = (omega arith, subst (λ (m : Image). is_in m.base m.size b ≡ true) found.image (true-is_in _ _ b low high)) in
+    let small : b - h.image.base < h.image.size = omega arith in
+    ap (byte_of c b) (holder_is c b j kept.placed holds)
+    ∙ ap (λ (m : Image). Some (byte_in c j (b - m.base))) (sym found.image)
+    ∙ ap (λ (n : ℕ). Some n) (sym (ap (λ (m : List ℕ). get_or m (b - h.image.base) 0) found.memory ∙ kept.laid.each j (b - h.image.base) (subst (λ (m : Image). b - h.image.base < m.size) found.image small)))
+
+pub bytes_here : (hs : List Held) (bs : List Binding) (a j : ℕ) (h : Held) → IsKept hs bs → Found hs bs a j h → (n b r : ℕ) → b ≡ h.image.base + r → r + n ≤ h.image.size → h.image.size ≡ length h.memory
+    → bytes_from (kept_content hs bs) b n ≡ take n (drop r h.memory)
+bytes_here hs bs a j h kept found zero b r e fits len = refl
+bytes_here hs bs a j h kept found (suc n) b r e fits len =
+    let place : b - h.image.base ≡ r = omega arith in
+    let first : unwrap_or (byte_at (kept_content hs bs) b) 0 ≡ get_or h.memory r 0 = ap (λ (o : Option ℕ). unwrap_or o 0) (byte_here hs bs a j h kept found b (omega arith) (omega arith)) ∙ ap (λ (k : ℕ). get_or h.memory k 0) place in
+    let more : bytes_from (kept_content hs bs) (b + 1) n ≡ take n (drop (r + 1) h.memory) = bytes_here hs bs a j h kept found n (b + 1) (r + 1) (omega arith) (omega arith) len in
+    rw (first, more, drop_more h.memory r 0 (omega arith)) refl
+
+pub size_here : (hs : List Held) (bs : List Binding) (a j : ℕ) (h : Held) → IsKept hs bs → Found hs bs a j h → h.image.size ≡ length h.memory
+size_here hs bs a j h kept found = ap (λ (m : Image). m.size) found.image ∙ sym (kept.laid.lengths j) ∙ ap length (sym found.memory)
+
+pub window_of : (c : Content) (a n j : ℕ) (t : Bool) → (n == 0) ≡ false → holder_from 0 c.images a ≡ Some j → nat_le (a + n) ((image_of c.images j).base + (image_of c.images j).size) ≡ t
+    → window_at c a n ≡ cond t (Ok (bytes_from c a n)) (Err (window_fault j a))
+window_of c a n j t some found test =
+    ap (λ (b : Bool). cond b (Ok []) (window_in c a n (holder_from 0 c.images a))) some
+    ∙ ap (window_in c a n) found
+    ∙ ap (λ (b : Bool). cond b (Ok (bytes_from c a n)) (Err (window_fault j a))) test
+
+pub window_refused : (hs : List Held) (bs : List Binding) (a n j : ℕ) (h : Held) → (n == 0) ≡ false → holder_from 0 (images_of hs) a ≡ Some j → Found hs bs a j h → h.image.size - (a - h.image.base) < n
+    → window_at (kept_content hs bs) a n ≡ Err (window_fault j a)
+window_refused hs bs a n j h some held found over =
+    let low = found.low in
+    let high = found.high in
+    let past : h.image.base + h.image.size < a + n = omega arith in
+    window_of (kept_content hs bs) a n j false some held (lt-leb _ _ (subst (λ (m : Image). m.base + m.size < a + n) found.image past))
+
+pub window_given : (hs : List Held) (bs : List Binding) (a n j : ℕ) (h : Held) → IsKept hs bs → (n == 0) ≡ false → holder_from 0 (images_of hs) a ≡ Some j → Found hs bs a j h → n ≤ h.image.size - (a - h.image.base)
+    → window_at (kept_content hs bs) a n ≡ Ok (take n (drop (a - h.image.base) h.memory))
+window_given hs bs a n j h kept some held found fits =
+    let low = found.low in
+    let high = found.high in
+    let within : a + n ≤ h.image.base + h.image.size = omega arith in
+    window_of (kept_content hs bs) a n j true some held (le-leb _ _ (subst (λ (m : Image). a + n ≤ m.base + m.size) found.image within))
+    ∙ ap (λ (xs : List ℕ). Ok xs) (bytes_here hs bs a j h kept found n a (a - h.image.base) (omega arith) (omega arith) (size_here hs bs a j h kept found))

@@ -1,0 +1,224 @@
+-- What is kept of a set says at each address what the set defines.
+use Rattle.std.proofs.Common.{◌≡◌, ◌∙◌, ◌+◌, ◌-◌, ◌*◌, ◌<◌, ◌≤◌, ℕ, zero, suc, Bool, true, false, cond, List, [], ◌∷◌, length, map, get_or, Option, None, Some, refl, sym, ap, subst, arith, inl, inr}
+use Rattle.std.specs.Prelude.{pos, ◌-ℤ◌, slice_get, unwrap_or, nat_le, ◌==◌, Result, Ok, Err}
+use Rattle.std.specs.Option.{option_map_or}
+use Rattle.pe_set.specs.Placement.{Placement}
+use Rattle.pe_view.specs.declared.fault.Fault.{Fault}
+use Rattle.std.specs.List.{find}
+use Rattle.std.proofs.lemmas.Option.{same_Some}
+use Rattle.std.proofs.lemmas.List.FromFn.{get_or-map-range_with_len}
+use Rattle.pe_set.specs.Set.{Module}
+use Rattle.pe_set.specs.Bindings.{bindings_of}
+use Rattle.pe_space.specs.SetContent.{image_content, laid_out, byte_of_image, byte_in_image, defined_from, defined_byte}
+use Rattle.pe_space.proofs.Images.{image_got}
+use Rattle.pe_view.specs.Number.{num}
+use Rattle.pe_layout.specs.Image as layout
+use Rattle.pe_tables.specs.Fixups.{width_of}
+use Rattle.pe_tables.specs.Relocated.{relocated_by}
+use Rattle.pe_tables.specs.declared.fixups.Fixup.{Fixup}
+use Rattle.pe_set.specs.declared.binding.Binding.{Binding}
+use Rattle.pe_space.specs.Number.{digit, number_at, shift}
+use Rattle.pe_space.specs.Content.{Image, Content, placement_of, placed_from, image_of, slot_width, is_in, in_slot, in_field, fixed_byte, byte_by, byte_in, holder_from, byte_of, byte_at, bytes_from, window_fault, nowhere, window_in, window_at}
+use Rattle.pe_space.specs.Bare.{without_slots, bared, bare}
+use Rattle.pe_space.specs.Tied.{Each, Apart, IsSlot, IsTied}
+use Rattle.pe_space.proofs.Lists.{each_map, each_both}
+use Rattle.pe_space.proofs.Numbers.{same_number}
+use Rattle.pe_space.proofs.Baring.{bare_same, image_bared}
+use Rattle.pe_space.proofs.Laying.{cases_in, width_in}
+use Rattle.pe_space.proofs.SlotsAndFields.{true-in_slot, is_in-true}
+use Rattle.pe_space.proofs.Addressing.{holder_inside}
+
+-- ---- what is found
+found_step : {X : Type 0} (P : X → Type 0) (p : X → Bool) (x : X) (y : X) (o : Option X) (b : Bool) → p x ≡ b → P x → (o ≡ Some y → P y × (p y ≡ true)) → cond b (Some x) o ≡ Some y → P y × (p y ≡ true)
+found_step P p x y o true is here later e = let same = same_Some x y e in (subst P same here, subst (λ z. p z ≡ true) same is)
+found_step P p x y o false is here later e = later e
+
+pub each_found : {X : Type 0} (P : X → Type 0) (p : X → Bool) (xs : List X) (y : X) → Each P xs → find p xs ≡ Some y → P y × (p y ≡ true)
+each_found P p [] y e is = absurd cc
+each_found P p (x ∷ xs) y e is = found_step P p x y (find p xs) (p x) refl e.0 (each_found P p xs y e.1) is
+
+missed_step : {X : Type 0} (p : X → Bool) (x : X) (o : Option X) (b : Bool) → p x ≡ b → cond b (Some x) o ≡ None → (p x ≡ false) × (o ≡ None)
+missed_step p x o true is e = absurd cc
+missed_step p x o false is e = (is, e)
+
+pub each_missed : {X : Type 0} (p : X → Bool) (xs : List X) → find p xs ≡ None → Each (λ x. p x ≡ false) xs
+each_missed p [] is = tt
+each_missed p (x ∷ xs) is = let both = missed_step p x (find p xs) (p x) refl is in (both.0, each_missed p xs both.1)
+
+-- ---- the content with 0 in bound slots
+pub placements_bared : (k : ℕ) (bs : List Binding) (images : List Image) → map placement_of (bared k bs images) ≡ map placement_of images
+placements_bared k bs [] = refl
+placements_bared k bs (image ∷ images) = ap (λ (ps : List Placement). placement_of image ∷ ps) (placements_bared (k + 1) bs images)
+
+holder_bared : (bs : List Binding) (images : List Image) (a : ℕ) → holder_from 0 (bared 0 bs images) a ≡ holder_from 0 images a
+holder_bared bs images a = ap (λ (ps : List Placement). placed_from 0 ps a) (placements_bared 0 bs images)
+
+module _ (c : Content) (tied : IsTied c) (whole : (j : ℕ) → length (image_of c.images j).plain ≡ (image_of c.images j).size) (i : ℕ) (lt : i < length c.images) where
+  abbrev own : Image
+  own = image_of c.images i
+
+  abbrev bare_plain : List ℕ
+  bare_plain = without_slots (0 + i) (slot_width (image_of c.images i).magic) c.bindings (image_of c.images i).plain
+
+  bare_is : image_of (bare c).images i ≡ record (image_of c.images i) { plain = bare_plain }
+  bare_is = image_bared 0 c.bindings c.images i lt
+
+  free : (q : ℕ) → Each (λ (b : Binding). b.image ≡ i → Apart b.slot (width_in c.images b) q 1) c.bindings → get_or bare_plain q 0 ≡ get_or own.plain q 0
+  free q apart = bare_same (0 + i) (slot_width own.magic) q c.bindings own.plain
+      (each_map _ _ c.bindings (λ b both same. (let here : b.image ≡ i = omega arith in
+      let w : width_in c.images b ≡ slot_width own.magic = ap (λ (j : ℕ). slot_width (image_of c.images j).magic) here in (
+        (let inside = both.1.inside in let size : (image_of c.images b.image).size ≡ own.size = ap (λ (j : ℕ). (image_of c.images j).size) here in let all = whole i in omega arith),
+        elim (both.0 here) [ inl before ↦ inr (omega arith) | inr after ↦ inl (omega arith) ],
+      )))
+      (each_both (λ (b : Binding). b.image ≡ i → Apart b.slot (width_in c.images b) q 1) (IsSlot c.images) c.bindings apart tied.slots))
+
+  -- outside all slots
+  off_slots : (r : ℕ) → find (in_slot i own.magic r) c.bindings ≡ None → Each (λ (b : Binding). b.image ≡ i → Apart b.slot (width_in c.images b) r 1) c.bindings
+  off_slots r none = each_map _ _ c.bindings (λ b missed same. elim (cases_in b.slot (width_in c.images b) r) [
+    | inl inside ↦
+        (let w : width_in c.images b ≡ slot_width own.magic = ap (λ (j : ℕ). slot_width (image_of c.images j).magic) same in
+        let low = inside.0 in
+        let high = inside.1 in
+        let hit = true-in_slot own.magic r b low (omega (arith, high, w)) in
+        let here = ap (λ (j : ℕ). in_slot j own.magic r b) (sym same) ∙ hit in absurd cc)
+    | inr (inl below) ↦ inr (omega arith)
+    | inr (inr above) ↦ inl above
+  ]) (each_missed (in_slot i own.magic r) c.bindings none)
+
+  off_field : (f : Fixup) (q : ℕ) → Each (λ (b : Binding). b.image ≡ i → Apart b.slot (width_in c.images b) f.field (width_of f.kind)) c.bindings → q < width_of f.kind
+      → get_or bare_plain (f.field + q) 0 ≡ get_or own.plain (f.field + q) 0
+  off_field f q apart small = free (f.field + q) (each_map _ _ c.bindings (λ b both same. elim (both same) [ inl before ↦ inl (omega arith) | inr after ↦ inr (omega arith) ]) apart)
+
+  field_same : (r : ℕ) (o : Option Fixup) → find (in_field r) own.fixups ≡ o → find (in_slot i own.magic r) c.bindings ≡ None → fixed_byte (record own { plain = bare_plain }) r o ≡ fixed_byte own r o
+  field_same r None is none = free r (off_slots r none)
+  field_same r (Some f) is none =
+      let apart : Each (λ (b : Binding). b.image ≡ i → Apart b.slot (width_in c.images b) f.field (width_of f.kind)) c.bindings =
+      each_map (IsSlot c.images) (λ (b : Binding). b.image ≡ i → Apart b.slot (width_in c.images b) f.field (width_of f.kind)) c.bindings
+      (λ b slot same. (each_found (λ (f : Fixup). Apart b.slot (width_in c.images b) f.field (width_of f.kind)) (in_field r) own.fixups f
+      (subst (λ (j : ℕ). Each (λ (f : Fixup). Apart b.slot (width_in c.images b) f.field (width_of f.kind)) (image_of c.images j).fixups) same slot.off_fields) is).0)
+      tied.slots in
+      ap (λ (v : ℕ). digit (shift f.kind v (pos own.base -ℤ pos own.image_base)) (r - f.field))
+      (same_number bare_plain own.plain f.field f.field (width_of f.kind) (λ q small. off_field f q apart small))
+
+  slot_same : (r : ℕ) (o : Option Binding) → find (in_slot i own.magic r) c.bindings ≡ o → byte_by (bare c) i r o ≡ byte_by c i r o
+  slot_same r None is =
+      ap (λ (m : Image). fixed_byte m r (find (in_field r) m.fixups)) bare_is
+      ∙ field_same r (find (in_field r) own.fixups) refl is
+  slot_same r (Some b) is =
+      let slot : IsSlot c.images b = (each_found (IsSlot c.images) (in_slot i own.magic r) c.bindings b tied.slots is).0 in
+      ap (λ (m : Image). digit (m.base + b.rva) (r - b.slot)) (image_bared 0 c.bindings c.images b.exporter slot.exporter)
+
+  pub byte_same : (r : ℕ) → byte_in (bare c) i r ≡ byte_in c i r
+  byte_same r =
+      ap (λ (m : Image). byte_by (bare c) i r (find (in_slot i m.magic r) c.bindings)) bare_is
+      ∙ slot_same r (find (in_slot i own.magic r) c.bindings) refl
+
+  pub base_same : (image_of (bare c).images i).base ≡ own.base
+  base_same = ap (λ (m : Image). m.base) bare_is
+
+-- the same byte stands at each address
+pub address_same : (c : Content) (a : ℕ) → IsTied c → ((j : ℕ) → length (image_of c.images j).plain ≡ (image_of c.images j).size) → byte_at (bare c) a ≡ byte_at c a
+address_same c a tied whole =
+    ap (byte_of (bare c) a) (holder_bared c.bindings c.images a) ∙ by_holder (holder_from 0 c.images a) refl
+  where
+    by_holder : (o : Option ℕ) → holder_from 0 c.images a ≡ o → byte_of (bare c) a o ≡ byte_of c a o
+    by_holder None is = refl
+    by_holder (Some j) is =
+        let inside = holder_inside 0 c.images a j is in
+        let same = inside.1 in
+        let below = inside.2.0 in
+        let lt : j < length c.images = omega (arith, same, below) in
+        ap (λ (b : ℕ). Some (byte_in (bare c) j (a - b))) (base_same c tied whole j lt)
+        ∙ ap (λ (n : ℕ). Some n) (byte_same c tied whole j lt (a - (image_of c.images j).base))
+
+-- the same bytes stand in each window
+bytes_same : (c : Content) (n a : ℕ) → IsTied c → ((j : ℕ) → length (image_of c.images j).plain ≡ (image_of c.images j).size) → bytes_from (bare c) a n ≡ bytes_from c a n
+bytes_same c zero a tied whole = refl
+bytes_same c (suc n) a tied whole =
+    ap (λ (o : Option ℕ). unwrap_or o 0 ∷ bytes_from (bare c) (a + 1) n) (address_same c a tied whole)
+    ∙ ap (λ (xs : List ℕ). unwrap_or (byte_at c a) 0 ∷ xs) (bytes_same c n (a + 1) tied whole)
+
+pub window_same : (c : Content) (a n : ℕ) → IsTied c → ((j : ℕ) → length (image_of c.images j).plain ≡ (image_of c.images j).size) → window_at (bare c) a n ≡ window_at c a n
+window_same c a n tied whole =
+    ap (λ (w : Result (List ℕ) Fault). cond (n == 0) (Ok []) w) (ap (window_in (bare c) a n) (holder_bared c.bindings c.images a) ∙ by_holder (holder_from 0 c.images a) refl)
+  where
+    by_holder : (o : Option ℕ) → holder_from 0 c.images a ≡ o → window_in (bare c) a n o ≡ window_in c a n o
+    by_holder None is = refl
+    by_holder (Some j) is =
+        let inside = holder_inside 0 c.images a j is in
+        let same = inside.1 in
+        let below = inside.2.0 in
+        let lt : j < length c.images = omega (arith, same, below) in
+        ap (λ (m : Image). cond (nat_le (a + n) (m.base + m.size)) (Ok (bytes_from (bare c) a n)) (Err (window_fault j a))) (image_bared 0 c.bindings c.images j lt)
+        ∙ ap (λ (xs : List ℕ). cond (nat_le (a + n) ((image_of c.images j).base + (image_of c.images j).size)) (Ok xs) (Err (window_fault j a))) (bytes_same c n a tied whole)
+
+-- where no image stands
+pub byte_nowhere : (c : Content) (a : ℕ) → holder_from 0 c.images a ≡ None → byte_at (bare c) a ≡ None
+byte_nowhere c a none = ap (byte_of (bare c) a) (holder_bared c.bindings c.images a ∙ none)
+
+pub window_nowhere : (c : Content) (a n : ℕ) → (n == 0) ≡ false → holder_from 0 c.images a ≡ None → window_at (bare c) a n ≡ Err (window_fault nowhere a)
+window_nowhere c a n some none =
+    ap (λ (b : Bool). cond b (Ok []) (window_in (bare c) a n (holder_from 0 (bare c).images a))) some
+    ∙ ap (window_in (bare c) a n) (holder_bared c.bindings c.images a ∙ none)
+
+-- ---- the files as they are laid out
+pub plain_at : (i : layout.Image) (r : ℕ) → r < i.size → get_or (layout.bytes_at i 0 i.size) r 0 ≡ i.byte r
+plain_at i r lt = get_or-map-range_with_len i.byte 0 i.size r r 0 lt (omega arith)
+
+pub number_plain : (i : layout.Image) (place w : ℕ) → place + w ≤ i.size → number_at (layout.bytes_at i 0 i.size) place w ≡ num i.byte place w
+number_plain i place zero le = refl
+number_plain i place (suc w) le =
+    ap (λ (n : ℕ). n + 256 * number_at (layout.bytes_at i 0 i.size) (place + 1) w) (plain_at i place (omega arith))
+    ∙ ap (λ (n : ℕ). i.byte place + 256 * n) (number_plain i (place + 1) w (omega arith))
+
+base_got : (s : List Module) (j : ℕ) → (image_of (map image_content s) j).base ≡ option_map_or (λ (m : Module). m.base) (slice_get s j) 0
+base_got [] j = refl
+base_got (m ∷ s) zero = refl
+base_got (m ∷ s) (suc j) = base_got s j
+
+abbrev AreInside : Module → Type 0
+AreInside m = Each (λ (f : Fixup). f.field + width_of f.kind ≤ m.image.size) m.fixups
+
+unbound : (m : Module) (r : ℕ) (o : Option Fixup) → AreInside m → find (in_field r) m.fixups ≡ o → r < m.image.size → fixed_byte (image_content m) r o ≡ relocated_by m.image m.base r o
+unbound m r None inside is lt = plain_at m.image r lt
+unbound m r (Some f) inside is lt =
+    ap (λ (v : ℕ). digit (shift f.kind v (pos m.base -ℤ pos m.image.image_base)) (r - f.field))
+    (number_plain m.image f.field (width_of f.kind) (each_found (λ (f : Fixup). f.field + width_of f.kind ≤ m.image.size) (in_field r) m.fixups f inside is).0)
+
+module _ (s : List Module) (inside : (j : ℕ) (m : Module) → slice_get s j ≡ Some m → AreInside m) where
+  abbrev c : Content
+  c = record { images = map image_content s; bindings = bindings_of s }
+
+  by_slot : (n : ℕ) (m : Module) (r : ℕ) (o : Option Binding) → slice_get s n ≡ Some m → r < m.image.size → byte_by c n r o ≡ byte_of_image s m r o
+  by_slot n m r None at lt =
+      ap (λ (g : Image). fixed_byte g r (find (in_field r) g.fixups)) (image_got s n m at)
+      ∙ unbound m r (find (in_field r) m.fixups) (inside n m at) refl lt
+  by_slot n m r (Some b) at lt = ap (λ (v : ℕ). digit (v + b.rva) (r - b.slot)) (base_got s b.exporter)
+
+  in_image : (n : ℕ) (m : Module) (r : ℕ) → slice_get s n ≡ Some m → r < m.image.size → byte_in c n r ≡ byte_in_image s n r m
+  in_image n m r at lt =
+      ap (λ (g : Image). byte_by c n r (find (in_slot n g.magic r) (bindings_of s))) (image_got s n m at)
+      ∙ by_slot n m r (find (in_slot n m.magic r) (bindings_of s)) at lt
+
+  at_step : (n : ℕ) (m : Module) (a : ℕ) (o p : Option ℕ) (b : Bool) → slice_get s n ≡ Some m → is_in m.base m.image.size a ≡ b → byte_of c a o ≡ p
+      → byte_of c a (cond b (Some n) o) ≡ cond b (Some (byte_in_image s n (a - m.base) m)) p
+  at_step n m a o p true at is later =
+      let both = is_in-true m.base m.image.size a is in
+      let low = both.0 in
+      let high = both.1 in
+      ap (λ (g : Image). Some (byte_in c n (a - g.base))) (image_got s n m at)
+      ∙ ap (λ (v : ℕ). Some v) (in_image n m (a - m.base) at (omega (arith, low, high)))
+  at_step n m a o p false at is later = later
+
+  at_from : (n : ℕ) (t : List Module) (a : ℕ) → ((i : ℕ) (m : Module) → slice_get t i ≡ Some m → slice_get s (n + i) ≡ Some m) → byte_of c a (holder_from n (map image_content t) a) ≡ defined_from s n t a
+  at_from n [] a tail = refl
+  at_from n (m ∷ t) a tail =
+      let here : n + zero ≡ n = omega arith in
+      let at : slice_get s n ≡ Some m = subst (λ (k : ℕ). slice_get s k ≡ Some m) here (tail zero m refl) in
+      let next : (i : ℕ) (q : Module) → slice_get t i ≡ Some q → slice_get s (n + 1 + i) ≡ Some q = (λ i q got. let there : n + suc i ≡ n + 1 + i = omega arith in subst (λ (k : ℕ). slice_get s k ≡ Some q) there (tail (suc i) q got)) in
+      at_step n m a (holder_from (n + 1) (map image_content t) a) (defined_from s (n + 1) t a) (is_in m.base m.image.size a) at refl (at_from (n + 1) t a next)
+
+  -- what the files lay out stands at each address as the set defines it
+  pub laid_defined : (a : ℕ) → byte_at (laid_out s) a ≡ defined_byte s a
+  unfolding laid_out defined_byte
+  laid_defined a = at_from 0 s a (λ i m at. let here : 0 + i ≡ i = omega arith in subst (λ (k : ℕ). slice_get s k ≡ Some m) (sym here) at)

@@ -1,0 +1,231 @@
+-- Fields and slots that are written one by one, against the bytes that are wanted.
+use Rattle.std.proofs.Common.{◌≡◌, ℕ, ◌+◌, ◌-◌, ◌<◌, ◌≤◌, ◌⊎◌, ℤ, Bool, true, false, List, [], ◌∷◌, length, get_or, refl, ap, ◌∙◌, sym, arith, inl, inr}
+use Rattle.std.proofs.lemmas.Bool.{cases_lt, cases_eq}
+use Rattle.std.proofs.lemmas.List.{length-set, get_or-set_same, get_or-set_other}
+use Rattle.pe_tables.specs.declared.fixups.Fixup.{Fixup}
+use Rattle.pe_set.specs.declared.binding.Binding.{Binding}
+use Rattle.pe_space.specs.Number.{digit, number_at, shift}
+use Rattle.pe_space.specs.Content.{Image, image_of, width_of, slot_width}
+use Rattle.pe_space.specs.Memory.{patch, bytes, shifted, shifted_all, memory_of, put_slot, rebound}
+use Rattle.pe_space.specs.Tied.{Each, EachPair, FieldsApart}
+use Rattle.pe_space.proofs.Patch.{length-patch, patch_below, patch_above, patch_at}
+use Rattle.pe_space.proofs.Numbers.{length-bytes_from, bytes_from-get, same_number}
+use Rattle.pe_space.proofs.Lists.{each_map, each_both}
+
+-- a place of a list with a number's bytes written over it
+pub written_in : (xs : List ℕ) (at w v r : ℕ) → at + w ≤ length xs → at ≤ r → r < at + w → get_or (patch xs at (bytes w v)) r 0 ≡ digit v (r - at)
+written_in xs at w v r fits low high =
+    let len : length (bytes w v) ≡ w = length-bytes_from 0 w v in
+    let place : at + (r - at) ≡ r = omega arith in
+    let e : 0 + (r - at) ≡ r - at = omega arith in
+    ap (λ (k : ℕ). get_or (patch xs at (bytes w v)) k 0) (sym place)
+    ∙ patch_at xs at (bytes w v) (r - at) (omega arith) (omega arith)
+    ∙ bytes_from-get 0 w v (r - at) (omega arith)
+    ∙ ap (digit v) e
+
+pub written_out : (xs : List ℕ) (at w v r : ℕ) → at + w ≤ length xs → (r < at) ⊎ (at + w ≤ r) → get_or (patch xs at (bytes w v)) r 0 ≡ get_or xs r 0
+written_out xs at w v r fits (inl low) = let len = length-bytes_from 0 w v in patch_below xs at (bytes w v) r low (omega arith)
+written_out xs at w v r fits (inr high) = let len = length-bytes_from 0 w v in patch_above xs at (bytes w v) r (omega arith) (omega arith)
+
+-- inside a range, below it or above it
+pub cases_in : (at w r : ℕ) → ((at ≤ r) × (r < at + w)) ⊎ ((r < at) ⊎ (at + w ≤ r))
+cases_in at w r = elim (cases_lt r at) [
+  | inl low ↦ inr (inl low)
+  | inr up ↦ elim (cases_lt r (at + w)) [ inl inside ↦ inl (up, inside) | inr high ↦ inr (inr high) ]
+]
+
+-- the place lies in one of these fields
+abbrev pub InField : ℕ → List Fixup → Type 0
+InField r [] = ⊥
+InField r (f ∷ fs) = ((f.field ≤ r) × (r < f.field + width_of f.kind)) ⊎ InField r fs
+
+pub length-shifted : (d : ℤ) (f : Fixup) (xs : List ℕ) → f.field + width_of f.kind ≤ length xs → length (shifted d f xs) ≡ length xs
+unfolding shifted
+length-shifted d f xs h = let len = length-bytes_from 0 (width_of f.kind) (shift f.kind (number_at xs f.field (width_of f.kind)) d) in length-patch xs f.field _ (omega arith)
+
+pub shifted_in : (d : ℤ) (f : Fixup) (xs : List ℕ) (r : ℕ) → f.field + width_of f.kind ≤ length xs → f.field ≤ r → r < f.field + width_of f.kind
+    → get_or (shifted d f xs) r 0 ≡ digit (shift f.kind (number_at xs f.field (width_of f.kind)) d) (r - f.field)
+unfolding shifted
+shifted_in d f xs r fits low high = written_in xs f.field (width_of f.kind) _ r fits low high
+
+pub shifted_out : (d : ℤ) (f : Fixup) (xs : List ℕ) (r : ℕ) → f.field + width_of f.kind ≤ length xs → (r < f.field) ⊎ (f.field + width_of f.kind ≤ r)
+    → get_or (shifted d f xs) r 0 ≡ get_or xs r 0
+unfolding shifted
+shifted_out d f xs r fits out = written_out xs f.field (width_of f.kind) _ r fits out
+
+-- a field apart from it keeps its number
+pub shifted_other : (d : ℤ) (f g : Fixup) (xs : List ℕ) → f.field + width_of f.kind ≤ length xs → FieldsApart f g
+    → number_at (shifted d f xs) g.field (width_of g.kind) ≡ number_at xs g.field (width_of g.kind)
+shifted_other d f g xs fits apart =
+    same_number (shifted d f xs) xs g.field g.field (width_of g.kind) (λ k lt. shifted_out d f xs (g.field + k) fits (out apart k lt))
+  where
+    out : FieldsApart f g → (k : ℕ) → k < width_of g.kind → (g.field + k < f.field) ⊎ (f.field + width_of f.kind ≤ g.field + k)
+    out (inl before) k lt = inr (omega arith)
+    out (inr after) k lt = inl (omega arith)
+
+pub length-shifted_all : (d : ℤ) (fs : List Fixup) (xs : List ℕ) → Each (λ (f : Fixup). f.field + width_of f.kind ≤ length xs) fs → length (shifted_all d fs xs) ≡ length xs
+length-shifted_all d [] xs fit = refl
+length-shifted_all d (f ∷ fs) xs fit =
+    let same = length-shifted d f xs fit.0 in
+    length-shifted_all d fs (shifted d f xs) (each_map (λ (g : Fixup). g.field + width_of g.kind ≤ length xs) (λ (g : Fixup). g.field + width_of g.kind ≤ length (shifted d f xs)) fs (λ g h. omega arith) fit.1)
+    ∙ same
+
+-- what is wrong so far lies in a field that is still to come, or in Q
+abbrev pub StillFields : (ℕ → ℕ) → (ℕ → Type 0) → ℕ → List Fixup → List ℕ → Type 0
+StillFields T Q size fs xs = (r : ℕ) → r < size → (get_or xs r 0 ≡ T r) ⊎ (InField r fs ⊎ Q r)
+
+field_done : (d : ℤ) (size : ℕ) (T : ℕ → ℕ) (Q : ℕ → Type 0) (f : Fixup) (fs : List Fixup) (xs : List ℕ)
+    → f.field + width_of f.kind ≤ length xs
+    → ((r : ℕ) → f.field ≤ r → r < f.field + width_of f.kind → T r ≡ digit (shift f.kind (number_at xs f.field (width_of f.kind)) d) (r - f.field))
+    → StillFields T Q size (f ∷ fs) xs → StillFields T Q size fs (shifted d f xs)
+field_done d size T Q f fs xs fits wanted still r lt = elim (cases_in f.field (width_of f.kind) r) [
+  | inl inside ↦ inl (shifted_in d f xs r fits inside.0 inside.1 ∙ sym (wanted r inside.0 inside.1))
+  | inr out ↦ elim (still r lt) [
+    | inl right ↦ inl (shifted_out d f xs r fits out ∙ right)
+    | inr (inl (inl here)) ↦ elim out [ inl low ↦ absurd (omega arith) | inr high ↦ absurd (omega arith) ]
+    | inr (inl (inr later)) ↦ inr (inl later)
+    | inr (inr q) ↦ inr (inr q)
+  ]
+]
+
+-- fields that are shifted one by one hold what is wanted
+pub laid_fields : (d : ℤ) (size : ℕ) (T : ℕ → ℕ) (Q : ℕ → Type 0) (old : Fixup → ℕ) (fs : List Fixup) (xs : List ℕ)
+    → Each (λ (f : Fixup). f.field + width_of f.kind ≤ length xs) fs
+    → EachPair FieldsApart fs
+    → Each (λ (f : Fixup). number_at xs f.field (width_of f.kind) ≡ old f) fs
+    → Each (λ (f : Fixup). (r : ℕ) → f.field ≤ r → r < f.field + width_of f.kind → T r ≡ digit (shift f.kind (old f) d) (r - f.field)) fs
+    → StillFields T Q size fs xs
+    → (r : ℕ) → r < size → (get_or (shifted_all d fs xs) r 0 ≡ T r) ⊎ Q r
+laid_fields d size T Q old [] xs fit apart held wanted still = λ r lt. elim (still r lt) [
+  | inl right ↦ inl right
+  | inr (inl none) ↦ absurd none
+  | inr (inr q) ↦ inr q
+]
+laid_fields d size T Q old (f ∷ fs) xs fit apart held wanted still =
+    let same = length-shifted d f xs fit.0 in
+    laid_fields d size T Q old fs (shifted d f xs)
+    (each_map (λ (g : Fixup). g.field + width_of g.kind ≤ length xs) (λ (g : Fixup). g.field + width_of g.kind ≤ length (shifted d f xs)) fs (λ g h. omega arith) fit.1)
+    apart.1
+    (each_map (λ (g : Fixup). FieldsApart f g × (number_at xs g.field (width_of g.kind) ≡ old g)) (λ (g : Fixup). number_at (shifted d f xs) g.field (width_of g.kind) ≡ old g) fs (λ g h. shifted_other d f g xs fit.0 h.0 ∙ h.1)
+    (each_both (FieldsApart f) (λ (g : Fixup). number_at xs g.field (width_of g.kind) ≡ old g) fs apart.0 held.1))
+    wanted.1
+    (field_done d size T Q f fs xs fit.0 (λ r low high. rw held.0 (wanted.0 r low high)) still)
+
+-- ---- slots
+abbrev pub width_in : List Image → Binding → ℕ
+width_in images b = slot_width (image_of images b.image).magic
+
+cases_bool : (t : Bool) → (t ≡ true) ⊎ (t ≡ false)
+cases_bool true = inl refl
+cases_bool false = inr refl
+
+-- the place of image j lies in one of these slots, which passes the test
+abbrev pub InSlot : List Image → (Binding → Bool) → ℕ → ℕ → List Binding → Type 0
+InSlot images p j r [] = ⊥
+InSlot images p j r (b ∷ bs) = ((p b ≡ true) × (b.image ≡ j) × (b.slot ≤ r) × (r < b.slot + width_in images b)) ⊎ InSlot images p j r bs
+
+-- the slot lies in a memory
+pub record Fits (images : List Image) (ms : List (List ℕ)) (b : Binding) : Type 0 where
+  pub image : b.image < length ms
+  pub inside : b.slot + width_in images b ≤ length (memory_of ms b.image)
+
+pub put_in : (images : List Image) (b : Binding) (v : ℕ) (ms : List (List ℕ)) (r : ℕ) → Fits images ms b → b.slot ≤ r → r < b.slot + width_in images b
+    → get_or (memory_of (put_slot images b v ms) b.image) r 0 ≡ digit v (r - b.slot)
+unfolding put_slot
+put_in images b v ms r fits low high =
+    let here : b.image < length ms = fits.image in
+    rw (get_or-set_same ms b.image (patch (memory_of ms b.image) b.slot (bytes (width_in images b) v)) [] here) (written_in (memory_of ms b.image) b.slot (width_in images b) v r fits.inside low high)
+
+pub put_out : (images : List Image) (b : Binding) (v : ℕ) (ms : List (List ℕ)) (r : ℕ) → Fits images ms b → (r < b.slot) ⊎ (b.slot + width_in images b ≤ r)
+    → get_or (memory_of (put_slot images b v ms) b.image) r 0 ≡ get_or (memory_of ms b.image) r 0
+unfolding put_slot
+put_out images b v ms r fits out =
+    let here : b.image < length ms = fits.image in
+    rw (get_or-set_same ms b.image (patch (memory_of ms b.image) b.slot (bytes (width_in images b) v)) [] here) (written_out (memory_of ms b.image) b.slot (width_in images b) v r fits.inside out)
+
+pub put_other : (images : List Image) (b : Binding) (v : ℕ) (ms : List (List ℕ)) (j : ℕ) → (j ≡ b.image → ⊥)
+    → memory_of (put_slot images b v ms) j ≡ memory_of ms j
+unfolding put_slot
+put_other images b v ms j ne = get_or-set_other ms b.image j _ [] ne
+
+pub put_length : (images : List Image) (b : Binding) (v : ℕ) (ms : List (List ℕ)) → Fits images ms b → (j : ℕ)
+    → length (memory_of (put_slot images b v ms) j) ≡ length (memory_of ms j)
+unfolding put_slot
+put_length images b v ms fits j = elim (cases_eq j b.image) [
+  | inl same ↦
+      let here : b.image < length ms = fits.image in
+      let len = length-bytes_from 0 (width_in images b) v in
+      let inside = fits.inside in
+      let w = bytes (width_in images b) v in
+      rw (same, get_or-set_same ms b.image (patch (memory_of ms b.image) b.slot (bytes (width_in images b) v)) [] here) (length-patch (memory_of ms b.image) b.slot (bytes (width_in images b) v) (omega arith))
+  | inr ne ↦ ap length (get_or-set_other ms b.image j _ [] ne)
+]
+
+pub put_count : (images : List Image) (b : Binding) (v : ℕ) (ms : List (List ℕ)) → length (put_slot images b v ms) ≡ length ms
+unfolding put_slot
+put_count images b v ms = length-set ms b.image _
+
+put_fits : (images : List Image) (b e : Binding) (v : ℕ) (ms : List (List ℕ)) → Fits images ms b → Fits images ms e → Fits images (put_slot images b v ms) e
+put_fits images b e v ms fits h =
+    let n = put_count images b v ms in
+    let m = put_length images b v ms fits e.image in
+    let a = h.image in
+    let c = h.inside in
+    record { image = omega arith; inside = omega arith }
+
+-- what is wrong so far lies in a slot that is still to come
+abbrev pub StillSlots : List Image → (Binding → Bool) → (ℕ → ℕ → ℕ) → (ℕ → ℕ) → List Binding → List (List ℕ) → Type 0
+StillSlots images p T size bs ms = (j r : ℕ) → r < size j → (get_or (memory_of ms j) r 0 ≡ T j r) ⊎ InSlot images p j r bs
+
+slot_done : (images : List Image) (p : Binding → Bool) (v : ℕ) (T : ℕ → ℕ → ℕ) (size : ℕ → ℕ) (b : Binding) (bs : List Binding) (ms : List (List ℕ))
+    → Fits images ms b
+    → ((r : ℕ) → b.slot ≤ r → r < b.slot + width_in images b → T b.image r ≡ digit v (r - b.slot))
+    → StillSlots images p T size (b ∷ bs) ms → StillSlots images p T size bs (put_slot images b v ms)
+slot_done images p v T size b bs ms fits wanted still j r lt = elim (cases_eq j b.image) [
+  | inl same ↦ elim (cases_in b.slot (width_in images b) r) [
+    | inl inside ↦ inl (rw same (put_in images b v ms r fits inside.0 inside.1 ∙ sym (wanted r inside.0 inside.1)))
+    | inr out ↦ elim (still j r lt) [
+      | inl right ↦ inl (rw same (put_out images b v ms r fits out ∙ rw same at right))
+      | inr (inl here) ↦ let low = here.2 in let high = here.3 in elim out [ inl below ↦ absurd (omega arith) | inr above ↦ absurd (omega arith) ]
+      | inr (inr later) ↦ inr later
+    ]
+  ]
+  | inr ne ↦ elim (still j r lt) [
+    | inl right ↦ inl (rw (put_other images b v ms j ne) right)
+    | inr (inl here) ↦ absurd (ne (sym here.1))
+    | inr (inr later) ↦ inr later
+  ]
+]
+
+slot_skipped : (images : List Image) (p : Binding → Bool) (T : ℕ → ℕ → ℕ) (size : ℕ → ℕ) (b : Binding) (bs : List Binding) (ms : List (List ℕ))
+    → (p b ≡ false) → StillSlots images p T size (b ∷ bs) ms → StillSlots images p T size bs ms
+slot_skipped images p T size b bs ms off still j r lt = elim (still j r lt) [
+  | inl right ↦ inl right
+  | inr (inl here) ↦ let on = here.0 in cc
+  | inr (inr later) ↦ inr later
+]
+
+-- slots that are written one by one hold what is wanted
+pub laid_slots : (images : List Image) (p : Binding → Bool) (address : Binding → ℕ) (T : ℕ → ℕ → ℕ) (size : ℕ → ℕ) (bs : List Binding) (ms : List (List ℕ))
+    → Each (Fits images ms) bs
+    → Each (λ (b : Binding). p b ≡ true → (r : ℕ) → b.slot ≤ r → r < b.slot + width_in images b → T b.image r ≡ digit (address b) (r - b.slot)) bs
+    → StillSlots images p T size bs ms
+    → (j r : ℕ) → r < size j → get_or (memory_of (rebound images p address bs ms) j) r 0 ≡ T j r
+laid_slots images p address T size [] ms fits wanted still = λ j r lt. elim (still j r lt) [ inl right ↦ right | inr none ↦ absurd none ]
+laid_slots images p address T size (b ∷ bs) ms fits wanted still = elim (cases_bool (p b)) [
+  | inl on ↦ rw on (laid_slots images p address T size bs (put_slot images b (address b) ms)
+      (each_map (Fits images ms) (Fits images (put_slot images b (address b) ms)) bs (λ e h. put_fits images b e (address b) ms fits.0 h) fits.1)
+      wanted.1
+      (slot_done images p (address b) T size b bs ms fits.0 (wanted.0 on) still))
+  | inr off ↦ rw off (laid_slots images p address T size bs ms fits.1 wanted.1 (slot_skipped images p T size b bs ms off still))
+]
+
+pub rebound_lengths : (images : List Image) (p : Binding → Bool) (address : Binding → ℕ) (bs : List Binding) (ms : List (List ℕ)) → Each (Fits images ms) bs
+    → (length (rebound images p address bs ms) ≡ length ms) × ((j : ℕ) → length (memory_of (rebound images p address bs ms) j) ≡ length (memory_of ms j))
+rebound_lengths images p address [] ms fits = (refl, λ j. refl)
+rebound_lengths images p address (b ∷ bs) ms fits = elim (cases_bool (p b)) [
+  | inl on ↦
+      let more = rebound_lengths images p address bs (put_slot images b (address b) ms) (each_map (Fits images ms) (Fits images (put_slot images b (address b) ms)) bs (λ e h. put_fits images b e (address b) ms fits.0 h) fits.1) in
+      rw on (more.0 ∙ put_count images b (address b) ms, λ j. more.1 j ∙ put_length images b (address b) ms fits.0 j)
+  | inr off ↦ rw off (rebound_lengths images p address bs ms fits.1)
+]

@@ -1,0 +1,105 @@
+-- Numbers in bytes, and shifts.
+use Rattle.std.proofs.Common.{◌≡◌, ℕ, zero, suc, ◌+◌, ◌-◌, ◌*◌, ◌/◌, ◌%◌, ◌^◌, ◌<◌, ◌≤◌, List, length, get_or, refl, sym, ap, ◌∙◌, arith}
+use Rattle.std.proofs.Math.Nat.{add-mul, add_assoc, div-add-mod', div-div-eq-div-mul, div-one, mod-eq_of_lt, mod-lt, mul-add-mod_self_right, mul_assoc, one-le-pow, pow-suc, pow-succ'}
+use Rattle.std.proofs.Math.Nat.{mul-le-mul_right, mul-le-mul_left}
+use Rattle.std.specs.Prelude.{ℤ, pos, negsuc, ◌+ℤ◌, ◌-ℤ◌, unsigned_abs}
+use Rattle.std.proofs.lemmas.Int.{ints, int_rem_euclid_is}
+use Rattle.std.specs.Int.{byte_at, bytes_low_first, int_rem_euclid}
+use Rattle.pe_tables.specs.Fixups.{width_of}
+use Rattle.pe_tables.specs.declared.fixups.FixupKind.{FixupKind}
+use Rattle.pe_space.specs.Number.{digit, number_at, shift}
+
+pub length-bytes_from : (j w v : ℕ) → length (bytes_low_first j w v) ≡ w
+length-bytes_from j zero v = refl
+length-bytes_from j (suc w) v = let e = length-bytes_from (suc j) w v in omega (arith, e)
+
+pub byte_at-digit : (k v : ℕ) → byte_at k v ≡ digit v k
+byte_at-digit zero v = ap (λ (y : ℕ). y % 256) (sym (div-one v))
+byte_at-digit (suc k) v = refl
+
+pub bytes_from-get : (j w v k : ℕ) → k < w → get_or (bytes_low_first j w v) k 0 ≡ digit v (j + k)
+bytes_from-get j zero v k h = absurd (omega arith)
+bytes_from-get j (suc w) v zero h = let e : j + 0 ≡ j = omega arith in rw e (byte_at-digit j v)
+bytes_from-get j (suc w) v (suc k) h =
+    let e : j + suc k ≡ suc j + k = omega arith in
+    rw e (bytes_from-get (suc j) w v k (omega arith))
+
+-- the number depends on its bytes alone
+pub same_number : (xs ys : List ℕ) (a b w : ℕ) → ((k : ℕ) → k < w → get_or xs (a + k) 0 ≡ get_or ys (b + k) 0) → number_at xs a w ≡ number_at ys b w
+same_number xs ys a b zero h = refl
+same_number xs ys a b (suc w) h =
+    let first : get_or xs a 0 ≡ get_or ys b 0 = (let ea : a + 0 ≡ a = omega arith in let eb : b + 0 ≡ b = omega arith in rw (ea, eb) at (h 0 (omega arith))) in
+    let rest = same_number xs ys (a + 1) (b + 1) w (λ k lt. (let ea : a + 1 + k ≡ a + suc k = omega arith in let eb : b + 1 + k ≡ b + suc k = omega arith in rw (ea, eb) (h (suc k) (omega arith)))) in
+    rw (first, rest) refl
+
+-- the two low digits of n, to the bases c and then m
+pub mod-split : (n : ℕ) {m c : ℕ} → zero < m → zero < c → n % (m * c) ≡ (n / c % m) * c + n % c
+mod-split n {m} {c} hm hc =
+    let a = mod-lt (n / c) hm in
+    let b = mod-lt n hc in
+    let top : (n / c % m + 1) * c ≤ m * c = mul-le-mul_right c (omega arith) in
+    let expand : (n / c % m + 1) * c ≡ n / c % m * c + 1 * c = add-mul (n / c % m) 1 c in
+    let split : n ≡ n / c / m * (m * c) + (n / c % m * c + n % c) =
+    sym (div-add-mod' n c)
+    ∙ ap (λ (x : ℕ). x * c + n % c) (sym (div-add-mod' (n / c) m))
+    ∙ ap (λ (x : ℕ). x + n % c) (add-mul (n / c / m * m) (n / c % m) c ∙ ap (λ (x : ℕ). x + n / c % m * c) (mul_assoc (n / c / m) m c))
+    ∙ add_assoc (n / c / m * (m * c)) (n / c % m * c) (n % c) in
+    ap (λ (x : ℕ). x % (m * c)) split ∙ mul-add-mod_self_right (n / c / m) (m * c) (n / c % m * c + n % c) ∙ mod-eq_of_lt (omega arith)
+
+pub pow_pos256 : (n : ℕ) → zero < 256 ^ n
+pow_pos256 n = let h = one-le-pow n 256 (omega arith) in omega arith
+
+-- the number in bytes that are those of v from byte j on is what is left of v
+pub number_of_digits : (xs : List ℕ) (a j w v : ℕ) → ((k : ℕ) → k < w → get_or xs (a + k) 0 ≡ digit v (j + k)) → number_at xs a w ≡ v / 256 ^ j % 256 ^ w
+number_of_digits xs a j zero v h = omega arith
+number_of_digits xs a j (suc w) v h =
+    let first : get_or xs a 0 ≡ digit v j = (let ea : a + 0 ≡ a = omega arith in let ej : j + 0 ≡ j = omega arith in rw (ea, ej) at (h 0 (omega arith))) in
+    let rest : number_at xs (a + 1) w ≡ v / 256 ^ suc j % 256 ^ w = number_of_digits xs (a + 1) (suc j) w v (λ k lt. (let ea : a + 1 + k ≡ a + suc k = omega arith in let ej : suc j + k ≡ j + suc k = omega arith in rw (ea, ej) (h (suc k) (omega arith)))) in
+    let down : v / 256 ^ suc j ≡ v / 256 ^ j / 256 = ap (λ (p : ℕ). v / p) (pow-suc 256 j) ∙ sym (div-div-eq-div-mul v (256 ^ j) 256) in
+    let split = mod-split (v / 256 ^ j) {m = 256 ^ w} {c = 256} (pow_pos256 w) (omega arith) in
+    rw (first, rest, down, pow-suc 256 w, split) (omega arith)
+
+-- a number that fits is the one in its own bytes
+pub number_of_own_digits : (xs : List ℕ) (a w v : ℕ) → v < 256 ^ w → ((k : ℕ) → k < w → get_or xs (a + k) 0 ≡ digit v k) → number_at xs a w ≡ v
+number_of_own_digits xs a w v fits h =
+    number_of_digits xs a 0 w v (λ k lt. (let e : 0 + k ≡ k = omega arith in rw e (h k lt)))
+    ∙ ap (λ (y : ℕ). y % 256 ^ w) (div-one v) ∙ mod-eq_of_lt fits
+
+-- a number made of bytes fits
+pub number_lt : (xs : List ℕ) (a w : ℕ) → ((k : ℕ) → get_or xs k 0 < 256) → number_at xs a w < 256 ^ w
+number_lt xs a zero h = omega arith
+number_lt xs a (suc w) h =
+    let byte = h a in
+    let rest = number_lt xs (a + 1) w h in
+    rw (pow-succ' 256 w) (omega arith)
+
+-- ---- shifts
+pub shift_is : (kind : FixupKind) (v b o k m : ℕ) → v + b + k * 256 ^ width_of kind ≡ m + o → shift kind v (pos b -ℤ pos o) ≡ m % 256 ^ width_of kind
+unfolding shift
+shift_is kind v b o k m e = ap unsigned_abs (int_rem_euclid_is _ _ (256 ^ width_of kind) k m (pow_pos256 (width_of kind)) refl (omega (arith, ints)))
+
+rem_lt : (z : ℤ) (n : ℕ) → zero < n → unsigned_abs (int_rem_euclid z (pos n)) < n
+rem_lt (pos a) n h = mod-lt a h
+rem_lt (negsuc a) n h = omega arith
+
+pub shift_lt : (kind : FixupKind) (v : ℕ) (d : ℤ) → shift kind v d < 256 ^ width_of kind
+unfolding shift
+shift_lt kind v d = rem_lt (pos v +ℤ d) (256 ^ width_of kind) (pow_pos256 (width_of kind))
+
+-- a shift to one base and then to another is the shift to the other
+pub shift-shift : (kind : FixupKind) (v o b c : ℕ) → shift kind (shift kind v (pos b -ℤ pos o)) (pos c -ℤ pos b) ≡ shift kind v (pos c -ℤ pos o)
+shift-shift kind v o b c =
+    let w : ℕ = width_of kind in
+    let big = pow_pos256 w in
+    let low_o : o * 1 ≤ o * 256 ^ w = mul-le-mul_left o (omega arith) in
+    let low_b : b * 1 ≤ b * 256 ^ w = mul-le-mul_left b (omega arith) in
+    let m = v + b + o * 256 ^ w - o in
+    let x = m % 256 ^ w in
+    let q = m / 256 ^ w in
+    let whole : q * 256 ^ w + x ≡ m = div-add-mod' m (256 ^ w) in
+    let n = x + c + b * 256 ^ w - b in
+    let spread : (b + o) * 256 ^ w ≡ b * 256 ^ w + o * 256 ^ w = add-mul b o (256 ^ w) in
+    let first : shift kind v (pos b -ℤ pos o) ≡ x = shift_is kind v b o o m (omega arith) in
+    let second : shift kind x (pos c -ℤ pos b) ≡ n % 256 ^ w = shift_is kind x c b b n (omega arith) in
+    let both : shift kind v (pos c -ℤ pos o) ≡ (q * 256 ^ w + n) % 256 ^ w = shift_is kind v c o (b + o) (q * 256 ^ w + n) (omega arith) in
+    ap (λ (y : ℕ). shift kind y (pos c -ℤ pos b)) first ∙ second ∙ sym (both ∙ mul-add-mod_self_right q (256 ^ w) n)

@@ -1,0 +1,110 @@
+-- What a space of images is, whatever keeps their bytes: which byte stands at which address.
+use Rattle.std.specs.Prelude.{ℕ, zero, suc, ◌+◌, ◌-◌, Bool, false, ◌&&◌, nat_le, ◌==◌, if◌then◌else◌, pos, ◌-ℤ◌, List, [], ◌∷◌, map, slice_index, slice_index_or, slice_get, Option, None, Some, unwrap_or, Result, Ok, Err}
+use Rattle.std.specs.Option.{option_map}
+use Rattle.std.specs.List.{find}
+use Rattle.pe_view.specs.declared.fault.Fault.{Fault}
+use Rattle.pe_view.specs.declared.fault.Place.TheVariants.{Address}
+pub use Rattle.pe_view.specs.Number.{is_in}
+use Rattle.pe_head.specs.declared.optional.Magic.{Magic}
+use Rattle.pe_head.specs.declared.optional.Magic.TheVariants.{Pe32}
+pub use Rattle.pe_layout.specs.Image.{slot_width_of as slot_width}
+use Rattle.pe_tables.specs.declared.fixups.Fixup.{Fixup}
+pub use Rattle.pe_tables.specs.Fixups.{width_of}
+pub use Rattle.pe_tables.specs.Relocated.{in_field}
+use Rattle.pe_set.specs.Placement.{Placement}
+use Rattle.pe_set.specs.declared.binding.Binding.{Binding}
+use Rattle.pe_space.specs.Number.{digit, number_at, shift}
+
+-- one image: where it stands, what its headers say, its bytes before any fixup, and its fixups
+pub record Image : Type 0 where
+  pub base : ℕ
+  pub size : ℕ
+  pub magic : Magic
+  pub image_base : ℕ
+  pub is_stripped : Bool
+  pub plain : List ℕ
+  pub fixups : List Fixup
+
+-- the images, and the slots that are bound, by image and then in import order
+pub record Content : Type 0 where
+  pub images : List Image
+  pub bindings : List Binding
+
+abbrev pub placement_of : Image → Placement
+placement_of i = record { base = i.base; size = i.size; magic = i.magic; image_base = i.image_base; is_stripped = i.is_stripped }
+
+-- an RVA of image j, which has this Magic, is one of a bound slot
+abbrev pub in_slot : ℕ → Magic → ℕ → Binding → Bool
+in_slot j magic r b = (b.image == j) && is_in b.slot (slot_width magic) r
+
+-- no image
+abbrev pub no_image : Image
+no_image = record { base = 0; size = 0; magic = Pe32; image_base = 0; is_stripped = false; plain = []; fixups = [] }
+
+abbrev pub image_of : List Image → ℕ → Image
+image_of images j = slice_index_or images j no_image
+
+-- the byte of an image at an RVA outside its bound slots: of the relocated field in which it is, else the plain one
+abbrev pub fixed_byte : Image → ℕ → Option Fixup → ℕ
+fixed_byte image r None = slice_index image.plain r
+fixed_byte image r (Some f) = digit (shift f.kind (number_at image.plain f.field (width_of f.kind)) (pos image.base -ℤ pos image.image_base)) (r - f.field)
+
+abbrev pub byte_by : Content → ℕ → ℕ → Option Binding → ℕ
+byte_by c j r None = fixed_byte (image_of c.images j) r (find (in_field r) (image_of c.images j).fixups)
+byte_by c j r (Some b) = digit ((image_of c.images b.exporter).base + b.rva) (r - b.slot)
+
+-- the byte of image j at an RVA: of the address in the bound slot in which it is, else as above
+abbrev pub byte_in : Content → ℕ → ℕ → ℕ
+byte_in c j r = byte_by c j r (find (in_slot j (image_of c.images j).magic r) c.bindings)
+
+-- the number of the image that holds an address, of images whose numbers begin at n
+abbrev pub placed_from : ℕ → List Placement → ℕ → Option ℕ
+placed_from n [] a = None
+placed_from n (p ∷ ps) a = if is_in p.base p.size a then Some n else placed_from (n + 1) ps a
+
+-- where the image of a number stands, and how many bytes it has, if there is one
+abbrev pub base_in : List Placement → ℕ → Option ℕ
+base_in ps i = option_map (λ (p : Placement). p.base) (slice_get ps i)
+
+abbrev pub size_in : List Placement → ℕ → Option ℕ
+size_in ps i = option_map (λ (p : Placement). p.size) (slice_get ps i)
+
+abbrev pub holder_from : ℕ → List Image → ℕ → Option ℕ
+holder_from n images a = placed_from n (map placement_of images) a
+
+abbrev pub byte_of : Content → ℕ → Option ℕ → Option ℕ
+byte_of c a None = None
+byte_of c a (Some j) = Some (byte_in c j (a - (image_of c.images j).base))
+
+-- the byte at an address, where an image stands
+abbrev pub byte_at : Content → ℕ → Option ℕ
+byte_at c a = byte_of c a (holder_from 0 c.images a)
+
+abbrev pub base_at : Content → ℕ → Option ℕ
+base_at c i = base_in (map placement_of c.images) i
+
+abbrev pub size_at : Content → ℕ → Option ℕ
+size_at c i = size_in (map placement_of c.images) i
+
+-- ---- windows
+-- n bytes from an address on
+abbrev pub bytes_from : Content → ℕ → ℕ → List ℕ
+bytes_from c a zero = []
+bytes_from c a (suc n) = unwrap_or (byte_at c a) 0 ∷ bytes_from c (a + 1) n
+
+-- fault 54 of image i, which holds the address
+abbrev pub window_fault : ℕ → ℕ → Fault
+window_fault i a = record { number = 54; image = i; place = Address a }
+
+-- the image that fault 54 names where none holds the address
+abbrev pub nowhere : ℕ
+nowhere = 65535
+
+abbrev pub window_in : Content → ℕ → ℕ → Option ℕ → Result (List ℕ) Fault
+window_in c a n None = Err (window_fault nowhere a)
+window_in c a n (Some j) =
+    if nat_le (a + n) ((image_of c.images j).base + (image_of c.images j).size) then Ok (bytes_from c a n) else Err (window_fault j a)
+
+-- the bytes of a window, which is empty or lies in one image
+abbrev pub window_at : Content → ℕ → ℕ → Result (List ℕ) Fault
+window_at c a n = if n == 0 then Ok [] else window_in c a n (holder_from 0 c.images a)

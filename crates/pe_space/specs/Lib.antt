@@ -1,0 +1,17 @@
+pub use Rattle.pe_set.specs.Set
+pub use Rattle.pe_set.specs.SetFaults
+pub use Rattle.pe_set.specs.SetView
+pub use Rattle.pe_tables.specs.Fixups
+pub mod Bare
+pub mod ByteCases
+pub mod Commands
+pub mod Content
+pub mod Fresh
+pub mod Held
+pub mod Kept
+pub mod Memory
+pub mod Moves
+pub mod Number
+pub mod Placing
+pub mod SetContent
+pub mod Tied

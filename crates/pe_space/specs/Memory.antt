@@ -1,0 +1,43 @@
+-- Writes into the memory of images.
+use Rattle.std.specs.Prelude.{ℕ, ◌+◌, ◌==◌, if◌then◌else◌, Bool, ℤ, List, [], ◌∷◌, ◌++◌, length, take, drop, slice_set, slice_index_or}
+use Rattle.std.specs.Int.{bytes_low_first}
+use Rattle.pe_tables.specs.declared.fixups.Fixup.{Fixup}
+use Rattle.pe_set.specs.declared.binding.Binding.{Binding}
+use Rattle.pe_space.specs.Number.{number_at, shift}
+use Rattle.pe_space.specs.Content.{Image, image_of, width_of, slot_width}
+
+-- the bytes with these written over them from a place on
+unfoldable pub patch : List ℕ → ℕ → List ℕ → List ℕ
+patch xs at bs = take at xs ++ (bs ++ drop (length bs) (drop at xs))
+
+-- the lowest bytes of a number
+abbrev pub bytes : ℕ → ℕ → List ℕ
+bytes width v = bytes_low_first 0 width v
+
+-- the memory with one field shifted
+unfoldable pub shifted : ℤ → Fixup → List ℕ → List ℕ
+shifted d f xs = patch xs f.field (bytes (width_of f.kind) (shift f.kind (number_at xs f.field (width_of f.kind)) d))
+
+abbrev pub shifted_all : ℤ → List Fixup → List ℕ → List ℕ
+shifted_all d [] xs = xs
+shifted_all d (f ∷ fs) xs = shifted_all d fs (shifted d f xs)
+
+-- the memory of image j
+abbrev pub memory_of : List (List ℕ) → ℕ → List ℕ
+memory_of ms j = slice_index_or ms j []
+
+-- the memories with one slot holding an address
+unfoldable pub put_slot : List Image → Binding → ℕ → List (List ℕ) → List (List ℕ)
+put_slot images b address ms = slice_set ms b.image (patch (memory_of ms b.image) b.slot (bytes (slot_width (image_of images b.image).magic) address))
+
+-- the memories once each slot that passes the test holds its address
+abbrev pub rebound : List Image → (Binding → Bool) → (Binding → ℕ) → List Binding → List (List ℕ) → List (List ℕ)
+rebound images p address [] ms = ms
+rebound images p address (b ∷ bs) ms = rebound images p address bs (if p b then put_slot images b (address b) ms else ms)
+
+-- the slots that end in image i, at a base
+abbrev pub ends_in : ℕ → Binding → Bool
+ends_in i b = b.exporter == i
+
+abbrev pub from_base : ℕ → Binding → ℕ
+from_base base b = base + b.rva

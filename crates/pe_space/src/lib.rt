@@ -1,0 +1,30 @@
+//! Images in one address space: each at its base, with its fields relocated and its imports bound.
+//!
+//! [`map`] judges a set of files and lays them out in memory, or answers the set's first fault. From then on the space tells
+//! which byte stands at which address:
+//!
+//! ```text
+//! let set = [SetEntry { name: b"a.dll", file, base: 0x1000_0000 }];
+//! let space = map(alloc, &set, Policy::Strict)?;
+//! let first = space.byte(0x1000_0000);
+//! let mut code = [0; 16];
+//! space.window(0x1000_1000, &mut code)?;
+//! ```
+#![tactic(auto)]
+
+mod bytes;
+mod commands;
+pub mod laws;
+mod mapped_image;
+mod mapped_space;
+mod mapping;
+mod placed;
+mod reply;
+mod space;
+
+pub use commands::run;
+pub use mapped_space::MappedSpace;
+pub use mapping::map;
+pub use pe_set::{Binding, MapError, Policy, SetEntry};
+pub use reply::{Bytes, Command, Reply, Stopped};
+pub use space::{Moved, Space};

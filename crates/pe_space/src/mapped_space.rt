@@ -1,0 +1,160 @@
+ghost use Rattle.std.specs.Prelude.{◌≡◌, ◌+◌, ◌<◌, ◌≤◌, ◌^◌, ℕ, length, count_by};
+ghost use Rattle.pe_space.specs.Bare.{bare};
+ghost use Rattle.pe_space.specs.Content.{image_of};
+ghost use Rattle.pe_space.specs.Memory.{rebound, ends_in, from_base};
+ghost use Rattle.pe_space.specs.Held.{images_of, memories_of};
+ghost use Rattle.pe_space.specs.Tied.{Each, IsSlot, IsTied};
+ghost use Rattle.pe_space.specs.Placing.{IsPlaced};
+ghost use Rattle.pe_space.specs.Kept.{kept_content, IsFresh, address_of, any_slot};
+
+use crate::mapped_image::MappedImage;
+use crate::placed::{base_of, holder, move_fault, size_of};
+use crate::space::{Moved, Space};
+use pe_set::{Binding, Placed};
+use pe_view::{Fault, Place};
+use std::alloc::Allocator;
+use std::marker::Model;
+
+/// The image that fault 54 names where no image holds the window's address.
+const NO_IMAGE: u16 = u16::MAX;
+
+/// Images in memory, each with its bytes as they stand at its base. It owns its bytes and borrows no file.
+#[derive(Drop)]
+pub struct MappedSpace<A: Allocator> {
+    images: Vec<MappedImage<A>, A>,
+    bindings: Vec<Binding, A>,
+}
+
+impl<A: Allocator> Model for MappedSpace<A> {
+    ghost use Rattle.pe_space.specs.Content.{Content};
+
+    ghost Value = { Content };
+
+    ghost use Rattle.pe_space.specs.Bare.{bare};
+    ghost use Rattle.pe_space.specs.Kept.{kept_content, IsKept};
+
+    ghost view = { λ s. bare (kept_content s.images.items s.bindings.items) };
+
+    ghost invariant = { λ s. IsKept s.images.items s.bindings.items };
+}
+
+/// Writes the address of its export into each slot.
+fn bind<A: Allocator + Copy>(images: &mut [MappedImage<A>], bindings: &[Binding])
+    requires slots { Each (IsSlot (images_of images.old)) bindings.now }
+    requires room { (j : ℕ) → (image_of (images_of images.old) j).base + (image_of (images_of images.old) j).size ≤ 2 ^ 64 }
+    ensures images { images_of images.new ≡ images_of images.old }
+    ensures memories { memories_of images.new ≡ rebound (images_of images.old) any_slot (address_of (images_of images.old)) bindings.now (memories_of images.old) }
+{
+    for binding in bindings {
+        let address = images[binding.exporter as usize].base() + u64::from(binding.rva);
+        images[binding.image as usize].put_slot(binding.slot, address);
+    }
+}
+
+/// Writes the address of its export into each slot that ends in an image, whose new base this is, and tells how many there are.
+fn rebind<A: Allocator + Copy>(
+    images: &mut [MappedImage<A>],
+    bindings: &[Binding],
+    exporter: u16,
+    base: u64,
+) -> u32
+    requires slots { Each (IsSlot (images_of images.old)) bindings.now }
+    requires few { length bindings.now < 2 ^ 32 }
+    requires room { base + (image_of (images_of images.old) exporter).size ≤ 2 ^ 64 }
+    ensures images { images_of images.new ≡ images_of images.old }
+    ensures memories { memories_of images.new ≡ rebound (images_of images.old) (ends_in exporter) (from_base base) bindings.now (memories_of images.old) }
+    ensures count { result ≡ count_by (ends_in exporter) bindings.now }
+{
+    let mut count = 0;
+    for binding in bindings {
+        if binding.exporter == exporter {
+            let image = &mut images[binding.image as usize];
+            image.put_slot(binding.slot, base + u64::from(binding.rva));
+            count += 1;
+        }
+    }
+    count
+}
+
+impl<A: Allocator + Copy> MappedSpace<A> {
+    /// A space of images whose slots are still to be bound.
+    pub(crate) fn new(
+        mut images: Vec<MappedImage<A>, A>,
+        bindings: Vec<Binding, A>,
+    ) -> MappedSpace<A>
+        requires tied { IsTied (kept_content images.items bindings.items) }
+        requires placed { IsPlaced (kept_content images.items bindings.items) }
+        requires fresh { IsFresh (kept_content images.items bindings.items) (memories_of images.items) }
+        ensures { result ≡ bare (kept_content images.items bindings.items) }
+    {
+        bind(images.as_mut_slice(), bindings.as_slice());
+        MappedSpace { images, bindings }
+    }
+}
+
+impl<A: Allocator + Copy> Space for MappedSpace<A> {
+    ghost content = { λ s. s };
+
+    fn byte(&self, address: u64) -> Option<u8> {
+        let number = holder(self.images.as_slice(), address)?;
+        let image = &self.images[number as usize];
+        Some(image.byte((address - image.base()) as usize))
+    }
+
+    fn window(&self, address: u64, buffer: &mut [u8]) -> Result<(), Fault> {
+        if buffer.is_empty() {
+            return Ok(());
+        }
+        let place = Place::Address(address);
+        let Some(number) = holder(self.images.as_slice(), address) else {
+            return Err(Fault {
+                number: 54,
+                image: NO_IMAGE,
+                place,
+            });
+        };
+        let image = &self.images[number as usize];
+        let rva = (address - image.base()) as usize;
+        if buffer.len() > image.size() as usize - rva {
+            return Err(Fault {
+                number: 54,
+                image: number,
+                place,
+            });
+        }
+        image.read(rva, buffer);
+        Ok(())
+    }
+
+    fn move_image(&mut self, image: u16, base: u64) -> Result<Moved, Fault> {
+        if let Some(fault) = move_fault(self.images.as_slice(), image, base) {
+            return Err(fault);
+        }
+        let own = &mut self.images[image as usize];
+        own.rebase(base);
+        let fields = own.field_count();
+        let slots = rebind(
+            self.images.as_mut_slice(),
+            self.bindings.as_slice(),
+            image,
+            base,
+        );
+        Ok(Moved { fields, slots })
+    }
+
+    fn image_count(&self) -> u16 {
+        self.images.len() as u16
+    }
+
+    fn base_of(&self, image: u16) -> Option<u64> {
+        base_of(self.images.as_slice(), image)
+    }
+
+    fn size_of(&self, image: u16) -> Option<u32> {
+        size_of(self.images.as_slice(), image)
+    }
+
+    fn bindings(&self) -> &[Binding] {
+        self.bindings.as_slice()
+    }
+}

@@ -1,0 +1,67 @@
+ghost use Rattle.std.specs.Prelude.{◌≡◌, ◌≢◌, ◌<◌, ◌⊎◌, None, IfOk, Err, List, ℕ, length, IsErrOf};
+ghost use Rattle.pe_view.specs.Faults.{first_standing};
+ghost use Rattle.pe_set.specs.Set.{modules_of, at_bases};
+ghost use Rattle.pe_set.specs.SetView.{entries_of, module_view};
+ghost use Rattle.pe_set.specs.SetFaults.{MapAnswers, names_tests, set_tests};
+ghost use Rattle.pe_space.specs.Bare.{set_at};
+ghost use Rattle.pe_space.specs.Content.{byte_at};
+ghost use Rattle.pe_space.specs.SetContent.{content_of, defined_byte};
+ghost use Rattle.pe_space.specs.Fresh.{fresh_of, IsFit};
+
+use crate::mapped_image::MappedImage;
+use crate::mapped_space::MappedSpace;
+use pe_set::{Accepted, MapError, Module, Policy, SetEntry, judge};
+use std::alloc::{AllocError, Allocator};
+
+/// Lays an image out in memory at its base, with its fields moved on.
+#[tactic(auto, unfolding(pe_set::specs::SetView::module_view))]
+fn place<A: Allocator + Copy>(alloc: A, own: Module<A>) -> Result<MappedImage<A>, AllocError>
+    requires { IsFit (module_view own) }
+    ensures { IfOk result (λ mapped. mapped ≡ fresh_of (module_view own.entry)) }
+{
+    let layout = &own.image.layout;
+    let mut plain = vec![in alloc; 0u8; layout.size() as usize]?;
+    layout.fill(0, plain.as_mut_slice());
+    Ok(MappedImage::new(
+        own.base,
+        layout.headers().magic,
+        layout.image_base(),
+        layout.is_stripped(),
+        own.image.fixups,
+        plain,
+    ))
+}
+
+/// Maps a set of images: each at its base, with its fields relocated and its imports bound.
+///
+/// The files are judged as they are handed in, each under the number of its entry. Faults are asked class by class, each class
+/// where the ones before have none: the names of the entries (41, 42); each file on its own (1 to 38), image by image; where the
+/// images stand (43 to 47); their imports (48 to 50), image by image and in the order of each one's imports. The answer is
+/// [`MapError::Fault`] with the first fault that stands, or [`MapError::Memory`] where a growth was refused: never where a name
+/// has a fault, and so never of over 256 entries, and never of no entry. An error leaves nothing: all memory that was taken is
+/// given back.
+///
+/// Under [`Policy::Known`] an import whose search comes to a module that is not in the set leaves its slot as its file lays it
+/// out.
+///
+/// ("PE Format": Base Relocation Types, Import Address Table, Export Address Table.)
+pub fn map<A: Allocator + Copy>(
+    alloc: A,
+    set: &[SetEntry],
+    policy: Policy,
+) -> Result<MappedSpace<A>, MapError>
+    ensures exact { MapAnswers (set_tests policy (entries_of set.now)) (λ space. space ≡ content_of (modules_of (entries_of set.now))) result }
+    ensures bytes { IfOk result (λ space. (bases : List ℕ) (a : ℕ) → first_standing (set_tests policy (at_bases bases (entries_of set.now))) ≡ None
+        → byte_at (set_at bases space) a ≡ defined_byte (modules_of (at_bases bases (entries_of set.now))) a) }
+    ensures no_memory { (length set.now ≡ 0) ⊎ (256 < length set.now) → result ≢ Err MapError.Memory }
+    ensures named { IsErrOf result MapError.Memory → first_standing (names_tests (entries_of set.now)) ≡ None }
+{
+    pe_set::laws::accepted_sets_are_sound();
+    pe_set::laws::bases_change_no_binding();
+    let Accepted { modules, bindings } = judge(alloc, set, policy)?;
+    let mut images = Vec::with_capacity(alloc, modules.len())?;
+    for own in modules {
+        images.push(place(alloc, own)?)?;
+    }
+    Ok(MappedSpace::new(images, bindings))
+}
