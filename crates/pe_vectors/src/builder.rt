@@ -3,8 +3,8 @@ ghost use Rattle.pe_vectors.specs.declared.builder.TheConstants.{ROOM};
 
 use std::alloc::{AllocError, Global};
 
-/// The bytes that a file under construction has room for: the headers and 0x400 bytes of data.
-const ROOM: usize = 0x600;
+/// The bytes that a file under construction has room for: the headers and 0x600 bytes of data.
+const ROOM: usize = 0x800;
 
 /// Where the signature stands: the value of the field at 0x3c.
 const PE_OFFSET: usize = 0x40;

@@ -1,7 +1,7 @@
-//! The files V1, V2, V3, VA, VB, VC, VD, VS and VR. The builders' clauses give each file's length alone; its bytes are shown by
-//! tests.
+//! The files V1, V2, V3, VA, VB, VC, VD, VS, VF and VR. The builders' clauses give each file's length alone; its bytes are shown
+//! by tests.
 
-ghost use Rattle.std.specs.Prelude.{◌≡◌, IfOk, vec_len};
+ghost use Rattle.std.specs.Prelude.{◌≡◌, ◌≤◌, IfOk, vec_len};
 
 use crate::builder::{
     BASE_RELOCATION, EXPORT, ExportDirectory, Form, Heading, IMPORT, Image, ImportDescriptor,
@@ -225,6 +225,58 @@ pub fn vs(alloc: Global) -> Result<Vec<u8>, AllocError>
     image.put_u32(0x430, 0x8000_0007);
     image.put_bytes(0x440, b"S.DLL");
     Ok(image.into_file(0x600))
+}
+
+/// VF, the module `f.dll`: a chain of so many forwarders. Each of its ordinals, from 1 on, stands for the next one of `f`, but for
+/// the last, which is 0x1004.
+pub fn vf(alloc: Global, forwarders: u32) -> Result<Vec<u8>, AllocError>
+    requires { forwarders ≤ 65 }
+    ensures { IfOk result (λ file. vec_len file ≡ 0x800) }
+{
+    let heading = Heading {
+        image_base: 0x2000_0000,
+        ..LIBRARY
+    };
+    let mut image = Image::new(alloc, &heading)?;
+    let section = Section {
+        virtual_size: 0x600,
+        virtual_address: 0x1000,
+        size_of_raw_data: 0x600,
+        pointer_to_raw_data: 0x200,
+        characteristics: 0xc000_0040,
+    };
+    image.section_header(0, b".edata", &section);
+    image.directory(EXPORT, 0x1020, 0x5e0);
+    let directory = ExportDirectory {
+        name: 0,
+        ordinal_base: 1,
+        address_table_entries: forwarders + 1,
+        number_of_name_pointers: 0,
+        address_table: 0x1048,
+        name_pointers: 0,
+        ordinal_table: 0,
+    };
+    image.export_directory(0x220, &directory);
+    for index in 0..forwarders {
+        image.put_u32(0x248 + 4 * index as usize, 0x1200 + 8 * index);
+        put_forwarder(&mut image, 0x400 + 8 * index as usize, index + 2);
+    }
+    image.put_u32(0x248 + 4 * forwarders as usize, 0x1004);
+    Ok(image.into_file(0x800))
+}
+
+/// The text of a forwarder to an ordinal of `f`, at a file offset.
+fn put_forwarder(image: &mut Image, offset: usize, ordinal: u32)
+    requires room { offset ≤ 0x700 }
+    requires two_digits { ordinal ≤ 99 }
+{
+    image.put_bytes(offset, b"f.#");
+    let digits = [b'0' + (ordinal / 10) as u8, b'0' + (ordinal % 10) as u8];
+    if ordinal < 10 {
+        image.put_bytes(offset + 3, &digits[1..]);
+    } else {
+        image.put_bytes(offset + 3, &digits);
+    }
 }
 
 /// VR, the rich one: every field that its dump shows has a value of its own, every kind of text has bytes that are escaped,

@@ -17,7 +17,7 @@ mod devices;
 mod images;
 
 pub use devices::{StepReader, StepWriter};
-pub use images::{v1, v2, v3, va, vb, vc, vd, vr, vs};
+pub use images::{v1, v2, v3, va, vb, vc, vd, vf, vr, vs};
 
 #[cfg(test)]
 mod tests;

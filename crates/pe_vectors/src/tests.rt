@@ -1,3 +1,4 @@
+mod bindings;
 mod counted;
 mod dumps;
 mod exports;
@@ -8,7 +9,11 @@ mod images;
 mod imports;
 mod keys;
 mod layout;
+mod members;
+mod moves;
 mod outcome;
+mod sets;
+mod spaces;
 mod tool;
 mod whole;
 mod words;

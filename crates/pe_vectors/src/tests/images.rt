@@ -1,6 +1,7 @@
 //! Each file, byte by byte.
 
 use super::files::{Piece, Vector, assert_holds, file_of, put_pieces};
+use crate::vf;
 use std::process::Abort;
 
 /// The headers that V1, V2, VA and VB begin with, and VC and VS but for the fields that they change.
@@ -349,5 +350,80 @@ fn each_vector_has_the_listed_bytes(rt: HostRuntime) {
         put_lists(&rt, &mut expected, lists);
         let file = file_of(&rt, rt.alloc(), *vector);
         assert_holds(&rt, index, Some(file.as_slice()) == expected.get(..*len));
+    }
+}
+
+/// What VF adds to the headers, whatever the number of its forwarders.
+const CHAINED: &[Piece] = &[
+    (0x77, &[0x20]),
+    (0xb8, &[0x20, 0x10, 0x00, 0x00, 0xe0, 0x05, 0x00, 0x00]),
+    (0x138, &[0x2e, 0x65, 0x64, 0x61, 0x74, 0x61, 0x00, 0x00]),
+    (0x140, &[0x00, 0x06, 0x00, 0x00, 0x00, 0x10, 0x00, 0x00]),
+    (0x148, &[0x00, 0x06, 0x00, 0x00, 0x00, 0x02, 0x00, 0x00]),
+    (0x15c, &[0x40, 0x00, 0x00, 0xc0]),
+    (0x230, &[0x01]),
+    (0x23c, &[0x48, 0x10]),
+];
+
+/// How many forwarders VF has, and the pieces that it has for them.
+const CHAINS: &[(u32, &[Piece])] = &[
+    (0, &[(0x234, &[0x01]), (0x248, &[0x04, 0x10])]),
+    (
+        1,
+        &[
+            (0x234, &[0x02]),
+            (0x248, &[0x00, 0x12, 0x00, 0x00, 0x04, 0x10]),
+            (0x400, b"f.#2"),
+        ],
+    ),
+    (
+        9,
+        &[
+            (0x234, &[0x0a]),
+            (0x248, &[0x00, 0x12, 0x00, 0x00, 0x08, 0x12]),
+            (0x250, &[0x10, 0x12, 0x00, 0x00, 0x18, 0x12]),
+            (0x258, &[0x20, 0x12, 0x00, 0x00, 0x28, 0x12]),
+            (0x260, &[0x30, 0x12, 0x00, 0x00, 0x38, 0x12]),
+            (0x268, &[0x40, 0x12, 0x00, 0x00, 0x04, 0x10]),
+            (0x400, b"f.#2\0\0\0\0f.#3\0\0\0\0f.#4"),
+            (0x418, b"f.#5\0\0\0\0f.#6\0\0\0\0f.#7"),
+            (0x430, b"f.#8\0\0\0\0f.#9\0\0\0\0f.#10"),
+        ],
+    ),
+];
+
+#[test]
+fn a_chain_has_its_forwarders_and_then_its_export(rt: HostRuntime) {
+    for (index, (forwarders, pieces)) in CHAINS.iter().enumerate() {
+        let mut expected = [0; 0x800];
+        put_lists(&rt, &mut expected, &[PE32_HEADERS, CHAINED, pieces]);
+        assert!(rt; *forwarders <= 65);
+        let file = vf(rt.alloc(), *forwarders).expect(&rt, "memory");
+        assert_holds(&rt, index, file.as_slice() == &expected[..]);
+    }
+}
+
+/// Bytes of the longest chain: how many entries it has; its entries 63 to 65; its last two forwarders.
+const LONGEST: &[(usize, &[u8])] = &[
+    (0x234, &[0x42, 0x00, 0x00, 0x00]),
+    (
+        0x344,
+        &[
+            0xf8, 0x13, 0x00, 0x00, 0x00, 0x14, 0x00, 0x00, 0x04, 0x10, 0x00, 0x00, 0x00,
+        ],
+    ),
+    (0x5f8, b"f.#65\0\0\0f.#66\0\0\0\0"),
+];
+
+#[test]
+fn the_longest_chain_has_66_entries(rt: HostRuntime) {
+    let file = vf(rt.alloc(), 65).expect(&rt, "memory");
+    for (index, (offset, bytes)) in LONGEST.iter().enumerate() {
+        assert!(rt; *offset < 0x700 && bytes.len() < 0x100);
+        assert_holds(
+            &rt,
+            index,
+            file.get(*offset..*offset + bytes.len()) == Some(*bytes),
+        );
     }
 }
