@@ -3,6 +3,7 @@
 //!
 //! One file, [`vr`], is rich: each field that its dump shows has a value of its own, and each kind of text bytes that are
 //! escaped. So a dump that shows one value for another, or a byte as it stands, differs from the one that is written down.
+//! Another, [`vf`], is a chain of as many forwarders as are asked for.
 //!
 //! A builder uses none of the other crates, so that what they read is told apart from what they wrote:
 //!

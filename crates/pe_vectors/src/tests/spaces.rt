@@ -517,6 +517,16 @@ const WINDOWS: &[Window] = &[
     (u64::MAX, 0, Ok(&[])),
 ];
 
+/// Windows of one image.
+const PLAIN_WINDOWS: &[Window] = &[
+    (0x1000_1000, 4, Ok(&[0x00, 0x01, 0x02, 0x03])),
+    (0x1000_2fff, 1, Ok(&[0x00])),
+    (0x1000_2fff, 2, Err(0)),
+    (0x1000_3000, 0, Ok(&[])),
+    (0x1000_3000, 1, Err(65_535)),
+    (0, 2, Err(65_535)),
+];
+
 /// Windows of an image up to the last address.
 const LAST_WINDOWS: &[Window] = &[
     (0xffff_ffff_ffff_1008, 4, Ok(&[0x00, 0x10, 0xff, 0xff])),
@@ -530,8 +540,10 @@ const LAST_WINDOWS: &[Window] = &[
 
 #[test]
 fn a_window_lies_in_one_image(rt: HostRuntime) {
-    let space = space_of(&rt, rt.alloc(), SIDE_BY_SIDE, Policy::Strict);
-    assert_windows(&rt, &space, WINDOWS);
+    let plain = space_of(&rt, rt.alloc(), &[PLAIN], Policy::Strict);
+    assert_windows(&rt, &plain, PLAIN_WINDOWS);
+    let two = space_of(&rt, rt.alloc(), SIDE_BY_SIDE, Policy::Strict);
+    assert_windows(&rt, &two, WINDOWS);
     let last = space_of(&rt, rt.alloc(), LAST, Policy::Strict);
     assert_windows(&rt, &last, LAST_WINDOWS);
     let none = space_of(&rt, rt.alloc(), &[], Policy::Strict);
