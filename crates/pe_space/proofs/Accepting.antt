@@ -1,5 +1,5 @@
 -- What a space of an accepted set rests on: its fields and slots, and where its images stand.
-use Rattle.std.proofs.Common.{◌≡◌, ◌∙◌, ◌+◌, ◌<◌, ◌≤◌, ℕ, zero, suc, List, [], ◌∷◌, length, map, refl, sym, ap, subst, Some, arith, inl, inr}
+use Rattle.std.proofs.Common.{◌≡◌, ◌∙◌, ◌+◌, ◌<◌, ◌≤◌, ◌^◌, ℕ, zero, suc, List, [], ◌∷◌, length, map, refl, sym, ap, subst, Some, arith, inl, inr}
 use Rattle.std.specs.Prelude.{pos, ◌-ℤ◌, slice_get, AllPairs, slice_index_or}
 use Rattle.std.proofs.lemmas.Bool.{cases_lt}
 use Rattle.std.proofs.lemmas.List.{length-map}
@@ -106,6 +106,19 @@ module _ (s : List Module) (sound : IsSound s) where
         room = room_at;
         apart = λ i j lt_i lt_j ne. apart_at i j (omega (arith, count, lt_i)) (omega (arith, count, lt_j)) ne;
       }
+
+  small_from : (j : ℕ) → (image_of images j).size ≤ 2 ^ 31
+  small_from j = elim (cases_lt j (length s)) [
+    | inl lt ↦
+        (let got = module_got s j lt in
+        subst (λ (g : Image). g.size ≤ 2 ^ 31) (sym got.2) (all_got IsSoundImage s j got.0 sound.images got.1).small)
+    | inr past ↦ subst (λ (g : Image). g.size ≤ 2 ^ 31) (sym (past_end s j past)) (omega arith)
+  ]
+
+  -- each image is small
+  pub small : (j : ℕ) → (image_of (laid_out s).images j).size ≤ 2 ^ 31
+  unfolding laid_out
+  small = small_from
 
   fit_of : (m : Module) → IsSoundImage m → IsFit m
   fit_of m fine =

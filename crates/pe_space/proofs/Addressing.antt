@@ -1,13 +1,13 @@
 -- What stands at an address, and from it on.
 use Rattle.std.proofs.Common.{◌≡◌, ℕ, zero, suc, ◌+◌, ◌-◌, ◌<◌, ◌≤◌, Bool, true, false, cond, List, [], ◌∷◌, length, map, drop, take, get_or, refl, ap, ◌∙◌, sym, subst, arith, inl, inr}
-use Rattle.std.specs.Prelude.{Option, Some, unwrap_or, Ok, Err, nat_le, ◌==◌}
-use borrow.Author.Tests.{le-leb, lt-leb}
-use Rattle.std.proofs.lemmas.Bool.{cases_eq}
+use Rattle.std.specs.Prelude.{Option, None, Some, unwrap_or, Result, Ok, Err, nat_le}
+use Rattle.std.proofs.lemmas.Bool.{cases_eq, leb-true}
 use Rattle.std.proofs.lemmas.List.{length-map, drop_more}
 use Rattle.std.proofs.lemmas.Simd.{map-map}
+use Rattle.pe_view.specs.declared.fault.Fault.{Fault}
 use Rattle.pe_set.specs.declared.binding.Binding.{Binding}
-use Rattle.pe_set.specs.Placement.{Placement}
-use Rattle.pe_space.specs.Content.{Image, Content, placement_of, image_of, is_in, placed_from, holder_from, byte_at, byte_of, byte_in, bytes_from, window_fault, window_in, window_at}
+use Rattle.pe_set.specs.Placement.{Placement, placement_at}
+use Rattle.pe_space.specs.Content.{Image, Content, placement_of, image_of, is_in, placed_from, holder_from, byte_at, byte_of, byte_in, bytes_from, window_fault, window_image_by, window_image}
 use Rattle.pe_space.specs.Memory.{memory_of}
 use Rattle.pe_space.specs.Held.{Held, images_of, memories_of}
 use Rattle.pe_space.specs.Placing.{IsPlaced}
@@ -108,26 +108,46 @@ bytes_here hs bs a j h kept found (suc n) b r e fits len =
 pub size_here : (hs : List Held) (bs : List Binding) (a j : ℕ) (h : Held) → IsKept hs bs → Found hs bs a j h → h.image.size ≡ length h.memory
 size_here hs bs a j h kept found = ap (λ (m : Image). m.size) found.image ∙ sym (kept.laid.lengths j) ∙ ap length (sym found.memory)
 
-pub window_of : (c : Content) (a n j : ℕ) (t : Bool) → (n == 0) ≡ false → holder_from 0 c.images a ≡ Some j → nat_le (a + n) ((image_of c.images j).base + (image_of c.images j).size) ≡ t
-    → window_at c a n ≡ cond t (Ok (bytes_from c a n)) (Err (window_fault j a))
-window_of c a n j t some found test =
-    ap (λ (b : Bool). cond b (Ok []) (window_in c a n (holder_from 0 c.images a))) some
-    ∙ ap (window_in c a n) found
-    ∙ ap (λ (b : Bool). cond b (Ok (bytes_from c a n)) (Err (window_fault j a))) test
+-- where an image of a content stands
+pub placed_at : (images : List Image) (k : ℕ) → placement_at (map placement_of images) k ≡ placement_of (image_of images k)
+placed_at [] k = refl
+placed_at (m ∷ images) zero = refl
+placed_at (m ∷ images) (suc k) = placed_at images k
 
-pub window_refused : (hs : List Held) (bs : List Binding) (a n j : ℕ) (h : Held) → (n == 0) ≡ false → holder_from 0 (images_of hs) a ≡ Some j → Found hs bs a j h → h.image.size - (a - h.image.base) < n
-    → window_at (kept_content hs bs) a n ≡ Err (window_fault j a)
-window_refused hs bs a n j h some held found over =
-    let low = found.low in
-    let high = found.high in
-    let past : h.image.base + h.image.size < a + n = omega arith in
-    window_of (kept_content hs bs) a n j false some held (lt-leb _ _ (subst (λ (m : Image). m.base + m.size < a + n) found.image past))
+-- where a window lies
+lies_step : (ps : List Placement) (a n j k : ℕ) (t : Bool) → nat_le (a + n) ((placement_at ps k).base + (placement_at ps k).size) ≡ t → cond t (Ok k) (Err (window_fault k a)) ≡ Ok j
+    → (k ≡ j) × (a + n ≤ (placement_at ps k).base + (placement_at ps k).size)
+lies_step ps a n j k true is h = (cc, leb-true _ _ is)
+lies_step ps a n j k false is h = absurd cc
 
-pub window_given : (hs : List Held) (bs : List Binding) (a n j : ℕ) (h : Held) → IsKept hs bs → (n == 0) ≡ false → holder_from 0 (images_of hs) a ≡ Some j → Found hs bs a j h → n ≤ h.image.size - (a - h.image.base)
-    → window_at (kept_content hs bs) a n ≡ Ok (take n (drop (a - h.image.base) h.memory))
-window_given hs bs a n j h kept some held found fits =
+lies_by : (ps : List Placement) (a n j : ℕ) (o : Option ℕ) → window_image_by ps a n o ≡ Ok j → (o ≡ Some j) × (a + n ≤ (placement_at ps j).base + (placement_at ps j).size)
+lies_by ps a n j None h = absurd cc
+lies_by ps a n j (Some k) h =
+    let both = lies_step ps a n j k (nat_le (a + n) ((placement_at ps k).base + (placement_at ps k).size)) refl h in
+    (ap (λ (i : ℕ). Some i) both.0, subst (λ (i : ℕ). a + n ≤ (placement_at ps i).base + (placement_at ps i).size) both.0 both.1)
+
+pub window_lies : (images : List Image) (a n j : ℕ) → window_image (map placement_of images) a n ≡ Ok j → (holder_from 0 images a ≡ Some j) × (a + n ≤ (image_of images j).base + (image_of images j).size)
+window_lies images a n j h =
+    let both = lies_by (map placement_of images) a n j (holder_from 0 images a) h in
+    (both.0, subst (λ (p : Placement). a + n ≤ p.base + p.size) (placed_at images j) both.1)
+
+-- what a window of memories gave
+pub window_so : (hs xs : List Held) (a n : ℕ) (o : Result ℕ Fault) → xs ≡ hs → o ≡ window_image (map (λ (h : Held). placement_of h.image) xs) a n → window_image (map placement_of (images_of hs)) a n ≡ o
+window_so hs xs a n o same is = ap (λ (ps : List Placement). window_image ps a n) (placed_so hs xs same) ∙ sym is
+
+-- the image in which it lies
+pub found_window : (hs : List Held) (bs : List Binding) (a n j : ℕ) (h : Held) → window_image (map placement_of (images_of hs)) a n ≡ Ok j → h ≡ get_or hs j h
+    → Found hs bs a j h × (a - h.image.base + n ≤ h.image.size)
+found_window hs bs a n j h lies is =
+    let both = window_lies (images_of hs) a n j lies in
+    let found = found_at hs bs a j h both.0 is in
     let low = found.low in
-    let high = found.high in
-    let within : a + n ≤ h.image.base + h.image.size = omega arith in
-    window_of (kept_content hs bs) a n j true some held (le-leb _ _ (subst (λ (m : Image). a + n ≤ m.base + m.size) found.image within))
-    ∙ ap (λ (xs : List ℕ). Ok xs) (bytes_here hs bs a j h kept found n a (a - h.image.base) (omega arith) (omega arith) (size_here hs bs a j h kept found))
+    let fits : a + n ≤ h.image.base + h.image.size = subst (λ (m : Image). a + n ≤ m.base + m.size) (sym found.image) both.1 in
+    (found, omega arith)
+
+-- the bytes of a window, in that image
+pub window_here : (hs : List Held) (bs : List Binding) (a n j : ℕ) (h : Held) → IsKept hs bs → Found hs bs a j h → a - h.image.base + n ≤ h.image.size
+    → bytes_from (kept_content hs bs) a n ≡ take n (drop (a - h.image.base) h.memory)
+window_here hs bs a n j h kept found fits =
+    let low = found.low in
+    bytes_here hs bs a j h kept found n a (a - h.image.base) (omega arith) fits (size_here hs bs a j h kept found)

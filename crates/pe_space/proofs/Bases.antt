@@ -33,7 +33,7 @@ whole_from [] j = refl
 whole_from (m ∷ s) zero = length-map-range_with_len m.image.byte 0 m.image.size
 whole_from (m ∷ s) (suc j) = whole_from s j
 
-whole_at : (s : List Module) (j : ℕ) → length (image_of (laid_out s).images j).plain ≡ (image_of (laid_out s).images j).size
+pub whole_at : (s : List Module) (j : ℕ) → length (image_of (laid_out s).images j).plain ≡ (image_of (laid_out s).images j).size
 unfolding laid_out
 whole_at s j = whole_from s j
 

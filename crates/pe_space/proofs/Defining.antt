@@ -1,6 +1,6 @@
 -- What is kept of a set says at each address what the set defines.
 use Rattle.std.proofs.Common.{◌≡◌, ◌∙◌, ◌+◌, ◌-◌, ◌*◌, ◌<◌, ◌≤◌, ℕ, zero, suc, Bool, true, false, cond, List, [], ◌∷◌, length, map, get_or, Option, None, Some, refl, sym, ap, subst, arith, inl, inr}
-use Rattle.std.specs.Prelude.{pos, ◌-ℤ◌, slice_get, unwrap_or, nat_le, ◌==◌, Result, Ok, Err}
+use Rattle.std.specs.Prelude.{pos, ◌-ℤ◌, slice_get, unwrap_or, ◌==◌, Result, Ok}
 use Rattle.std.specs.Option.{option_map_or}
 use Rattle.pe_set.specs.Placement.{Placement}
 use Rattle.pe_view.specs.declared.fault.Fault.{Fault}
@@ -18,7 +18,7 @@ use Rattle.pe_tables.specs.Relocated.{relocated_by}
 use Rattle.pe_tables.specs.declared.fixups.Fixup.{Fixup}
 use Rattle.pe_set.specs.declared.binding.Binding.{Binding}
 use Rattle.pe_space.specs.Number.{digit, number_at, shift}
-use Rattle.pe_space.specs.Content.{Image, Content, placement_of, placed_from, image_of, slot_width, is_in, in_slot, in_field, fixed_byte, byte_by, byte_in, holder_from, byte_of, byte_at, bytes_from, window_fault, nowhere, window_in, window_at}
+use Rattle.pe_space.specs.Content.{Image, Content, placement_of, placed_from, image_of, slot_width, is_in, in_slot, in_field, fixed_byte, byte_by, byte_in, holder_from, byte_of, byte_at, bytes_from, window_image, window_in, window_at}
 use Rattle.pe_space.specs.Bare.{without_slots, bared, bare}
 use Rattle.pe_space.specs.Tied.{Each, Apart, IsSlot, IsTied}
 use Rattle.pe_space.proofs.Lists.{each_map, each_both}
@@ -132,34 +132,21 @@ address_same c a tied whole =
         ∙ ap (λ (n : ℕ). Some n) (byte_same c tied whole j lt (a - (image_of c.images j).base))
 
 -- the same bytes stand in each window
-bytes_same : (c : Content) (n a : ℕ) → IsTied c → ((j : ℕ) → length (image_of c.images j).plain ≡ (image_of c.images j).size) → bytes_from (bare c) a n ≡ bytes_from c a n
+pub bytes_same : (c : Content) (n a : ℕ) → IsTied c → ((j : ℕ) → length (image_of c.images j).plain ≡ (image_of c.images j).size) → bytes_from (bare c) a n ≡ bytes_from c a n
 bytes_same c zero a tied whole = refl
 bytes_same c (suc n) a tied whole =
     ap (λ (o : Option ℕ). unwrap_or o 0 ∷ bytes_from (bare c) (a + 1) n) (address_same c a tied whole)
     ∙ ap (λ (xs : List ℕ). unwrap_or (byte_at c a) 0 ∷ xs) (bytes_same c n (a + 1) tied whole)
 
-pub window_same : (c : Content) (a n : ℕ) → IsTied c → ((j : ℕ) → length (image_of c.images j).plain ≡ (image_of c.images j).size) → window_at (bare c) a n ≡ window_at c a n
-window_same c a n tied whole =
-    ap (λ (w : Result (List ℕ) Fault). cond (n == 0) (Ok []) w) (ap (window_in (bare c) a n) (holder_bared c.bindings c.images a) ∙ by_holder (holder_from 0 c.images a) refl)
-  where
-    by_holder : (o : Option ℕ) → holder_from 0 c.images a ≡ o → window_in (bare c) a n o ≡ window_in c a n o
-    by_holder None is = refl
-    by_holder (Some j) is =
-        let inside = holder_inside 0 c.images a j is in
-        let same = inside.1 in
-        let below = inside.2.0 in
-        let lt : j < length c.images = omega (arith, same, below) in
-        ap (λ (m : Image). cond (nat_le (a + n) (m.base + m.size)) (Ok (bytes_from (bare c) a n)) (Err (window_fault j a))) (image_bared 0 c.bindings c.images j lt)
-        ∙ ap (λ (xs : List ℕ). cond (nat_le (a + n) ((image_of c.images j).base + (image_of c.images j).size)) (Ok xs) (Err (window_fault j a))) (bytes_same c n a tied whole)
-
 -- where no image stands
 pub byte_nowhere : (c : Content) (a : ℕ) → holder_from 0 c.images a ≡ None → byte_at (bare c) a ≡ None
 byte_nowhere c a none = ap (byte_of (bare c) a) (holder_bared c.bindings c.images a ∙ none)
 
-pub window_nowhere : (c : Content) (a n : ℕ) → (n == 0) ≡ false → holder_from 0 c.images a ≡ None → window_at (bare c) a n ≡ Err (window_fault nowhere a)
-window_nowhere c a n some none =
-    ap (λ (b : Bool). cond b (Ok []) (window_in (bare c) a n (holder_from 0 (bare c).images a))) some
-    ∙ ap (window_in (bare c) a n) (holder_bared c.bindings c.images a ∙ none)
+-- what a window holds, by where it lies
+pub window_told : (c : Content) (a n : ℕ) (o : Result ℕ Fault) → (n == 0) ≡ false → window_image (map placement_of c.images) a n ≡ o → window_at (bare c) a n ≡ window_in (bare c) a n o
+window_told c a n o some is =
+    ap (λ (b : Bool). cond b (Ok []) (window_in (bare c) a n (window_image (map placement_of (bare c).images) a n))) some
+    ∙ ap (window_in (bare c) a n) (ap (λ (ps : List Placement). window_image ps a n) (placements_bared 0 c.bindings c.images) ∙ is)
 
 -- ---- the files as they are laid out
 pub plain_at : (i : layout.Image) (r : ℕ) → r < i.size → get_or (layout.bytes_at i 0 i.size) r 0 ≡ i.byte r

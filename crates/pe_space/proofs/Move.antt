@@ -15,6 +15,7 @@ use Rattle.pe_space.specs.Placing.{IsPlaced}
 use Rattle.pe_space.specs.Moves.{move_fault, moved, moved_counts}
 use Rattle.pe_space.specs.declared.space.Moved.{Moved}
 use Rattle.pe_space.specs.Bare.{without_slots, bared, bare}
+use Rattle.pe_space.proofs.Addressing.{placed_at}
 use Rattle.pe_space.proofs.Defining.{placements_bared}
 use Rattle.pe_view.specs.Faults.{first_standing}
 use Rattle.std.specs.Prelude.{count_by}
@@ -67,12 +68,6 @@ pub record Accepts (c : Content) (i base : ℕ) : Type 0 where
   pub image : i < length c.images
   pub room : base + (image_of c.images i).size ≤ address_limit (image_of c.images i).magic
   pub others : (k : ℕ) → k < length c.images → (k ≡ i → ⊥) → Apart base (image_of c.images i).size (image_of c.images k).base (image_of c.images k).size
-
--- where an image of a content stands
-pub placed_at : (images : List Image) (k : ℕ) → placement_at (map placement_of images) k ≡ placement_of (image_of images k)
-placed_at [] k = refl
-placed_at (m ∷ images) zero = refl
-placed_at (m ∷ images) (suc k) = placed_at images k
 
 pub accepts : (c : Content) (i base : ℕ) → move_fault c i base ≡ None → Accepts c i base
 accepts c i base none =

@@ -14,8 +14,11 @@ use Rattle.pe_set.specs.Set.{Module}
 use Rattle.pe_set.specs.Search.{resolve}
 use Rattle.pe_set.specs.Bindings.{bindings_of}
 use Rattle.pe_space.specs.Number.{shift}
-use Rattle.pe_space.specs.Content.{Content, byte_at, window_at, base_at, size_at}
+use Rattle.pe_space.specs.Content as content
+use Rattle.pe_space.specs.Content.{Content, image_of, byte_at, window_at, base_at, size_at}
+use Rattle.pe_space.specs.Ordered.{slot_of}
 use Rattle.pe_space.specs.SetContent.{defined_byte}
+use Rattle.pe_space.specs.Windows.{laid_on, fixed_bytes, bytes_in}
 
 -- an image of 0x3000 bytes, of which those from an RVA on are these
 abbrev image : ℕ → List ℕ → ℕ → Image
@@ -154,3 +157,53 @@ first_base = refl
 
 no_second_size : size_at four 1 ≡ None
 no_second_size = refl
+
+-- a window of its bytes begins or ends anywhere
+whole_in : bytes_in four 0 0 4 ≡ 2 ∷ 0 ∷ 1 ∷ 0 ∷ []
+unfolding bytes_in
+whole_in = refl
+
+last_three : bytes_in four 0 1 3 ≡ 0 ∷ 1 ∷ 0 ∷ []
+unfolding bytes_in
+last_three = refl
+
+-- its plain bytes stand where no slot is bound
+plain_in : fixed_bytes (image_of four.images 0) 1 2 ≡ 2 ∷ 3 ∷ []
+unfolding fixed_bytes
+plain_in = refl
+
+-- an image with a field at its first byte, 0x10000000 above its ImageBase
+abbrev with_first_field : content.Image
+with_first_field = record {
+  base = 0x20000000;
+  size = 5;
+  magic = Pe32;
+  image_base = 0x10000000;
+  is_stripped = false;
+  plain = 0x08 ∷ 0x10 ∷ 0x00 ∷ 0x10 ∷ 0x0c ∷ [];
+  fixups = record { entry = 0; field = 0; kind = Bits32 } ∷ [];
+}
+
+behind_its_middle : fixed_bytes with_first_field 2 3 ≡ 0x00 ∷ 0x20 ∷ 0x0c ∷ []
+unfolding fixed_bytes shift
+behind_its_middle = refl
+
+-- ---- a number laid on a window
+laid_whole : laid_on 0x1000 0x1001 2 0x2211 (9 ∷ 9 ∷ 9 ∷ 9 ∷ []) ≡ 9 ∷ 0x11 ∷ 0x22 ∷ 9 ∷ []
+laid_whole = refl
+
+cut_by_its_start : laid_on 0x1000 0x0ffd 4 0x44332211 (9 ∷ 9 ∷ []) ≡ 0x44 ∷ 9 ∷ []
+cut_by_its_start = refl
+
+cut_by_its_end : laid_on 0x1000 0x1001 4 0x44332211 (9 ∷ 9 ∷ 9 ∷ []) ≡ 9 ∷ 0x11 ∷ 0x22 ∷ []
+cut_by_its_end = refl
+
+cut_by_both : laid_on 0x1000 0x0fff 4 0x44332211 (9 ∷ 9 ∷ []) ≡ 0x22 ∷ 0x33 ∷ []
+cut_by_both = refl
+
+laid_beside : laid_on 0x1000 0x1002 4 0x44332211 (9 ∷ 9 ∷ []) ≡ 9 ∷ 9 ∷ []
+laid_beside = refl
+
+-- ---- the order of slots
+second_image : slot_of (record { image = 1; slot = 0x10; exporter = 0; rva = 0 }) ≡ 0x100000010
+second_image = refl

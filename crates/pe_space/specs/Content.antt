@@ -11,7 +11,7 @@ pub use Rattle.pe_layout.specs.Image.{slot_width_of as slot_width}
 use Rattle.pe_tables.specs.declared.fixups.Fixup.{Fixup}
 pub use Rattle.pe_tables.specs.Fixups.{width_of}
 pub use Rattle.pe_tables.specs.Relocated.{in_field}
-use Rattle.pe_set.specs.Placement.{Placement}
+use Rattle.pe_set.specs.Placement.{Placement, placement_at}
 use Rattle.pe_set.specs.declared.binding.Binding.{Binding}
 use Rattle.pe_space.specs.Number.{digit, number_at, shift}
 
@@ -100,11 +100,18 @@ window_fault i a = record { number = 54; image = i; place = Address a }
 abbrev pub nowhere : ℕ
 nowhere = 65535
 
-abbrev pub window_in : Content → ℕ → ℕ → Option ℕ → Result (List ℕ) Fault
-window_in c a n None = Err (window_fault nowhere a)
-window_in c a n (Some j) =
-    if nat_le (a + n) ((image_of c.images j).base + (image_of c.images j).size) then Ok (bytes_from c a n) else Err (window_fault j a)
+-- the image in which n bytes from an address on lie, of images that stand so, by the image that holds the address
+abbrev pub window_image_by : List Placement → ℕ → ℕ → Option ℕ → Result ℕ Fault
+window_image_by ps a n None = Err (window_fault nowhere a)
+window_image_by ps a n (Some j) = if nat_le (a + n) ((placement_at ps j).base + (placement_at ps j).size) then Ok j else Err (window_fault j a)
+
+abbrev pub window_image : List Placement → ℕ → ℕ → Result ℕ Fault
+window_image ps a n = window_image_by ps a n (placed_from 0 ps a)
+
+abbrev pub window_in : Content → ℕ → ℕ → Result ℕ Fault → Result (List ℕ) Fault
+window_in c a n (Ok j) = Ok (bytes_from c a n)
+window_in c a n (Err fault) = Err fault
 
 -- the bytes of a window, which is empty or lies in one image
 abbrev pub window_at : Content → ℕ → ℕ → Result (List ℕ) Fault
-window_at c a n = if n == 0 then Ok [] else window_in c a n (holder_from 0 c.images a)
+window_at c a n = if n == 0 then Ok [] else window_in c a n (window_image (map placement_of c.images) a n)

@@ -6,12 +6,15 @@ pub mod Bare
 pub mod ByteCases
 pub mod Commands
 pub mod Content
+pub mod Filed
 pub mod Fresh
 pub mod Held
 pub mod Kept
 pub mod Memory
 pub mod Moves
 pub mod Number
+pub mod Ordered
 pub mod Placing
 pub mod SetContent
 pub mod Tied
+pub mod Windows

@@ -45,7 +45,7 @@ pub fn content_serves_at_all_bases()
 
 /// After every list of commands, moves that were accepted and moves that were refused among them, what a space of an accepted set
 /// holds is what the same files give at the bases of that moment, at which they are accepted: so each address holds the byte that
-/// the format defines from the files at the present bases, although the space holds no file.
+/// the format defines from the files at the present bases, also where the space holds no file.
 pub fn commands_keep_what_files_define()
     ensures accepted { (policy : Policy) (es : List Entry) (commands : List Command) → first_standing (set_tests policy es) ≡ None → let c = after_all commands (content_of (modules_of es)) in
         first_standing (set_tests policy (at_bases (bases_of c) es)) ≡ None }

@@ -1,7 +1,8 @@
 //! Images in one address space: each at its base, with its fields relocated and its imports bound.
 //!
 //! [`map`] judges a set of files and lays them out in memory, or answers the set's first fault. From then on the space tells
-//! which byte stands at which address:
+//! which byte stands at which address. [`open_space`] judges by the same rules, and the space that it gives tells the same; it
+//! leaves the bytes in their files, and moves an image without rewriting them.
 //!
 //! ```text
 //! let set = [SetEntry { name: b"a.dll", file, base: 0x1000_0000 }];
@@ -14,17 +15,24 @@
 
 mod bytes;
 mod commands;
+mod file_image;
+mod file_space;
 pub mod laws;
 mod mapped_image;
 mod mapped_space;
 mod mapping;
+mod opening;
+mod ordered;
 mod placed;
 mod reply;
 mod space;
+mod window;
 
 pub use commands::run;
+pub use file_space::FileSpace;
 pub use mapped_space::MappedSpace;
 pub use mapping::map;
+pub use opening::open_space;
 pub use pe_set::{Binding, MapError, Policy, SetEntry};
 pub use reply::{Bytes, Command, Reply, Stopped};
 pub use space::{Moved, Space};

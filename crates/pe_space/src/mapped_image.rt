@@ -5,7 +5,7 @@ ghost use Rattle.pe_space.specs.Memory.{patch, bytes};
 ghost use Rattle.pe_space.specs.Held.{fresh_held, rebased_held};
 ghost use Rattle.pe_space.specs.Tied.{Each};
 
-use crate::bytes::{shift_fields, write_low};
+use crate::bytes::{shift_fields, slot_width, write_low};
 use pe_head::Magic;
 use pe_set::Placed;
 use pe_tables::Fixup;
@@ -141,10 +141,11 @@ impl<A: Allocator + Copy> MappedImage<A> {
         requires { slot + slot_width_of self.old.image.magic ≤ self.old.image.size }
         ensures { self.new ≡ record self.old { memory = patch self.old.memory slot (bytes (slot_width_of self.old.image.magic) address) } }
     {
-        let width = match self.magic {
-            Magic::Pe32 => 4,
-            Magic::Pe32Plus => 8,
-        };
-        write_low(self.memory.as_mut_slice(), slot as usize, address, width);
+        write_low(
+            self.memory.as_mut_slice(),
+            slot as usize,
+            address,
+            slot_width(self.magic),
+        );
     }
 }

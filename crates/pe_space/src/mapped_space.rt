@@ -8,15 +8,12 @@ ghost use Rattle.pe_space.specs.Placing.{IsPlaced};
 ghost use Rattle.pe_space.specs.Kept.{kept_content, IsFresh, address_of, any_slot};
 
 use crate::mapped_image::MappedImage;
-use crate::placed::{base_of, holder, move_fault, size_of};
+use crate::placed::{base_of, holder, move_fault, size_of, window_image};
 use crate::space::{Moved, Space};
 use pe_set::{Binding, Placed};
-use pe_view::{Fault, Place};
+use pe_view::Fault;
 use std::alloc::Allocator;
 use std::marker::Model;
-
-/// The image that fault 54 names where no image holds the window's address.
-const NO_IMAGE: u16 = u16::MAX;
 
 /// Images in memory, each with its bytes as they stand at its base. It owns its bytes and borrows no file.
 #[derive(Drop)]
@@ -105,24 +102,9 @@ impl<A: Allocator + Copy> Space for MappedSpace<A> {
         if buffer.is_empty() {
             return Ok(());
         }
-        let place = Place::Address(address);
-        let Some(number) = holder(self.images.as_slice(), address) else {
-            return Err(Fault {
-                number: 54,
-                image: NO_IMAGE,
-                place,
-            });
-        };
+        let number = window_image(self.images.as_slice(), address, buffer.len())?;
         let image = &self.images[number as usize];
-        let rva = (address - image.base()) as usize;
-        if buffer.len() > image.size() as usize - rva {
-            return Err(Fault {
-                number: 54,
-                image: number,
-                place,
-            });
-        }
-        image.read(rva, buffer);
+        image.read((address - image.base()) as usize, buffer);
         Ok(())
     }
 

@@ -1,11 +1,11 @@
-use Rattle.std.proofs.Common.{◌∙◌, ◌+◌, ◌-◌, ◌%◌, ◌^◌, ◌≤◌, ℕ, length, ap, sym, arith}
+use Rattle.std.proofs.Common.{◌∙◌, ◌≤◌, ℕ, length, ap, sym, arith}
 use Rattle.std.specs.Prelude.{ℤ, pos, ◌-ℤ◌}
 use Rattle.std.proofs.lemmas.List.{take_rest}
 use Rattle.byteorder.specs.Endian.{little_from}
 use Rattle.pe_tables.specs.Fixups.{width_of}
 use Rattle.pe_tables.specs.declared.fixups.FixupKind.{FixupKind}
 use Rattle.pe_space.specs.Number.{shift}
-use Rattle.pe_space.proofs.Writes.{field_shifted, shift_in_32, shift_in_64, written_from}
+use Rattle.pe_space.proofs.Writes.{field_shifted, written_from}
 use Rattle.pe_space.proofs.bytes.shift_field.Goals as goal
 
 pub returns-in-Bits32 : goal.returns-in-Bits32
@@ -14,13 +14,13 @@ returns-in-Bits32 c =
     let f = c.args.fixup in
     let d : ℤ = pos c.args.to -ℤ pos c.args.from in
     let v : ℕ = c.read_u32-number.result in
-    let n : ℕ = (v + (c.args.to + (2 ^ 64 - c.args.from)) % 2 ^ 64 % 2 ^ 32) % 2 ^ 32 in
+    let n : ℕ = c.shift_32.result in
     let inside = c.requires in
     let le : f.field ≤ length xs = omega (arith, inside) in
     let is = c.in-Bits32.is in
     written_from xs c.write_u32.new.buf f.field 4 n le c.write_u32.ensures
     ∙ field_shifted xs f v 4 n d (ap width_of (sym is)) (c.read_u32-number.ensures ∙ ap (little_from 0 4) (take_rest xs f.field))
-    (shift_in_32 v c.args.from c.args.to c.ranges.from.fits ∙ ap (λ (k : FixupKind). shift k v d) (sym is))
+    (c.shift_32.ensures ∙ ap (λ (k : FixupKind). shift k v d) (sym is))
 
 pub returns-in-Bits64 : goal.returns-in-Bits64
 returns-in-Bits64 c =
@@ -28,10 +28,10 @@ returns-in-Bits64 c =
     let f = c.args.fixup in
     let d : ℤ = pos c.args.to -ℤ pos c.args.from in
     let v : ℕ = c.read_u64-number.result in
-    let n : ℕ = (v + (c.args.to + (2 ^ 64 - c.args.from)) % 2 ^ 64) % 2 ^ 64 in
+    let n : ℕ = c.shift_64.result in
     let inside = c.requires in
     let le : f.field ≤ length xs = omega (arith, inside) in
     let is = c.in-Bits64.is in
     written_from xs c.write_u64.new.buf f.field 8 n le c.write_u64.ensures
     ∙ field_shifted xs f v 8 n d (ap width_of (sym is)) (c.read_u64-number.ensures ∙ ap (little_from 0 8) (take_rest xs f.field))
-    (shift_in_64 v c.args.from c.args.to c.ranges.from.fits ∙ ap (λ (k : FixupKind). shift k v d) (sym is))
+    (c.shift_64.ensures ∙ ap (λ (k : FixupKind). shift k v d) (sym is))

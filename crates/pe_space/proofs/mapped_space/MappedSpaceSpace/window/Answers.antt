@@ -1,46 +1,56 @@
-use Rattle.std.proofs.Common.{Some, None, ◌≡◌, ◌∙◌, ◌+◌, ap, sym, arith, length, refl, ◌-◌}
+use Rattle.std.proofs.Common.{◌≡◌, ◌∙◌, ◌+◌, ◌-◌, ap, sym, refl, arith, length, List, ℕ}
+use Rattle.std.specs.Prelude.{Ok, Err}
+use Rattle.std.proofs.lemmas.Result.{err_from_is_err_and}
 use Rattle.pe_space.specs.Content.{Content, window_at}
-use Rattle.pe_space.proofs.Addressing.{found_at, held_by, window_refused, window_given}
 use Rattle.pe_space.specs.Kept.{kept_content}
-use Rattle.pe_space.proofs.Defining.{window_same, window_nowhere}
+use Rattle.pe_space.proofs.Addressing.{window_so, found_window, window_here}
+use Rattle.pe_space.proofs.Defining.{bytes_same, window_told}
 use Rattle.pe_space.proofs.mapped_space.MappedSpaceSpace.window.Goals as goal
 
-pub overflow_sub-rva : goal.overflow_sub-rva
-overflow_sub-rva g c =
-    let found = found_at c.self.inside.images.items c.self.inside.bindings.items c.args.address c.in-Some.number c.index-image.result.now
-    (held_by c.self.inside.images.items c.as_slice.result.now c.args.address (Some c.in-Some.number) c.as_slice.ensures.value c.in-Some.ensures.holder) c.index-image.ensures in
-    rw c.base.ensures found.low
+pub overflow_sub-address : goal.overflow_sub-address
+overflow_sub-address g c =
+    let hs = c.self.inside.images.items in
+    let bs = c.self.inside.bindings.items in
+    let a = c.args.address in
+    let n = length c.args.buffer.now in
+    let lies = window_so hs c.as_slice.result.now a n (Ok c.in_ok-number.number) c.as_slice.ensures.value c.in_ok-number.ensures.image in
+    let both = found_window hs bs a n c.in_ok-number.number c.index-image.result.now lies c.index-image.ensures in
+    rw c.base.ensures both.0.low
 
-pub overflow_sub-size : goal.overflow_sub-size
-overflow_sub-size g c =
-    let found = found_at c.self.inside.images.items c.self.inside.bindings.items c.args.address c.in-Some.number c.index-image.result.now
-    (held_by c.self.inside.images.items c.as_slice.result.now c.args.address (Some c.in-Some.number) c.as_slice.ensures.value c.in-Some.ensures.holder) c.index-image.ensures in
-    let low = found.low in
-    let high = found.high in
-    rw (c.base.ensures, c.size.ensures) (omega arith)
+pub read-requires : goal.read-requires
+read-requires g c =
+    let hs = c.self.inside.images.items in
+    let bs = c.self.inside.bindings.items in
+    let a = c.args.address in
+    let n = length c.args.buffer.now in
+    let lies = window_so hs c.as_slice.result.now a n (Ok c.in_ok-number.number) c.as_slice.ensures.value c.in_ok-number.ensures.image in
+    let both = found_window hs bs a n c.in_ok-number.number c.index-image.result.now lies c.index-image.ensures in
+    rw c.base.ensures both.1
 
-pub returns-then-buffer-size-clause-fault : goal.returns-then-buffer-size-clause-fault
-returns-then-buffer-size-clause-fault g c =
-    let held = held_by c.self.inside.images.items c.as_slice.result.now c.args.address (Some c.in-Some.number) c.as_slice.ensures.value c.in-Some.ensures.holder in
-    let found = found_at c.self.inside.images.items c.self.inside.bindings.items c.args.address c.in-Some.number c.index-image.result.now held c.index-image.ensures in
-    ap (λ (x : Content). window_at x c.args.address (length c.args.buffer.now)) (sym c.self.view_is)
-    ∙ window_same (kept_content c.self.inside.images.items c.self.inside.bindings.items) c.args.address (length c.args.buffer.now) c.self.invariant.tied c.self.invariant.whole
-    ∙ window_refused c.self.inside.images.items c.self.inside.bindings.items c.args.address (length c.args.buffer.now) c.in-Some.number c.index-image.result.now
-    (sym c.is_empty.ensures ∙ c.if-is_empty.false) held found (rw (c.base.ensures, c.size.ensures) at c.if-buffer-size.true)
+pub returns-in_err-number-clause-fault : goal.returns-in_err-number-clause-fault
+returns-in_err-number-clause-fault g c =
+    let hs = c.self.inside.images.items in
+    let a = c.args.address in
+    let n = length c.args.buffer.now in
+    let fault = c.in_err-number.field-0.0 in
+    let p = err_from_is_err_and c.from_residual.result c.from_residual.ensures.1 in
+    rw (p.1, p.2)
+    (ap (λ (x : Content). window_at x a n) (sym c.self.view_is)
+    ∙ window_told (kept_content hs c.self.inside.bindings.items) a n (Err fault) (sym c.is_empty.ensures ∙ c.if-is_empty.false)
+    (window_so hs c.as_slice.result.now a n (Err fault) c.as_slice.ensures.value c.in_err-number.ensures.image))
 
 pub returns-clause-ok : goal.returns-clause-ok
 returns-clause-ok g c =
-    let held = held_by c.self.inside.images.items c.as_slice.result.now c.args.address (Some c.in-Some.number) c.as_slice.ensures.value c.in-Some.ensures.holder in
-    let found = found_at c.self.inside.images.items c.self.inside.bindings.items c.args.address c.in-Some.number c.index-image.result.now held c.index-image.ensures in
-    ap (λ (x : Content). window_at x c.args.address (length c.args.buffer.now)) (sym c.self.view_is)
-    ∙ window_same (kept_content c.self.inside.images.items c.self.inside.bindings.items) c.args.address (length c.args.buffer.now) c.self.invariant.tied c.self.invariant.whole
-    ∙ window_given c.self.inside.images.items c.self.inside.bindings.items c.args.address (length c.args.buffer.now) c.in-Some.number c.index-image.result.now c.self.invariant
-    (sym c.is_empty.ensures ∙ c.if-is_empty.false) held found (rw (c.base.ensures, c.size.ensures) at c.if-buffer-size.false)
-    ∙ (let count : c.args.address - c.base.result + length c.args.buffer.now - (c.args.address - c.base.result) ≡ length c.args.buffer.now = omega arith in
-    rw (c.read.ensures, count, c.base.ensures) refl)
-
-pub returns-in_default-clause-fault : goal.returns-in_default-clause-fault
-returns-in_default-clause-fault g c =
-    ap (λ (x : Content). window_at x c.args.address (length c.args.buffer.now)) (sym c.self.view_is)
-    ∙ window_nowhere (kept_content c.self.inside.images.items c.self.inside.bindings.items) c.args.address (length c.args.buffer.now) (sym c.is_empty.ensures ∙ c.if-is_empty.false)
-    (held_by c.self.inside.images.items c.as_slice.result.now c.args.address None c.as_slice.ensures.value (sym c.in_default.is ∙ c.holder.ensures.holder))
+    let hs = c.self.inside.images.items in
+    let bs = c.self.inside.bindings.items in
+    let a = c.args.address in
+    let n = length c.args.buffer.now in
+    let lies = window_so hs c.as_slice.result.now a n (Ok c.in_ok-number.number) c.as_slice.ensures.value c.in_ok-number.ensures.image in
+    let both = found_window hs bs a n c.in_ok-number.number c.index-image.result.now lies c.index-image.ensures in
+    let whole = kept_content hs bs in
+    let m = c.index-image.result.now in
+    let count : a - m.image.base + n - (a - m.image.base) ≡ n = omega arith in
+    ap (λ (x : Content). window_at x a n) (sym c.self.view_is)
+    ∙ window_told whole a n (Ok c.in_ok-number.number) (sym c.is_empty.ensures ∙ c.if-is_empty.false) lies
+    ∙ ap (λ (xs : List ℕ). Ok xs) (bytes_same whole n a c.self.invariant.tied c.self.invariant.whole ∙ window_here hs bs a n c.in_ok-number.number m c.self.invariant both.0 both.1)
+    ∙ rw (c.read.ensures, c.base.ensures, count) refl

@@ -1,0 +1,68 @@
+-- What a set that was accepted gives to those who keep its images, one by one.
+use Rattle.std.proofs.Common.{◌≡◌, ◌∙◌, ◌≤◌, ◌++◌, [], ◌∷◌, ℕ, List, map, length, ap, sym, refl, append_assoc, append-nil, None, arith, length-append}
+use Rattle.std.proofs.lemmas.List.{length-map}
+use Rattle.pe_view.specs.Faults.{first_standing}
+use Rattle.pe_view.specs.FirstStanding.{none-append}
+use Rattle.pe_set.specs.Set.{Entry, Module, modules_of}
+use Rattle.pe_set.specs.SetFaults.{names_tests, set_tests}
+use Rattle.pe_set.specs.SetView.{entry_view, entries_of, module_view, modules_view}
+use Rattle.pe_set.specs.Sound.{IsSound}
+use Rattle.pe_set.specs.declared.entry.Policy.{Policy}
+use Rattle.pe_set.specs.declared.entry.SetEntry.{SetEntry}
+use Rattle.pe_set.specs.declared.reading.Module as code_module
+use Rattle.pe_space.specs.Bare.{bare}
+use Rattle.pe_space.specs.Content.{Content}
+use Rattle.pe_space.specs.SetContent.{laid_out, content_of}
+use Rattle.pe_space.proofs.Images.{modules_count}
+
+none_left : {X : Type 0} (xs : List X) → length xs ≡ 0 → xs ≡ []
+none_left [] e = refl
+none_left (x ∷ xs) e = absurd (omega (arith, e))
+
+-- with 0 in its bound slots what is laid out is the set's content
+pub content_is : (c : Content) (s : List Module) → c ≡ laid_out s → bare c ≡ content_of s
+unfolding content_of
+content_is c s is = ap bare is
+
+-- it has few images, as many as entries
+pub few_entries : (set : List SetEntry) → IsSound (modules_of (entries_of set)) → length set ≤ 256
+few_entries set sound =
+    let few = sound.few in
+    let count = modules_count (entries_of set) ∙ length-map set entry_view in
+    omega (arith, few, count)
+
+pub count_modules : {A : Type 0} (set : List SetEntry) (ms : List (code_module.Module A)) → modules_view ms ≡ modules_of (entries_of set) → length ms ≡ length set
+count_modules set ms is = sym (length-map ms module_view) ∙ ap length is ∙ modules_count (entries_of set) ∙ length-map set entry_view
+
+-- its names have no fault
+pub names_fine : (policy : Policy) (es : List Entry) → first_standing (set_tests policy es) ≡ None → first_standing (names_tests es) ≡ None
+unfolding set_tests
+names_fine policy es none = (none-append (names_tests es) _ none).0
+
+-- ---- images that are made one by one, each by `make`
+module _ {A Y : Type 0} (make : Module → Y) where
+  -- what is made, and what is left to make
+  abbrev pub made_and_left : List Y → List (code_module.Module A) → List Y
+  made_and_left made left = made ++ map make (modules_view left)
+
+  -- one more is made
+  pub one_more : (made after : List Y) (own : code_module.Module A) (left rest : List (code_module.Module A)) (y : Y) (all : List Y) → made_and_left made left ≡ all
+      → left ≡ own ∷ rest → y ≡ make (module_view own) → after ≡ made ++ y ∷ [] → made_and_left after rest ≡ all
+  one_more made after own left rest y all so_far next is added =
+      ap (λ (ys : List Y). made_and_left ys rest) added
+      ∙ append_assoc made (y ∷ []) (map make (modules_view rest))
+      ∙ ap (λ (x : Y). made ++ x ∷ map make (modules_view rest)) is
+      ∙ ap (made_and_left made) (sym next)
+      ∙ so_far
+
+  -- all are made
+  pub all_made : (made : List Y) (left : List (code_module.Module A)) (n : ℕ) (s : List Module) → made_and_left made left ≡ map make s → length left ≡ n → n ≡ 0 → made ≡ map make s
+  all_made made left n s so_far count none = sym (append-nil made) ∙ ap (made_and_left made) (sym (none_left left (count ∙ none))) ∙ so_far
+
+  -- none is left of an empty set
+  pub none_to_make : (set : List SetEntry) (made : List Y) (left : List (code_module.Module A)) → made_and_left made left ≡ map make (modules_of (entries_of set)) → length set ≡ 0 → length left ≡ 0
+  none_to_make set made left so_far none =
+      let whole = ap length so_far ∙ length-map (modules_of (entries_of set)) make ∙ modules_count (entries_of set) ∙ length-map set entry_view in
+      let parts = length-append made (map make (modules_view left)) in
+      let rest = length-map (modules_view left) make ∙ length-map left module_view in
+      omega (arith, whole, parts, rest, none)
