@@ -1,0 +1,120 @@
+-- Each text of a string table stands at its offset.
+use Rattle.std.proofs.Common.{◌≡◌, ℕ, zero, suc, ◌+◌, ◌-◌, ◌≤◌, true, false, List, [], ◌∷◌, ◌++◌, length, Some, None, refl, sym, ap, subst, ◌∙◌, append_assoc, length-append, arith, inl, inr}
+use Rattle.std.specs.Prelude.{slice_range, ◌||◌, ◌==◌}
+use Rattle.std.specs.Str.{bytes_eq}
+use Rattle.std.proofs.lemmas.Bool.{cases_Bool, or_cases, or_left, or_right, or_parts, le-leb, le-ltb}
+use Rattle.std.proofs.lemmas.List.Folds.{list_any-append}
+use Rattle.std.proofs.lemmas.Slice.Eq.{bytes_eq-Decides}
+use Rattle.pe_view.specs.Text.{zero_ended}
+use Rattle.coff_object.specs.Strings.{is_among, string_at, strings_start, strings_size, with_string, with_strings, offset_from, offset_of, string_bytes}
+use Rattle.coff_object.specs.WriteFaults.{has_zero}
+use Rattle.coff_object.proofs.Bytes.{Has, has-back, has-part, has-end}
+
+pub same_bytes : (a b : List ℕ) → bytes_eq a b ≡ true → a ≡ b
+same_bytes a b e = (bytes_eq-Decides a b).0 e
+
+pub equal_bytes : (a : List ℕ) → bytes_eq a a ≡ true
+equal_bytes a = (bytes_eq-Decides a a).1 refl
+
+in-append : (text : List ℕ) (xs ys : List (List ℕ)) → (is_among text xs || is_among text ys) ≡ true → is_among text (xs ++ ys) ≡ true
+in-append text xs ys e = list_any-append (bytes_eq text) xs ys ∙ e
+
+in-with_string : (text : List ℕ) (table : List (List ℕ)) (t : List ℕ) → is_among text table ≡ true → is_among text (with_string table t) ≡ true
+in-with_string text table t is = elim (cases_Bool (is_among t table)) [
+  | inl there ↦ rw there is
+  | inr new ↦ rw new (in-append text table (t ∷ []) (or_left _ _ is))
+]
+
+in-with_strings : (text : List ℕ) (table texts : List (List ℕ)) → is_among text table ≡ true → is_among text (with_strings table texts) ≡ true
+in-with_strings text table [] is = is
+in-with_strings text table (t ∷ texts) is = in-with_strings text (with_string table t) texts (in-with_string text table t is)
+
+in-new : (table : List (List ℕ)) (t : List ℕ) → is_among t (with_string table t) ≡ true
+in-new table t = elim (cases_Bool (is_among t table)) [
+  | inl there ↦ rw there there
+  | inr new ↦ rw new (in-append t table (t ∷ []) (or_right _ _ (or_left _ _ (equal_bytes t))))
+]
+
+-- each of the texts is in the table
+pub in-all : (text : List ℕ) (table texts : List (List ℕ)) → is_among text texts ≡ true → is_among text (with_strings table texts) ≡ true
+in-all text table [] is = absurd cc
+in-all text table (t ∷ texts) is = elim (or_cases (bytes_eq text t) (is_among text texts) is) [
+  | inl same ↦
+      in-with_strings text (with_string table t) texts (subst (λ (x : List ℕ). is_among x (with_string table t) ≡ true) (sym (same_bytes text t same)) (in-new table t))
+  | inr later ↦ in-all text (with_string table t) texts later
+]
+
+pub in-first : (text : List ℕ) (table texts : List (List ℕ)) → is_among text table ≡ true → is_among text (with_strings table texts) ≡ true
+in-first = in-with_strings
+
+-- where a text of a table stands in its bytes
+pub record IsStored (at : ℕ) (table : List (List ℕ)) (text : List ℕ) : Type 0 where
+  pub front : List ℕ
+  pub back : List ℕ
+  pub bytes : string_bytes table ≡ front ++ ((text ++ 0 ∷ []) ++ back)
+  pub offset : offset_from at table text ≡ at + length front
+
+pub is_stored : (at : ℕ) (table : List (List ℕ)) (text : List ℕ) → is_among text table ≡ true → IsStored at table text
+is_stored at [] text is = absurd cc
+is_stored at (t ∷ table) text is = elim (cases_Bool (bytes_eq text t)) [
+  | inl same ↦
+      (let e : text ≡ t = same_bytes text t same in
+      record {
+        front = [];
+        back = string_bytes table;
+        bytes = ap (λ (x : List ℕ). (x ++ 0 ∷ []) ++ string_bytes table) (sym e);
+        offset = rw same (omega arith);
+      })
+  | inr other ↦
+      (let later : is_among text table ≡ true = rw other at is in
+      let s = is_stored (at + length t + 1) table text later in
+      record {
+        front = (t ++ 0 ∷ []) ++ s.front;
+        back = s.back;
+        bytes = ap (λ (bs : List ℕ). (t ++ 0 ∷ []) ++ bs) s.bytes ∙ sym (append_assoc (t ++ 0 ∷ []) s.front ((text ++ 0 ∷ []) ++ s.back));
+        offset =
+            (let len : length ((t ++ 0 ∷ []) ++ s.front) ≡ length (t ++ 0 ∷ []) + length s.front = length-append (t ++ 0 ∷ []) s.front in
+            let one : length (t ++ 0 ∷ []) ≡ length t + 1 = length-append t (0 ∷ []) in
+            let more = s.offset in
+            rw other (omega arith));
+      })
+]
+
+-- a text without a zero byte ends at the zero byte behind it
+pub zero_ended-behind : (text rest : List ℕ) → has_zero text ≡ false → zero_ended (text ++ 0 ∷ rest) ≡ Some text
+zero_ended-behind [] rest none = refl
+zero_ended-behind (zero ∷ text) rest none = absurd cc
+zero_ended-behind (suc b ∷ text) rest none =
+    let later : has_zero text ≡ false = (or_parts (suc b == 0) (has_zero text) none).1 in
+    rw (zero_ended-behind text rest later) refl
+
+-- a text without a zero byte has no end
+pub zero_ended-open : (text : List ℕ) → has_zero text ≡ false → zero_ended text ≡ None
+zero_ended-open [] none = refl
+zero_ended-open (zero ∷ text) none = absurd cc
+zero_ended-open (suc b ∷ text) none =
+    let later : has_zero text ≡ false = (or_parts (suc b == 0) (has_zero text) none).1 in
+    rw (zero_ended-open text later) refl
+
+-- a file has a string table of these texts
+pub record HasStrings (file : List ℕ) (table : List (List ℕ)) : Type 0 where
+  pub size : strings_size file ≡ 4 + length (string_bytes table)
+  pub bytes : Has file (strings_start file + 4) (string_bytes table)
+
+pub string_read : (file : List ℕ) (table : List (List ℕ)) (text : List ℕ) → HasStrings file table → is_among text table ≡ true → has_zero text ≡ false → string_at file (offset_of table text) ≡ Some text
+string_read file table text h is none =
+    let s = is_stored 4 table text is in
+    let at : ℕ = strings_start file + offset_of table text in
+    let end : ℕ = strings_start file + strings_size file in
+    let size = h.size in
+    let offset = s.offset in
+    let text_len : length (text ++ 0 ∷ []) ≡ length text + 1 = length-append text (0 ∷ []) in
+    let one_len : length ((text ++ 0 ∷ []) ++ s.back) ≡ length (text ++ 0 ∷ []) + length s.back = length-append (text ++ 0 ∷ []) s.back in
+    let all_len : length (string_bytes table) ≡ length s.front + length ((text ++ 0 ∷ []) ++ s.back) = ap length s.bytes ∙ length-append s.front ((text ++ 0 ∷ []) ++ s.back) in
+    let inside : end ≤ length file = (let e = has-end file (strings_start file + 4) (string_bytes table) h.bytes (omega arith) in omega arith) in
+    let split : Has file (strings_start file + 4) (s.front ++ ((text ++ 0 ∷ []) ++ s.back)) = subst (Has file (strings_start file + 4)) s.bytes h.bytes in
+    let here : Has file at ((text ++ 0 ∷ []) ++ s.back) = has-back file (strings_start file + 4) at s.front ((text ++ 0 ∷ []) ++ s.back) split (omega arith) in
+    let range : slice_range file at end ≡ (text ++ 0 ∷ []) ++ s.back = has-part file at (end - at) ((text ++ 0 ∷ []) ++ s.back) here (omega arith) in
+    let four = le-ltb (offset_of table text) 4 (omega arith) in
+    let fits = le-leb end (length file) inside in
+    rw (four, fits, range) (ap zero_ended (append_assoc text (0 ∷ []) s.back) ∙ zero_ended-behind text s.back none)

@@ -1,0 +1,147 @@
+-- What holds of an object that none of the tests of the writer refuses.
+use Rattle.std.proofs.Common.{◌≡◌, ℕ, ◌+◌, ◌-◌, ◌^◌, ◌<◌, ◌≤◌, Bool, true, false, cond, List, [], ◌∷◌, ◌++◌, length, Option, Some, None, refl, ap, ◌∙◌, length-append, arith, inl, inr}
+use Rattle.std.specs.Prelude.{nat_lt}
+use Rattle.std.specs.List.{list_any, AllByRecursion}
+use Rattle.std.specs.Str.{bytes_eq}
+use Rattle.std.proofs.lemmas.Bool.{cases_Bool, or_parts, or_left, or_right, ltb-false}
+use Rattle.pe_view.specs.FirstStanding.{none-append}
+use Rattle.pe_view.specs.Faults.{Test, first_standing}
+use Rattle.pe_view.specs.declared.fault.Fault.{Fault}
+use Rattle.coff_object.specs.Names.{is_long, is_long_section_name}
+use Rattle.coff_object.specs.ObjectFaults.{is_other_file}
+use Rattle.coff_object.specs.Records.{Section, Symbol, Object, Fits, SectionFits, RelocationsFit, SymbolFits}
+use Rattle.coff_object.specs.Strings.{is_among, with_strings, offset_from, string_bytes}
+use Rattle.coff_object.specs.WriteFaults.{each_item, of_item, has_zero, is_far, has_many_relocations, is_bad_section, is_bad_symbol, is_bad_object, write_tests}
+use Rattle.coff_object.specs.Written.{long_section_names, long_symbol_names, strings_of, records_of, canon}
+use Rattle.coff_object.proofs.SectionsBack.{SectionWritable}
+use Rattle.coff_object.proofs.StringTable.{in-all, in-first, equal_bytes}
+use Rattle.coff_object.proofs.SymbolsBack.{SymbolWritable}
+
+none_head : (b : Bool) (y : Fault) (rest : Option Fault) → cond b (Some y) rest ≡ None → (b ≡ false) × (rest ≡ None)
+none_head true y rest none = absurd cc
+none_head false y rest none = (refl, none)
+
+pub none_each : {X : Type 0} (number : ℕ) (stands : X → Bool) (k : ℕ) (xs : List X) → first_standing (each_item number stands k xs) ≡ None → AllByRecursion (λ x. stands x ≡ false) xs
+none_each number stands k [] none = tt
+none_each number stands k (x ∷ xs) none =
+    let parts = none_head (stands x) (of_item number k (stands x)).fault (first_standing (each_item number stands (k + 1) xs)) none in
+    (parts.0, none_each number stands (k + 1) xs parts.1)
+
+none_any : {X : Type 0} (p : X → Bool) (xs : List X) → list_any p xs ≡ false → AllByRecursion (λ x. p x ≡ false) xs
+none_any p [] none = tt
+none_any p (x ∷ xs) none = let parts = or_parts (p x) (list_any p xs) none in (parts.0, none_any p xs parts.1)
+
+-- an object that none of the tests refuses
+pub record Accepted (o : Object) : Type 0 where
+  pub section_names : AllByRecursion (λ (s : Section). has_zero s.name ≡ false) o.sections
+  pub symbol_names : AllByRecursion (λ (s : Symbol). has_zero s.name ≡ false) o.symbols
+  pub near : AllByRecursion (λ (s : Section). is_far (strings_of o) s ≡ false) o.sections
+  pub few : AllByRecursion (λ (s : Section). has_many_relocations s ≡ false) o.sections
+  pub small : length (canon o) < 2 ^ 32
+  pub optional : length o.optional ≤ 65535
+  pub count : length o.sections ≤ 65535
+  pub other : is_other_file (canon o) ≡ false
+  pub sections : AllByRecursion (λ (s : Section). is_bad_section (records_of o.symbols) s ≡ false) o.sections
+  pub symbols : AllByRecursion (λ (s : Symbol). is_bad_symbol (length o.sections) s ≡ false) o.symbols
+
+pub accepted : (o : Object) → first_standing (write_tests o) ≡ None → Accepted o
+unfolding write_tests
+accepted o none =
+    let section_names : List Test = each_item 81 (λ (s : Section). has_zero s.name) 0 o.sections in
+    let symbol_names : List Test = each_item 81 (λ (s : Symbol). has_zero s.name) (length o.sections) o.symbols in
+    let far : List Test = each_item 82 (is_far (strings_of o)) 0 o.sections in
+    let many : List Test = each_item 83 has_many_relocations 0 o.sections in
+    let size : Test = of_item 84 0 (nat_lt (2 ^ 32 - 1) (length (canon o))) in
+    let bad : Test = of_item 85 0 (is_bad_object o) in
+    let p = none-append (section_names ++ symbol_names) ((far ++ many) ++ (size ∷ bad ∷ [])) none in
+    let q = none-append (far ++ many) (size ∷ bad ∷ []) p.1 in
+    let a = none-append section_names symbol_names p.0 in
+    let c = none-append far many q.0 in
+    let e = none_head size.stands size.fault (first_standing (bad ∷ [])) q.1 in
+    let f = none_head bad.stands bad.fault None e.1 in
+    let g = or_parts (nat_lt 65535 (length o.optional)) _ f.0 in
+    let h = or_parts (nat_lt 65535 (length o.sections)) _ g.1 in
+    let i = or_parts (is_other_file (canon o)) _ h.1 in
+    let j = or_parts (list_any (is_bad_section (records_of o.symbols)) o.sections) (list_any (is_bad_symbol (length o.sections)) o.symbols) i.1 in
+    let le = ltb-false (2 ^ 32 - 1) (length (canon o)) e.0 in
+    record {
+      section_names = none_each 81 (λ (s : Section). has_zero s.name) 0 o.sections a.0;
+      symbol_names = none_each 81 (λ (s : Symbol). has_zero s.name) (length o.sections) o.symbols a.1;
+      near = none_each 82 (is_far (strings_of o)) 0 o.sections c.0;
+      few = none_each 83 has_many_relocations 0 o.sections c.1;
+      small = omega arith;
+      optional = ltb-false 65535 (length o.optional) g.0;
+      count = ltb-false 65535 (length o.sections) h.0;
+      other = i.0;
+      sections = none_any (is_bad_section (records_of o.symbols)) o.sections j.0;
+      symbols = none_any (is_bad_symbol (length o.sections)) o.symbols j.1;
+    }
+
+-- the long names of sections are among the strings
+sections_stored : (strings : List (List ℕ)) (ss : List Section) → ((text : List ℕ) → is_among text (long_section_names ss) ≡ true → is_among text strings ≡ true)
+    → AllByRecursion (λ (s : Section). is_long_section_name s.name ≡ true → is_among s.name strings ≡ true) ss
+sections_stored strings [] all = tt
+sections_stored strings (s ∷ ss) all =
+    let later : List (List ℕ) = long_section_names ss in (
+      (λ long. all s.name (ap (λ (b : Bool). is_among s.name (cond b (s.name ∷ later) later)) long ∙ or_left _ _ (equal_bytes s.name))),
+      sections_stored strings ss (λ text is. all text (elim (cases_Bool (is_long_section_name s.name)) [
+        | inl long ↦ ap (λ (b : Bool). is_among text (cond b (s.name ∷ later) later)) long ∙ or_right _ _ is
+        | inr short ↦ ap (λ (b : Bool). is_among text (cond b (s.name ∷ later) later)) short ∙ is
+      ])),
+    )
+
+symbols_stored : (strings : List (List ℕ)) (ss : List Symbol) → ((text : List ℕ) → is_among text (long_symbol_names ss) ≡ true → is_among text strings ≡ true)
+    → AllByRecursion (λ (s : Symbol). is_long s.name ≡ true → is_among s.name strings ≡ true) ss
+symbols_stored strings [] all = tt
+symbols_stored strings (s ∷ ss) all =
+    let later : List (List ℕ) = long_symbol_names ss in (
+      (λ long. all s.name (ap (λ (b : Bool). is_among s.name (cond b (s.name ∷ later) later)) long ∙ or_left _ _ (equal_bytes s.name))),
+      symbols_stored strings ss (λ text is. all text (elim (cases_Bool (is_long s.name)) [
+        | inl long ↦ ap (λ (b : Bool). is_among text (cond b (s.name ∷ later) later)) long ∙ or_right _ _ is
+        | inr short ↦ ap (λ (b : Bool). is_among text (cond b (s.name ∷ later) later)) short ∙ is
+      ])),
+    )
+
+join_sections : (strings : List (List ℕ)) (count : ℕ) (ss : List Section) → AllByRecursion SectionFits ss → AllByRecursion RelocationsFit ss
+    → AllByRecursion (λ (s : Section). is_long_section_name s.name ≡ true → is_among s.name strings ≡ true) ss
+    → AllByRecursion (λ (s : Section). has_zero s.name ≡ false) ss → AllByRecursion (λ (s : Section). is_far strings s ≡ false) ss
+    → AllByRecursion (λ (s : Section). has_many_relocations s ≡ false) ss → AllByRecursion (λ (s : Section). is_bad_section count s ≡ false) ss
+    → AllByRecursion (SectionWritable strings count) ss
+join_sections strings count [] a r b c d e f = tt
+join_sections strings count (s ∷ ss) a r b c d e f =
+    (record { fits = a.0; relocations = r.0; stored = b.0; no_zero = c.0; near = d.0; few = e.0; good = f.0 }, join_sections strings count ss a.1 r.1 b.1 c.1 d.1 e.1 f.1)
+
+-- no offset passes the table's end
+pub offset-le : (at : ℕ) (table : List (List ℕ)) (text : List ℕ) → offset_from at table text ≤ at + length (string_bytes table)
+offset-le at [] text = omega arith
+offset-le at (t ∷ table) text =
+    let whole : length ((t ++ 0 ∷ []) ++ string_bytes table) ≡ length (t ++ 0 ∷ []) + length (string_bytes table) = length-append (t ++ 0 ∷ []) (string_bytes table) in
+    let one : length (t ++ 0 ∷ []) ≡ length t + 1 = length-append t (0 ∷ []) in
+    let later = offset-le (at + length t + 1) table text in
+    elim (cases_Bool (bytes_eq text t)) [
+      | inl same ↦ rw same (omega arith)
+      | inr other ↦ rw other (omega arith)
+    ]
+
+join_symbols : (strings : List (List ℕ)) (count : ℕ) (ss : List Symbol) → 4 + length (string_bytes strings) < 2 ^ 32 → AllByRecursion SymbolFits ss
+    → AllByRecursion (λ (s : Symbol). is_long s.name ≡ true → is_among s.name strings ≡ true) ss
+    → AllByRecursion (λ (s : Symbol). has_zero s.name ≡ false) ss → AllByRecursion (λ (s : Symbol). is_bad_symbol count s ≡ false) ss
+    → AllByRecursion (SymbolWritable strings count) ss
+join_symbols strings count [] small a b c d = tt
+join_symbols strings count (s ∷ ss) small a b c d =
+    let le = offset-le 4 strings s.name in
+    (record { fits = a.0; stored = b.0; no_zero = c.0; near = omega arith; good = d.0 }, join_symbols strings count ss small a.1 b.1 c.1 d.1)
+
+pub sections_writable : (o : Object) → Fits o → Accepted o → AllByRecursion (SectionWritable (strings_of o) (records_of o.symbols)) o.sections
+unfolding strings_of
+sections_writable o fits a =
+    join_sections (strings_of o) (records_of o.symbols) o.sections fits.sections fits.relocations
+    (sections_stored (strings_of o) o.sections (λ text is. in-first text (with_strings [] (long_section_names o.sections)) (long_symbol_names o.symbols) (in-all text [] (long_section_names o.sections) is)))
+    a.section_names a.near a.few a.sections
+
+pub symbols_writable : (o : Object) → Fits o → Accepted o → 4 + length (string_bytes (strings_of o)) < 2 ^ 32 → AllByRecursion (SymbolWritable (strings_of o) (length o.sections)) o.symbols
+unfolding strings_of
+symbols_writable o fits a small =
+    join_symbols (strings_of o) (length o.sections) o.symbols small fits.symbols
+    (symbols_stored (strings_of o) o.symbols (λ text is. in-all text (with_strings [] (long_section_names o.sections)) (long_symbol_names o.symbols) is))
+    a.symbol_names a.symbols

@@ -1,0 +1,12 @@
+use Rattle.std.proofs.Common.{◌≡◌, ◌+◌, ◌<◌, ◌^◌, drop}
+use Rattle.std.specs.Prelude.{map}
+use Rattle.coff_object.specs.ObjectView.{symbol_view}
+use Rattle.coff_object.specs.Written.{records_of}
+use Rattle.coff_object.specs.StringTableView.{counted}
+use Rattle.coff_object.proofs.layout.record_count.Given as goal
+
+abbrev pub invariant-loop-symbol : goal.invariant-loop-symbol
+invariant-loop-symbol l = record {
+  small : l.count < 2 ^ 64;
+  sum : counted (l.count + records_of (map symbol_view (drop l.symbol-index l.symbols))) ≡ counted (records_of (map symbol_view l.symbols));
+}

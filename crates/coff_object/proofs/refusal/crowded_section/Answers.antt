@@ -1,0 +1,13 @@
+use Rattle.std.proofs.Common.{rules, ◌∙◌}
+use borrow.Author.Tests.{tests}
+use Rattle.std.proofs.lemmas.Iterator.{YieldsList-from_slice}
+use Rattle.std.proofs.lemmas.Iterator.Search.{position_from_yields_List}
+use Rattle.coff_object.specs.ObjectView.{section_view}
+use Rattle.coff_object.specs.WriteFaults.{has_many_relocations}
+use Rattle.coff_object.proofs.Mapped.{position-map}
+use Rattle.coff_object.proofs.refusal.crowded_section.Goals as goal
+
+pub returns : goal.returns
+returns g c =
+    position_from_yields_List (λ s. has_many_relocations (section_view s)) _ _ _ c.position.ensures.ran (YieldsList-from_slice c.args.sections.now cc) (λ x b q k. search (rules, tests))
+    ∙ position-map section_view (has_many_relocations) c.args.sections.now

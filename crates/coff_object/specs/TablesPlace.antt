@@ -1,0 +1,17 @@
+-- Where the tables of an object's file stand, as the reader holds it.
+use Rattle.std.specs.Prelude.{◌≡◌, ℕ, ◌+◌, ◌*◌, ◌≤◌, ◌^◌, length, List}
+use Rattle.coff_object.specs.Field.{field}
+use Rattle.coff_object.specs.Strings.{strings_start, strings_size, symbol_pointer, record_count}
+use Rattle.coff_object.specs.declared.tables.Tables.{Tables}
+
+pub record AreTables (file : List ℕ) (t : Tables) : Type 0 where
+  pub headers : t.headers ≡ 20 + field file 0 16 2
+  pub sections : t.sections ≡ field file 0 2 2
+  pub headers_inside : t.headers + 40 * t.sections ≤ length file
+  pub symbols : t.symbols ≡ symbol_pointer file
+  pub records : t.records ≡ record_count file
+  pub symbols_inside : t.symbols + 18 * t.records ≤ length file
+  pub strings : t.strings ≡ strings_start file
+  pub strings_size : t.strings_size ≡ strings_size file
+  pub strings_inside : t.strings + t.strings_size ≤ length file
+  pub small : length file ≤ 2 ^ 32

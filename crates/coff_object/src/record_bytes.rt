@@ -1,0 +1,295 @@
+ghost use Rattle.std.specs.Prelude.{◌≡◌, ◌+◌, ◌≤◌, ◌<◌, ◌^◌, ◌++◌, ◌∷◌, length, map, replicate, IsTrue, OnOk};
+ghost use Rattle.std.specs.List.{flat_map, AllByRecursion};
+ghost use Rattle.coff_object.specs.Field.{number_bytes};
+ghost use Rattle.coff_object.specs.Names.{decimal_digits, padded, is_long, is_long_section_name};
+ghost use Rattle.coff_object.specs.Strings.{offset_of};
+ghost use Rattle.coff_object.specs.Records.{RawFits, RelocationFits, RelocationsFit, SectionFits, SymbolFits};
+ghost use Rattle.coff_object.specs.StringTableWords.{texts_in};
+ghost use Rattle.coff_object.specs.Written.{relocation_bytes, raw_bytes, pointer_to, raw_size, section_body, section_name_field, pointer_fields, section_fields, section_header, symbol_name_field, section_number, aux_records, symbol_fields, symbol_bytes};
+ghost use Rattle.coff_object.specs.ObjectView.{raw_view, section_view, symbol_view};
+
+use crate::names::NAME_LEN;
+use crate::relocation::Relocation;
+use crate::section::{ObjSection, RawData};
+use crate::string_table::StringTable;
+use crate::symbol::{Symbol, SymbolSection};
+use itoa::Buffer;
+use std::alloc::{AllocError, Allocator};
+
+/// Whether a symbol's name stands in the string table.
+pub(crate) fn is_long(name: &[u8]) -> bool
+    ensures { result ≡ is_long name.now }
+{
+    name.len() > NAME_LEN
+}
+
+/// Whether a section's name stands in the string table.
+pub(crate) fn is_long_section_name(name: &[u8]) -> bool
+    ensures { result ≡ is_long_section_name name.now }
+{
+    is_long(name) || name.first() == Some(&b'/')
+}
+
+/// Adds a number's bytes, the lowest first.
+#[tactic(auto, unfolding(crate::specs::Field::number_bytes))]
+fn push_u8<A: Allocator>(bytes: &mut Vec<u8, A>, number: u8) -> Result<(), AllocError>
+    ensures bytes { OnOk result (bytes.new.items ≡ bytes.old.items ++ number_bytes 1 number) }
+    ensures fits { number < 2 ^ 8 }
+{
+    bytes.extend_from_slice(&number.to_le_bytes())
+}
+
+/// Adds a number's bytes, the lowest first.
+#[tactic(auto, unfolding(crate::specs::Field::number_bytes))]
+pub(crate) fn push_u16<A: Allocator>(bytes: &mut Vec<u8, A>, number: u16) -> Result<(), AllocError>
+    ensures bytes { OnOk result (bytes.new.items ≡ bytes.old.items ++ number_bytes 2 number) }
+    ensures fits { number < 2 ^ 16 }
+{
+    bytes.extend_from_slice(&number.to_le_bytes())
+}
+
+/// Adds a number's bytes, the lowest first.
+#[tactic(auto, unfolding(crate::specs::Field::number_bytes))]
+pub(crate) fn push_u32<A: Allocator>(bytes: &mut Vec<u8, A>, number: u32) -> Result<(), AllocError>
+    ensures bytes { OnOk result (bytes.new.items ≡ bytes.old.items ++ number_bytes 4 number) }
+    ensures fits { number < 2 ^ 32 }
+{
+    bytes.extend_from_slice(&number.to_le_bytes())
+}
+
+/// Adds zero bytes, at most eight.
+fn push_zeros<A: Allocator>(bytes: &mut Vec<u8, A>, count: usize) -> Result<(), AllocError>
+    requires { count ≤ 8 }
+    ensures { OnOk result (bytes.new.items ≡ bytes.old.items ++ replicate count 0) }
+{
+    bytes.extend_from_slice(&[0; NAME_LEN][..count])
+}
+
+/// Adds a text, filled up with zero bytes to eight.
+fn push_padded<A: Allocator>(bytes: &mut Vec<u8, A>, text: &[u8]) -> Result<(), AllocError>
+    requires { length text.now ≤ 8 }
+    ensures { OnOk result (bytes.new.items ≡ bytes.old.items ++ padded text.now) }
+{
+    bytes.extend_from_slice(text)?;
+    push_zeros(bytes, NAME_LEN - text.len())
+}
+
+/// Adds the bytes of a relocation.
+fn push_relocation<A: Allocator>(
+    bytes: &mut Vec<u8, A>,
+    relocation: &Relocation,
+) -> Result<(), AllocError>
+    ensures bytes { OnOk result (bytes.new.items ≡ bytes.old.items ++ relocation_bytes relocation.now) }
+    ensures fits { OnOk result (RelocationFits relocation.now) }
+{
+    push_u32(bytes, relocation.address)?;
+    push_u32(bytes, relocation.symbol)?;
+    push_u16(bytes, relocation.kind)
+}
+
+/// Adds the bytes of relocations.
+fn push_relocations<A: Allocator>(
+    bytes: &mut Vec<u8, A>,
+    relocations: &[Relocation],
+) -> Result<(), AllocError>
+    ensures fits { OnOk result (AllByRecursion RelocationFits relocations.now) }
+    ensures bytes { OnOk result (bytes.new.items ≡ bytes.old.items ++ flat_map relocation_bytes relocations.now) }
+{
+    for relocation in relocations {
+        push_relocation(bytes, relocation)?;
+    }
+    Ok(())
+}
+
+/// The bytes of a section that stand in the file.
+pub(crate) fn raw_bytes<'a>(raw: RawData<'a>) -> &'a [u8]
+    ensures { result.now ≡ raw_bytes (raw_view raw.entry) }
+{
+    match raw {
+        RawData::Bytes(bytes) => bytes,
+        RawData::Absent(_) => &[],
+    }
+}
+
+/// SizeOfRawData of a section's header.
+fn raw_size(raw: RawData) -> u32
+    requires { length (raw_bytes (raw_view raw)) < 2 ^ 32 }
+    ensures fits { RawFits (raw_view raw.entry) }
+    ensures size { result ≡ raw_size (raw_view raw.entry) }
+{
+    match raw {
+        RawData::Bytes(bytes) => bytes.len() as u32,
+        RawData::Absent(size) => size,
+    }
+}
+
+/// Adds a section's bytes and its relocations.
+pub(crate) fn push_body<A: Allocator>(
+    bytes: &mut Vec<u8, A>,
+    section: &ObjSection<A>,
+) -> Result<(), AllocError>
+    ensures fits { OnOk result (RelocationsFit (section_view section.now)) }
+    ensures bytes { OnOk result (bytes.new.items ≡ bytes.old.items ++ section_body (section_view section.now)) }
+{
+    bytes.extend_from_slice(raw_bytes(section.raw))?;
+    push_relocations(bytes, section.relocations.as_slice())
+}
+
+/// A pointer to a part that begins at a place: 0 where it is empty.
+fn pointer_to(at: u32, count: usize) -> u32
+    ensures { result ≡ pointer_to at count }
+{
+    if count == 0 { 0 } else { at }
+}
+
+/// Adds a name field that holds an offset: `/` and decimal digits.
+fn push_offset<A: Allocator>(bytes: &mut Vec<u8, A>, offset: u64) -> Result<(), AllocError>
+    requires some { 0 < offset }
+    requires near { offset ≤ 9999999 }
+    ensures { OnOk result (bytes.new.items ≡ bytes.old.items ++ padded (47 ∷ decimal_digits offset)) }
+{
+    let mut buffer = Buffer::new();
+    let digits = buffer.format(offset).as_bytes();
+    bytes.push(b'/')?;
+    bytes.extend_from_slice(digits)?;
+    push_zeros(bytes, NAME_LEN - 1 - digits.len())
+}
+
+/// Adds the name field of a section's header.
+fn push_section_name<A: Allocator + Copy>(
+    bytes: &mut Vec<u8, A>,
+    strings: &StringTable<A>,
+    name: &[u8],
+) -> Result<(), AllocError>
+    requires near { IsTrue (is_long_section_name name.now) → offset_of (texts_in strings.now) name.now ≤ 9999999 }
+    ensures { OnOk result (bytes.new.items ≡ bytes.old.items ++ section_name_field (texts_in strings.now) name.now) }
+{
+    if is_long_section_name(name) {
+        push_offset(bytes, strings.offset(name))
+    } else {
+        push_padded(bytes, name)
+    }
+}
+
+/// Adds the fields of a section's header that tell where its parts begin, where its body begins at a place.
+fn push_pointers<A: Allocator>(
+    bytes: &mut Vec<u8, A>,
+    at: u32,
+    section: &ObjSection<A>,
+) -> Result<(), AllocError>
+    requires fits { at + length (section_body (section_view section.now)) < 2 ^ 32 }
+    requires few { length section.now.relocations.items < 2 ^ 16 }
+    ensures { OnOk result (bytes.new.items ≡ bytes.old.items ++ pointer_fields at (section_view section.now)) }
+{
+    let raw = raw_bytes(section.raw).len();
+    let count = section.relocations.len();
+    push_u32(bytes, pointer_to(at, raw))?;
+    push_u32(bytes, pointer_to(at + raw as u32, count))?;
+    push_u32(bytes, 0)?;
+    push_u16(bytes, count as u16)?;
+    push_u16(bytes, 0)
+}
+
+/// Adds the fields of a section's header behind its name, where its body begins at a place.
+fn push_section_fields<A: Allocator>(
+    bytes: &mut Vec<u8, A>,
+    at: u32,
+    section: &ObjSection<A>,
+) -> Result<(), AllocError>
+    requires fits { at + length (section_body (section_view section.now)) < 2 ^ 32 }
+    requires few { length section.now.relocations.items < 2 ^ 16 }
+    ensures fits { OnOk result (SectionFits (section_view section.now)) }
+    ensures bytes { OnOk result (bytes.new.items ≡ bytes.old.items ++ section_fields at (section_view section.now)) }
+{
+    push_u32(bytes, section.virtual_size)?;
+    push_u32(bytes, section.virtual_address)?;
+    push_u32(bytes, raw_size(section.raw))?;
+    push_pointers(bytes, at, section)?;
+    push_u32(bytes, section.flags)
+}
+
+/// The SectionNumber of a symbol.
+fn section_number(section: SymbolSection) -> u16
+    ensures { result ≡ section_number section }
+{
+    match section {
+        SymbolSection::Undefined => 0,
+        SymbolSection::Absolute => 0xffff,
+        SymbolSection::Debug => 0xfffe,
+        SymbolSection::Section(number) => number,
+    }
+}
+
+/// Adds a name field that holds an offset behind four zero bytes.
+fn push_zero_offset<A: Allocator>(bytes: &mut Vec<u8, A>, offset: u32) -> Result<(), AllocError>
+    ensures { OnOk result (bytes.new.items ≡ bytes.old.items ++ (number_bytes 4 0 ++ number_bytes 4 offset)) }
+{
+    push_u32(bytes, 0)?;
+    push_u32(bytes, offset)
+}
+
+/// Adds the name field of a symbol's record.
+fn push_symbol_name<A: Allocator + Copy>(
+    bytes: &mut Vec<u8, A>,
+    strings: &StringTable<A>,
+    name: &[u8],
+) -> Result<(), AllocError>
+    requires near { IsTrue (is_long name.now) → offset_of (texts_in strings.now) name.now < 2 ^ 32 }
+    ensures { OnOk result (bytes.new.items ≡ bytes.old.items ++ symbol_name_field (texts_in strings.now) name.now) }
+{
+    if is_long(name) {
+        push_zero_offset(bytes, strings.offset(name) as u32)
+    } else {
+        push_padded(bytes, name)
+    }
+}
+
+/// Adds the fields of a symbol's record behind its name.
+fn push_symbol_fields<A: Allocator>(
+    bytes: &mut Vec<u8, A>,
+    symbol: &Symbol,
+) -> Result<(), AllocError>
+    requires { aux_records (symbol_view symbol.now) < 2 ^ 8 }
+    ensures fits { OnOk result (SymbolFits (symbol_view symbol.now)) }
+    ensures bytes { OnOk result (bytes.new.items ≡ bytes.old.items ++ symbol_fields (symbol_view symbol.now)) }
+{
+    push_u32(bytes, symbol.value)?;
+    push_u16(bytes, section_number(symbol.section))?;
+    push_u16(bytes, symbol.kind)?;
+    push_u8(bytes, symbol.class)?;
+    push_u8(bytes, (symbol.aux.len() / 18) as u8)?;
+    Ok(())
+}
+
+/// Adds the header of a section whose body begins at a place.
+pub(crate) fn push_section_header<A: Allocator + Copy>(
+    bytes: &mut Vec<u8, A>,
+    strings: &StringTable<A>,
+    at: u32,
+    section: &ObjSection<A>,
+) -> Result<(), AllocError>
+    requires near { IsTrue (is_long_section_name section.now.name.now) → offset_of (texts_in strings.now) section.now.name.now ≤ 9999999 }
+    requires fits { at + length (section_body (section_view section.now)) < 2 ^ 32 }
+    requires few { length section.now.relocations.items < 2 ^ 16 }
+    ensures fits { OnOk result (SectionFits (section_view section.now)) }
+    ensures bytes { OnOk result (bytes.new.items ≡ bytes.old.items ++ section_header (texts_in strings.now) at (section_view section.now)) }
+{
+    push_section_name(bytes, strings, section.name)?;
+    push_section_fields(bytes, at, section)
+}
+
+/// Adds a symbol's record and its auxiliary records.
+pub(crate) fn push_symbol<A: Allocator + Copy>(
+    bytes: &mut Vec<u8, A>,
+    strings: &StringTable<A>,
+    symbol: &Symbol,
+) -> Result<(), AllocError>
+    requires near { IsTrue (is_long symbol.now.name.now) → offset_of (texts_in strings.now) symbol.now.name.now < 2 ^ 32 }
+    requires few { aux_records (symbol_view symbol.now) < 2 ^ 8 }
+    ensures fits { OnOk result (SymbolFits (symbol_view symbol.now)) }
+    ensures bytes { OnOk result (bytes.new.items ≡ bytes.old.items ++ symbol_bytes (texts_in strings.now) (symbol_view symbol.now)) }
+{
+    push_symbol_name(bytes, strings, symbol.name)?;
+    push_symbol_fields(bytes, symbol)?;
+    bytes.extend_from_slice(symbol.aux)
+}

@@ -1,0 +1,311 @@
+ghost use Rattle.std.specs.Prelude.{◌≡◌, ◌+◌, ◌-◌, ◌≤◌, ◌<◌, ◌^◌, ◌++◌, false, [], if◌then◌else◌, length, map, min, ⊤, None, Some, Err, ℕ, List, All, IsTrue, OnOk, IfOk};
+ghost use Rattle.std.specs.List.{flat_map, AllByRecursion};
+ghost use Rattle.pe_view.specs.Faults.{Answers, first_standing};
+ghost use Rattle.coff_object.specs.Names.{is_long, is_long_section_name};
+ghost use Rattle.coff_object.specs.ObjectView.{section_view, symbol_view, object_view};
+ghost use Rattle.coff_object.specs.ObjectFaults.{ObjectAnswers, IsObjectOf};
+ghost use Rattle.coff_object.specs.Records as format;
+ghost use Rattle.coff_object.specs.Records.{SectionFits, RelocationsFit, SymbolFits, HeaderFits, Fits};
+ghost use Rattle.pe_view.specs.declared.fault.Fault as code_fault;
+ghost use Rattle.coff_object.specs.StringTableView.{counted};
+ghost use Rattle.coff_object.specs.StringTableWords.{texts_in};
+ghost use Rattle.coff_object.specs.Strings.{offset_of, string_bytes};
+ghost use Rattle.coff_object.specs.Written.{has_strings, symbols_start, header_end, coff_header, string_table, canon, strings_of, section_body, section_table, symbol_bytes, aux_records, records_of};
+ghost use Rattle.coff_object.specs.Writable.{IsWritable};
+ghost use Rattle.coff_object.specs.WriteFaults.{name_tests, section_tests, form_tests, write_tests, is_far, has_many_relocations, is_bad_symbol, is_bad_object};
+
+use crate::error::ObjectError;
+use crate::layout::{bodies_size, body_size, record_count, strings_of, symbols_size};
+use crate::object::Object;
+use crate::record_bytes::{push_body, push_section_header, push_symbol, push_u16, push_u32};
+use crate::refusal::{
+    any_bad_section, any_bad_symbol, crowded_section, far_section, is_other_header,
+    zero_in_sections, zero_in_symbols,
+};
+use crate::section::ObjSection;
+use crate::string_table::StringTable;
+use crate::symbol::Symbol;
+use pe_view::{Fault, Place};
+use std::alloc::{AllocError, Allocator};
+
+/// A fault of an item, whose index stops at the greatest that a place tells.
+fn item_fault(number: u16, index: u64) -> Fault
+    ensures { result ≡ record { number = number; image = 0; place = Place.Item (min index (2 ^ 32 - 1)) } }
+{
+    Fault {
+        number,
+        image: 0,
+        place: Place::Item(index.min(u64::from(u32::MAX)) as u32),
+    }
+}
+
+/// That fault 81 does not stand.
+fn check_names<A: Allocator>(object: &Object<A>) -> Result<(), Fault>
+    ensures { Answers (name_tests (object_view object.now)) (λ _. ⊤) result }
+{
+    if let Some(index) = zero_in_sections(object.sections.as_slice()) {
+        return Err(item_fault(81, index as u64));
+    }
+    if let Some(index) = zero_in_symbols(object.symbols.as_slice()) {
+        let sections = object.sections.as_slice().len() as u64;
+        return Err(item_fault(81, sections.saturating_add(index as u64)));
+    }
+    Ok(())
+}
+
+/// That neither of faults 82 and 83 stands.
+fn check_sections<A: Allocator + Copy>(
+    object: &Object<A>,
+    strings: &StringTable<A>,
+) -> Result<(), Fault>
+    requires { texts_in strings.now ≡ strings_of (object_view object.now) }
+    ensures { Answers (section_tests (object_view object.now)) (λ _. ⊤) result }
+{
+    if let Some(index) = far_section(strings, object.sections.as_slice()) {
+        return Err(item_fault(82, index as u64));
+    }
+    if let Some(index) = crowded_section(object.sections.as_slice()) {
+        return Err(item_fault(83, index as u64));
+    }
+    Ok(())
+}
+
+/// Adds the section table, where the first body begins at a place.
+fn push_table<A: Allocator + Copy>(
+    bytes: &mut Vec<u8, A>,
+    strings: &StringTable<A>,
+    start: u32,
+    sections: &[ObjSection<A>],
+) -> Result<(), AllocError>
+    requires near { AllByRecursion (λ (s : format.Section). is_far (texts_in strings.now) s ≡ false) (map section_view sections.now) }
+    requires few { AllByRecursion (λ (s : format.Section). has_many_relocations s ≡ false) (map section_view sections.now) }
+    requires fits { start + length (flat_map section_body (map section_view sections.now)) < 2 ^ 32 }
+    ensures fits { OnOk result (AllByRecursion SectionFits (map section_view sections.now)) }
+    ensures bytes { OnOk result (bytes.new.items ≡ bytes.old.items ++ section_table (texts_in strings.now) start (map section_view sections.now)) }
+{
+    let mut at = start;
+    for section in sections {
+        push_section_header(bytes, strings, at, section)?;
+        at += body_size(section) as u32;
+    }
+    Ok(())
+}
+
+/// Adds the bodies of sections.
+fn push_bodies<A: Allocator>(
+    bytes: &mut Vec<u8, A>,
+    sections: &[ObjSection<A>],
+) -> Result<(), AllocError>
+    ensures fits { OnOk result (AllByRecursion RelocationsFit (map section_view sections.now)) }
+    ensures bytes { OnOk result (bytes.new.items ≡ bytes.old.items ++ flat_map section_body (map section_view sections.now)) }
+{
+    for section in sections {
+        push_body(bytes, section)?;
+    }
+    Ok(())
+}
+
+/// Adds the records of symbols.
+fn push_symbols<A: Allocator + Copy>(
+    bytes: &mut Vec<u8, A>,
+    strings: &StringTable<A>,
+    symbols: &[Symbol],
+) -> Result<(), AllocError>
+    requires near { 4 + length (string_bytes (texts_in strings.now)) < 2 ^ 32 }
+    requires few { AllByRecursion (λ (s : format.Symbol). aux_records s < 2 ^ 8) (map symbol_view symbols.now) }
+    ensures fits { OnOk result (AllByRecursion SymbolFits (map symbol_view symbols.now)) }
+    ensures bytes { OnOk result (bytes.new.items ≡ bytes.old.items ++ flat_map (symbol_bytes (texts_in strings.now)) (map symbol_view symbols.now)) }
+{
+    for symbol in symbols {
+        push_symbol(bytes, strings, symbol)?;
+    }
+    Ok(())
+}
+
+/// Whether there are symbols or strings.
+fn has_strings<A: Allocator + Copy>(object: &Object<A>, strings: &StringTable<A>) -> bool
+    requires { texts_in strings.now ≡ strings_of (object_view object.now) }
+    ensures { result ≡ has_strings (object_view object.now) }
+{
+    !object.symbols.as_slice().is_empty() || !strings.is_empty()
+}
+
+/// How many bytes the string table takes, with its size field.
+fn table_size<A: Allocator + Copy>(object: &Object<A>, strings: &StringTable<A>) -> u64
+    requires { texts_in strings.now ≡ strings_of (object_view object.now) }
+    ensures { result ≡ counted (length (string_table (object_view object.now))) }
+{
+    if has_strings(object, strings) {
+        strings.size()
+    } else {
+        0
+    }
+}
+
+/// How many bytes the written object has.
+fn written_size<A: Allocator + Copy>(object: &Object<A>, strings: &StringTable<A>) -> u64
+    requires texts { texts_in strings.now ≡ strings_of (object_view object.now) }
+    requires near { AllByRecursion (λ (s : format.Section). is_far (strings_of (object_view object.now)) s ≡ false) (object_view object.now).sections }
+    ensures { result ≡ counted (length (canon (object_view object.now))) }
+{
+    let sections = object.sections.as_slice();
+    let table = (sections.len() as u64).saturating_mul(40);
+    (20 + object.optional.len() as u64)
+        .saturating_add(table)
+        .saturating_add(bodies_size(sections))
+        .saturating_add(symbols_size(object.symbols.as_slice()))
+        .saturating_add(table_size(object, strings))
+}
+
+/// Whether the object has no form.
+fn is_bad_object<A: Allocator + Copy>(object: &Object<A>) -> bool
+    requires { length (canon (object_view object.now)) < 2 ^ 32 }
+    ensures { result ≡ is_bad_object (object_view object.now) }
+{
+    let sections = object.sections.as_slice();
+    let symbols = object.symbols.as_slice();
+    if object.optional.len() > 65_535 || sections.len() > 65_535 {
+        return true;
+    }
+    let (machine, time_stamp) = (object.machine, object.time_stamp);
+    if is_other_header(machine, sections.len() as u16, time_stamp) {
+        return true;
+    }
+    if any_bad_section(sections, record_count(symbols)) {
+        return true;
+    }
+    any_bad_symbol(symbols, sections.len())
+}
+
+/// Adds the fields of the COFF header behind TimeDateStamp, with the symbol table at a place.
+fn push_header_end<A: Allocator + Copy>(
+    bytes: &mut Vec<u8, A>,
+    object: &Object<A>,
+    symbols_at: u32,
+) -> Result<(), AllocError>
+    requires start { symbols_at ≡ (if has_strings (object_view object.now) then symbols_start (object_view object.now) else 0) }
+    requires form { IsWritable (object_view object.now) }
+    ensures fits { OnOk result ((object_view object.now).characteristics < 2 ^ 16) }
+    ensures bytes { OnOk result (bytes.new.items ≡ bytes.old.items ++ header_end (object_view object.now)) }
+{
+    let records = record_count(object.symbols.as_slice()) as u32;
+    push_u32(bytes, symbols_at)?;
+    push_u32(bytes, records)?;
+    push_u16(bytes, object.optional.len() as u16)?;
+    push_u16(bytes, object.characteristics)
+}
+
+/// Adds the COFF header, with the symbol table at a place.
+fn push_coff_header<A: Allocator + Copy>(
+    bytes: &mut Vec<u8, A>,
+    object: &Object<A>,
+    symbols_at: u32,
+) -> Result<(), AllocError>
+    requires start { symbols_at ≡ (if has_strings (object_view object.now) then symbols_start (object_view object.now) else 0) }
+    requires form { IsWritable (object_view object.now) }
+    ensures fits { OnOk result (HeaderFits (object_view object.now)) }
+    ensures bytes { OnOk result (bytes.new.items ≡ bytes.old.items ++ coff_header (object_view object.now)) }
+{
+    let sections = object.sections.as_slice().len() as u16;
+    push_u16(bytes, object.machine)?;
+    push_u16(bytes, sections)?;
+    push_u32(bytes, object.time_stamp)?;
+    push_header_end(bytes, object, symbols_at)
+}
+
+/// Adds the string table.
+fn push_strings<A: Allocator + Copy>(
+    bytes: &mut Vec<u8, A>,
+    object: &Object<A>,
+    strings: &StringTable<A>,
+) -> Result<(), AllocError>
+    requires texts { texts_in strings.now ≡ strings_of (object_view object.now) }
+    requires small { 4 + length (string_bytes (texts_in strings.now)) < 2 ^ 32 }
+    ensures { OnOk result (bytes.new.items ≡ bytes.old.items ++ string_table (object_view object.now)) }
+{
+    if !has_strings(object, strings) {
+        return Ok(());
+    }
+    push_u32(bytes, strings.size() as u32)?;
+    strings.push_bytes(bytes)
+}
+
+/// PointerToSymbolTable of an object whose symbol table begins at a place.
+fn symbols_pointer<A: Allocator + Copy>(
+    object: &Object<A>,
+    strings: &StringTable<A>,
+    start: u32,
+) -> u32
+    requires { texts_in strings.now ≡ strings_of (object_view object.now) }
+    ensures { result ≡ (if has_strings (object_view object.now) then start else 0) }
+{
+    if has_strings(object, strings) {
+        start
+    } else {
+        0
+    }
+}
+
+/// That neither of faults 84 and 85 stands.
+fn check_form<A: Allocator + Copy>(
+    object: &Object<A>,
+    strings: &StringTable<A>,
+) -> Result<(), Fault>
+    requires texts { texts_in strings.now ≡ strings_of (object_view object.now) }
+    requires near { AllByRecursion (λ (s : format.Section). is_far (strings_of (object_view object.now)) s ≡ false) (object_view object.now).sections }
+    ensures { Answers (form_tests (object_view object.now)) (λ _. ⊤) result }
+{
+    if written_size(object, strings) > u64::from(u32::MAX) {
+        return Err(item_fault(84, 0));
+    }
+    if is_bad_object(object) {
+        return Err(item_fault(85, 0));
+    }
+    Ok(())
+}
+
+/// The bytes of an object that no fault refuses.
+fn write_parts<A: Allocator + Copy>(
+    alloc: A,
+    object: &Object<A>,
+    strings: &StringTable<A>,
+) -> Result<Vec<u8, A>, AllocError>
+    requires texts { texts_in strings.now ≡ strings_of (object_view object.now) }
+    requires form { IsWritable (object_view object.now) }
+    ensures fits { OnOk result (Fits (object_view object.now)) }
+    ensures bytes { IfOk result (λ bytes. bytes.items ≡ canon (object_view object.now)) }
+{
+    let sections = object.sections.as_slice();
+    let symbols = object.symbols.as_slice();
+    let start = 20 + object.optional.len() as u32 + 40 * sections.len() as u32;
+    let end = start + bodies_size(sections) as u32;
+    let mut bytes = Vec::new(alloc);
+    push_coff_header(&mut bytes, object, symbols_pointer(object, strings, end))?;
+    bytes.extend_from_slice(object.optional)?;
+    push_table(&mut bytes, strings, start, sections)?;
+    push_bodies(&mut bytes, sections)?;
+    push_symbols(&mut bytes, strings, symbols)?;
+    push_strings(&mut bytes, object, strings)?;
+    Ok(bytes)
+}
+
+/// The bytes of an object file that holds the object, or the least of faults 81 to 85.
+///
+/// The COFF header, the optional bytes, the section table, each section's bytes and its relocations, the symbols and the
+/// string table stand one behind the other, with nothing between. Takes no memory where fault 81 stands. ("PE Format":
+/// COFF File Header, Section Table, COFF Relocations, COFF Symbol Table, COFF String Table.)
+pub fn write_object<A: Allocator + Copy>(
+    alloc: A,
+    object: &Object<A>,
+) -> Result<Vec<u8, A>, ObjectError>
+    ensures exact { ObjectAnswers (write_tests (object_view object.now)) (λ bytes. bytes.items ≡ canon (object_view object.now)) result }
+    ensures read_back { IfOk result (λ bytes. IsObjectOf bytes.items (object_view object.now)) }
+    ensures early { (fault : code_fault.Fault) → first_standing (name_tests (object_view object.now)) ≡ Some fault → result ≡ Err (ObjectError.Fault fault) }
+{
+    check_names(object)?;
+    let strings = strings_of(alloc, object)?;
+    check_sections(object, &strings)?;
+    check_form(object, &strings)?;
+    let bytes = write_parts(alloc, object, &strings)?;
+    Ok(bytes)
+}
