@@ -1,4 +1,7 @@
 pub mod Adding
+pub mod Held
+pub mod MapLines
+pub mod Mapped
 pub mod Numbering
 pub mod Pieces
 pub mod Plain

@@ -1,6 +1,6 @@
 -- What an engine reads and writes, from the contracts of the reading and of the text writer.
-use Rattle.std.proofs.Common.{ℕ, ◌≡◌, ◌+◌, ◌^◌, ◌<◌, ◌≤◌, Bool, List, [], ◌++◌, length, Result, Ok, Err, refl, sym, ◌∙◌, ap, append_assoc, append-nil}
-use Rattle.std.specs.Prelude.{IsErrAnd, IsErrOf}
+use Rattle.std.proofs.Common.{ℕ, ◌≡◌, ◌+◌, ◌^◌, ◌<◌, ◌≤◌, Bool, List, [], ◌++◌, length, Result, Ok, Err, refl, sym, ◌∙◌, ap, append_assoc, append-nil, arith}
+use Rattle.std.specs.Prelude.{IsErrAnd, IsErrOf, ◌↔◌}
 use Rattle.std.proofs.lemmas.List.{append_cancel_left}
 use Rattle.pe_tool.specs.declared.outcome.Outcome.{Outcome}
 use Rattle.pe_tool.specs.declared.outcome.ToolError.{ToolError}
@@ -57,3 +57,11 @@ Ran-unread IsText given given' taken ended count count' error (Ok outcome) is re
 Ran-unread IsText given given' taken ended count count' error (Err e) is read =
     let u = unread (IsText read.0) (IsWhole ended read.0) count count' error read.0 read.2 in
     rw is (record { input = read.0; written = []; reads = read.1; writes = sym (append-nil taken); text = u.0; limit = read.3; whole = u.1; memory = u.2 })
+
+-- a write failed exactly where the count rose
+pub write_told : (IsText : Outcome → List ℕ → Type 0) (before now : List ℕ) (count count' : ℕ) (result : Result Outcome ToolError) → Puts IsText before now count count' result
+    → IsErrOf result Write ↔ (count < count')
+write_told IsText before now count count' (Ok outcome) puts = let same = puts.2.1 in (λ is. absurd cc, λ rose. absurd (omega (arith, rose, same)))
+write_told IsText before now count count' (Err Read) puts = absurd puts.2
+write_told IsText before now count count' (Err Write) puts = let one = puts.2.0 in (λ is. omega (arith, one), λ rose. refl)
+write_told IsText before now count count' (Err Memory) puts = let same = puts.2.0 in (λ is. absurd cc, λ rose. absurd (omega (arith, rose, same)))

@@ -6,6 +6,11 @@ pub use Rattle.pe_tables.specs.Fixups
 pub use Rattle.pe_tables.specs.Imports
 pub use Rattle.pe_tables.specs.Key
 pub use Rattle.pe_image.specs.ImageTests
+pub use Rattle.pe_set.specs.Set
+pub use Rattle.pe_set.specs.SetFaults
+pub use Rattle.pe_set.specs.SetView
+pub use Rattle.pe_space.specs.Content
+pub use Rattle.pe_space.specs.SetContent
 pub mod Counted
 pub mod Device
 pub mod Dump
@@ -14,7 +19,9 @@ pub mod FaultLine
 pub mod Field
 pub mod Format
 pub mod HeaderFields
+pub mod MapReport
 pub mod Outcome
+pub mod Part
 pub mod Refusal
 pub mod TableLines
 pub mod Text

@@ -1,4 +1,5 @@
 -- Numbers and texts as lines show them.
+pub use Rattle.pe_set.specs.Numbered.{numbered}
 use Rattle.std.specs.Prelude.{ℕ, ◌+◌, ◌/◌, ◌%◌, ◌^◌, ◌==◌, ◌&&◌, not, Bool, nat_lt, nat_le, if◌then◌else◌, zero, suc, List, [], ◌∷◌, ◌++◌, codes, flat_map}
 
 -- a hexadecimal digit, in lower case
@@ -34,8 +35,3 @@ escaped byte = if is_plain byte then byte ∷ [] else (codes "\\x" ++ hex 2 byte
 -- a text in double quotes
 unfoldable pub quoted : List ℕ → List ℕ
 quoted text = codes "\"" ++ flat_map escaped text ++ codes "\""
-
--- the lines of a table's rows, one after another, numbered from a first number on
-abbrev pub numbered : {Row : Type 0} → (ℕ → Row → List ℕ) → ℕ → List Row → List ℕ
-numbered line index [] = []
-numbered line index (row ∷ rows) = line index row ++ numbered line (index + 1) rows

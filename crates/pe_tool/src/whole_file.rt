@@ -85,9 +85,12 @@ fn read_piece<A: Allocator + Copy, R: Source>(
     }
 }
 
-/// Reads to the source's end, or one byte more than a file may have. The source writes straight into the file's buffer, all
-/// but the first piece.
-pub(crate) fn read_whole<A: Allocator + Copy, R: Source>(
+/// Reads to the source's end, or 2^32 + 1 bytes: one more than a file may have. The source writes straight into the file's
+/// buffer, all but the first piece.
+///
+/// `Read` where a read failed; `Memory` where memory was refused, and never before the source gave a byte. There is no `Write`.
+/// Condition: fewer than 2^64 - 1 failures are counted on the source so far.
+pub fn read_whole<A: Allocator + Copy, R: Source>(
     alloc: A,
     reader: &mut R,
 ) -> Result<Vec<u8, A>, ToolError>

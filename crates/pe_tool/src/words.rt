@@ -1,16 +1,29 @@
 //! The words of the command line.
 
+use crate::map_words::{MapFile, MapWords, NoMap, bad_value, map_command, map_words};
 use clap::error::ErrorKind;
 use clap::{Arg, ArgMatches, Command, Error};
+use pe_space::Policy;
 use std::alloc::{AllocError, Global};
 
 /// What the words ask for.
 #[derive(Debug, Drop, PartialEq, Eq)]
 pub enum Job {
     /// `check FILE`: judge an image and write one line.
-    Check { file: String },
+    Check {
+        file: String,
+    },
     /// `dump FILE`: write what the headers and tables of an image hold.
-    Dump { file: String },
+    Dump {
+        file: String,
+    },
+    /// `map HEX=FILE...`: map images at their bases, and write where they stand, what their slots are bound to, and the bytes
+    /// of a window: the address of its first byte, and how many it has.
+    Map {
+        policy: Policy,
+        window: Option<(u64, u32)>,
+        files: Vec<MapFile>,
+    },
 }
 
 /// Why there is no job to do, with the text that the program prints.
@@ -55,13 +68,14 @@ fn command<'a>(alloc: Global) -> Result<Command<'a>, AllocError> {
         "Prints the fields of the image's headers, its directories, sections, exports, imports and base relocations, a line each, or its first fault",
     )?;
     Command::new(alloc, "petool")
-        .about("Reads PE images: judges them, and shows what they hold")
+        .about("Reads PE images: judges them, shows what they hold, and maps them")
         .bin_name("petool")?
         .no_binary_name(true)
         .subcommand_required(true)
         .arg_required_else_help(true)
         .subcommand(check)?
-        .subcommand(dump)
+        .subcommand(dump)?
+        .subcommand(map_command(alloc)?)
 }
 
 /// What the program prints where clap finds no job in the words.
@@ -80,9 +94,28 @@ fn file_of(alloc: Global, found: &ArgMatches<'_>) -> Result<String, AllocError> 
     String::from_str(alloc, found.get_str("FILE").unwrap_or(""))
 }
 
+/// What words of `map` ask for.
+fn map_job(alloc: Global, found: &ArgMatches<'_>) -> Result<Job, WordsError> {
+    match map_words(alloc, found) {
+        Ok(
+            MapWords {
+                policy,
+                window,
+                files,
+            },
+        ) => Ok(Job::Map {
+            policy,
+            window,
+            files,
+        }),
+        Err(NoMap::Bad(bad)) => Err(refusal(alloc, bad_value(alloc, bad)?)),
+        Err(NoMap::Memory) => Err(WordsError::Memory),
+    }
+}
+
 /// What the words after the program's name ask for.
 ///
-/// `Bad` and `Help` hold clap's own text. `Memory` comes only where an allocation was refused.
+/// `Bad` and `Help` hold clap's own text, or one of its form. `Memory` comes only where an allocation was refused.
 pub fn parse_words(alloc: Global, words: &[String]) -> Result<Job, WordsError> {
     let found = match command(alloc)?.try_get_matches_from(words) {
         Ok(found) => found,
@@ -95,6 +128,7 @@ pub fn parse_words(alloc: Global, words: &[String]) -> Result<Job, WordsError> {
         Some(("dump", inner)) => Ok(Job::Dump {
             file: file_of(alloc, inner)?,
         }),
+        Some(("map", inner)) => map_job(alloc, inner),
         // clap has refused all other words
         _ => Err(WordsError::Bad(String::from_str(alloc, "error: no command\n")?)),
     }

@@ -1,0 +1,168 @@
+-- What a space that was mapped from a set tells of it.
+use Rattle.std.proofs.Common.{◌≡◌, ◌∙◌, ℕ, zero, suc, ◌+◌, ◌<◌, ◌≤◌, ◌^◌, Bool, true, false, cond, List, [], ◌∷◌, ◌++◌, length, map, refl, sym, ap, subst, arith, Some, None, Ok, Err}
+use Rattle.std.specs.Prelude.{Option, All, nat_le, ◌==◌, unwrap_or, option_map, slice_index_or, Result}
+use Rattle.std.proofs.lemmas.Simd.{map-map}
+use Rattle.std.proofs.lemmas.List.{length-map}
+use Rattle.std.proofs.lemmas.Option.{slice_get-map}
+use Rattle.std.proofs.lemmas.Bool.{le-leb, ne_eqb}
+use Rattle.pe_view.specs.declared.fault.Fault.{Fault}
+use Rattle.pe_set.specs.Placement.{Placement, address_limit, placement_at}
+use Rattle.pe_set.specs.Set as sets
+use Rattle.pe_set.specs.Set.{Entry, Module, modules_from, modules_of}
+use Rattle.pe_set.specs.SetView.{entry_view, entries_of}
+use Rattle.pe_set.specs.Sound.{IsSound, IsSoundBinding}
+use Rattle.pe_set.specs.Bindings.{bindings_of}
+use Rattle.pe_set.specs.declared.binding.Binding.{Binding}
+use Rattle.pe_set.specs.declared.entry.SetEntry.{SetEntry}
+use Rattle.pe_space.specs.Content as contents
+use Rattle.pe_space.specs.Content.{Image, Content, placement_of, image_of, is_in, holder_from, byte_at, size_in, base_in, window_image_by, window_image, window_in, window_at}
+use Rattle.pe_space.specs.Placing.{IsPlaced}
+use Rattle.pe_space.specs.SetContent.{image_content, laid_out, content_of}
+use Rattle.pe_space.specs.Tied.{Apart}
+use Rattle.pe_space.proofs.Accepting.{placed}
+use Rattle.pe_space.proofs.Addressing.{Holds, holder_inside, holder_is, placed_at, window_lies}
+use Rattle.pe_space.proofs.Defining.{placements_bared}
+use Rattle.pe_space.proofs.Images.{modules_count, all_got}
+use Rattle.pe_space.proofs.Move.{limit_le}
+use Rattle.pe_space.proofs.SlotsAndFields.{is_in-true, true-is_in}
+use Rattle.pe_tool.specs.MapReport.{image_line, told_line, export_address, bytes_from, refusal_of, window_lines}
+use Rattle.pe_tool.specs.Text.{numbered}
+
+-- ---- where the images stand
+pub placements_kept : (s : List Module) → map placement_of (content_of s).images ≡ map sets.placement_of s
+unfolding content_of laid_out
+placements_kept s = placements_bared 0 (bindings_of s) (map image_content s) ∙ map-map placement_of image_content s
+
+pub bindings_kept : (s : List Module) → (content_of s).bindings ≡ bindings_of s
+unfolding content_of laid_out
+bindings_kept s = refl
+
+placements_laid : (s : List Module) → map placement_of (laid_out s).images ≡ map sets.placement_of s
+unfolding laid_out
+placements_laid s = map-map placement_of image_content s
+
+bindings_laid : (s : List Module) → (laid_out s).bindings ≡ bindings_of s
+unfolding laid_out
+bindings_laid s = refl
+
+-- that images stand where they may is said of their placements
+placed_alike : (c d : Content) → map placement_of c.images ≡ map placement_of d.images → c.bindings ≡ d.bindings → IsPlaced d → IsPlaced c
+placed_alike c d same bound all =
+    let at : (j : ℕ) → placement_of (image_of c.images j) ≡ placement_of (image_of d.images j) =
+    λ j. sym (placed_at c.images j) ∙ ap (λ (ps : List Placement). placement_at ps j) same ∙ placed_at d.images j in
+    let count : length c.images ≡ length d.images = sym (length-map c.images placement_of) ∙ ap length same ∙ length-map d.images placement_of in
+    let few = all.few in
+    record {
+      few = omega (arith, few, count);
+      few_slots = subst (λ (bs : List Binding). length bs < 2 ^ 32) (sym bound) all.few_slots;
+      room = λ j. subst (λ (p : Placement). p.base + p.size ≤ address_limit p.magic) (sym (at j)) (all.room j);
+      apart = λ j k lt lt' ne.
+          subst (λ (p : Placement). Apart p.base p.size (image_of c.images k).base (image_of c.images k).size) (sym (at j))
+          (subst (λ (q : Placement). Apart (image_of d.images j).base (image_of d.images j).size q.base q.size) (sym (at k)) (all.apart j k (omega (arith, lt, count)) (omega (arith, lt', count)) ne));
+    }
+
+pub placed_kept : (s : List Module) → IsSound s → IsPlaced (content_of s)
+placed_kept s sound =
+    placed_alike (content_of s) (laid_out s) (placements_kept s ∙ sym (placements_laid s)) (bindings_kept s ∙ sym (bindings_laid s)) (placed s sound)
+
+-- an accepted set has few images
+pub few_entries : (set : List SetEntry) → IsSound (modules_of (entries_of set)) → length set ≤ 256
+few_entries set sound =
+    let few = sound.few in
+    let count = modules_count (entries_of set) ∙ length-map set entry_view in
+    omega (arith, few, count)
+
+-- ---- their lines
+images_from : (ps : List Placement) (n : ℕ) (set : List SetEntry) → ((k : ℕ) → size_in ps (n + k) ≡ size_in (map sets.placement_of (modules_from n (map entry_view set))) k)
+    → numbered (λ (number : ℕ) (e : SetEntry). told_line ps number (entry_view e)) n set
+    ≡ numbered (λ (number : ℕ) (m : Module). image_line number m.name m.base m.image.size) n (modules_from n (map entry_view set))
+images_from ps n [] told = refl
+images_from ps n (e ∷ set) told =
+    let here : n + 0 ≡ n = omega arith in
+    let size = sym (ap (size_in ps) here) ∙ told 0 in
+    let rest = images_from ps (n + 1) set (λ k. ap (size_in ps) (let step : n + 1 + k ≡ n + suc k = omega arith in step) ∙ told (suc k)) in
+    ap (λ (size : Option ℕ). image_line n e.name.now e.base (unwrap_or size 0) ++ numbered (λ (number : ℕ) (f : SetEntry). told_line ps number (entry_view f)) (n + 1) set) size
+    ∙ ap (λ (lines : List ℕ). image_line n e.name.now e.base (sets.module_of n (entry_view e)).image.size ++ lines) rest
+
+pub images_told : (set : List SetEntry) → (let s = modules_of (entries_of set) in numbered (λ (number : ℕ) (e : SetEntry). told_line (map sets.placement_of s) number (entry_view e)) 0 set
+    ≡ numbered (λ (number : ℕ) (m : Module). image_line number m.name m.base m.image.size) 0 s)
+unfolding modules_of
+images_told set = images_from (map sets.placement_of (modules_from 0 (entries_of set))) 0 set (λ k. ap (size_in (map sets.placement_of (modules_from 0 (entries_of set)))) (let e : 0 + k ≡ k = omega arith in e))
+
+-- ---- the bound slots
+low : (s : List Module) → IsSound s → (b : Binding) → IsSoundBinding s b → export_address (map sets.placement_of s) b < 2 ^ 64
+low s sound b bound =
+    let base = slice_get-map sets.placement_of s b.exporter ∙ ap (option_map sets.placement_of) bound.exports in
+    let room = all_got (λ (m : Module). m.base + m.image.size ≤ address_limit m.magic) s b.exporter bound.exporter sound.room bound.exports in
+    let limit = limit_le bound.exporter.magic in
+    let target = bound.target in
+    let address : export_address (map sets.placement_of s) b ≡ bound.exporter.base + b.rva = ap (λ (p : Option Placement). unwrap_or (option_map (λ (q : Placement). q.base) p) 0 + b.rva) base in
+    omega (arith, room, limit, target, address)
+
+-- the address of an export has 64 bits
+pub exports_low : (s : List Module) → IsSound s → All (λ (b : Binding). export_address (map sets.placement_of s) b < 2 ^ 64) (bindings_of s)
+exports_low s sound = λ k d lt. low s sound (slice_index_or (bindings_of s) k d) (sound.slots k d lt)
+
+-- ---- a window
+window_bytes : (c : Content) (a n : ℕ) → contents.bytes_from c a n ≡ bytes_from (byte_at c) a n
+window_bytes c a zero = refl
+window_bytes c a (suc n) = ap (λ (bytes : List ℕ). unwrap_or (byte_at c a) 0 ∷ bytes) (window_bytes c (a + 1) n)
+
+-- where a window lies that is not refused
+record LiesIn (c : Content) (a n j : ℕ) : Type 0 where
+  held : holder_from 0 c.images a ≡ Some j
+  inside : a + n ≤ (image_of c.images j).base + (image_of c.images j).size
+
+lies_at : (c : Content) (a n : ℕ) (o : Result ℕ Fault) → window_image (map placement_of c.images) a n ≡ o → refusal_of (window_in c a n o) ≡ None → (j : ℕ) × LiesIn c a n j
+lies_at c a n (Err fault) is none = absurd cc
+lies_at c a n (Ok j) is none = let lies = window_lies c.images a n j is in (j, record { held = lies.0; inside = lies.1 })
+
+not_empty : (n : ℕ) → (suc n == 0) ≡ false
+not_empty n = ne_eqb (suc n) 0 (λ is. absurd (omega (arith, is)))
+
+lies_where : (c : Content) (a n : ℕ) → refusal_of (window_at c a (suc n)) ≡ None → (j : ℕ) × LiesIn c a (suc n) j
+lies_where c a n none =
+    let w = window_image (map placement_of c.images) a (suc n) in
+    lies_at c a (suc n) w refl (subst (λ (t : Bool). refusal_of (cond t (Ok []) (window_in c a (suc n) w)) ≡ None) (not_empty n) none)
+
+-- a window in the image that holds its first address
+given : (c : Content) (a n j : ℕ) → holder_from 0 c.images a ≡ Some j → a + suc n ≤ (image_of c.images j).base + (image_of c.images j).size → window_at c a (suc n) ≡ Ok (contents.bytes_from c a (suc n))
+given c a n j held fits =
+    let ps = map placement_of c.images in
+    let end : a + suc n ≤ (placement_at ps j).base + (placement_at ps j).size = subst (λ (p : Placement). a + suc n ≤ p.base + p.size) (sym (placed_at c.images j)) fits in
+    let image : window_image ps a (suc n) ≡ Ok j =
+    ap (window_image_by ps a (suc n)) held ∙ ap (λ (t : Bool). cond t (Ok j) (Err (contents.window_fault j a))) (le-leb _ _ end) in
+    ap (λ (t : Bool). cond t (Ok []) (window_in c a (suc n) (window_image ps a (suc n)))) (not_empty n) ∙ ap (window_in c a (suc n)) image
+
+-- a part of it is a window too
+part_of : (c : Content) → IsPlaced c → (a n j : ℕ) → LiesIn c a n j → (k m : ℕ) → k + suc m ≤ n → window_at c (a + k) (suc m) ≡ Ok (bytes_from (byte_at c) (a + k) (suc m))
+part_of c all a n j there k m fits =
+    let first = holder_inside 0 c.images a j there.held in
+    let number : first.0 ≡ j = let e = first.1 in omega (arith, e) in
+    let holds : Holds c.images a j = subst (Holds c.images a) number first.2 in
+    let range = is_in-true _ _ a holds.1 in
+    let low = range.0 in
+    let end = there.inside in
+    let i = image_of c.images j in
+    let here : Holds c.images (a + k) j = (holds.0, true-is_in i.base i.size (a + k) (omega (arith, low)) (omega (arith, end, fits))) in
+    given c (a + k) m j (holder_is c (a + k) j all here) (omega (arith, end, fits))
+    ∙ ap (λ (bytes : List ℕ). Ok bytes) (window_bytes c (a + k) (suc m))
+
+pub inside : (c : Content) → IsPlaced c → (a n : ℕ) → refusal_of (window_at c a n) ≡ None → (k m : ℕ) → k + m ≤ n → window_at c (a + k) m ≡ Ok (bytes_from (byte_at c) (a + k) m)
+inside c all a n none k zero fits = refl
+inside c all a zero none k (suc m) fits = absurd (omega (arith, fits))
+inside c all a (suc n) none k (suc m) fits = let there = lies_where c a n none in part_of c all a (suc n) there.0 there.1 k m fits
+
+-- it ends where the addresses do, at the latest
+pub ends : (c : Content) → IsPlaced c → (a n : ℕ) → refusal_of (window_at c a n) ≡ None → 0 < n → a + n ≤ 2 ^ 64
+ends c all a zero none some = absurd (omega (arith, some))
+ends c all a (suc n) none some =
+    let there = lies_where c a n none in
+    let end = there.1.inside in
+    let room = all.room there.0 in
+    let limit = limit_le (image_of c.images there.0).magic in
+    omega (arith, end, room, limit)
+
+-- lines of bytes that are the same at each address are the same
+pub same_lines : (byte other : ℕ → Option ℕ) (window : Option (ℕ × ℕ)) → ((a : ℕ) → byte a ≡ other a) → window_lines byte window ≡ window_lines other window
+same_lines byte other window same = ap (λ (b : ℕ → Option ℕ). window_lines b window) (λ i. λ (a : ℕ). same a i)

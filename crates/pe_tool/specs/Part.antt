@@ -1,0 +1,18 @@
+-- The parts of a line.
+use Rattle.std.specs.Prelude.{ℕ, List, [], ◌∷◌, ◌++◌, decimal}
+use Rattle.pe_tool.specs.declared.part.Part.{Part}
+use Rattle.pe_tool.specs.declared.part.Part.TheVariants.{Text, Quoted, Decimal, Hex2, Hex8, Hex16}
+use Rattle.pe_tool.specs.Text.{hex, quoted}
+
+abbrev pub part_text : Part → List ℕ
+part_text (Text bytes) = bytes.now
+part_text (Quoted text) = quoted text.now
+part_text (Decimal number) = decimal number
+part_text (Hex2 number) = hex 2 number
+part_text (Hex8 number) = hex 8 number
+part_text (Hex16 number) = hex 16 number
+
+-- texts one after another
+abbrev pub joined : List (List ℕ) → List ℕ
+joined [] = []
+joined (text ∷ texts) = text ++ joined texts

@@ -1,0 +1,211 @@
+//! The words of `petool map`.
+
+use clap::error::ErrorKind;
+use clap::{Arg, ArgAction, ArgMatches, Command, Error};
+use pe_space::Policy;
+use std::alloc::{AllocError, AllocFailed, Global};
+
+/// The most bytes that a window may have.
+const MAX_COUNT: u32 = 4096;
+
+/// How many digits an address has at most.
+const ADDRESS_DIGITS: usize = 16;
+
+const EXAMPLE: &str = "\
+Example:
+  petool map --window 10001000 --count 17 10000000=v1.dll
+
+  image 0 \"v1.dll\" base 0x0000000010000000 size 0x00003000
+  0x0000000010001000 00 01 02 03 04 05 06 07 08 09 0a 0b 0c 0d 0e 0f
+  0x0000000010001010 00
+  end";
+
+/// A file to be mapped.
+#[derive(Debug, Drop, PartialEq, Eq)]
+pub struct MapFile {
+    /// The address at which the image is to stand.
+    pub base: u64,
+    /// Where the file is.
+    pub path: String,
+    /// The module's name: the path's part after its last `/`.
+    pub name: String,
+}
+
+/// What `map` is asked for.
+#[derive(Debug, Drop)]
+pub(crate) struct MapWords {
+    pub policy: Policy,
+    pub window: Option<(u64, u32)>,
+    pub files: Vec<MapFile>,
+}
+
+/// A value that its argument cannot have.
+#[derive(Clone, Copy)]
+pub(crate) struct BadValue<'a> {
+    value: &'a str,
+    argument: &'static str,
+    reason: &'static str,
+}
+
+/// Why words of `map` ask for nothing.
+pub(crate) enum NoMap<'a> {
+    Bad(BadValue<'a>),
+    Memory,
+}
+
+impl<'a> From<AllocError> for NoMap<'a> {
+    fn from(_error: AllocError) -> NoMap<'a> {
+        NoMap::Memory
+    }
+}
+
+impl<'a, T: Drop> From<AllocFailed<T>> for NoMap<'a> {
+    fn from(_error: AllocFailed<T>) -> NoMap<'a> {
+        NoMap::Memory
+    }
+}
+
+/// The subcommand `map`.
+pub(crate) fn map_command<'a>(alloc: Global) -> Result<Command<'a>, AllocError> {
+    let known = Arg::new(alloc, "known")
+        .long("known")
+        .action(ArgAction::SetTrue)
+        .help(
+            "Leaves the slot of an import whose module is not among the files as it stands in its file",
+        );
+    let window = Arg::new(alloc, "window")
+        .long("window")
+        .value_name("HEX")
+        .help("Prints the bytes from this address on, 16 a line");
+    let count = Arg::new(alloc, "count")
+        .long("count")
+        .value_name("N")
+        .default_value("16")
+        .help("How many bytes the window has, 1 to 4096");
+    let files = Arg::new(alloc, "HEX=FILE")
+        .required(true)
+        .action(ArgAction::Append)
+        .num_args(1..)
+        .help("The base of an image and its file; the file's name is the module's");
+    Command::new(alloc, "map")
+        .about(
+            "Maps images, binds their imports, and prints where each stands, what each bound slot holds and the bytes of a window, or the first fault",
+        )
+        .after_help(EXAMPLE)
+        .arg(known)?
+        .arg(window)?
+        .arg(count)?
+        .arg(files)
+}
+
+/// The address that 1 to 16 hexadecimal digits give, of either case, with or without `0x` before them.
+fn address_of(text: &str) -> Option<u64> {
+    let digits = text.strip_prefix("0x").unwrap_or(text);
+    if digits.len() > ADDRESS_DIGITS || !digits.bytes().all(|byte| byte.is_ascii_hexdigit()) {
+        return None;
+    }
+    u64::from_str_radix(digits, 16).ok()
+}
+
+/// The number of bytes that decimal digits give, 1 to 4,096.
+fn count_of(text: &str) -> Option<u32> {
+    if !text.bytes().all(|byte| byte.is_ascii_digit()) {
+        return None;
+    }
+    let count = text.parse::<u32>().ok()?;
+    (1..=MAX_COUNT).contains(&count).then_some(count)
+}
+
+/// The window that is asked for. Its number of bytes is judged even where no window is.
+fn window_of<'a>(found: &ArgMatches<'a>) -> Result<Option<(u64, u32)>, BadValue<'a>> {
+    let value = found.get_str("count").unwrap_or("");
+    let Some(count) = count_of(value) else {
+        return Err(BadValue {
+            value,
+            argument: "--count <N>",
+            reason: "no number from 1 to 4096",
+        });
+    };
+    let Some(value) = found.get_str("window") else {
+        return Ok(None);
+    };
+    match address_of(value) {
+        Some(address) => Ok(Some((address, count))),
+        None => Err(BadValue {
+            value,
+            argument: "--window <HEX>",
+            reason: "no address of 1 to 16 hexadecimal digits",
+        }),
+    }
+}
+
+/// The base and the path of a file that is to be mapped, and its module's name.
+fn parts_of(value: &str) -> Result<(u64, &str, &str), &'static str> {
+    let Some((base, path)) = value.split_once('=') else {
+        return Err("no '=' after a base");
+    };
+    let Some(base) = address_of(base) else {
+        return Err("no base of 1 to 16 hexadecimal digits");
+    };
+    let name = match path.rsplit_once('/') {
+        Some((_, name)) => name,
+        None => path,
+    };
+    if name.is_empty() {
+        return Err("no name of a file");
+    }
+    Ok((base, path, name))
+}
+
+/// The files that are to be mapped.
+fn files_of<'a>(alloc: Global, found: &ArgMatches<'a>) -> Result<Vec<MapFile>, NoMap<'a>> {
+    let mut files = Vec::new(alloc);
+    for value in found.get_strs("HEX=FILE").unwrap_or(&[]) {
+        let (base, path, name) = match parts_of(value) {
+            Ok(parts) => parts,
+            Err(reason) => {
+                return Err(NoMap::Bad(BadValue {
+                    value,
+                    argument: "<HEX=FILE>...",
+                    reason,
+                }));
+            }
+        };
+        files.push(MapFile {
+            base,
+            path: String::from_str(alloc, path)?,
+            name: String::from_str(alloc, name)?,
+        })?;
+    }
+    Ok(files)
+}
+
+/// What words of `map` ask for.
+pub(crate) fn map_words<'a>(alloc: Global, found: &ArgMatches<'a>) -> Result<MapWords, NoMap<'a>> {
+    let window = match window_of(found) {
+        Ok(window) => window,
+        Err(bad) => return Err(NoMap::Bad(bad)),
+    };
+    let policy = if found.get_flag("known") {
+        Policy::Known
+    } else {
+        Policy::Strict
+    };
+    Ok(MapWords {
+        policy,
+        window,
+        files: files_of(alloc, found)?,
+    })
+}
+
+/// clap's error for a bad value, in the form of its own.
+pub(crate) fn bad_value(alloc: Global, bad: BadValue<'_>) -> Result<Error, AllocError> {
+    let BadValue {
+        value,
+        argument,
+        reason,
+    } = bad;
+    let message = format!(in alloc; "invalid value '{value}' for '{argument}': {reason}")?;
+    let mut command = map_command(alloc)?.bin_name("petool map")?;
+    command.error(ErrorKind::ValueValidation, message.as_str())
+}

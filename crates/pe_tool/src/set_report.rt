@@ -1,0 +1,121 @@
+//! The report of a mapped set.
+
+ghost use Rattle.std.specs.Prelude.{◌≡◌, ◌≢◌, ◌-◌, ◌^◌, ◌<◌, ◌⊎◌, ◌↔◌, ℕ, List, None, Err, length, IfOk, OnErr, IsOk, IsErrOf};
+ghost use Rattle.pe_view.specs.Faults.{first_standing};
+ghost use Rattle.pe_set.specs.Set.{modules_of};
+ghost use Rattle.pe_set.specs.SetView.{entries_of};
+ghost use Rattle.pe_set.specs.SetFaults.{names_tests};
+ghost use Rattle.pe_set.specs.Sound.{IsSound};
+ghost use Rattle.pe_space.specs.SetContent.{content_of, defined_byte};
+ghost use Rattle.pe_space.specs.Content.{byte_at};
+ghost use Rattle.pe_tool.specs.Engine.{Puts};
+ghost use Rattle.pe_tool.specs.TextWriter.{IsReady, Adds};
+ghost use Rattle.pe_tool.specs.FaultLine.{fault_line};
+ghost use Rattle.pe_tool.specs.MapReport.{map_text, window_fault, IsMapText};
+
+use crate::device::Sink;
+use crate::fault_line::write_fault_line;
+use crate::map_lines::{write_bindings, write_images, write_window};
+use crate::outcome::{Outcome, ToolError};
+use crate::text_writer::TextWriter;
+use crate::window::window_fault;
+use pe_space::{MapError, Policy, SetEntry, Space, open_space};
+use pe_view::Fault;
+use std::alloc::{AllocError, Allocator};
+
+/// Adds the report of a space that was mapped from a set.
+#[tactic(auto, unfolding(crate::specs::MapReport::map_text))]
+fn write_space<S: Space, W: Sink>(
+    text: &mut TextWriter<W>,
+    space: &S,
+    set: &[SetEntry],
+    window: Option<(u64, u32)>,
+)
+    requires ready { IsReady W.failures text.old }
+    requires content { S.content space.now ≡ content_of (modules_of (entries_of set.now)) }
+    requires sound { IsSound (modules_of (entries_of set.now)) }
+    requires bytes { (a : ℕ) → byte_at (S.content space.now) a ≡ defined_byte (modules_of (entries_of set.now)) a }
+    requires window { window_fault (modules_of (entries_of set.now)) window ≡ None }
+    ensures { Adds W.taken W.failures text.old text.new (map_text (modules_of (entries_of set.now)) window) }
+{
+    write_images(text, space, set);
+    write_bindings(text, space);
+    if let Some((address, count)) = window {
+        write_window(text, space, address, count);
+    }
+    text.text(b"end\n");
+}
+
+/// Adds the line of a fault.
+fn refuse<W: Sink>(text: &mut TextWriter<W>, fault: Fault) -> Outcome
+    requires { IsReady W.failures text.old }
+    ensures adds { Adds W.taken W.failures text.old text.new (fault_line fault) }
+    ensures outcome { result ≡ Outcome.Refused fault }
+{
+    write_fault_line(text, &fault);
+    Outcome::Refused(fault)
+}
+
+/// Judges a set and a window, and only then adds the text. Where memory is refused it adds nothing.
+fn write_map<A: Allocator + Copy, W: Sink>(
+    alloc: A,
+    text: &mut TextWriter<W>,
+    set: &[SetEntry],
+    policy: Policy,
+    window: Option<(u64, u32)>,
+) -> Result<Outcome, AllocError>
+    requires { IsReady W.failures text.old }
+    ensures same { text.new.writer.ghost_name ≡ text.old.writer.ghost_name }
+    ensures adds { IfOk result (λ outcome. (added : List ℕ) × IsMapText policy (entries_of set.now) window outcome added × Adds W.taken W.failures text.old text.new added) }
+    ensures adds_none { OnErr result (text.new.writer.now ≡ text.old.writer.now) }
+    ensures no_memory { (length set.now ≡ 0) ⊎ (256 < length set.now) → IsOk result }
+    ensures named { OnErr result (first_standing (names_tests (entries_of set.now)) ≡ None) }
+{
+    pe_set::laws::accepted_sets_are_sound();
+    pe_space::laws::content_serves_at_all_bases();
+    let space = match open_space(alloc, set, policy) {
+        Ok(space) => space,
+        Err(MapError::Fault(fault)) => return Ok(refuse(text, fault)),
+        Err(MapError::Memory) => return Err(AllocError),
+    };
+    if let Some((address, count)) = window
+        && let Some(fault) = window_fault(&space, address, count)
+    {
+        return Ok(refuse(text, fault));
+    }
+    write_space(text, &space, set, window);
+    Ok(Outcome::Done)
+}
+
+/// Maps a set of images and writes the report of it: a line for each image, with its number, name, base and SizeOfImage; a line
+/// for each slot that is bound, by image and then in import order, with the RVAs of slot and export and the address that the
+/// slot holds; and the bytes of a window, if one is asked for (the address of its first byte, and how many it has), sixteen a
+/// line.
+///
+/// All faults are asked first: those of the set, as `pe_space::map` asks them, and then, where the window does not lie in one
+/// image, 54. A refused report is the line of the first fault. After `Write` a beginning of the text was written, after `Memory`
+/// nothing; `Memory` comes only where a growth was refused, and never where the names of the set have a fault, nor of no entry.
+/// There is no `Read`. Condition: fewer than 2^64 - 1 failures are counted on the writer so far.
+pub fn map_report<A: Allocator + Copy, W: Sink>(
+    alloc: A,
+    set: &[SetEntry],
+    policy: Policy,
+    window: Option<(u64, u32)>,
+    writer: &mut W,
+) -> Result<Outcome, ToolError>
+    requires { W.failures writer.old < 2 ^ 64 - 1 }
+    ensures puts { Puts (IsMapText policy (entries_of set.now) window) (W.taken writer.old) (W.taken writer.new)
+        (W.failures writer.old) (W.failures writer.new) result }
+    ensures write { IsErrOf result ToolError.Write ↔ (W.failures writer.old < W.failures writer.new) }
+    ensures no_memory { (length set.now ≡ 0) ⊎ (256 < length set.now) → result ≢ Err ToolError.Memory }
+    ensures named { IsErrOf result ToolError.Memory → first_standing (names_tests (entries_of set.now)) ≡ None }
+{
+    let mut text = TextWriter::new(writer);
+    let Ok(outcome) = write_map(alloc, &mut text, set, policy, window) else {
+        return Err(ToolError::Memory);
+    };
+    match text.finish() {
+        Ok(()) => Ok(outcome),
+        Err(_) => Err(ToolError::Write),
+    }
+}
