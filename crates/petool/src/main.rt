@@ -2,7 +2,10 @@
 //! files, prints their texts on standard output, and exits with their statuses.
 #![tactic(auto)]
 
-use pe_tool::{Counted, Job, Outcome, ToolError, WordsError, check, dump, parse_words, status};
+use pe_tool::{
+    Counted, Job, MapFile, Outcome, Policy, SetEntry, ToolError, WordsError, check, dump,
+    map_report, parse_words, read_whole, status,
+};
 use std::alloc::{AllocError, Allocator};
 use std::io::{BufWriter, ErrorKind, Read, Write};
 use std::process::ExitCode;
@@ -24,33 +27,43 @@ const DEVICE_FAILED: u8 = 3;
 /// The exit status where memory was refused.
 const OUT_OF_MEMORY: u8 = 4;
 
-/// What to do with a file.
-#[derive(Clone, Copy)]
-enum Engine {
-    Check,
-    Dump,
+/// What to print, and of what.
+#[derive(Drop)]
+enum Text<'a, F> {
+    /// The text of `check`, of an open file.
+    Check(F),
+    /// The text of `dump`, of an open file.
+    Dump(F),
+    /// The report of `map`.
+    Map {
+        set: &'a [SetEntry<'a>],
+        policy: Policy,
+        window: Option<(u64, u32)>,
+    },
 }
 
-/// Runs an engine from a reader to a writer.
-fn run_engine<A: Allocator + Copy>(
+/// Runs the engine of a text.
+fn write_text<A: Allocator + Copy>(
     alloc: A,
-    engine: Engine,
-    reader: impl Read + Drop,
+    text: Text<'_, impl Read + Drop>,
     writer: impl Write + Drop,
 ) -> Result<Outcome, ToolError> {
-    let mut reader = Counted::new(reader);
     let mut writer = Counted::new(writer);
-    match engine {
-        Engine::Check => check(alloc, &mut reader, &mut writer),
-        Engine::Dump => dump(alloc, &mut reader, &mut writer),
+    match text {
+        Text::Check(file) => check(alloc, &mut Counted::new(file), &mut writer),
+        Text::Dump(file) => dump(alloc, &mut Counted::new(file), &mut writer),
+        Text::Map {
+            set,
+            policy,
+            window,
+        } => map_report(alloc, set, policy, window, &mut writer),
     }
 }
 
-/// Runs an engine over an open file. Its text is on standard output when it is done.
+/// Runs the engine of a text, which is on standard output when it is done.
 fn print_text<R: Print + Alloc>(
     rt: &R,
-    engine: Engine,
-    file: impl Read + Drop,
+    text: Text<'_, impl Read + Drop>,
 ) -> Result<Outcome, ToolError>
 where
     R::A: Copy,
@@ -58,30 +71,120 @@ where
     let Ok(mut output) = BufWriter::with_capacity(rt.alloc(), OUTPUT_BUFFER, io::writer(rt)) else {
         return Err(ToolError::Memory);
     };
-    let answer = run_engine(rt.alloc(), engine, file, &mut output);
+    let answer = write_text(rt.alloc(), text, &mut output);
     match output.flush() {
         Ok(()) => answer,
         Err(_) => Err(ToolError::Write),
     }
 }
 
-/// Runs an engine over a file, tells on standard error what failed, and answers the exit status.
-fn run_file<R: Files + Print + Eprint + Alloc>(rt: &R, engine: Engine, path: &str) -> u8
+/// Opens a file, or tells on standard error why it cannot be opened and answers the exit status.
+fn open<R: Files + Eprint>(rt: &R, path: &str) -> Result<R::File, u8> {
+    fs::open(rt, path).map_err(|error| {
+        let _ = eprintln!(rt; "petool: {path}: cannot be opened: {error}");
+        DEVICE_FAILED
+    })
+}
+
+/// Tells on standard error what failed, of a file or of a command, and answers the exit status.
+fn tell(rt: &impl Eprint, subject: &str, answer: Result<Outcome, ToolError>) -> u8 {
+    if let Err(error) = &answer {
+        let _ = eprintln!(rt; "petool: {subject}: {error}");
+    }
+    status(&answer)
+}
+
+/// Judges a file, and answers the exit status.
+fn run_check<R: Files + Print + Eprint + Alloc>(rt: &R, path: &str) -> u8
 where
     R::A: Copy,
 {
-    let file = match fs::open(rt, path) {
-        Ok(file) => file,
-        Err(error) => {
-            let _ = eprintln!(rt; "petool: {path}: cannot be opened: {error}");
-            return DEVICE_FAILED;
-        }
-    };
-    let answer = print_text(rt, engine, file);
-    if let Err(error) = &answer {
-        let _ = eprintln!(rt; "petool: {path}: {error}");
+    match open(rt, path) {
+        Ok(file) => tell(rt, path, print_text(rt, Text::Check(file))),
+        Err(status) => status,
     }
-    status(&answer)
+}
+
+/// Dumps a file, and answers the exit status.
+fn run_dump<R: Files + Print + Eprint + Alloc>(rt: &R, path: &str) -> u8
+where
+    R::A: Copy,
+{
+    match open(rt, path) {
+        Ok(file) => tell(rt, path, print_text(rt, Text::Dump(file))),
+        Err(status) => status,
+    }
+}
+
+/// Reads a file whole, or tells what failed and answers the exit status.
+fn read_file<R: Files + Eprint + Alloc>(rt: &R, path: &str) -> Result<Vec<u8, R::A>, u8>
+where
+    R::A: Copy,
+{
+    let file = open(rt, path)?;
+    match read_whole(rt.alloc(), &mut Counted::new(file)) {
+        Ok(bytes) => Ok(bytes),
+        Err(error) => Err(tell(rt, path, Err(error))),
+    }
+}
+
+/// Reads files whole, in their order, up to the first that fails.
+fn read_files<R: Files + Eprint + Alloc>(
+    rt: &R,
+    files: &[MapFile],
+) -> Result<Vec<Vec<u8, R::A>, R::A>, u8>
+where
+    R::A: Copy,
+{
+    let mut contents = Vec::new(rt.alloc());
+    for file in files {
+        let bytes = read_file(rt, file.path.as_str())?;
+        if contents.push(bytes).is_err() {
+            return Err(tell(rt, "map", Err(ToolError::Memory)));
+        }
+    }
+    Ok(contents)
+}
+
+/// The set of files with these contents.
+fn set_of<'a, A: Allocator>(
+    alloc: A,
+    files: &'a [MapFile],
+    contents: &'a [Vec<u8, A>],
+) -> Result<Vec<SetEntry<'a>, A>, AllocError> {
+    let files = files.iter().zip(contents.iter());
+    files
+        .map(|(file, bytes)| SetEntry {
+            name: file.name.as_bytes(),
+            file: bytes,
+            base: file.base,
+        })
+        .collect(alloc)
+}
+
+/// Maps files, and answers the exit status.
+fn run_map<R: Files + Print + Eprint + Alloc>(
+    rt: &R,
+    policy: Policy,
+    window: Option<(u64, u32)>,
+    files: &[MapFile],
+) -> u8
+where
+    R::A: Copy,
+{
+    let contents = match read_files(rt, files) {
+        Ok(contents) => contents,
+        Err(status) => return status,
+    };
+    let Ok(set) = set_of(rt.alloc(), files, &contents) else {
+        return tell(rt, "map", Err(ToolError::Memory));
+    };
+    let text: Text<'_, R::File> = Text::Map {
+        set: &set,
+        policy,
+        window,
+    };
+    tell(rt, "map", print_text(rt, text))
 }
 
 /// Why the command line gives no words.
@@ -143,8 +246,15 @@ fn run<R: Files + Env + Print + Eprint + AllocGlobal>(rt: &R) -> u8 {
         Err(error) => return refuse_command_line(rt, error),
     };
     match parse_words(rt.alloc(), &words) {
-        Ok(Job::Check { file }) => run_file(rt, Engine::Check, file.as_str()),
-        Ok(Job::Dump { file }) => run_file(rt, Engine::Dump, file.as_str()),
+        Ok(Job::Check { file }) => run_check(rt, file.as_str()),
+        Ok(Job::Dump { file }) => run_dump(rt, file.as_str()),
+        Ok(
+            Job::Map {
+                policy,
+                window,
+                files,
+            },
+        ) => run_map(rt, policy, window, &files),
         Err(error) => refuse_words(rt, error),
     }
 }

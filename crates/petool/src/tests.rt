@@ -3,6 +3,7 @@
 use super::*;
 use fake::{Fake, Stored};
 use linked_list_allocator::LocalHeap;
+use std::process::Abort;
 use std::test::Fail;
 
 mod fake;
@@ -21,11 +22,21 @@ const CHECK: &[&[u8]] = &[b"petool", b"check", b"a.dll"];
 
 const DUMP: &[&[u8]] = &[b"petool", b"dump", b"a.dll"];
 
+const MAP: &[&[u8]] = &[b"petool", b"map", b"10000000=a.dll"];
+
 const NO_FILE_GIVEN: &str = "\
 error: the following required arguments were not provided:
   <FILE>
 
 Usage: petool check <FILE>
+
+For more information, try '--help'.
+";
+
+const NO_BASE: &str = "\
+error: invalid value 'a.dll' for '<HEX=FILE>...': no '=' after a base
+
+Usage: petool map [OPTIONS] <HEX=FILE>...
 
 For more information, try '--help'.
 ";
@@ -39,6 +50,18 @@ struct Case {
     status: u8,
     printed: &'static str,
     complained: &'static str,
+}
+
+/// Asserts what the program does in each case.
+fn assert_ends(rt: &(impl Abort + AllocGlobal), cases: &[Case]) -> Result<(), Fail> {
+    for case in cases {
+        let mut system = Fake::new(rt.alloc(), case.words, case.file);
+        system.is_full = case.is_full;
+        assert_eq!(rt; run(&system), case.status);
+        assert_eq!(rt; system.printed()?.as_str(), case.printed);
+        assert_eq!(rt; system.complained()?.as_str(), case.complained);
+    }
+    Ok(())
 }
 
 #[test]
@@ -109,14 +132,72 @@ fn each_end_has_its_status_and_its_text(rt: HostRuntime) -> Result<(), Fail> {
             complained: "",
         },
     ];
-    for case in cases {
-        let mut system = Fake::new(rt.alloc(), case.words, case.file);
-        system.is_full = case.is_full;
-        assert_eq!(rt; run(&system), case.status);
-        assert_eq!(rt; system.printed()?.as_str(), case.printed);
-        assert_eq!(rt; system.complained()?.as_str(), case.complained);
-    }
-    Ok(())
+    assert_ends(&rt, &cases)
+}
+
+#[test]
+fn each_end_of_map_has_its_status_and_its_text(rt: HostRuntime) -> Result<(), Fail> {
+    let cases = [
+        Case {
+            words: &[
+                b"petool",
+                b"map",
+                b"--window",
+                b"0x10000000",
+                b"--count",
+                b"2",
+                b"10000000=a.dll",
+            ],
+            file: Stored::Bytes(HEADERS),
+            is_full: false,
+            status: 0,
+            printed: "image 0 \"a.dll\" base 0x0000000010000000 size 0x00001000\n0x0000000010000000 4d 5a\nend\n",
+            complained: "",
+        },
+        Case {
+            words: MAP,
+            file: Stored::Bytes(b""),
+            is_full: false,
+            status: 1,
+            printed: "fault 2 image 0 file 0x00000000\n",
+            complained: "",
+        },
+        // all words are judged before a file is opened
+        Case {
+            words: &[b"petool", b"map", b"10000000=b.dll", b"a.dll"],
+            file: Stored::Bytes(HEADERS),
+            is_full: false,
+            status: 2,
+            printed: "",
+            complained: NO_BASE,
+        },
+        // all files are read before one is judged
+        Case {
+            words: &[b"petool", b"map", b"10000000=a.dll", b"20000000=b.dll"],
+            file: Stored::Bytes(b""),
+            is_full: false,
+            status: 3,
+            printed: "",
+            complained: "petool: b.dll: cannot be opened: no such file\n",
+        },
+        Case {
+            words: MAP,
+            file: Stored::Broken,
+            is_full: false,
+            status: 3,
+            printed: "",
+            complained: "petool: a.dll: reading failed\n",
+        },
+        Case {
+            words: MAP,
+            file: Stored::Bytes(HEADERS),
+            is_full: true,
+            status: 3,
+            printed: "",
+            complained: "petool: map: writing failed\n",
+        },
+    ];
+    assert_ends(&rt, &cases)
 }
 
 #[test]
@@ -135,12 +216,33 @@ fn want_of_memory_is_told(rt: HostRuntime) -> Result<(), Fail> {
     for size in [1 << 10, OUTPUT_BUFFER + 64] {
         let heap = LocalHeap::new(rt.alloc(), size)?;
         let system = Fake::new(rt.alloc(), CHECK, Stored::Bytes(HEADERS));
-        assert_eq!(rt; run_file(&(&system, &heap), Engine::Check, "a.dll"), 4);
+        assert_eq!(rt; run_check(&(&system, &heap), "a.dll"), 4);
         assert_eq!(rt; system.printed()?.as_str(), "");
         assert_eq!(rt;
             system.complained()?.as_str(),
             "petool: a.dll: out of memory\n"
         );
+    }
+    Ok(())
+}
+
+#[test]
+fn want_of_memory_for_a_set_is_told(rt: HostRuntime) -> Result<(), Fail> {
+    let files = [MapFile {
+        base: 0x1000_0000,
+        path: String::from_str(rt.alloc(), "a.dll")?,
+        name: String::from_str(rt.alloc(), "a.dll")?,
+    }];
+    // the first heap has no room for the file, the second none for the output's buffer beside it
+    for (size, complained) in [
+        (64, "petool: a.dll: out of memory\n"),
+        (OUTPUT_BUFFER, "petool: map: out of memory\n"),
+    ] {
+        let heap = LocalHeap::new(rt.alloc(), size)?;
+        let system = Fake::new(rt.alloc(), MAP, Stored::Bytes(HEADERS));
+        assert_eq!(rt; run_map(&(&system, &heap), Policy::Strict, None, &files), 4);
+        assert_eq!(rt; system.printed()?.as_str(), "");
+        assert_eq!(rt; system.complained()?.as_str(), complained);
     }
     Ok(())
 }
