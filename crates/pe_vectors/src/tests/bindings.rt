@@ -1,9 +1,12 @@
 //! What `pe_space` binds imports to: which module and which export is found, through forwarders too.
 
+use super::both::{Both, opened};
 use super::files::{Piece, Vector, assert_holds, file_of, put_pieces};
-use super::members::{A, B, C, Member, PLAIN, assert_bytes, assert_refusal, mapped, space_of};
+use super::members::{
+    A, B, C, Member, PLAIN, assert_bytes, assert_refusal, files_of, set_of, spaces_of,
+};
 use crate::vf;
-use pe_space::{Binding, MapError, MappedSpace, Policy, SetEntry, Space, map};
+use pe_space::{Binding, MapError, Policy, SetEntry};
 use pe_view::Place;
 use std::alloc::Global;
 use std::process::Abort;
@@ -30,7 +33,7 @@ const SEVENTH: End = End::Bound([0x10, 0x10, 0x00, 0x20]);
 fn assert_end(
     rt: &impl Abort,
     case: usize,
-    found: Result<MappedSpace<Global>, MapError>,
+    found: Result<Both, MapError>,
     policy: Policy,
     importer: u16,
     end: End,
@@ -63,8 +66,10 @@ fn assert_ends(rt: &impl Abort, alloc: Global, cases: &[Case]) {
     for (index, (members, end)) in cases.iter().enumerate() {
         assert!(rt; !members.is_empty() && members.len() <= 256);
         let importer = (members.len() - 1) as u16;
+        let files = files_of(rt, alloc, members);
+        let set = set_of(rt, alloc, members, &files);
         for policy in [Policy::Strict, Policy::Known] {
-            let found = mapped(rt, alloc, members, policy);
+            let found = opened(rt, alloc, &set, policy);
             assert_end(rt, index, found, policy, importer, *end);
         }
     }
@@ -593,13 +598,13 @@ const CHAINS: &[Chain] = &[
     (65, 1, &[(0x34c, &[0x00, 0x00])], End::Endless),
 ];
 
-/// What a set of a chain of forwarders and its importer is mapped to.
-fn chained(
+/// Asserts how the search through a chain of forwarders ends, under both policies.
+fn assert_chain(
     rt: &impl Abort,
     alloc: Global,
-    (forwarders, ordinal, pieces, _): &Chain,
-    policy: Policy,
-) -> Result<MappedSpace<Global>, MapError> {
+    case: usize,
+    (forwarders, ordinal, pieces, end): &Chain,
+) {
     assert!(rt; *forwarders <= 65);
     let mut library = vf(alloc, *forwarders).expect(rt, "memory");
     put_pieces(rt, &mut library, pieces);
@@ -623,16 +628,16 @@ fn chained(
             base: 0x40_0000,
         },
     ];
-    map(alloc, &set, policy)
+    for policy in [Policy::Strict, Policy::Known] {
+        let found = opened(rt, alloc, &set, policy);
+        assert_end(rt, case, found, policy, 1, *end);
+    }
 }
 
 #[test]
 fn a_search_follows_64_forwarders_and_no_more(rt: HostRuntime) {
     for (index, chain) in CHAINS.iter().enumerate() {
-        for policy in [Policy::Strict, Policy::Known] {
-            let found = chained(&rt, rt.alloc(), chain, policy);
-            assert_end(&rt, index, found, policy, 1, chain.3);
-        }
+        assert_chain(&rt, rt.alloc(), index, chain);
     }
 }
 
@@ -724,7 +729,9 @@ const BINDINGS: &[(&[Member], &[Binding])] = &[
 #[test]
 fn bindings_are_told_by_image_and_then_in_the_order_of_its_imports(rt: HostRuntime) {
     for (index, (members, expected)) in BINDINGS.iter().enumerate() {
-        let space = space_of(&rt, rt.alloc(), members, Policy::Known);
-        assert_holds(&rt, index, *space.bindings() == **expected);
+        let files = files_of(&rt, rt.alloc(), members);
+        let set = set_of(&rt, rt.alloc(), members, &files);
+        let space = spaces_of(&rt, rt.alloc(), &set, Policy::Known);
+        assert_holds(&rt, index, *space.bindings(&rt) == **expected);
     }
 }

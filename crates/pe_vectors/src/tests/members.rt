@@ -1,7 +1,8 @@
 //! Sets of images, for what a test maps, and what a space is to hold.
 
+use super::both::{Both, opened};
 use super::files::{Piece, Vector, assert_holds, file_of, put_pieces};
-use pe_space::{MapError, MappedSpace, Policy, SetEntry, Space, map};
+use pe_space::{MapError, Policy, SetEntry};
 use pe_view::{Fault, Place};
 use std::alloc::Global;
 use std::process::Abort;
@@ -55,7 +56,7 @@ pub(super) const WIDE: Member = Member {
 };
 
 /// The files of a set, each filled up with zeros to 0x600 bytes.
-fn files_of(rt: &impl Abort, alloc: Global, members: &[Member]) -> Vec<Vec<u8>> {
+pub(super) fn files_of(rt: &impl Abort, alloc: Global, members: &[Member]) -> Vec<Vec<u8>> {
     let mut files = Vec::new(alloc);
     for member in members {
         let mut file = file_of(rt, alloc, member.vector);
@@ -66,34 +67,45 @@ fn files_of(rt: &impl Abort, alloc: Global, members: &[Member]) -> Vec<Vec<u8>> 
     files
 }
 
-/// What the mapping of a set answers.
-pub(super) fn mapped(
+/// A set of images, which borrows their files.
+pub(super) fn set_of<'a>(
     rt: &impl Abort,
     alloc: Global,
     members: &[Member],
-    policy: Policy,
-) -> Result<MappedSpace<Global>, MapError> {
-    let files = files_of(rt, alloc, members);
+    files: &'a [Vec<u8>],
+) -> Vec<SetEntry<'a>> {
     let mut set = Vec::new(alloc);
-    for (index, member) in members.iter().enumerate() {
+    for (member, file) in members.iter().zip(files) {
         let entry = SetEntry {
             name: member.name,
-            file: files.get(index).expect(rt, "a file"),
+            file,
             base: member.base,
         };
         set.push(entry).expect(rt, "memory");
     }
-    map(alloc, &set, policy)
+    set
 }
 
-/// The space of an accepted set.
-pub(super) fn space_of(
+/// The spaces of an accepted set.
+pub(super) fn spaces_of<'a>(
+    rt: &impl Abort,
+    alloc: Global,
+    set: &'a [SetEntry<'a>],
+    policy: Policy,
+) -> Both<'a> {
+    opened(rt, alloc, set, policy).expect(rt, "a space")
+}
+
+/// The first fault of a set, if there is one.
+pub(super) fn error_of(
     rt: &impl Abort,
     alloc: Global,
     members: &[Member],
     policy: Policy,
-) -> MappedSpace<Global> {
-    mapped(rt, alloc, members, policy).expect(rt, "a space")
+) -> Option<MapError> {
+    let files = files_of(rt, alloc, members);
+    let set = set_of(rt, alloc, members, &files);
+    opened(rt, alloc, &set, policy).err()
 }
 
 /// A fault by number, image and place.
@@ -123,20 +135,20 @@ pub(super) fn assert_refusal(
 }
 
 /// Asserts that these bytes, at most 16, stand from an address on: in a window, and one by one.
-pub(super) fn assert_bytes<S: Space>(
+pub(super) fn assert_bytes(
     rt: &impl Abort,
     case: usize,
-    space: &S,
+    space: &Both,
     address: u64,
     expected: &[u8],
 ) {
     let mut buffer = [0xee; 16];
     assert!(rt; expected.len() <= 16);
     let window = &mut buffer[..expected.len()];
-    assert_holds(rt, case, space.window(address, window) == Ok(()));
+    assert_holds(rt, case, space.window(rt, address, window) == Ok(()));
     assert_holds(rt, case, *window == *expected);
     for (index, byte) in expected.iter().enumerate() {
-        let found = space.byte(address.wrapping_add(index as u64));
+        let found = space.byte(rt, address.wrapping_add(index as u64));
         assert_holds(rt, case, found == Some(*byte));
     }
 }

@@ -1,11 +1,13 @@
 //! Moves of images of a space, and runs of commands.
 
+use super::both::Both;
 use super::files::{Piece, Vector, assert_holds, put_pieces};
 use super::members::{
-    A, B, C, Member, PLAIN, RELOCATED, Refusal, WIDE, assert_bytes, fault_of, space_of,
+    A, B, C, Member, PLAIN, RELOCATED, Refusal, WIDE, assert_bytes, fault_of, files_of, set_of,
+    spaces_of,
 };
 use crate::{vc, vf};
-use pe_space::{Command, MappedSpace, Moved, Policy, Reply, SetEntry, Space, map, run};
+use pe_space::{Command, Moved, Policy, Reply, SetEntry, Space, map, open_space, run};
 use pe_view::Place;
 use std::alloc::Global;
 use std::process::Abort;
@@ -24,13 +26,15 @@ type Step = (u16, u64, Answer, &'static [(u64, &'static [u8])]);
 
 /// Asserts what moves answer, one after the other, and what stands behind each.
 fn assert_moves(rt: &impl Abort, alloc: Global, members: &[Member], steps: &[Step]) {
-    let mut space = space_of(rt, alloc, members, Policy::Strict);
+    let files = files_of(rt, alloc, members);
+    let set = set_of(rt, alloc, members, &files);
+    let mut space = spaces_of(rt, alloc, &set, Policy::Strict);
     for (index, (image, base, answer, expected)) in steps.iter().enumerate() {
         let answer = match *answer {
             Answer::Moves(fields, slots) => Ok(Moved { fields, slots }),
             Answer::Refused(refusal) => Err(fault_of(refusal)),
         };
-        let found = space.move_image(*image, *base);
+        let found = space.move_image(rt, *image, *base);
         assert_eq!(rt; found, answer, "in step {index}");
         for (address, bytes) in expected.iter() {
             assert_bytes(rt, index, &space, *address, bytes);
@@ -216,9 +220,11 @@ const OWN_SLOTS: &[Step] = &[
 fn an_image_may_overlap_where_it_stood(rt: HostRuntime) {
     let members = [OWN, PLAIN];
     assert_moves(&rt, rt.alloc(), &members, OWN_SLOTS);
-    let mut space = space_of(&rt, rt.alloc(), &members, Policy::Strict);
-    let moved = space.move_image(0, 0x2001_0000);
-    assert!(rt; moved.is_ok() && space.byte(0x2000_0000).is_none());
+    let files = files_of(&rt, rt.alloc(), &members);
+    let set = set_of(&rt, rt.alloc(), &members, &files);
+    let mut space = spaces_of(&rt, rt.alloc(), &set, Policy::Strict);
+    let moved = space.move_image(&rt, 0, 0x2001_0000);
+    assert!(rt; moved.is_ok() && space.byte(&rt, 0x2000_0000).is_none());
 }
 
 /// V1 without relocations that may stand anywhere; its SizeOfImage is 0x10000.
@@ -316,13 +322,13 @@ fn a_stripped_image_moves_to_its_preferred_base_alone(rt: HostRuntime) {
 }
 
 /// The bytes of all images of a space.
-fn bytes_of<S: Space>(rt: &impl Abort, alloc: Global, space: &S) -> Vec<Vec<u8>> {
+fn bytes_of(rt: &impl Abort, alloc: Global, space: &Both) -> Vec<Vec<u8>> {
     let mut images = Vec::new(alloc);
-    for number in 0..space.image_count() {
-        let base = space.base_of(number).expect(rt, "a base");
-        let size = space.size_of(number).expect(rt, "a size");
+    for number in 0..space.image_count(rt) {
+        let base = space.base_of(rt, number).expect(rt, "a base");
+        let size = space.size_of(rt, number).expect(rt, "a size");
         let mut bytes = vec![in alloc; 0u8; size as usize].expect(rt, "memory");
-        let window = space.window(base, bytes.as_mut_slice());
+        let window = space.window(rt, base, bytes.as_mut_slice());
         assert!(rt; window.is_ok());
         images.push(bytes).expect(rt, "memory");
     }
@@ -331,11 +337,13 @@ fn bytes_of<S: Space>(rt: &impl Abort, alloc: Global, space: &S) -> Vec<Vec<u8>>
 
 /// Moves there and back, and asserts that each byte is as before.
 fn assert_returns(rt: &impl Abort, alloc: Global, members: &[Member], image: u16, away: u64) {
-    let mut space = space_of(rt, alloc, members, Policy::Strict);
-    let home = space.base_of(image).expect(rt, "a base");
+    let files = files_of(rt, alloc, members);
+    let set = set_of(rt, alloc, members, &files);
+    let mut space = spaces_of(rt, alloc, &set, Policy::Strict);
+    let home = space.base_of(rt, image).expect(rt, "a base");
     let before = bytes_of(rt, alloc, &space);
-    assert!(rt; space.move_image(image, away).is_ok());
-    assert!(rt; space.move_image(image, home).is_ok());
+    assert!(rt; space.move_image(rt, image, away).is_ok());
+    assert!(rt; space.move_image(rt, image, home).is_ok());
     assert!(rt; bytes_of(rt, alloc, &space) == before);
 }
 
@@ -355,26 +363,21 @@ const BY_G: &[Piece] = &[(0x4f8, b"g")];
 /// VC with an import of ordinal 1 of `f.dll`.
 const FROM_F: &[Piece] = &[(0x240, b"F"), (0x228, &[0x01, 0x00, 0x00, 0x80])];
 
-/// The space of a chain of 64 forwarders, whose middle image is `g.dll`.
-fn chain(rt: &impl Abort, alloc: Global) -> MappedSpace<Global> {
-    let mut first = vf(alloc, 64).expect(rt, "memory");
-    put_pieces(rt, &mut first, BY_G);
-    let middle = vf(alloc, 64).expect(rt, "memory");
-    let mut importer = vc(alloc).expect(rt, "memory");
-    put_pieces(rt, &mut importer, FROM_F);
+#[test]
+fn the_middle_of_a_chain_moves_and_no_slot_does(rt: HostRuntime) {
+    let mut first = vf(rt.alloc(), 64).expect(&rt, "memory");
+    put_pieces(&rt, &mut first, BY_G);
+    let middle = vf(rt.alloc(), 64).expect(&rt, "memory");
+    let mut importer = vc(rt.alloc()).expect(&rt, "memory");
+    put_pieces(&rt, &mut importer, FROM_F);
     let entry = |name, file, base| SetEntry { name, file, base };
     let set = [
         entry(b"f.dll", first.as_slice(), 0x2000_0000),
         entry(b"g.dll", middle.as_slice(), 0x3000_0000),
         entry(b"c.exe", importer.as_slice(), 0x40_0000),
     ];
-    map(alloc, &set, Policy::Strict).expect(rt, "a space")
-}
-
-#[test]
-fn the_middle_of_a_chain_moves_and_no_slot_does(rt: HostRuntime) {
-    let mut space = chain(&rt, rt.alloc());
-    let moved = space.move_image(1, 0x5000_0000);
+    let mut space = spaces_of(&rt, rt.alloc(), &set, Policy::Strict);
+    let moved = space.move_image(&rt, 1, 0x5000_0000);
     assert_eq!(rt;
         moved,
         Ok(Moved {
@@ -383,7 +386,7 @@ fn the_middle_of_a_chain_moves_and_no_slot_does(rt: HostRuntime) {
         })
     );
     assert_bytes(&rt, 0, &space, 0x40_1030, &[0x04, 0x10, 0x00, 0x20]);
-    let moved = space.move_image(0, 0x3000_0000);
+    let moved = space.move_image(&rt, 0, 0x3000_0000);
     assert_eq!(rt;
         moved,
         Ok(Moved {
@@ -483,25 +486,38 @@ const COMMANDS: &[(Command, Told)] = &[
     (Command::Base(3), Told::Base(None)),
 ];
 
-#[test]
-fn commands_answer_in_their_order(rt: HostRuntime) {
-    let alloc = rt.alloc();
-    let mut space = space_of(&rt, alloc, &[A, B, C], Policy::Strict);
+/// Asserts what the commands answer of a space.
+fn assert_told<S: Space>(rt: &impl Abort, alloc: Global, space: &mut S) {
     let mut commands = Vec::new(alloc);
     for (command, _) in COMMANDS {
-        commands.push(*command).expect(&rt, "memory");
+        commands.push(*command).expect(rt, "memory");
     }
-    let replies = run(alloc, &mut space, &commands).expect(&rt, "replies");
+    let replies = run(alloc, space, &commands).expect(rt, "replies");
     assert_eq!(rt; replies.len(), COMMANDS.len());
     for (index, (_, told)) in COMMANDS.iter().enumerate() {
-        let reply = replies.get(index).expect(&rt, "a reply");
-        assert_holds(&rt, index, is_told(reply, *told));
+        let reply = replies.get(index).expect(rt, "a reply");
+        assert_holds(rt, index, is_told(reply, *told));
     }
 }
 
 #[test]
+fn commands_answer_in_their_order(rt: HostRuntime) {
+    let alloc = rt.alloc();
+    let files = files_of(&rt, alloc, &[A, B, C]);
+    let set = set_of(&rt, alloc, &[A, B, C], &files);
+    let mut mapped = map(alloc, &set, Policy::Strict).expect(&rt, "a space");
+    assert_told(&rt, alloc, &mut mapped);
+    let mut filed = open_space(alloc, &set, Policy::Strict).expect(&rt, "a space");
+    assert_told(&rt, alloc, &mut filed);
+}
+
+#[test]
 fn no_commands_answer_nothing(rt: HostRuntime) {
-    let mut space = space_of(&rt, rt.alloc(), &[PLAIN], Policy::Strict);
-    let replies = run(rt.alloc(), &mut space, &[]);
-    assert!(rt; replies.is_ok_and(|replies| replies.is_empty()));
+    let alloc = rt.alloc();
+    let files = files_of(&rt, alloc, &[PLAIN]);
+    let set = set_of(&rt, alloc, &[PLAIN], &files);
+    let mut mapped = map(alloc, &set, Policy::Strict).expect(&rt, "a space");
+    assert!(rt; run(alloc, &mut mapped, &[]).is_ok_and(|replies| replies.is_empty()));
+    let mut filed = open_space(alloc, &set, Policy::Strict).expect(&rt, "a space");
+    assert!(rt; run(alloc, &mut filed, &[]).is_ok_and(|replies| replies.is_empty()));
 }

@@ -1,10 +1,11 @@
 //! Which sets of images `pe_space` refuses, and by which fault: their names, their bases, and the order in which faults count.
 
+use super::both::opened;
 use super::files::Piece;
 use super::members::{
-    A, B, C, Member, PLAIN, RELOCATED, Refusal, WIDE, assert_refusal, mapped, names_of, repeated,
+    A, B, C, Member, PLAIN, RELOCATED, Refusal, WIDE, assert_refusal, error_of, names_of, repeated,
 };
-use pe_space::{Policy, map};
+use pe_space::Policy;
 use pe_view::Place;
 use std::alloc::Global;
 use std::process::Abort;
@@ -15,7 +16,7 @@ type Case = (&'static [Member], Option<Refusal>);
 /// Asserts the fault of each set.
 fn assert_judged(rt: &impl Abort, alloc: Global, cases: &[Case]) {
     for (index, (members, expected)) in cases.iter().enumerate() {
-        let found = mapped(rt, alloc, members, Policy::Strict).err();
+        let found = error_of(rt, alloc, members, Policy::Strict);
         assert_refusal(rt, index, found, *expected);
     }
 }
@@ -138,7 +139,7 @@ fn a_set_has_at_most_256_entries(rt: HostRuntime) {
             assert!(rt; from < set.len() && to < set.len());
             set[to].name = set[from].name;
         }
-        let found = map(rt.alloc(), &set, Policy::Strict).err();
+        let found = opened(&rt, rt.alloc(), &set, Policy::Strict).err();
         assert_refusal(&rt, index, found, Some(*expected));
     }
 }
@@ -231,7 +232,7 @@ fn a_base_is_a_place_where_the_image_can_stand(rt: HostRuntime) {
             base: *base,
             ..*file
         };
-        let found = mapped(&rt, rt.alloc(), &[member], Policy::Strict).err();
+        let found = error_of(&rt, rt.alloc(), &[member], Policy::Strict);
         let expected = match *expected {
             Some(number) => Some((number, 0, Place::Address(*base))),
             None => None,

@@ -1,10 +1,12 @@
 //! Which bytes `pe_space` has at which addresses.
 
+use super::both::Both;
 use super::files::{Piece, Vector, assert_holds, file_of};
 use super::members::{
-    A, B, C, Member, PLAIN, RELOCATED, WIDE, assert_bytes, fault_of, names_of, repeated, space_of,
+    A, B, C, Member, PLAIN, RELOCATED, WIDE, assert_bytes, fault_of, files_of, names_of, repeated,
+    set_of, spaces_of,
 };
-use pe_space::{Policy, Space, map};
+use pe_space::Policy;
 use pe_view::Place;
 use std::alloc::Global;
 use std::process::Abort;
@@ -25,7 +27,9 @@ fn assert_alone(rt: &impl Abort, alloc: Global, cases: &[Case]) {
             base: *base,
             ..*file
         };
-        let space = space_of(rt, alloc, &[member], Policy::Strict);
+        let files = files_of(rt, alloc, &[member]);
+        let set = set_of(rt, alloc, &[member], &files);
+        let space = spaces_of(rt, alloc, &set, Policy::Strict);
         for (address, bytes) in expected.iter() {
             assert_bytes(rt, index, &space, *address, bytes);
         }
@@ -229,7 +233,9 @@ type Seen = (&'static [Member], &'static [(u64, &'static [u8])]);
 /// Asserts what stands in the space of each set.
 fn assert_seen(rt: &impl Abort, alloc: Global, sets: &[Seen]) {
     for (index, (members, expected)) in sets.iter().enumerate() {
-        let space = space_of(rt, alloc, members, Policy::Strict);
+        let files = files_of(rt, alloc, members);
+        let set = set_of(rt, alloc, members, &files);
+        let space = spaces_of(rt, alloc, &set, Policy::Strict);
         for (address, bytes) in expected.iter() {
             assert_bytes(rt, index, &space, *address, bytes);
         }
@@ -457,9 +463,11 @@ const OUTSIDE: &[(&[Member], &[u64])] = &[
 #[test]
 fn no_byte_stands_outside_the_images(rt: HostRuntime) {
     for (index, (members, addresses)) in OUTSIDE.iter().enumerate() {
-        let space = space_of(&rt, rt.alloc(), members, Policy::Strict);
+        let files = files_of(&rt, rt.alloc(), members);
+        let set = set_of(&rt, rt.alloc(), members, &files);
+        let space = spaces_of(&rt, rt.alloc(), &set, Policy::Strict);
         for address in addresses.iter() {
-            assert_holds(&rt, index, space.byte(*address).is_none());
+            assert_holds(&rt, index, space.byte(&rt, *address).is_none());
         }
     }
 }
@@ -470,12 +478,15 @@ type Window = (u64, usize, Result<&'static [u8], u16>);
 /// What a buffer holds before a window is asked for.
 const UNTOUCHED: [u8; 4] = [0xee; 4];
 
-/// Asserts what windows of a space answer, in a buffer that they change where they are granted alone.
-fn assert_windows<S: Space>(rt: &impl Abort, space: &S, windows: &[Window]) {
+/// Asserts what windows of the space of a set answer, in a buffer that they change where they are granted alone.
+fn assert_windows(rt: &impl Abort, alloc: Global, members: &[Member], windows: &[Window]) {
+    let files = files_of(rt, alloc, members);
+    let set = set_of(rt, alloc, members, &files);
+    let space = spaces_of(rt, alloc, &set, Policy::Strict);
     for (index, (address, len, expected)) in windows.iter().enumerate() {
         let mut buffer = UNTOUCHED;
         assert!(rt; *len <= 4);
-        let answer = space.window(*address, &mut buffer[..*len]);
+        let answer = space.window(rt, *address, &mut buffer[..*len]);
         match *expected {
             Ok(bytes) => {
                 assert_holds(rt, index, answer == Ok(()) && buffer[..*len] == bytes[..]);
@@ -540,27 +551,26 @@ const LAST_WINDOWS: &[Window] = &[
 
 #[test]
 fn a_window_lies_in_one_image(rt: HostRuntime) {
-    let plain = space_of(&rt, rt.alloc(), &[PLAIN], Policy::Strict);
-    assert_windows(&rt, &plain, PLAIN_WINDOWS);
-    let two = space_of(&rt, rt.alloc(), SIDE_BY_SIDE, Policy::Strict);
-    assert_windows(&rt, &two, WINDOWS);
-    let last = space_of(&rt, rt.alloc(), LAST, Policy::Strict);
-    assert_windows(&rt, &last, LAST_WINDOWS);
-    let none = space_of(&rt, rt.alloc(), &[], Policy::Strict);
-    assert_windows(&rt, &none, &[(0, 0, Ok(&[])), (0, 1, Err(65_535))]);
+    let alloc = rt.alloc();
+    assert_windows(&rt, alloc, &[PLAIN], PLAIN_WINDOWS);
+    assert_windows(&rt, alloc, SIDE_BY_SIDE, WINDOWS);
+    assert_windows(&rt, alloc, LAST, LAST_WINDOWS);
+    assert_windows(&rt, alloc, &[], &[(0, 0, Ok(&[])), (0, 1, Err(65_535))]);
 }
 
 #[test]
 fn a_window_may_be_the_whole_image(rt: HostRuntime) {
-    let space = space_of(&rt, rt.alloc(), &[PLAIN], Policy::Strict);
+    let files = files_of(&rt, rt.alloc(), &[PLAIN]);
+    let set = set_of(&rt, rt.alloc(), &[PLAIN], &files);
+    let space = spaces_of(&rt, rt.alloc(), &set, Policy::Strict);
     let mut longer = [0xee; 0x3001];
     let fault = fault_of((54, 0, Place::Address(0x1000_0000)));
-    assert!(rt; space.window(0x1000_0000, &mut longer) == Err(fault));
+    assert!(rt; space.window(&rt, 0x1000_0000, &mut longer) == Err(fault));
     assert!(rt; longer == [0xee; 0x3001]);
     let mut whole = [0xee; 0x3000];
-    assert!(rt; space.window(0x1000_0000, &mut whole) == Ok(()));
+    assert!(rt; space.window(&rt, 0x1000_0000, &mut whole) == Ok(()));
     for (rva, byte) in whole.iter().enumerate() {
-        let found = space.byte(0x1000_0000_u64.wrapping_add(rva as u64));
+        let found = space.byte(&rt, 0x1000_0000_u64.wrapping_add(rva as u64));
         assert_holds(&rt, rva, found == Some(*byte));
     }
 }
@@ -585,24 +595,26 @@ const IMAGES: &[(&[Member], &[(u64, u32)])] = &[
 ];
 
 /// Asserts how many images a space has, and that none has a number past theirs.
-fn assert_count<S: Space>(rt: &impl Abort, case: usize, space: &S, count: u16) {
-    assert_holds(rt, case, space.image_count() == count);
+fn assert_count(rt: &impl Abort, case: usize, space: &Both, count: u16) {
+    assert_holds(rt, case, space.image_count(rt) == count);
     for number in [count, 257, u16::MAX] {
-        assert_holds(rt, case, space.base_of(number).is_none());
-        assert_holds(rt, case, space.size_of(number).is_none());
+        assert_holds(rt, case, space.base_of(rt, number).is_none());
+        assert_holds(rt, case, space.size_of(rt, number).is_none());
     }
 }
 
 #[test]
 fn images_have_their_bases_and_sizes(rt: HostRuntime) {
     for (index, (members, images)) in IMAGES.iter().enumerate() {
-        let space = space_of(&rt, rt.alloc(), members, Policy::Strict);
+        let files = files_of(&rt, rt.alloc(), members);
+        let set = set_of(&rt, rt.alloc(), members, &files);
+        let space = spaces_of(&rt, rt.alloc(), &set, Policy::Strict);
         let count = u16::try_from(images.len()).expect(&rt, "a count");
         assert_count(&rt, index, &space, count);
         for (number, (base, size)) in images.iter().enumerate() {
             let number = u16::try_from(number).expect(&rt, "a number");
-            assert_holds(&rt, index, space.base_of(number) == Some(*base));
-            assert_holds(&rt, index, space.size_of(number) == Some(*size));
+            assert_holds(&rt, index, space.base_of(&rt, number) == Some(*base));
+            assert_holds(&rt, index, space.size_of(&rt, number) == Some(*size));
         }
     }
 }
@@ -612,14 +624,16 @@ fn a_space_of_256_images(rt: HostRuntime) {
     let file = file_of(&rt, rt.alloc(), Vector::V1);
     let names = names_of(&rt, rt.alloc(), 256);
     let set = repeated(&rt, rt.alloc(), &names, &file);
-    let space = map(rt.alloc(), &set, Policy::Strict).expect(&rt, "a space");
+    let space = spaces_of(&rt, rt.alloc(), &set, Policy::Strict);
     assert_count(&rt, 0, &space, 256);
-    assert!(rt; space.base_of(255) == Some(0xff_0000) && space.size_of(255) == Some(0x3000));
+    assert!(rt; space.base_of(&rt, 255) == Some(0xff_0000));
+    assert!(rt; space.size_of(&rt, 255) == Some(0x3000));
     assert_bytes(&rt, 0, &space, 0, &[0x4d, 0x5a]);
     assert_bytes(&rt, 1, &space, 0x1005, &[0x05]);
     assert_bytes(&rt, 2, &space, 0xff_0000, &[0x4d, 0x5a]);
     assert_bytes(&rt, 3, &space, 0xff_1005, &[0x05]);
     let past = fault_of((54, 255, Place::Address(0xff_2fff)));
-    assert!(rt; space.window(0xff_2fff, &mut [0; 2]) == Err(past));
-    assert!(rt; space.byte(0xff_3000).is_none() && space.byte(0x3000).is_none());
+    assert!(rt; space.window(&rt, 0xff_2fff, &mut [0; 2]) == Err(past));
+    assert!(rt; space.byte(&rt, 0xff_3000).is_none());
+    assert!(rt; space.byte(&rt, 0x3000).is_none());
 }
