@@ -1,11 +1,12 @@
--- Other bases change where images stand and nothing else: what a slot is bound to does not depend on them.
-use Rattle.std.proofs.Common.{◌≡◌, ◌∙◌, ◌+◌, ℕ, zero, suc, List, [], ◌∷◌, ◌++◌, cond, length, Option, None, Some, refl, ap}
+-- What slots are bound to depends on names, exports and imports alone; other bases change where images stand and nothing else.
+use Rattle.std.proofs.Common.{◌≡◌, ◌∙◌, ◌+◌, ℕ, zero, suc, Bool, List, [], ◌∷◌, ◌++◌, cond, length, Option, None, Some, refl, ap}
 use Rattle.std.specs.Prelude.{nat_lt, not}
 use Rattle.std.specs.List.{cons_option, filter_map, prefix_len}
 use Rattle.pe_tables.specs.Key.{Key, Target, Rva, Forward}
+use Rattle.pe_tables.specs.Exports.{Exports, target_at}
 use Rattle.pe_tables.specs.Imports.{Import}
 use Rattle.pe_set.specs.Numbered.{numbered}
-use Rattle.pe_set.specs.Set.{Entry, Module, module_of, modules_from, modules_of, at_bases, rebased, named, same_name, forwarded_name}
+use Rattle.pe_set.specs.Set.{Entry, Module, module_of, modules_from, modules_of, at_bases, rebased, named, same_name, forwarded_name, AreAlike}
 use Rattle.pe_set.specs.Search.{hop_limit, target_in, from_target, from_image, resolve_in, ended, resolve}
 use Rattle.pe_set.specs.Bindings.{bound_to, binding_of, bindings_in, bindings_of}
 use Rattle.pe_set.specs.declared.search.Resolution.{Resolution}
@@ -20,30 +21,37 @@ pub images_at : (bases : List ℕ) (es : List Entry) → modules_of (at_bases ba
 unfolding modules_of
 images_at bases es = modules_rebased 0 bases es
 
-length_rebased : (bases : List ℕ) (s : List Module) → length (rebased bases s) ≡ length s
-length_rebased [] s = refl
-length_rebased (base ∷ bases) [] = refl
-length_rebased (base ∷ bases) (m ∷ s) = ap (λ n. suc n) (length_rebased bases s)
+length_alike : (s t : List Module) → AreAlike s t → length s ≡ length t
+length_alike [] [] alike = refl
+length_alike [] (n ∷ t) alike = absurd alike
+length_alike (m ∷ s) [] alike = absurd alike
+length_alike (m ∷ s) (n ∷ t) alike = ap (λ k. suc k) (length_alike s t alike.3)
 
-prefix_rebased : (name : List ℕ) (bases : List ℕ) (s : List Module)
-    → prefix_len (λ (m : Module). not (same_name name m.name)) (rebased bases s) ≡ prefix_len (λ (m : Module). not (same_name name m.name)) s
-prefix_rebased name [] s = refl
-prefix_rebased name (base ∷ bases) [] = refl
-prefix_rebased name (base ∷ bases) (m ∷ s) = ap (λ n. cond (not (same_name name m.name)) (1 + n) 0) (prefix_rebased name bases s)
+abbrev has_other_name : List ℕ → Module → Bool
+has_other_name name m = not (same_name name m.name)
+
+prefix_alike : (name : List ℕ) (s t : List Module) → AreAlike s t → prefix_len (has_other_name name) s ≡ prefix_len (has_other_name name) t
+prefix_alike name [] [] alike = refl
+prefix_alike name [] (n ∷ t) alike = absurd alike
+prefix_alike name (m ∷ s) [] alike = absurd alike
+prefix_alike name (m ∷ s) (n ∷ t) alike =
+    ap (λ (own : List ℕ). cond (not (same_name name own)) (1 + prefix_len (has_other_name name) s) 0) alike.0
+    ∙ ap (λ k. cond (not (same_name name n.name)) (1 + k) 0) (prefix_alike name s t alike.3)
 
 -- a name names the same image
-named_rebased : (name : List ℕ) (bases : List ℕ) (s : List Module) → named (rebased bases s) name ≡ named s name
-named_rebased name bases s =
-    let k = prefix_len (λ (m : Module). not (same_name name m.name)) s in
-    ap (λ n. cond (nat_lt n (length (rebased bases s))) (Some n) None) (prefix_rebased name bases s)
-    ∙ ap (λ n. cond (nat_lt k n) (Some k) None) (length_rebased bases s)
+named_alike : (name : List ℕ) (s t : List Module) → AreAlike s t → named s name ≡ named t name
+named_alike name s t alike =
+    let k = prefix_len (has_other_name name) t in
+    ap (λ n. cond (nat_lt n (length s)) (Some n) None) (prefix_alike name s t alike)
+    ∙ ap (λ n. cond (nat_lt k n) (Some k) None) (length_alike s t alike)
 
 -- which exports the same
-target_rebased : (key : Key) (bases : List ℕ) (s : List Module) (i : ℕ) → target_in (rebased bases s) key i ≡ target_in s key i
-target_rebased key [] s i = refl
-target_rebased key (base ∷ bases) [] i = refl
-target_rebased key (base ∷ bases) (m ∷ s) zero = refl
-target_rebased key (base ∷ bases) (m ∷ s) (suc i) = target_rebased key bases s i
+target_alike : (key : Key) (s t : List Module) (i : ℕ) → AreAlike s t → target_in s key i ≡ target_in t key i
+target_alike key [] [] i alike = refl
+target_alike key [] (n ∷ t) i alike = absurd alike
+target_alike key (m ∷ s) [] i alike = absurd alike
+target_alike key (m ∷ s) (n ∷ t) zero alike = ap (λ (exports : Exports). target_at exports key) alike.1
+target_alike key (m ∷ s) (n ∷ t) (suc i) alike = target_alike key s t i alike.3
 
 -- two searches that go on alike
 module _ (next next' : List ℕ → Key → Option Resolution) (same : (name : List ℕ) (key : Key) → next' name key ≡ next name key) where
@@ -57,42 +65,51 @@ module _ (next next' : List ℕ → Key → Option Resolution) (same : (name : L
   image_same s s' key targets None = refl
   image_same s s' key targets (Some i) = ap (from_target next' i) (targets i) ∙ target_same i (target_in s key i)
 
-resolve_in_rebased : (n : ℕ) (bases : List ℕ) (s : List Module) (name : List ℕ) (key : Key) → resolve_in n (rebased bases s) name key ≡ resolve_in n s name key
-resolve_in_rebased zero bases s name key = refl
-resolve_in_rebased (suc n) bases s name key =
-    ap (from_image (rebased bases s) (resolve_in n (rebased bases s)) key) (named_rebased name bases s)
-    ∙ image_same (resolve_in n s) (resolve_in n (rebased bases s)) (resolve_in_rebased n bases s) s (rebased bases s) key (target_rebased key bases s) (named s name)
+module _ (s t : List Module) (alike : AreAlike s t) where
+  resolve_in_alike : (n : ℕ) (name : List ℕ) (key : Key) → resolve_in n s name key ≡ resolve_in n t name key
+  resolve_in_alike zero name key = refl
+  resolve_in_alike (suc n) name key =
+      ap (from_image s (resolve_in n s) key) (named_alike name s t alike)
+      ∙ image_same (resolve_in n t) (resolve_in n s) (resolve_in_alike n) t s key (λ i. target_alike key s t i alike) (named t name)
 
--- a search ends alike
-pub resolve_rebased : (bases : List ℕ) (s : List Module) (name : List ℕ) (key : Key) → resolve (rebased bases s) name key ≡ resolve s name key
-unfolding resolve
-resolve_rebased bases s name key = ap ended (resolve_in_rebased (suc hop_limit) bases s name key)
+  -- a search ends alike
+  resolve_alike : (name : List ℕ) (key : Key) → resolve s name key ≡ resolve t name key
+  unfolding resolve
+  resolve_alike name key = ap ended (resolve_in_alike (suc hop_limit) name key)
 
-binding_rebased : (bases : List ℕ) (s : List Module) (i : ℕ) (x : Import) → binding_of (rebased bases s) i x ≡ binding_of s i x
-binding_rebased bases s i x = ap (bound_to i x.slot) (resolve_rebased bases s x.module_name x.key)
+  bindings_same : (i : ℕ) (xs : List Import) → filter_map (binding_of s i) xs ≡ filter_map (binding_of t i) xs
+  bindings_same i [] = refl
+  bindings_same i (x ∷ xs) =
+      ap (λ o. cons_option o (filter_map (binding_of s i) xs)) (ap (bound_to i x.slot) (resolve_alike x.module_name x.key))
+      ∙ ap (cons_option (binding_of t i x)) (bindings_same i xs)
 
-bindings_same : (bases : List ℕ) (s : List Module) (i : ℕ) (xs : List Import) → filter_map (binding_of (rebased bases s) i) xs ≡ filter_map (binding_of s i) xs
-bindings_same bases s i [] = refl
-bindings_same bases s i (x ∷ xs) =
-    ap (λ o. cons_option o (filter_map (binding_of (rebased bases s) i) xs)) (binding_rebased bases s i x)
-    ∙ ap (cons_option (binding_of s i x)) (bindings_same bases s i xs)
+  -- the same of some of the images
+  numbered_alike : (n : ℕ) (u v : List Module) → AreAlike u v → numbered (bindings_in s) n u ≡ numbered (bindings_in t) n v
+  numbered_alike n [] [] parts = refl
+  numbered_alike n [] (b ∷ v) parts = absurd parts
+  numbered_alike n (a ∷ u) [] parts = absurd parts
+  numbered_alike n (a ∷ u) (b ∷ v) parts =
+      ap (λ bs. bs ++ numbered (bindings_in s) (n + 1) u) (bindings_same n a.imports ∙ ap (filter_map (binding_of t n)) parts.2)
+      ∙ ap (λ bs. bindings_in t n b ++ bs) (numbered_alike (n + 1) u v parts.3)
 
--- the same of the images t of a set s
-numbered_same : (bases : List ℕ) (s : List Module) (n : ℕ) (t : List Module) → numbered (bindings_in (rebased bases s)) n t ≡ numbered (bindings_in s) n t
-numbered_same bases s n [] = refl
-numbered_same bases s n (m ∷ t) =
-    ap (λ bs. bs ++ numbered (bindings_in (rebased bases s)) (n + 1) t) (bindings_same bases s n m.imports)
-    ∙ ap (λ bs. bindings_in s n m ++ bs) (numbered_same bases s (n + 1) t)
-
-numbered_rebased : (s : List Module) (n : ℕ) (bases : List ℕ) (t : List Module) → numbered (bindings_in s) n (rebased bases t) ≡ numbered (bindings_in s) n t
-numbered_rebased s n [] t = refl
-numbered_rebased s n (base ∷ bases) [] = refl
-numbered_rebased s n (base ∷ bases) (m ∷ t) = ap (λ bs. bindings_in s n m ++ bs) (numbered_rebased s (n + 1) bases t)
-
-bindings_rebased : (bases : List ℕ) (s : List Module) → bindings_of (rebased bases s) ≡ bindings_of s
+-- slots are bound alike
+pub bindings_alike : (s t : List Module) → AreAlike s t → bindings_of s ≡ bindings_of t
 unfolding bindings_of
-bindings_rebased bases s = numbered_same bases s 0 (rebased bases s) ∙ numbered_rebased s 0 bases s
+bindings_alike s t alike = numbered_alike s t alike 0 s t alike
 
--- the slots of a set are bound alike
+all_alike : (s : List Module) → AreAlike s s
+all_alike [] = tt
+all_alike (m ∷ s) = (refl, refl, refl, all_alike s)
+
+alike_rebased : (bases : List ℕ) (s : List Module) → AreAlike (rebased bases s) s
+alike_rebased [] s = all_alike s
+alike_rebased (base ∷ bases) [] = tt
+alike_rebased (base ∷ bases) (m ∷ s) = (refl, refl, refl, alike_rebased bases s)
+
+-- a search ends alike at other bases
+pub resolve_rebased : (bases : List ℕ) (s : List Module) (name : List ℕ) (key : Key) → resolve (rebased bases s) name key ≡ resolve s name key
+resolve_rebased bases s name key = resolve_alike (rebased bases s) s (alike_rebased bases s) name key
+
+-- the slots of a set are bound alike at other bases
 pub bindings_at : (bases : List ℕ) (es : List Entry) → bindings_of (modules_of (at_bases bases es)) ≡ bindings_of (modules_of es)
-bindings_at bases es = ap bindings_of (images_at bases es) ∙ bindings_rebased bases (modules_of es)
+bindings_at bases es = ap bindings_of (images_at bases es) ∙ bindings_alike (rebased bases (modules_of es)) (modules_of es) (alike_rebased bases (modules_of es))

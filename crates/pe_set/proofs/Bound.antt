@@ -1,8 +1,7 @@
 -- What an import is bound to is where its search ends.
-use Rattle.std.proofs.Common.{◌≡◌, ◌∙◌, ℕ, List, Some, None, refl, sym, ap, subst}
+use Rattle.std.proofs.Common.{◌≡◌, ◌∙◌, ℕ, List, Some, sym, ap, subst}
 use Rattle.std.proofs.lemmas.Option.{same_Some}
 use Rattle.pe_tables.specs.Imports.{Import}
-use Rattle.pe_tables.specs.Key.{Key}
 use Rattle.pe_set.specs.Bindings.{bound_to, binding_of}
 use Rattle.pe_set.specs.BoundImports.{IsBindingOf}
 use Rattle.pe_set.specs.Search.{resolve}

@@ -1,5 +1,5 @@
 -- Sets of images: named files with bases, and what the files hold.
-use Rattle.std.specs.Prelude.{ℕ, ◌+◌, ◌==◌, Bool, List, [], ◌∷◌, ◌++◌, Option, if◌then◌else◌, position, map}
+use Rattle.std.specs.Prelude.{◌≡◌, ℕ, ◌+◌, ◌==◌, Bool, List, [], ◌∷◌, ◌++◌, Option, if◌then◌else◌, position, map}
 use Rattle.std.specs.List.{list_any}
 use Rattle.std.specs.Str.{str_eq_ignore_ascii_case}
 use Rattle.pe_head.specs.declared.optional.Magic.{Magic}
@@ -76,6 +76,13 @@ abbrev pub rebased : List ℕ → List Module → List Module
 rebased [] s = s
 rebased (base ∷ bases) [] = []
 rebased (base ∷ bases) (m ∷ s) = record m { base = base } ∷ rebased bases s
+
+-- image by image, two sets have the same names, exports and imports
+abbrev pub AreAlike : List Module → List Module → Type 0
+AreAlike [] [] = Unit {0}
+AreAlike [] (n ∷ t) = ⊥
+AreAlike (m ∷ s) [] = ⊥
+AreAlike (m ∷ s) (n ∷ t) = (m.name ≡ n.name) × (m.exports ≡ n.exports) × (m.imports ≡ n.imports) × AreAlike s t
 
 -- names of modules match without regard to the case of ASCII letters
 abbrev pub same_name : List ℕ → List ℕ → Bool

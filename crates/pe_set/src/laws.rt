@@ -5,7 +5,7 @@ ghost use Rattle.std.specs.Prelude.{◌≡◌, ◌↔◌, ℕ, List, None, Some,
 ghost use Rattle.pe_view.specs.Faults.{first_standing};
 ghost use Rattle.pe_tables.specs.Key.{Key};
 ghost use Rattle.pe_tables.specs.Imports.{Import};
-ghost use Rattle.pe_set.specs.Set.{Entry, Module, modules_of, placement_of, bases_of, at_bases, rebased};
+ghost use Rattle.pe_set.specs.Set.{Entry, Module, modules_of, placement_of, bases_of, at_bases, rebased, AreAlike};
 ghost use Rattle.pe_set.specs.Search.{resolve};
 ghost use Rattle.pe_set.specs.SearchEnds.{EndsAs};
 ghost use Rattle.pe_set.specs.declared.search.Resolution.{Resolution};
@@ -41,6 +41,11 @@ pub fn accepted_sets_are_sound()
     pe_tables::laws::fields_are_apart();
     pe_tables::laws::targets_are_inside();
 }
+
+/// What slots are bound to depends on the names of the images, on their exports and on their imports, and on nothing else of them.
+pub fn tables_decide_bindings()
+    ensures { (s t : List Module) → AreAlike s t → bindings_of s ≡ bindings_of t }
+{}
 
 /// Other bases change where images stand and nothing else: what a slot is bound to does not depend on them.
 pub fn bases_change_no_binding()

@@ -6,10 +6,8 @@ use Rattle.pe_space.specs.Content.{Image, Content, image_of, slot_width}
 use Rattle.pe_space.specs.Memory.{patch, bytes}
 use Rattle.pe_space.specs.Bare.{without_slots, bared, bare, at_bases, set_at}
 use Rattle.pe_space.specs.Tied.{Each}
-use Rattle.pe_space.proofs.Laying.{written_out}
 use Rattle.pe_space.proofs.Lists.{each_map}
-use Rattle.pe_space.proofs.Patch.{length-patch}
-use Rattle.pe_space.proofs.Numbers.{length-bytes_from}
+use Rattle.pe_tables.specs.Patched.{length-patch, length-bytes_from, written_out}
 
 -- ---- the laws do not depend on bases
 bared-at_bases : (j : ℕ) (bs : List Binding) (bases : List ℕ) (images : List Image) → bared j bs (at_bases bases images) ≡ at_bases bases (bared j bs images)

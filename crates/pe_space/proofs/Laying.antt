@@ -6,26 +6,12 @@ use Rattle.pe_tables.specs.declared.fixups.Fixup.{Fixup}
 use Rattle.pe_set.specs.declared.binding.Binding.{Binding}
 use Rattle.pe_space.specs.Number.{digit, number_at, shift}
 use Rattle.pe_space.specs.Content.{Image, image_of, width_of, slot_width}
+use Rattle.pe_tables.specs.Patch.{shifted_at}
 use Rattle.pe_space.specs.Memory.{patch, bytes, shifted, shifted_all, memory_of, put_slot, rebound}
 use Rattle.pe_space.specs.Tied.{Each, EachPair, FieldsApart}
-use Rattle.pe_space.proofs.Patch.{length-patch, patch_below, patch_above, patch_at}
-use Rattle.pe_space.proofs.Numbers.{length-bytes_from, bytes_from-get, same_number}
+use Rattle.pe_tables.specs.Patched.{length-patch, length-bytes_from, written_in, written_out}
+use Rattle.pe_space.proofs.Numbers.{same_number}
 use Rattle.pe_space.proofs.Lists.{each_map, each_both}
-
--- a place of a list with a number's bytes written over it
-pub written_in : (xs : List ℕ) (at w v r : ℕ) → at + w ≤ length xs → at ≤ r → r < at + w → get_or (patch xs at (bytes w v)) r 0 ≡ digit v (r - at)
-written_in xs at w v r fits low high =
-    let len : length (bytes w v) ≡ w = length-bytes_from 0 w v in
-    let place : at + (r - at) ≡ r = omega arith in
-    let e : 0 + (r - at) ≡ r - at = omega arith in
-    ap (λ (k : ℕ). get_or (patch xs at (bytes w v)) k 0) (sym place)
-    ∙ patch_at xs at (bytes w v) (r - at) (omega arith) (omega arith)
-    ∙ bytes_from-get 0 w v (r - at) (omega arith)
-    ∙ ap (digit v) e
-
-pub written_out : (xs : List ℕ) (at w v r : ℕ) → at + w ≤ length xs → (r < at) ⊎ (at + w ≤ r) → get_or (patch xs at (bytes w v)) r 0 ≡ get_or xs r 0
-written_out xs at w v r fits (inl low) = let len = length-bytes_from 0 w v in patch_below xs at (bytes w v) r low (omega arith)
-written_out xs at w v r fits (inr high) = let len = length-bytes_from 0 w v in patch_above xs at (bytes w v) r (omega arith) (omega arith)
 
 -- inside a range, below it or above it
 pub cases_in : (at w r : ℕ) → ((at ≤ r) × (r < at + w)) ⊎ ((r < at) ⊎ (at + w ≤ r))
@@ -40,17 +26,17 @@ InField r [] = ⊥
 InField r (f ∷ fs) = ((f.field ≤ r) × (r < f.field + width_of f.kind)) ⊎ InField r fs
 
 pub length-shifted : (d : ℤ) (f : Fixup) (xs : List ℕ) → f.field + width_of f.kind ≤ length xs → length (shifted d f xs) ≡ length xs
-unfolding shifted
+unfolding shifted_at
 length-shifted d f xs h = let len = length-bytes_from 0 (width_of f.kind) (shift f.kind (number_at xs f.field (width_of f.kind)) d) in length-patch xs f.field _ (omega arith)
 
 pub shifted_in : (d : ℤ) (f : Fixup) (xs : List ℕ) (r : ℕ) → f.field + width_of f.kind ≤ length xs → f.field ≤ r → r < f.field + width_of f.kind
     → get_or (shifted d f xs) r 0 ≡ digit (shift f.kind (number_at xs f.field (width_of f.kind)) d) (r - f.field)
-unfolding shifted
+unfolding shifted_at
 shifted_in d f xs r fits low high = written_in xs f.field (width_of f.kind) _ r fits low high
 
 pub shifted_out : (d : ℤ) (f : Fixup) (xs : List ℕ) (r : ℕ) → f.field + width_of f.kind ≤ length xs → (r < f.field) ⊎ (f.field + width_of f.kind ≤ r)
     → get_or (shifted d f xs) r 0 ≡ get_or xs r 0
-unfolding shifted
+unfolding shifted_at
 shifted_out d f xs r fits out = written_out xs f.field (width_of f.kind) _ r fits out
 
 -- a field apart from it keeps its number

@@ -18,10 +18,8 @@ pub mod Lists
 pub mod Move
 pub mod Moving
 pub mod Numbers
-pub mod Patch
 pub mod Relocating
 pub mod Running
 pub mod SlotsAndFields
 pub mod SpaceRows
 pub mod Windows
-pub mod Writes

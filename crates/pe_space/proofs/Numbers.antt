@@ -1,28 +1,13 @@
 -- Numbers in bytes, and shifts.
-use Rattle.std.proofs.Common.{◌≡◌, ℕ, zero, suc, ◌+◌, ◌-◌, ◌*◌, ◌/◌, ◌%◌, ◌^◌, ◌<◌, ◌≤◌, List, length, get_or, refl, sym, ap, ◌∙◌, arith}
+use Rattle.std.proofs.Common.{◌≡◌, ℕ, zero, suc, ◌+◌, ◌-◌, ◌*◌, ◌/◌, ◌%◌, ◌^◌, ◌<◌, ◌≤◌, List, get_or, refl, sym, ap, ◌∙◌, arith}
 use Rattle.std.proofs.Math.Nat.{add-mul, add_assoc, div-add-mod', div-div-eq-div-mul, div-one, mod-eq_of_lt, mod-lt, mul-add-mod_self_right, mul_assoc, one-le-pow, pow-suc, pow-succ'}
 use Rattle.std.proofs.Math.Nat.{mul-le-mul_right, mul-le-mul_left}
 use Rattle.std.specs.Prelude.{ℤ, pos, negsuc, ◌+ℤ◌, ◌-ℤ◌, unsigned_abs}
 use Rattle.std.proofs.lemmas.Int.{ints, int_rem_euclid_is}
-use Rattle.std.specs.Int.{byte_at, bytes_low_first, int_rem_euclid}
+use Rattle.std.specs.Int.{int_rem_euclid}
 use Rattle.pe_tables.specs.Fixups.{width_of}
 use Rattle.pe_tables.specs.declared.fixups.FixupKind.{FixupKind}
 use Rattle.pe_space.specs.Number.{digit, number_at, shift}
-
-pub length-bytes_from : (j w v : ℕ) → length (bytes_low_first j w v) ≡ w
-length-bytes_from j zero v = refl
-length-bytes_from j (suc w) v = let e = length-bytes_from (suc j) w v in omega (arith, e)
-
-pub byte_at-digit : (k v : ℕ) → byte_at k v ≡ digit v k
-byte_at-digit zero v = ap (λ (y : ℕ). y % 256) (sym (div-one v))
-byte_at-digit (suc k) v = refl
-
-pub bytes_from-get : (j w v k : ℕ) → k < w → get_or (bytes_low_first j w v) k 0 ≡ digit v (j + k)
-bytes_from-get j zero v k h = absurd (omega arith)
-bytes_from-get j (suc w) v zero h = let e : j + 0 ≡ j = omega arith in rw e (byte_at-digit j v)
-bytes_from-get j (suc w) v (suc k) h =
-    let e : j + suc k ≡ suc j + k = omega arith in
-    rw e (bytes_from-get (suc j) w v k (omega arith))
 
 -- the number depends on its bytes alone
 pub same_number : (xs ys : List ℕ) (a b w : ℕ) → ((k : ℕ) → k < w → get_or xs (a + k) 0 ≡ get_or ys (b + k) 0) → number_at xs a w ≡ number_at ys b w

@@ -8,7 +8,7 @@ use borrow.Rule.Slice.PartMut.{put_mid}
 use Rattle.pe_space.specs.Number.{digit}
 use Rattle.pe_space.specs.Content.{is_in}
 use Rattle.pe_space.specs.Windows.{laid_on}
-use Rattle.pe_space.proofs.Numbers.{length-bytes_from, bytes_from-get}
+use Rattle.pe_tables.specs.Patched.{length-bytes_from, bytes_from-get}
 use Rattle.pe_space.proofs.Laying.{cases_in}
 use Rattle.pe_space.proofs.SlotsAndFields.{true-is_in, is_in-true}
 

@@ -1,22 +1,15 @@
 -- Writes into the memory of images.
-use Rattle.std.specs.Prelude.{ℕ, ◌+◌, ◌==◌, if◌then◌else◌, Bool, ℤ, List, [], ◌∷◌, ◌++◌, length, take, drop, slice_set, slice_index_or}
-use Rattle.std.specs.Int.{bytes_low_first}
+use Rattle.std.specs.Prelude.{ℕ, ◌+◌, ◌==◌, if◌then◌else◌, Bool, ℤ, List, [], ◌∷◌, slice_set, slice_index_or}
+use Rattle.pe_tables.specs.Patch.{shifted_at}
+pub use Rattle.pe_tables.specs.Patch.{bytes}
+unfoldable pub use Rattle.pe_tables.specs.Patch.{patch}
 use Rattle.pe_tables.specs.declared.fixups.Fixup.{Fixup}
 use Rattle.pe_set.specs.declared.binding.Binding.{Binding}
-use Rattle.pe_space.specs.Number.{number_at, shift}
-use Rattle.pe_space.specs.Content.{Image, image_of, width_of, slot_width}
-
--- the bytes with these written over them from a place on
-unfoldable pub patch : List ℕ → ℕ → List ℕ → List ℕ
-patch xs at bs = take at xs ++ (bs ++ drop (length bs) (drop at xs))
-
--- the lowest bytes of a number
-abbrev pub bytes : ℕ → ℕ → List ℕ
-bytes width v = bytes_low_first 0 width v
+use Rattle.pe_space.specs.Content.{Image, image_of, slot_width}
 
 -- the memory with one field shifted
-unfoldable pub shifted : ℤ → Fixup → List ℕ → List ℕ
-shifted d f xs = patch xs f.field (bytes (width_of f.kind) (shift f.kind (number_at xs f.field (width_of f.kind)) d))
+abbrev pub shifted : ℤ → Fixup → List ℕ → List ℕ
+shifted d f xs = shifted_at d f.kind f.field xs
 
 abbrev pub shifted_all : ℤ → List Fixup → List ℕ → List ℕ
 shifted_all d [] xs = xs

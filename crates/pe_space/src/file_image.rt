@@ -8,13 +8,12 @@ ghost use Rattle.pe_space.specs.SetContent.{image_content};
 ghost use Rattle.pe_space.specs.Tied.{IsImage};
 ghost use Rattle.pe_space.specs.Windows.{fixed_bytes};
 
-use crate::bytes::{shift_32, shift_64};
 use crate::ordered::{between, put_in_order};
 use crate::window::{REACH, lay_on};
 use pe_head::Magic;
 use pe_layout::Layout;
 use pe_set::{Module, Placed};
-use pe_tables::{Fixup, FixupKind};
+use pe_tables::{Fixup, FixupKind, shift_32, shift_64};
 use std::alloc::Allocator;
 use std::marker::Model;
 use std::snapshot::Snapshot;

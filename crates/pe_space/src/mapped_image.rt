@@ -5,10 +5,10 @@ ghost use Rattle.pe_space.specs.Memory.{patch, bytes};
 ghost use Rattle.pe_space.specs.Held.{fresh_held, rebased_held};
 ghost use Rattle.pe_space.specs.Tied.{Each};
 
-use crate::bytes::{shift_fields, slot_width, write_low};
+use crate::bytes::{shift_fields, slot_width};
 use pe_head::Magic;
 use pe_set::Placed;
-use pe_tables::Fixup;
+use pe_tables::{Fixup, write_low};
 use std::alloc::Allocator;
 use std::marker::Model;
 use std::snapshot::Snapshot;

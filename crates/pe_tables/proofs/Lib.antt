@@ -28,6 +28,7 @@ pub mod Neighbours
 pub mod Pages
 pub mod Pairs
 pub mod Past
+pub mod Patching
 pub mod Refusing
 pub mod Rising
 pub mod Rows

@@ -12,7 +12,7 @@ use Rattle.pe_tables.specs.Relocated.{shift}
 pow_pos256 : (n : ℕ) → zero < 256 ^ n
 pow_pos256 n = let h = one-le-pow n 256 (omega arith) in omega arith
 
-shift_is : (v : ℕ) (kind : FixupKind) (b o k m : ℕ) → v + b + k * 256 ^ width_of kind ≡ m + o → shift kind v (pos b -ℤ pos o) ≡ m % 256 ^ width_of kind
+pub shift_is : (v : ℕ) (kind : FixupKind) (b o k m : ℕ) → v + b + k * 256 ^ width_of kind ≡ m + o → shift kind v (pos b -ℤ pos o) ≡ m % 256 ^ width_of kind
 unfolding shift
 shift_is v kind b o k m e = ap unsigned_abs (int_rem_euclid_is _ _ (256 ^ width_of kind) k m (pow_pos256 (width_of kind)) refl (omega (arith, ints)))
 

@@ -19,6 +19,8 @@ pub mod ImportView
 pub mod Imports
 pub mod Key
 pub mod NameIndex
+pub mod Patch
+pub mod Patched
 pub mod Ranges
 pub mod RangesView
 pub mod Relocated

@@ -1,18 +1,19 @@
--- What writing the low bytes of a number leaves.
+-- What writing numbers over bytes leaves.
 use Rattle.std.proofs.Common.{◌≡◌, ℕ, zero, suc, ◌+◌, ◌-◌, ◌*◌, ◌/◌, ◌%◌, ◌<◌, ◌≤◌, ◌^◌, List, [], ◌∷◌, ◌++◌, append-nil, length, length-drop, take, drop, refl, ap, ◌∙◌, sym, arith}
 use Rattle.std.specs.Prelude.{ℤ, pos, ◌-ℤ◌}
 use Rattle.std.specs.Int.{byte_at, bytes_low_first}
 use Rattle.std.proofs.lemmas.List.{get_or-drop, drop_all, take_rest}
-use Rattle.std.proofs.Math.Nat.{div-add-mod', mod-eq_of_lt, mod-lt, mul-add-mod_self_right}
+use Rattle.std.proofs.Math.Nat.{add-mul, add_assoc, div-add-mod', mod-eq_of_lt, mod-lt, mul-add-mod_self_right, mul-le-mul_right, mul_assoc}
 use borrow.Rule.Slice.PartMut.{put_mid}
-use Rattle.pe_tables.specs.declared.fixups.Fixup.{Fixup}
+use Rattle.byteorder.specs.Endian.{little_from}
+use Rattle.pe_view.specs.Number.{num, byte_of}
+use Rattle.pe_tables.specs.Fixups.{width_of}
+use Rattle.pe_tables.specs.Patch.{patch, bytes, shifted_at}
+use Rattle.pe_tables.specs.Patched.{length-bytes_from}
+use Rattle.pe_tables.specs.Relocated.{shift}
 use Rattle.pe_tables.specs.declared.fixups.FixupKind.{FixupKind}
 use Rattle.pe_tables.specs.declared.fixups.FixupKind.TheVariants.{Bits32, Bits64}
-use Rattle.byteorder.specs.Endian.{little_from}
-use Rattle.pe_space.specs.Number.{number_at, shift}
-use Rattle.pe_space.specs.Content.{width_of}
-use Rattle.pe_space.specs.Memory.{patch, bytes, shifted}
-use Rattle.pe_space.proofs.Numbers.{length-bytes_from, shift_is, mod-split}
+use Rattle.pe_tables.proofs.Shifts.{shift_is}
 
 take-bytes : (i k n x : ℕ) → n ≤ k → take n (bytes_low_first i k x) ≡ bytes_low_first i n x
 take-bytes i k zero x h = refl
@@ -28,12 +29,26 @@ written_low xs ys place width v narrow e =
     rw (low, len, count) refl
 
 -- the number in the bytes from a place on, as `byteorder` reads it
-pub number_read : (xs : List ℕ) (place i w : ℕ) → little_from i w (drop place xs) ≡ number_at xs (place + i) w
+number_read : (xs : List ℕ) (place i w : ℕ) → little_from i w (drop place xs) ≡ num (byte_of xs) (place + i) w
 number_read xs place i zero = refl
 number_read xs place i (suc w) =
     let e : place + suc i ≡ place + i + 1 = omega arith in
-    let more : little_from (suc i) w (drop place xs) ≡ number_at xs (place + i + 1) w = number_read xs place (suc i) w ∙ ap (λ (p : ℕ). number_at xs p w) e in
+    let more : little_from (suc i) w (drop place xs) ≡ num (byte_of xs) (place + i + 1) w = number_read xs place (suc i) w ∙ ap (λ (p : ℕ). num (byte_of xs) p w) e in
     rw (get_or-drop place xs i 0, more) refl
+
+-- the two low digits of n, to the bases c and then m
+mod-split : (n : ℕ) {m c : ℕ} → zero < m → zero < c → n % (m * c) ≡ (n / c % m) * c + n % c
+mod-split n {m} {c} hm hc =
+    let a = mod-lt (n / c) hm in
+    let b = mod-lt n hc in
+    let top : (n / c % m + 1) * c ≤ m * c = mul-le-mul_right c (omega arith) in
+    let expand : (n / c % m + 1) * c ≡ n / c % m * c + 1 * c = add-mul (n / c % m) 1 c in
+    let split : n ≡ n / c / m * (m * c) + (n / c % m * c + n % c) =
+    sym (div-add-mod' n c)
+    ∙ ap (λ (x : ℕ). x * c + n % c) (sym (div-add-mod' (n / c) m))
+    ∙ ap (λ (x : ℕ). x + n % c) (add-mul (n / c / m * m) (n / c % m) c ∙ ap (λ (x : ℕ). x + n / c % m * c) (mul_assoc (n / c / m) m c))
+    ∙ add_assoc (n / c / m * (m * c)) (n / c % m * c) (n % c) in
+    ap (λ (x : ℕ). x % (m * c)) split ∙ mul-add-mod_self_right (n / c / m) (m * c) (n / c % m * c + n % c) ∙ mod-eq_of_lt (omega arith)
 
 -- a remainder by a multiple keeps the remainder
 mod-mod : (n q m : ℕ) → zero < q → zero < m → n % (q * m) % m ≡ n % m
@@ -49,7 +64,7 @@ add_mod a b n =
 
 -- a sum of 64 bits in place of the difference of two bases is a shift
 sum_is_shift : (kind : FixupKind) (v from to q : ℕ) → from < 2 ^ 64 → q * 256 ^ width_of kind ≡ 2 ^ 64 → (v + (to + (2 ^ 64 - from))) % 256 ^ width_of kind ≡ shift kind v (pos to -ℤ pos from)
-sum_is_shift kind v from to q small whole = sym (shift_is kind v to from q (v + (to + (2 ^ 64 - from))) (omega (arith, small, whole)))
+sum_is_shift kind v from to q small whole = sym (shift_is v kind to from q (v + (to + (2 ^ 64 - from))) (omega (arith, small, whole)))
 
 -- a field of 4 bytes
 pub shift_in_32 : (v from to : ℕ) → from < 2 ^ 64 → (v + (to + (2 ^ 64 - from)) % 2 ^ 64 % 2 ^ 32) % 2 ^ 32 ≡ shift Bits32 v (pos to -ℤ pos from)
@@ -72,10 +87,10 @@ written_from xs ys place w v le is =
     rw (is, take_rest xs place, rest, append-nil (bytes w v ++ drop w (drop place xs)), len) refl
 
 -- a field with the number that is to stand there
-pub field_shifted : (xs : List ℕ) (f : Fixup) (v w n : ℕ) (d : ℤ) → w ≡ width_of f.kind → v ≡ little_from 0 w (drop f.field xs) → n ≡ shift f.kind v d → patch xs f.field (bytes w n) ≡ shifted d f xs
-unfolding shifted
-field_shifted xs f v w n d is_w is_v is_n =
-    let none : f.field + 0 ≡ f.field = omega arith in
-    let number : v ≡ number_at xs f.field (width_of f.kind) = is_v ∙ number_read xs f.field 0 w ∙ ap (λ (p : ℕ). number_at xs p w) none ∙ ap (number_at xs f.field) is_w in
-    ap (λ (k : ℕ). patch xs f.field (bytes k n)) is_w
-    ∙ ap (λ (n : ℕ). patch xs f.field (bytes (width_of f.kind) n)) (is_n ∙ ap (λ (v : ℕ). shift f.kind v d) number)
+pub field_shifted : (xs : List ℕ) (kind : FixupKind) (place v w n : ℕ) (d : ℤ) → w ≡ width_of kind → v ≡ little_from 0 w (drop place xs) → n ≡ shift kind v d → patch xs place (bytes w n) ≡ shifted_at d kind place xs
+unfolding shifted_at
+field_shifted xs kind place v w n d is_w is_v is_n =
+    let none : place + 0 ≡ place = omega arith in
+    let number : v ≡ num (byte_of xs) place (width_of kind) = is_v ∙ number_read xs place 0 w ∙ ap (λ (p : ℕ). num (byte_of xs) p w) none ∙ ap (num (byte_of xs) place) is_w in
+    ap (λ (k : ℕ). patch xs place (bytes k n)) is_w
+    ∙ ap (λ (n : ℕ). patch xs place (bytes (width_of kind) n)) (is_n ∙ ap (λ (v : ℕ). shift kind v d) number)

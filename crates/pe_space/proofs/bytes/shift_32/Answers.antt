@@ -1,5 +1,0 @@
-use Rattle.pe_space.proofs.Writes.{shift_in_32}
-use Rattle.pe_space.proofs.bytes.shift_32.Goals as goal
-
-pub returns : goal.returns
-returns c = shift_in_32 c.args.number c.args.from c.args.to c.ranges.from.fits
