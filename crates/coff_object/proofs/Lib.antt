@@ -18,5 +18,6 @@ pub mod StringPlaces
 pub mod StringTable
 pub mod SymbolsBack
 pub mod Walk
+pub mod WholeTable
 pub mod Writable
 pub mod WrittenSize

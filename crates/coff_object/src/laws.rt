@@ -1,13 +1,14 @@
 //! What the definitions mean, as laws: each function has an empty body, and its contract is the law.
 
-ghost use Rattle.std.specs.Prelude.{◌≡◌, ◌↔◌, ℕ, List, None, Some};
+ghost use Rattle.std.specs.Prelude.{◌≡◌, ◌↔◌, ◌<◌, ◌^◌, ℕ, List, None, Some};
 ghost use Rattle.pe_view.specs.Faults.{first_standing};
 ghost use Rattle.coff_object.specs.Records.{Object, Fits};
-ghost use Rattle.coff_object.specs.ObjectFaults.{IsObjectOf};
+ghost use Rattle.coff_object.specs.ObjectFaults.{IsObjectOf, object_tests};
+ghost use Rattle.coff_object.specs.Reading.{object_of};
 ghost use Rattle.coff_object.specs.RecordPlaces.{SymbolsBegin};
 ghost use Rattle.coff_object.specs.StringPlaces.{IsString};
-ghost use Rattle.coff_object.specs.Strings.{string_at};
-ghost use Rattle.coff_object.specs.Written.{canon};
+ghost use Rattle.coff_object.specs.Strings.{record_count, string_at};
+ghost use Rattle.coff_object.specs.Written.{canon, records_of};
 ghost use Rattle.coff_object.specs.WriteFaults.{write_tests};
 
 /// An object that is not refused is read back from its written form.
@@ -24,4 +25,11 @@ pub fn symbols_stand_behind_auxiliary_records()
 /// table, and no zero byte in it.
 pub fn strings_stand_at_their_offsets()
     ensures { (file : List ℕ) (offset : ℕ) (text : List ℕ) → (string_at file offset ≡ Some text) ↔ IsString file offset text }
+{}
+
+/// The symbols of a file that is not refused, with their auxiliary records, are the records of its symbol table, and fewer
+/// than 2^32.
+pub fn symbols_fill_the_table()
+    ensures whole { (file : List ℕ) → first_standing (object_tests file) ≡ None → records_of (object_of file).symbols ≡ record_count file }
+    ensures few { (file : List ℕ) → first_standing (object_tests file) ≡ None → records_of (object_of file).symbols < 2 ^ 32 }
 {}

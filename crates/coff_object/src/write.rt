@@ -246,29 +246,31 @@ fn symbols_pointer<A: Allocator + Copy>(
     }
 }
 
-/// That neither of faults 84 and 85 stands.
+/// How many bytes the written object has, unless one of faults 84 and 85 stands.
 fn check_form<A: Allocator + Copy>(
     object: &Object<A>,
     strings: &StringTable<A>,
-) -> Result<(), Fault>
+) -> Result<usize, Fault>
     requires texts { texts_in strings.now ≡ strings_of (object_view object.now) }
     requires near { AllByRecursion (λ (s : format.Section). is_far (strings_of (object_view object.now)) s ≡ false) (object_view object.now).sections }
-    ensures { Answers (form_tests (object_view object.now)) (λ _. ⊤) result }
+    ensures { Answers (form_tests (object_view object.now)) (λ size. size ≡ length (canon (object_view object.now))) result }
 {
-    if written_size(object, strings) > u64::from(u32::MAX) {
+    let size = written_size(object, strings);
+    if size > u64::from(u32::MAX) {
         return Err(item_fault(84, 0));
     }
     if is_bad_object(object) {
         return Err(item_fault(85, 0));
     }
-    Ok(())
+    Ok(size as usize)
 }
 
-/// The bytes of an object that no fault refuses.
+/// The bytes of an object that no fault refuses, with room for so many from the start.
 fn write_parts<A: Allocator + Copy>(
     alloc: A,
     object: &Object<A>,
     strings: &StringTable<A>,
+    size: usize,
 ) -> Result<Vec<u8, A>, AllocError>
     requires texts { texts_in strings.now ≡ strings_of (object_view object.now) }
     requires form { IsWritable (object_view object.now) }
@@ -279,7 +281,7 @@ fn write_parts<A: Allocator + Copy>(
     let symbols = object.symbols.as_slice();
     let start = 20 + object.optional.len() as u32 + 40 * sections.len() as u32;
     let end = start + bodies_size(sections) as u32;
-    let mut bytes = Vec::new(alloc);
+    let mut bytes = Vec::with_capacity(alloc, size)?;
     push_coff_header(&mut bytes, object, symbols_pointer(object, strings, end))?;
     bytes.extend_from_slice(object.optional)?;
     push_table(&mut bytes, strings, start, sections)?;
@@ -305,7 +307,7 @@ pub fn write_object<A: Allocator + Copy>(
     check_names(object)?;
     let strings = strings_of(alloc, object)?;
     check_sections(object, &strings)?;
-    check_form(object, &strings)?;
-    let bytes = write_parts(alloc, object, &strings)?;
+    let size = check_form(object, &strings)?;
+    let bytes = write_parts(alloc, object, &strings, size)?;
     Ok(bytes)
 }

@@ -33,24 +33,24 @@ check_form-requires-clause-near g c =
     let parts = none-append far (each_item 83 has_many_relocations 0 o.sections) c.in_ok-check_sections.ensures.0 in
     none_each 82 (is_far (strings_of o)) 0 o.sections parts.0
 
-pub returns-in_err-check_form-clause-exact : goal.returns-in_err-check_form-clause-exact
+pub returns-in_err-size-clause-exact : goal.returns-in_err-size-clause-exact
 unfolding write_tests
-returns-in_err-check_form-clause-exact g c =
+returns-in_err-size-clause-exact g c =
     let o = object_view c.args.object.now in
-    let p = err_from_is_err_and c.from_residual-in_err-check_form.result c.from_residual-in_err-check_form.ensures.1 in
-    rw (p.1, p.2) (first-past (name_tests o) (section_tests o ++ form_tests o) c.in_ok-check_names.ensures.0 ∙ first-past (section_tests o) (form_tests o) c.in_ok-check_sections.ensures.0 ∙ c.in_err-check_form.ensures)
+    let p = err_from_is_err_and c.from_residual-in_err-size.result c.from_residual-in_err-size.ensures.1 in
+    rw (p.1, p.2) (first-past (name_tests o) (section_tests o ++ form_tests o) c.in_ok-check_names.ensures.0 ∙ first-past (section_tests o) (form_tests o) c.in_ok-check_sections.ensures.0 ∙ c.in_err-size.ensures)
 
 pub write_parts-requires-clause-form : goal.write_parts-requires-clause-form
 unfolding write_tests
 write_parts-requires-clause-form g c =
     let o = object_view c.args.object.now in
-    writable o (first-past (name_tests o) (section_tests o ++ form_tests o) c.in_ok-check_names.ensures.0 ∙ first-past (section_tests o) (form_tests o) c.in_ok-check_sections.ensures.0 ∙ c.in_ok-check_form.ensures.0)
+    writable o (first-past (name_tests o) (section_tests o ++ form_tests o) c.in_ok-check_names.ensures.0 ∙ first-past (section_tests o) (form_tests o) c.in_ok-check_sections.ensures.0 ∙ c.in_ok-size.ensures.0)
 
 pub returns-clause-exact : goal.returns-clause-exact
 unfolding write_tests
 returns-clause-exact g c =
     let o = object_view c.args.object.now in (
-      first-past (name_tests o) (section_tests o ++ form_tests o) c.in_ok-check_names.ensures.0 ∙ first-past (section_tests o) (form_tests o) c.in_ok-check_sections.ensures.0 ∙ c.in_ok-check_form.ensures.0,
+      first-past (name_tests o) (section_tests o ++ form_tests o) c.in_ok-check_names.ensures.0 ∙ first-past (section_tests o) (form_tests o) c.in_ok-check_sections.ensures.0 ∙ c.in_ok-size.ensures.0,
       c.in_ok-bytes.ensures.bytes,
     )
 
@@ -59,5 +59,5 @@ unfolding write_tests
 returns-clause-read_back g c =
     let o = object_view c.args.object.now in
     let none =
-    first-past (name_tests o) (section_tests o ++ form_tests o) c.in_ok-check_names.ensures.0 ∙ first-past (section_tests o) (form_tests o) c.in_ok-check_sections.ensures.0 ∙ c.in_ok-check_form.ensures.0 in
+    first-past (name_tests o) (section_tests o ++ form_tests o) c.in_ok-check_names.ensures.0 ∙ first-past (section_tests o) (form_tests o) c.in_ok-check_sections.ensures.0 ∙ c.in_ok-size.ensures.0 in
     subst (λ (bytes : List ℕ). IsObjectOf bytes o) (sym c.in_ok-bytes.ensures.bytes) (read_back o c.in_ok-bytes.ensures.fits none)
