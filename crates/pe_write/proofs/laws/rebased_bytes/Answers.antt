@@ -1,0 +1,10 @@
+use Rattle.pe_write.specs.Rebase.{rebased}
+use Rattle.pe_write.proofs.Rebasable.{Laws, sound}
+use Rattle.pe_write.proofs.InWords.{in_words}
+use Rattle.pe_write.proofs.laws.rebased_bytes.Goals as goal
+
+pub returns : goal.returns
+unfolding rebased
+returns c =
+    let laws : Laws = record { behind = c.sections_are_apart.ensures.behind; apart = c.sections_are_apart.ensures.apart; held = c.sections_are_apart.ensures.held; fields = c.fields_are_apart.ensures.apart } in
+    λ file base none. in_words file base (sound laws file base none)

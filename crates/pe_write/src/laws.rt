@@ -1,0 +1,57 @@
+//! What the definitions mean, as laws. The contract of each function here is a law, and its body only calls the laws of other
+//! crates on which that rests.
+
+ghost use Rattle.std.specs.Prelude.{◌≡◌, ◌≤◌, ℕ, List, None};
+ghost use Rattle.pe_view.specs.Faults.{first_standing};
+ghost use Rattle.pe_head.specs.Head.{head_of};
+ghost use Rattle.pe_layout.specs.Image.{image_of_file};
+ghost use Rattle.pe_layout.specs.Plain.{plain};
+ghost use Rattle.pe_layout.specs.SectionFaults.{layout_tests};
+ghost use Rattle.pe_tables.specs.Fixups.{fixups_of};
+ghost use Rattle.pe_tables.specs.Relocated.{relocated};
+ghost use Rattle.pe_write.specs.Rebase.{IsFree, rebased, rebased_head};
+ghost use Rattle.pe_write.specs.Rebased.{IsRebased};
+ghost use Rattle.pe_write.specs.RebaseFaults.{rebase_tests};
+
+/// Byte by byte, the new file holds the base in ImageBase, 0 in CheckSum, in each fixup's field what the image holds there at
+/// the base, and everywhere else what the file held.
+pub fn rebased_bytes()
+    ensures { (file : List ℕ) (base : ℕ) → first_standing (rebase_tests file base) ≡ None → IsRebased file base (rebased file base) }
+{
+    pe_layout::laws::sections_are_apart();
+    pe_tables::laws::fields_are_apart();
+}
+
+/// With the old headers, the new file lays out the old image as it is at the base, outside ImageBase and CheckSum.
+pub fn rebased_is_relocated()
+    ensures { (file : List ℕ) (base r : ℕ) → first_standing (rebase_tests file base) ≡ None → IsFree (head_of file) r
+        → plain (head_of file) (rebased file base) r ≡ relocated (image_of_file 0 file) base r }
+{
+    pe_layout::laws::sections_are_apart();
+    pe_tables::laws::fields_are_apart();
+}
+
+/// Where the signature does not stand in the first 16 bytes, the new file has the old headers but for ImageBase and CheckSum, and
+/// none of faults 1 to 15: none of them stands of it under a number under which none stands of the old file.
+pub fn rebased_headers()
+    ensures head { (file : List ℕ) (base : ℕ) → first_standing (rebase_tests file base) ≡ None → 16 ≤ (head_of file).pe_offset
+        → head_of (rebased file base) ≡ rebased_head (head_of file) base }
+    ensures none { (file : List ℕ) (base : ℕ) → first_standing (rebase_tests file base) ≡ None → 16 ≤ (head_of file).pe_offset
+        → first_standing (layout_tests 0 (rebased file base)) ≡ None }
+    ensures same { (file : List ℕ) (base image : ℕ) → first_standing (rebase_tests file base) ≡ None → 16 ≤ (head_of file).pe_offset
+        → first_standing (layout_tests image (rebased file base)) ≡ first_standing (layout_tests image file) }
+{
+    pe_layout::laws::sections_are_apart();
+    pe_tables::laws::fields_are_apart();
+}
+
+/// A file that is rebased and then stands at any base, under any number, has there the bytes that the file itself has, outside
+/// ImageBase and CheckSum, where its fixups read as before.
+pub fn rebased_again()
+    ensures { (file : List ℕ) (base image at r : ℕ) → first_standing (rebase_tests file base) ≡ None → 16 ≤ (head_of file).pe_offset
+        → fixups_of (image_of_file image (rebased file base)) ≡ fixups_of (image_of_file image file) → IsFree (head_of file) r
+        → relocated (image_of_file image (rebased file base)) at r ≡ relocated (image_of_file image file) at r }
+{
+    pe_layout::laws::sections_are_apart();
+    pe_tables::laws::fields_are_apart();
+}

@@ -1,0 +1,18 @@
+//! Images written to files.
+//!
+//! [`rebase_file`] makes of an image's file the file of the same image at another base: its fields hold what they hold in the
+//! image there, and it prefers to stand there.
+//!
+//! ```text
+//! let bytes = rebase_file(alloc, file, 0x2000_0000)?;
+//! assert_eq!(bytes.len(), file.len());
+//! ```
+#![tactic(auto)]
+
+mod error;
+pub mod laws;
+mod raw_data;
+mod rebase;
+
+pub use error::WriteError;
+pub use rebase::rebase_file;

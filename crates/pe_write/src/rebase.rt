@@ -1,0 +1,155 @@
+ghost use Rattle.std.specs.Prelude.{◌≡◌, ◌≤◌, ◌+◌, ⊤, length, pos, ◌-ℤ◌, Some, Err, IfOk};
+ghost use Rattle.pe_view.specs.declared.fault.Fault as code_fault;
+ghost use Rattle.pe_view.specs.Faults.{Answers, first_standing};
+ghost use Rattle.pe_layout.specs.SectionFaults.{layout_tests};
+ghost use Rattle.pe_layout.specs.Layout.{headers_of, image_of, IsLayoutOf};
+ghost use Rattle.pe_tables.specs.Fixups.{fixups_of};
+ghost use Rattle.pe_write.specs.WriteAnswers.{WriteAnswers};
+ghost use Rattle.pe_write.specs.Rebase.{rebased, check_sum_place};
+ghost use Rattle.pe_write.specs.Rebased.{IsRebased};
+ghost use Rattle.pe_write.specs.RebaseFaults.{own_base_tests, fields_tests, data_tests, tables_tests, rebase_tests};
+ghost use Rattle.pe_write.specs.Rewriting.{AreLaid, put_header, moved_all};
+
+use crate::error::WriteError;
+use crate::raw_data::{check_raw_data, holder};
+use pe_head::{Headers, Magic, SectionHeader};
+use pe_layout::Layout;
+use pe_set::{Placed, base_fault};
+use pe_tables::{Fixup, read_fixups, read_imports, shift_field, write_low};
+use pe_view::{Fault, View};
+use std::alloc::Allocator;
+
+/// Where CheckSum stands, in bytes from the optional header's beginning on.
+const CHECK_SUM: usize = 64;
+
+/// An image that stands alone, at its ImageBase.
+#[derive(Clone, Copy)]
+struct Alone<'l, 'a> {
+    layout: &'l Layout<'a>,
+}
+
+impl<'l, 'a> Placed for Alone<'l, 'a> {
+    ghost use Rattle.pe_layout.specs.Layout.{headers_of, image_of};
+    ghost use Rattle.pe_write.specs.RebaseFaults.{placed};
+
+    ghost placement = { λ m. placed (headers_of m.layout.now).magic (image_of m.layout.now) (image_of m.layout.now).image_base };
+
+    fn base(&self) -> u64 {
+        self.layout.image_base()
+    }
+
+    fn size(&self) -> u32 {
+        self.layout.size()
+    }
+
+    fn magic(&self) -> Magic {
+        self.layout.headers().magic
+    }
+
+    fn image_base(&self) -> u64 {
+        self.layout.image_base()
+    }
+
+    fn is_stripped(&self) -> bool {
+        self.layout.is_stripped()
+    }
+}
+
+/// The layout of an image's file, or the first of faults 1 to 15.
+fn lay_out(file: &[u8]) -> Result<Layout<'_>, Fault>
+    ensures { Answers (layout_tests 0 file.now) (IsLayoutOf file.now 0) result }
+{
+    Layout::new(View::new(file), 0)
+}
+
+/// The fixups of an image, or the first of faults 24 to 38.
+fn read_tables<A: Allocator + Copy>(alloc: A, layout: &Layout) -> Result<Vec<Fixup, A>, WriteError>
+    ensures { WriteAnswers (tables_tests (image_of layout.now)) (λ fixups. fixups.items ≡ fixups_of (image_of layout.now)) result }
+{
+    let imports = read_imports(alloc, layout)?;
+    let fixups = read_fixups(alloc, layout, &imports)?;
+    Ok(fixups)
+}
+
+/// Looks for faults 44 to 46 of an image at a base.
+fn check_base(layout: &Layout, base: u64) -> Result<(), Fault>
+    ensures { Answers (own_base_tests (headers_of layout.now).magic (image_of layout.now) base) (λ _. ⊤) result }
+{
+    match base_fault(&[], &[], 0, &Alone { layout }, base) {
+        Some(fault) => Err(fault),
+        None => Ok(()),
+    }
+}
+
+/// Writes the base as ImageBase, and 0 as CheckSum.
+fn put_header(bytes: &mut [u8], headers: &Headers, base: u64)
+    requires { check_sum_place headers.now + 4 ≤ length bytes.old }
+    ensures { bytes.new ≡ put_header headers.now base bytes.old }
+{
+    let optional = headers.pe_offset as usize + 24;
+    let magic = headers.magic;
+    let place = optional + magic.image_base_offset() as usize;
+    write_low(bytes, place, base, magic.image_base_width() as usize);
+    write_low(bytes, optional + CHECK_SUM, 0, 4);
+}
+
+/// Moves every fixup's field on to a base, in a copy of the layout's file, unless fault 51 stands of one.
+fn move_fields(bytes: &mut [u8], layout: &Layout, fixups: &[Fixup], base: u64) -> Result<(), Fault>
+    requires { AreLaid (headers_of layout.now) (length bytes.old) }
+    ensures { let headers = headers_of layout.now in
+        Answers (fields_tests headers fixups.now)
+        (λ _. bytes.new ≡ moved_all headers (pos base -ℤ pos headers.image_base) fixups.now bytes.old) result }
+{
+    let headers = layout.headers();
+    let mut section = SectionHeader::default();
+    for fixup in fixups {
+        section = holder(headers, section, *fixup)?;
+        let offset = fixup.field - section.virtual_address;
+        let place = section.pointer_to_raw_data as usize + offset as usize;
+        shift_field(bytes, place, fixup.kind, headers.image_base, base);
+    }
+    Ok(())
+}
+
+/// Writes the base into the headers and moves every field on to it, in a copy of the layout's file, unless fault 51 or 52
+/// stands.
+fn rewrite(bytes: &mut [u8], layout: &Layout, fixups: &[Fixup], base: u64) -> Result<(), Fault>
+    requires laid { AreLaid (headers_of layout.now) (length bytes.old) }
+    requires inside { check_sum_place (headers_of layout.now) + 4 ≤ length bytes.old }
+    ensures { let headers = headers_of layout.now in
+        Answers (data_tests headers fixups.now)
+        (λ _. bytes.new ≡ moved_all headers (pos base -ℤ pos headers.image_base) fixups.now (put_header headers base bytes.old)) result }
+{
+    put_header(bytes, layout.headers(), base);
+    move_fields(bytes, layout, fixups, base)?;
+    check_raw_data(layout.headers())
+}
+
+/// The file of an image that is to stand at another base: a file of the same length, in which each fixup's field is moved on by
+/// as much as the base lies above ImageBase, ImageBase is the base and CheckSum is 0; every other byte is the old one's.
+///
+/// The answer is [`WriteError::Fault`] with the first fault that stands, which names image 0: of headers and sections (1 to 15),
+/// of imports (24 to 32) and base relocations (33 to 38), of the base (44 to 46), 51 where a field does not lie wholly in one
+/// section's raw data, and 52 where the raw data of a section begins in the headers or shares bytes of the file with an earlier
+/// one's. It is [`WriteError::Memory`] where a growth was refused, which never comes where one of faults 1 to 15 stands. Exports
+/// are not asked, and that the tables of the new file read as before is not claimed.
+///
+/// ("PE Format": Optional Header, The .reloc Section.)
+pub fn rebase_file<A: Allocator + Copy>(
+    alloc: A,
+    file: &[u8],
+    base: u64,
+) -> Result<Vec<u8, A>, WriteError>
+    ensures exact { WriteAnswers (rebase_tests file.now base) (λ bytes. bytes.items ≡ rebased file.now base) result }
+    ensures early { (fault : code_fault.Fault) → first_standing (layout_tests 0 file.now) ≡ Some fault → result ≡ Err (WriteError.Fault fault) }
+    ensures bytes { IfOk result (λ bytes. IsRebased file.now base bytes.items) }
+{
+    pe_layout::laws::sections_are_apart();
+    pe_tables::laws::fields_are_apart();
+    let layout = lay_out(file)?;
+    let fixups = read_tables(alloc, &layout)?;
+    check_base(&layout, base)?;
+    let mut bytes = Vec::from_slice(alloc, file)?;
+    rewrite(&mut bytes, &layout, &fixups, base)?;
+    Ok(bytes)
+}
