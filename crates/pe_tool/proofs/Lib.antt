@@ -1,11 +1,16 @@
 pub mod Adding
+pub mod Exchanging
 pub mod Held
 pub mod MapLines
 pub mod Mapped
 pub mod Numbering
+pub mod ObjectLines
+pub mod ObjectPlaces
+pub mod ObjectRows
 pub mod Pieces
 pub mod Plain
-pub mod Refusing
+pub mod RebasedSets
+pub mod RebaseRuns
 pub mod Reports
 pub mod Rows
 pub mod Token

@@ -1,6 +1,6 @@
 -- What a space that was mapped from a set tells of it.
-use Rattle.std.proofs.Common.{◌≡◌, ◌∙◌, ℕ, zero, suc, ◌+◌, ◌<◌, ◌≤◌, ◌^◌, Bool, true, false, cond, List, [], ◌∷◌, ◌++◌, length, map, refl, sym, ap, subst, arith, Some, None, Ok, Err}
-use Rattle.std.specs.Prelude.{Option, All, nat_le, ◌==◌, unwrap_or, option_map, slice_index_or, Result}
+use Rattle.std.proofs.Common.{◌≡◌, ◌∙◌, ℕ, zero, suc, ◌+◌, ◌<◌, ◌≤◌, ◌^◌, Bool, false, cond, List, [], ◌∷◌, ◌++◌, length, map, refl, sym, ap, subst, arith, Some, None, Ok, Err}
+use Rattle.std.specs.Prelude.{Option, All, ◌==◌, unwrap_or, option_map, slice_index_or, Result}
 use Rattle.std.proofs.lemmas.Simd.{map-map}
 use Rattle.std.proofs.lemmas.List.{length-map}
 use Rattle.std.proofs.lemmas.Option.{slice_get-map}

@@ -11,7 +11,7 @@ use Rattle.pe_tool.specs.TextWriter.{IsBeginning, IsFresh, Stands, Adds}
 use Rattle.pe_tool.proofs.Adding.{Stands-fresh}
 
 -- what was written after the start is a beginning of the text
-since : (before now text : List ℕ) → IsBeginning before now → IsBeginning now (before ++ text) → (written : List ℕ) × (now ≡ before ++ written) × IsBeginning written text
+pub since : (before now text : List ℕ) → IsBeginning before now → IsBeginning now (before ++ text) → (written : List ℕ) × (now ≡ before ++ written) × IsBeginning written text
 since before now text p q = (p.0, p.1, (q.0, append_cancel_left before text (p.0 ++ q.0) (q.1 ∙ ap (λ (xs : List ℕ). xs ++ q.0) p.1 ∙ append_assoc before p.0 q.0)))
 
 module _ {W : Type 0} (taken : W → List ℕ) (failures : W → ℕ) (IsText : Outcome → List ℕ → Type 0) where

@@ -1,12 +1,14 @@
 -- What an engine reads and writes.
 use Rattle.std.specs.Prelude.{ℕ, ◌≡◌, ◌<◌, ◌≤◌, ◌+◌, ◌^◌, ◌⊎◌, Bool, true, List, [], ◌++◌, length, None, Some, Result, Ok, Err, MatchResult, IsErrOf}
-use Rattle.pe_view.specs.Faults.{first_standing}
+use Rattle.pe_view.specs.Faults.{Test, first_standing}
 use Rattle.pe_head.specs.Head.{head_of}
 use Rattle.pe_layout.specs.Image.{image_of_file}
 use Rattle.pe_tables.specs.Exports.{exports_of}
 use Rattle.pe_tables.specs.Imports.{imports_of}
 use Rattle.pe_tables.specs.Fixups.{fixups_of}
 use Rattle.pe_image.specs.ImageTests.{image_tests}
+use Rattle.coff_object.specs.ObjectFaults.{object_tests}
+use Rattle.coff_object.specs.Reading.{object_of}
 use Rattle.pe_tool.specs.declared.outcome.Outcome.{Outcome}
 use Rattle.pe_tool.specs.declared.outcome.Outcome.TheVariants.{Done, Refused}
 use Rattle.pe_tool.specs.declared.outcome.ToolError.{ToolError}
@@ -14,20 +16,25 @@ use Rattle.pe_tool.specs.declared.outcome.ToolError.TheVariants.{Read, Write, Me
 use Rattle.pe_tool.specs.Dump.{dump_text}
 use Rattle.pe_tool.specs.FaultLine.{fault_line}
 use Rattle.pe_tool.specs.Format.{accepted_line}
+use Rattle.pe_tool.specs.ObjectLines.{object_text}
 use Rattle.pe_tool.specs.TextWriter.{IsBeginning}
 
--- the text of an image's file, and whether it is refused: its lines where no fault stands, else the line of the first
-abbrev pub IsImageText : (List ℕ → List ℕ) → List ℕ → Outcome → List ℕ → Type 0
-IsImageText lines file Done text = (first_standing (image_tests 0 file) ≡ None) × (text ≡ lines file)
-IsImageText lines file (Refused fault) text = (first_standing (image_tests 0 file) ≡ Some fault) × (text ≡ fault_line fault)
+-- the text of a file, and whether it is refused: its lines where none of its faults stands, else the line of the first
+abbrev pub IsFileText : (List ℕ → List Test) → (List ℕ → List ℕ) → List ℕ → Outcome → List ℕ → Type 0
+IsFileText tests lines file Done text = (first_standing (tests file) ≡ None) × (text ≡ lines file)
+IsFileText tests lines file (Refused fault) text = (first_standing (tests file) ≡ Some fault) × (text ≡ fault_line fault)
 
 -- what `check` writes of a file
 abbrev pub IsCheckText : List ℕ → Outcome → List ℕ → Type 0
-IsCheckText = IsImageText (λ file. accepted_line (head_of file))
+IsCheckText = IsFileText (image_tests 0) (λ file. accepted_line (head_of file))
 
 -- what `dump` writes of a file
 abbrev pub IsDumpText : List ℕ → Outcome → List ℕ → Type 0
-IsDumpText = IsImageText (λ file. let i = image_of_file 0 file in dump_text (head_of file) (exports_of i) (imports_of i) (fixups_of i))
+IsDumpText = IsFileText (image_tests 0) (λ file. let i = image_of_file 0 file in dump_text (head_of file) (exports_of i) (imports_of i) (fixups_of i))
+
+-- what `dump_object` writes of a file
+abbrev pub IsObjectText : List ℕ → Outcome → List ℕ → Type 0
+IsObjectText = IsFileText object_tests (λ file. object_text (object_of file))
 
 -- the source's end was seen, or one byte more was read than any file may have
 abbrev pub IsWhole : Bool → List ℕ → Type 0

@@ -28,15 +28,21 @@ abbrev pub extended_width : Magic → ℕ
 extended_width Pe32 = 4
 extended_width Pe32Plus = 8
 
+abbrev pub time_date_stamp : ℕ → Field
+time_date_stamp value = field (codes "TimeDateStamp") 4 value
+
+abbrev pub characteristics : ℕ → Field
+characteristics value = field (codes "Characteristics") 2 value
+
 -- the fields of the COFF header after Machine, in the header's order
 abbrev pub coff_fields : Headers → List Field
 coff_fields h =
     field (codes "NumberOfSections") 2 h.number_of_sections
-    ∷ field (codes "TimeDateStamp") 4 h.time_date_stamp
+    ∷ time_date_stamp h.time_date_stamp
     ∷ field (codes "PointerToSymbolTable") 4 h.pointer_to_symbol_table
     ∷ field (codes "NumberOfSymbols") 4 h.number_of_symbols
     ∷ field (codes "SizeOfOptionalHeader") 2 h.size_of_optional_header
-    ∷ field (codes "Characteristics") 2 h.characteristics
+    ∷ characteristics h.characteristics
     ∷ []
 
 -- the standard fields of the optional header

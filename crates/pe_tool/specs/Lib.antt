@@ -1,6 +1,8 @@
 pub use Rattle.pe_view.specs.Faults
 pub use Rattle.pe_head.specs.Head
 pub use Rattle.pe_layout.specs.Image
+pub use Rattle.coff_object.specs.ObjectFaults
+pub use Rattle.coff_object.specs.Reading
 pub use Rattle.pe_tables.specs.Exports
 pub use Rattle.pe_tables.specs.Fixups
 pub use Rattle.pe_tables.specs.Imports
@@ -20,9 +22,12 @@ pub mod Field
 pub mod Format
 pub mod HeaderFields
 pub mod MapReport
+pub mod ObjectLines
+pub mod ObjectPlaces
 pub mod Outcome
 pub mod Part
-pub mod Refusal
+pub mod RebasedSet
+pub mod RebaseRun
 pub mod TableLines
 pub mod Text
 pub mod TextWriter

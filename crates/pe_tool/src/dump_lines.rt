@@ -55,8 +55,9 @@ fn machine_name(machine: u16) -> &'static [u8]
     }
 }
 
+/// Adds the line of the Machine field, with the machine's name.
 #[tactic(auto, unfolding(crate::specs::Dump::machine_line))]
-fn write_machine<W: Sink>(line: &mut TextWriter<W>, machine: u16)
+pub(crate) fn write_machine<W: Sink>(line: &mut TextWriter<W>, machine: u16)
     requires { IsReady W.failures line.old }
     ensures { Adds W.taken W.failures line.old line.new (machine_line machine) }
 {
@@ -67,7 +68,8 @@ fn write_machine<W: Sink>(line: &mut TextWriter<W>, machine: u16)
     line.text(b"\n");
 }
 
-fn write_fields<W: Sink>(text: &mut TextWriter<W>, fields: &[Field])
+/// Adds a line for each field.
+pub(crate) fn write_fields<W: Sink>(text: &mut TextWriter<W>, fields: &[Field])
     requires { IsReady W.failures text.old }
     ensures { Adds W.taken W.failures text.old text.new (flat_map field_line (map field_of fields.now)) }
 {

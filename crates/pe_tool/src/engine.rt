@@ -1,9 +1,9 @@
 ghost use Rattle.std.specs.Prelude.{◌≡◌, ◌-◌, ◌^◌, ◌<◌, ◌↔◌, length, IsErrOf};
-ghost use Rattle.pe_tool.specs.Engine.{Puts, Ran, IsCheckText, IsDumpText};
+ghost use Rattle.pe_tool.specs.Engine.{Puts, Ran, IsCheckText, IsDumpText, IsObjectText};
 
 use crate::device::{Sink, Source};
 use crate::outcome::{Outcome, ToolError};
-use crate::report::{Check, Dump, Report};
+use crate::report::{Check, Dump, DumpObject, Report};
 use crate::text_writer::TextWriter;
 use crate::whole_file::read_whole;
 use std::alloc::Allocator;
@@ -82,4 +82,21 @@ pub fn dump<A: Allocator + Copy, R: Source, W: Sink>(
     ensures write { IsErrOf result ToolError.Write ↔ (W.failures writer.old < W.failures writer.new) }
 {
     run::<Dump, A, R, W>(alloc, reader, writer)
+}
+
+/// Writes what an object holds, a line for three fields of its header, for each section, relocation, symbol and auxiliary
+/// record, or the object's first fault, in the way of [`check`] and under its condition.
+pub fn dump_object<A: Allocator + Copy, R: Source, W: Sink>(
+    alloc: A,
+    reader: &mut R,
+    writer: &mut W,
+) -> Result<Outcome, ToolError>
+    requires reads { R.failures reader.old < 2 ^ 64 - 1 }
+    requires writes { W.failures writer.old < 2 ^ 64 - 1 }
+    ensures ran { Ran IsObjectText (R.given reader.old) (R.given reader.new)
+        (W.taken writer.old) (W.taken writer.new) (R.ended reader.new) result }
+    ensures read { IsErrOf result ToolError.Read ↔ (R.failures reader.old < R.failures reader.new) }
+    ensures write { IsErrOf result ToolError.Write ↔ (W.failures writer.old < W.failures writer.new) }
+{
+    run::<DumpObject, A, R, W>(alloc, reader, writer)
 }

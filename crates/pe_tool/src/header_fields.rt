@@ -2,7 +2,7 @@
 
 ghost use Rattle.std.specs.Prelude.{◌≡◌, ◌≤◌, map};
 ghost use Rattle.pe_tool.specs.Field.{field_of};
-ghost use Rattle.pe_tool.specs.HeaderFields.{magic_number, extended_width, coff_fields, standard_fields, windows_fields};
+ghost use Rattle.pe_tool.specs.HeaderFields.{magic_number, extended_width, time_date_stamp, characteristics, coff_fields, standard_fields, windows_fields};
 
 use crate::field::Field;
 use pe_head::{Headers, Magic};
@@ -39,17 +39,31 @@ fn extended_width(magic: Magic) -> u8
     }
 }
 
+/// The TimeDateStamp field, of an image or an object.
+pub(crate) fn time_date_stamp(value: u32) -> Field
+    ensures { field_of result ≡ time_date_stamp value }
+{
+    field!(b"TimeDateStamp", 4, value)
+}
+
+/// The Characteristics field of a COFF header.
+pub(crate) fn characteristics(value: u16) -> Field
+    ensures { field_of result ≡ characteristics value }
+{
+    field!(b"Characteristics", 2, value)
+}
+
 /// The fields of the COFF header after Machine.
 pub(crate) fn coff_fields(headers: &Headers) -> [Field; 6]
     ensures { map field_of result ≡ coff_fields headers.now }
 {
     [
         field!(b"NumberOfSections", 2, headers.number_of_sections),
-        field!(b"TimeDateStamp", 4, headers.time_date_stamp),
+        time_date_stamp(headers.time_date_stamp),
         field!(b"PointerToSymbolTable", 4, headers.pointer_to_symbol_table),
         field!(b"NumberOfSymbols", 4, headers.number_of_symbols),
         field!(b"SizeOfOptionalHeader", 2, headers.size_of_optional_header),
-        field!(b"Characteristics", 2, headers.characteristics),
+        characteristics(headers.characteristics),
     ]
 }
 

@@ -1,15 +1,12 @@
 //! The words of `petool map`.
 
-use clap::error::ErrorKind;
-use clap::{Arg, ArgAction, ArgMatches, Command, Error};
+use crate::word_values::{BadValue, address_of};
+use clap::{Arg, ArgAction, ArgMatches, Command};
 use pe_space::Policy;
 use std::alloc::{AllocError, AllocFailed, Global};
 
 /// The most bytes that a window may have.
 const MAX_COUNT: u32 = 4096;
-
-/// How many digits an address has at most.
-const ADDRESS_DIGITS: usize = 16;
 
 const EXAMPLE: &str = "\
 Example:
@@ -37,14 +34,6 @@ pub(crate) struct MapWords {
     pub policy: Policy,
     pub window: Option<(u64, u32)>,
     pub files: Vec<MapFile>,
-}
-
-/// A value that its argument cannot have.
-#[derive(Clone, Copy)]
-pub(crate) struct BadValue<'a> {
-    value: &'a str,
-    argument: &'static str,
-    reason: &'static str,
 }
 
 /// Why words of `map` ask for nothing.
@@ -96,15 +85,6 @@ pub(crate) fn map_command<'a>(alloc: Global) -> Result<Command<'a>, AllocError> 
         .arg(window)?
         .arg(count)?
         .arg(files)
-}
-
-/// The address that 1 to 16 hexadecimal digits give, of either case, with or without `0x` before them.
-fn address_of(text: &str) -> Option<u64> {
-    let digits = text.strip_prefix("0x").unwrap_or(text);
-    if digits.len() > ADDRESS_DIGITS || !digits.bytes().all(|byte| byte.is_ascii_hexdigit()) {
-        return None;
-    }
-    u64::from_str_radix(digits, 16).ok()
 }
 
 /// The number of bytes that decimal digits give, 1 to 4,096.
@@ -196,16 +176,4 @@ pub(crate) fn map_words<'a>(alloc: Global, found: &ArgMatches<'a>) -> Result<Map
         window,
         files: files_of(alloc, found)?,
     })
-}
-
-/// clap's error for a bad value, in the form of its own.
-pub(crate) fn bad_value(alloc: Global, bad: BadValue<'_>) -> Result<Error, AllocError> {
-    let BadValue {
-        value,
-        argument,
-        reason,
-    } = bad;
-    let message = format!(in alloc; "invalid value '{value}' for '{argument}': {reason}")?;
-    let mut command = map_command(alloc)?.bin_name("petool map")?;
-    command.error(ErrorKind::ValueValidation, message.as_str())
 }

@@ -14,12 +14,16 @@ pub(crate) enum Part<'a> {
     Text(&'a [u8]),
     /// A text in double quotes.
     Quoted(&'a [u8]),
+    /// A blank and a name, where there is one.
+    Name(Option<&'a [u8]>),
     /// A number in decimal.
     Decimal(u64),
     /// A number in 2 hexadecimal digits.
     Hex2(u8),
-    /// A number in 8 hexadecimal digits.
-    Hex8(u32),
+    /// A number in 4 hexadecimal digits.
+    Hex4(u16),
+    /// A number in 8 hexadecimal digits; of a greater one the last 8.
+    Hex8(u64),
     /// A number in 16 hexadecimal digits.
     Hex16(u64),
 }
@@ -32,9 +36,15 @@ fn write_part<W: Sink>(line: &mut TextWriter<W>, part: &Part)
     match part {
         Part::Text(bytes) => line.text(bytes),
         Part::Quoted(text) => line.quoted(text),
+        Part::Name(None) => {}
+        Part::Name(Some(name)) => {
+            line.text(b" ");
+            line.text(name);
+        }
         Part::Decimal(number) => line.decimal(*number),
         Part::Hex2(number) => line.hex(2, u64::from(*number)),
-        Part::Hex8(number) => line.hex(8, u64::from(*number)),
+        Part::Hex4(number) => line.hex(4, u64::from(*number)),
+        Part::Hex8(number) => line.hex(8, *number),
         Part::Hex16(number) => line.hex(16, *number),
     }
 }

@@ -1,17 +1,21 @@
 ghost use Rattle.std.specs.Prelude.{◌≡◌, ◌<◌, ℕ, List, length, IfOk, OnErr};
 ghost use Rattle.pe_tool.specs.declared.outcome.Outcome.{Outcome};
 ghost use Rattle.pe_tool.specs.TextWriter.{IsReady, Adds};
-ghost use Rattle.pe_tool.specs.Refusal.{IsRefusal};
-ghost use Rattle.pe_tool.specs.Engine.{IsCheckText, IsDumpText};
+ghost use Rattle.pe_tool.specs.FaultLine.{fault_line};
+ghost use Rattle.pe_tool.specs.Engine.{IsCheckText, IsDumpText, IsObjectText};
 
 use crate::device::Sink;
 use crate::dump_lines::write_dump;
 use crate::fault_line::write_fault_line;
 use crate::format::write_accepted_line;
+use crate::object_lines::write_object;
 use crate::outcome::Outcome;
 use crate::text_writer::TextWriter;
+use coff_object::laws::symbols_fill_the_table;
+use coff_object::{ObjectError, read_object};
 use pe_image::read_image;
 use pe_tables::TableError;
+use pe_view::Fault;
 use std::alloc::{AllocError, Allocator};
 
 /// What an engine says of a file.
@@ -33,18 +37,14 @@ pub(crate) trait Report {
         ensures reads { OnErr result (0 < length file.now) };
 }
 
-/// Adds the line of a fault, and passes want of memory on.
-fn refuse<W: Sink>(text: &mut TextWriter<W>, error: TableError) -> Result<Outcome, AllocError>
+/// Adds the line of a fault.
+pub(crate) fn refuse<W: Sink>(text: &mut TextWriter<W>, fault: Fault) -> Outcome
     requires { IsReady W.failures text.old }
-    ensures { IsRefusal W.taken W.failures text.old text.new error result }
+    ensures adds { Adds W.taken W.failures text.old text.new (fault_line fault) }
+    ensures outcome { result ≡ Outcome.Refused fault }
 {
-    match error {
-        TableError::Fault(fault) => {
-            write_fault_line(text, &fault);
-            Ok(Outcome::Refused(fault))
-        }
-        TableError::Memory => Err(AllocError),
-    }
+    write_fault_line(text, &fault);
+    Outcome::Refused(fault)
 }
 
 /// The report of `check`: the line of an accepted image, or its first fault.
@@ -63,7 +63,8 @@ impl Report for Check {
                 write_accepted_line(text, image.layout.headers());
                 Ok(Outcome::Done)
             }
-            Err(error) => refuse(text, error),
+            Err(TableError::Fault(fault)) => Ok(refuse(text, fault)),
+            Err(TableError::Memory) => Err(AllocError),
         }
     }
 }
@@ -84,7 +85,31 @@ impl Report for Dump {
                 write_dump(text, &image);
                 Ok(Outcome::Done)
             }
-            Err(error) => refuse(text, error),
+            Err(TableError::Fault(fault)) => Ok(refuse(text, fault)),
+            Err(TableError::Memory) => Err(AllocError),
+        }
+    }
+}
+
+/// The report of `dump_object`: what an accepted object holds, or its first fault.
+pub(crate) struct DumpObject;
+
+impl Report for DumpObject {
+    ghost is_text = { IsObjectText };
+
+    fn write<A: Allocator + Copy, W: Sink>(
+        alloc: A,
+        text: &mut TextWriter<W>,
+        file: &[u8],
+    ) -> Result<Outcome, AllocError> {
+        symbols_fill_the_table();
+        match read_object(alloc, file) {
+            Ok(object) => {
+                write_object(text, &object);
+                Ok(Outcome::Done)
+            }
+            Err(ObjectError::Fault(fault)) => Ok(refuse(text, fault)),
+            Err(ObjectError::Memory) => Err(AllocError),
         }
     }
 }

@@ -10,17 +10,15 @@ ghost use Rattle.pe_space.specs.SetContent.{content_of, defined_byte};
 ghost use Rattle.pe_space.specs.Content.{byte_at};
 ghost use Rattle.pe_tool.specs.Engine.{Puts};
 ghost use Rattle.pe_tool.specs.TextWriter.{IsReady, Adds};
-ghost use Rattle.pe_tool.specs.FaultLine.{fault_line};
 ghost use Rattle.pe_tool.specs.MapReport.{map_text, window_fault, IsMapText};
 
 use crate::device::Sink;
-use crate::fault_line::write_fault_line;
 use crate::map_lines::{write_bindings, write_images, write_window};
 use crate::outcome::{Outcome, ToolError};
+use crate::report::refuse;
 use crate::text_writer::TextWriter;
 use crate::window::window_fault;
 use pe_space::{MapError, Policy, SetEntry, Space, open_space};
-use pe_view::Fault;
 use std::alloc::{AllocError, Allocator};
 
 /// Adds the report of a space that was mapped from a set.
@@ -44,16 +42,6 @@ fn write_space<S: Space, W: Sink>(
         write_window(text, space, address, count);
     }
     text.text(b"end\n");
-}
-
-/// Adds the line of a fault.
-fn refuse<W: Sink>(text: &mut TextWriter<W>, fault: Fault) -> Outcome
-    requires { IsReady W.failures text.old }
-    ensures adds { Adds W.taken W.failures text.old text.new (fault_line fault) }
-    ensures outcome { result ≡ Outcome.Refused fault }
-{
-    write_fault_line(text, &fault);
-    Outcome::Refused(fault)
 }
 
 /// Judges a set and a window, and only then adds the text. Where memory is refused it adds nothing.

@@ -19,7 +19,7 @@ pub(crate) struct TextWriter<'w, W: Sink> {
 }
 
 /// Writes the whole piece, in as many calls as the sink needs.
-fn write_all<W: Sink>(writer: &mut W, piece: &[u8]) -> Result<(), Failed>
+pub(crate) fn write_all<W: Sink>(writer: &mut W, piece: &[u8]) -> Result<(), Failed>
     requires { W.failures writer.old < 2 ^ 64 - 1 }
     ensures { WritesAll (W.taken writer.old) (W.taken writer.new)
         (W.failures writer.old) (W.failures writer.new) result piece.now }

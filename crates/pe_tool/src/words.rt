@@ -1,6 +1,8 @@
 //! The words of the command line.
 
-use crate::map_words::{MapFile, MapWords, NoMap, bad_value, map_command, map_words};
+use crate::map_words::{MapFile, MapWords, NoMap, map_command, map_words};
+use crate::rebase_words::{base_of, rebase_command};
+use crate::word_values::bad_value;
 use clap::error::ErrorKind;
 use clap::{Arg, ArgMatches, Command, Error};
 use pe_space::Policy;
@@ -16,6 +18,18 @@ pub enum Job {
     /// `dump FILE`: write what the headers and tables of an image hold.
     Dump {
         file: String,
+    },
+    /// `object FILE`: write what an object holds.
+    Object {
+        file: String,
+    },
+    /// `rebase HEX IN OUT`: write the file of an image at another base.
+    Rebase {
+        base: u64,
+        /// Where the image's file is.
+        source: String,
+        /// Where the new file is to be.
+        target: String,
     },
     /// `map HEX=FILE...`: map images at their bases, and write where they stand, what their slots are bound to, and the bytes
     /// of a window: the address of its first byte, and how many it has.
@@ -48,10 +62,9 @@ fn file_command<'a>(
     alloc: Global,
     name: &'a str,
     about: &'a str,
+    file: &'a str,
 ) -> Result<Command<'a>, AllocError> {
-    let file = Arg::new(alloc, "FILE")
-        .required(true)
-        .help("The image's file");
+    let file = Arg::new(alloc, "FILE").required(true).help(file);
     Command::new(alloc, name).about(about).arg(file)
 }
 
@@ -61,21 +74,33 @@ fn command<'a>(alloc: Global) -> Result<Command<'a>, AllocError> {
         alloc,
         "check",
         "Prints one line: that the image is accepted, with its form and its number of sections, or its first fault",
+        "The image's file",
     )?;
     let dump = file_command(
         alloc,
         "dump",
         "Prints the fields of the image's headers, its directories, sections, exports, imports and base relocations, a line each, or its first fault",
+        "The image's file",
+    )?;
+    let object = file_command(
+        alloc,
+        "object",
+        "Prints what a COFF object holds, a line for each section, relocation, symbol and auxiliary record, or its first fault",
+        "The object's file",
     )?;
     Command::new(alloc, "petool")
-        .about("Reads PE images: judges them, shows what they hold, and maps them")
+        .about(
+            "Reads PE images and COFF objects: judges them, shows what they hold, maps images, and writes them at other bases",
+        )
         .bin_name("petool")?
         .no_binary_name(true)
         .subcommand_required(true)
         .arg_required_else_help(true)
         .subcommand(check)?
         .subcommand(dump)?
-        .subcommand(map_command(alloc)?)
+        .subcommand(object)?
+        .subcommand(map_command(alloc)?)?
+        .subcommand(rebase_command(alloc)?)
 }
 
 /// What the program prints where clap finds no job in the words.
@@ -90,8 +115,8 @@ fn refusal(alloc: Global, error: Error) -> WordsError {
 }
 
 /// The file that a subcommand names.
-fn file_of(alloc: Global, found: &ArgMatches<'_>) -> Result<String, AllocError> {
-    String::from_str(alloc, found.get_str("FILE").unwrap_or(""))
+fn file_of(alloc: Global, found: &ArgMatches<'_>, name: &str) -> Result<String, AllocError> {
+    String::from_str(alloc, found.get_str(name).unwrap_or(""))
 }
 
 /// What words of `map` ask for.
@@ -108,8 +133,26 @@ fn map_job(alloc: Global, found: &ArgMatches<'_>) -> Result<Job, WordsError> {
             window,
             files,
         }),
-        Err(NoMap::Bad(bad)) => Err(refusal(alloc, bad_value(alloc, bad)?)),
+        Err(NoMap::Bad(bad)) => {
+            let command = map_command(alloc)?.bin_name("petool map")?;
+            Err(refusal(alloc, bad_value(alloc, command, bad)?))
+        }
         Err(NoMap::Memory) => Err(WordsError::Memory),
+    }
+}
+
+/// What words of `rebase` ask for.
+fn rebase_job(alloc: Global, found: &ArgMatches<'_>) -> Result<Job, WordsError> {
+    match base_of(found) {
+        Ok(base) => Ok(Job::Rebase {
+            base,
+            source: file_of(alloc, found, "IN")?,
+            target: file_of(alloc, found, "OUT")?,
+        }),
+        Err(bad) => {
+            let command = rebase_command(alloc)?.bin_name("petool rebase")?;
+            Err(refusal(alloc, bad_value(alloc, command, bad)?))
+        }
     }
 }
 
@@ -123,12 +166,16 @@ pub fn parse_words(alloc: Global, words: &[String]) -> Result<Job, WordsError> {
     };
     match found.subcommand() {
         Some(("check", inner)) => Ok(Job::Check {
-            file: file_of(alloc, inner)?,
+            file: file_of(alloc, inner, "FILE")?,
         }),
         Some(("dump", inner)) => Ok(Job::Dump {
-            file: file_of(alloc, inner)?,
+            file: file_of(alloc, inner, "FILE")?,
+        }),
+        Some(("object", inner)) => Ok(Job::Object {
+            file: file_of(alloc, inner, "FILE")?,
         }),
         Some(("map", inner)) => map_job(alloc, inner),
+        Some(("rebase", inner)) => rebase_job(alloc, inner),
         // clap has refused all other words
         _ => Err(WordsError::Bad(String::from_str(alloc, "error: no command\n")?)),
     }

@@ -1,0 +1,86 @@
+//! A file at another base, to one output, and a line that tells of it, to another.
+
+ghost use Rattle.std.specs.Prelude.{◌-◌, ◌^◌, ◌<◌, ◌⊎◌, ◌↔◌, IsErrOf};
+ghost use Rattle.pe_tool.specs.TextWriter.{IsReady, Adds};
+ghost use Rattle.pe_tool.specs.RebaseRun.{PutsLine, RebaseRan, outcome_line, rebased_line};
+
+use crate::device::{Sink, Source};
+use crate::fault_line::write_fault_line;
+use crate::outcome::{Outcome, ToolError};
+use crate::part::Part::{Hex16, Text};
+use crate::part::write_parts;
+use crate::text_writer::{TextWriter, write_all};
+use crate::whole_file::read_whole;
+use pe_write::{WriteError, rebase_file};
+use std::alloc::Allocator;
+
+/// Adds the line `rebased` with the base.
+#[tactic(auto, unfolding(crate::specs::RebaseRun::rebased_line))]
+fn write_rebased_line<W: Sink>(line: &mut TextWriter<W>, base: u64)
+    requires { IsReady W.failures line.old }
+    ensures { Adds W.taken W.failures line.old line.new (rebased_line base) }
+{
+    write_parts(line, &[Text(b"rebased 0x"), Hex16(base), Text(b"\n")]);
+}
+
+/// Adds the line of an outcome.
+fn write_outcome<W: Sink>(line: &mut TextWriter<W>, base: u64, outcome: &Outcome)
+    requires { IsReady W.failures line.old }
+    ensures { Adds W.taken W.failures line.old line.new (outcome_line base outcome.now) }
+{
+    match outcome {
+        Outcome::Done => write_rebased_line(line, base),
+        Outcome::Refused(fault) => write_fault_line(line, fault),
+    }
+}
+
+/// Writes the line of an outcome, which is the answer.
+fn tell<W: Sink>(writer: &mut W, base: u64, outcome: Outcome) -> Result<Outcome, ToolError>
+    requires { W.failures writer.old < 2 ^ 64 - 1 }
+    ensures { PutsLine base outcome (record { taken = W.taken writer.old; taken' = W.taken writer.new; count = W.failures writer.old; count' = W.failures writer.new }) result }
+{
+    let mut text = TextWriter::new(writer);
+    write_outcome(&mut text, base, &outcome);
+    match text.finish() {
+        Ok(()) => Ok(outcome),
+        Err(_) => Err(ToolError::Write),
+    }
+}
+
+/// Writes the file of an image that is to stand at another base, which `pe_write::rebase_file` makes of the file that the reader
+/// gives, to `out`, and then the line `rebased 0x` and 16 digits of the base to `writer`; or the line of the first fault to
+/// `writer`, and nothing to `out`.
+///
+/// The reader is read to its end, or to 2^32 + 1 bytes; then all faults are asked, and only then anything is written. After
+/// `Write` either `out` got a beginning of the new file, and `writer` nothing, or `out` got all that it should and `writer` a
+/// beginning of its line: the output that failed is the one that counts a failure more. After `Read` and `Memory` nothing was
+/// written; `Memory` never comes where the reader gave no byte. Condition: fewer than 2^64 - 1 failures are counted on each
+/// device so far.
+pub fn rebase<A: Allocator + Copy, R: Source, O: Sink, W: Sink>(
+    alloc: A,
+    reader: &mut R,
+    base: u64,
+    out: &mut O,
+    writer: &mut W,
+) -> Result<Outcome, ToolError>
+    requires reads { R.failures reader.old < 2 ^ 64 - 1 }
+    requires outs { O.failures out.old < 2 ^ 64 - 1 }
+    requires writes { W.failures writer.old < 2 ^ 64 - 1 }
+    ensures ran { RebaseRan base (R.given reader.old) (R.given reader.new)
+        (record { taken = O.taken out.old; taken' = O.taken out.new; count = O.failures out.old; count' = O.failures out.new })
+        (record { taken = W.taken writer.old; taken' = W.taken writer.new; count = W.failures writer.old; count' = W.failures writer.new })
+        (R.ended reader.new) result }
+    ensures read { IsErrOf result ToolError.Read ↔ (R.failures reader.old < R.failures reader.new) }
+    ensures write { IsErrOf result ToolError.Write ↔ ((O.failures out.old < O.failures out.new) ⊎ (W.failures writer.old < W.failures writer.new)) }
+{
+    let file = read_whole(alloc, reader)?;
+    let bytes = match rebase_file(alloc, &file, base) {
+        Ok(bytes) => bytes,
+        Err(WriteError::Fault(fault)) => return tell(writer, base, Outcome::Refused(fault)),
+        Err(WriteError::Memory) => return Err(ToolError::Memory),
+    };
+    match write_all(out, &bytes) {
+        Ok(()) => tell(writer, base, Outcome::Done),
+        Err(_) => Err(ToolError::Write),
+    }
+}
