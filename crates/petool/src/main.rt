@@ -1,10 +1,13 @@
-//! `petool` reads Portable Executable images. The engines of the library `pe_tool` do the work; this program opens the
-//! files, prints their texts on standard output, and exits with their statuses.
+//! `petool` reads Portable Executable images and COFF objects. The engines of the library `pe_tool` do the work; this program
+//! opens the files, prints their texts on standard output, and exits with their statuses.
 #![tactic(auto)]
 
+mod late_file;
+
+use crate::late_file::{LateFile, is_same_file};
 use pe_tool::{
     Counted, Job, MapFile, Outcome, Policy, SetEntry, ToolError, WordsError, check, dump,
-    map_report, parse_words, read_whole, status,
+    dump_object, map_report, parse_words, read_whole, rebase, status,
 };
 use std::alloc::{AllocError, Allocator};
 use std::io::{BufWriter, ErrorKind, Read, Write};
@@ -14,6 +17,9 @@ use std::{env, fs, io};
 
 /// How many bytes of standard output are held before they are written.
 const OUTPUT_BUFFER: usize = 1 << 16;
+
+/// How many bytes of a single line are held before they are written.
+const LINE_BUFFER: usize = 1 << 8;
 
 /// The exit status where help was printed.
 const DONE: u8 = 0;
@@ -27,13 +33,19 @@ const DEVICE_FAILED: u8 = 3;
 /// The exit status where memory was refused.
 const OUT_OF_MEMORY: u8 = 4;
 
+/// The engines that read one file.
+#[derive(Clone, Copy)]
+enum Engine {
+    Check,
+    Dump,
+    Object,
+}
+
 /// What to print, and of what.
 #[derive(Drop)]
 enum Text<'a, F> {
-    /// The text of `check`, of an open file.
-    Check(F),
-    /// The text of `dump`, of an open file.
-    Dump(F),
+    /// The text of an engine, of an open file.
+    File(Engine, F),
     /// The report of `map`.
     Map {
         set: &'a [SetEntry<'a>],
@@ -50,8 +62,14 @@ fn write_text<A: Allocator + Copy>(
 ) -> Result<Outcome, ToolError> {
     let mut writer = Counted::new(writer);
     match text {
-        Text::Check(file) => check(alloc, &mut Counted::new(file), &mut writer),
-        Text::Dump(file) => dump(alloc, &mut Counted::new(file), &mut writer),
+        Text::File(engine, file) => {
+            let mut reader = Counted::new(file);
+            match engine {
+                Engine::Check => check(alloc, &mut reader, &mut writer),
+                Engine::Dump => dump(alloc, &mut reader, &mut writer),
+                Engine::Object => dump_object(alloc, &mut reader, &mut writer),
+            }
+        }
         Text::Map {
             set,
             policy,
@@ -94,24 +112,13 @@ fn tell(rt: &impl Eprint, subject: &str, answer: Result<Outcome, ToolError>) -> 
     status(&answer)
 }
 
-/// Judges a file, and answers the exit status.
-fn run_check<R: Files + Print + Eprint + Alloc>(rt: &R, path: &str) -> u8
+/// Runs an engine over a file, and answers the exit status.
+fn run_file<R: Files + Print + Eprint + Alloc>(rt: &R, engine: Engine, path: &str) -> u8
 where
     R::A: Copy,
 {
     match open(rt, path) {
-        Ok(file) => tell(rt, path, print_text(rt, Text::Check(file))),
-        Err(status) => status,
-    }
-}
-
-/// Dumps a file, and answers the exit status.
-fn run_dump<R: Files + Print + Eprint + Alloc>(rt: &R, path: &str) -> u8
-where
-    R::A: Copy,
-{
-    match open(rt, path) {
-        Ok(file) => tell(rt, path, print_text(rt, Text::Dump(file))),
+        Ok(file) => tell(rt, path, print_text(rt, Text::File(engine, file))),
         Err(status) => status,
     }
 }
@@ -187,6 +194,56 @@ where
     tell(rt, "map", print_text(rt, text))
 }
 
+/// Writes the file of an image at another base and then its line, and answers the engine's answer.
+fn print_rebase<R: Files + Print + Alloc>(
+    rt: &R,
+    base: u64,
+    source: R::File,
+    target: &mut LateFile<'_, R>,
+) -> Result<Outcome, ToolError>
+where
+    R::A: Copy,
+{
+    let Ok(mut output) = BufWriter::with_capacity(rt.alloc(), LINE_BUFFER, io::writer(rt)) else {
+        return Err(ToolError::Memory);
+    };
+    let answer = rebase(
+        rt.alloc(),
+        &mut Counted::new(source),
+        base,
+        &mut Counted::new(target),
+        &mut Counted::new(&mut output),
+    );
+    match output.flush() {
+        Ok(()) => answer,
+        Err(_) => Err(ToolError::Write),
+    }
+}
+
+/// Writes the file of an image at another base, and answers the exit status.
+fn run_rebase<R: Files + Print + Eprint + Alloc>(
+    rt: &R,
+    base: u64,
+    source: &str,
+    target: &str,
+) -> u8
+where
+    R::A: Copy,
+{
+    let file = match open(rt, source) {
+        Ok(file) => file,
+        Err(status) => return status,
+    };
+    if is_same_file(rt, source, target) {
+        let _ = eprintln!(rt; "petool: {target}: is the file that is read");
+        return DEVICE_FAILED;
+    }
+    let mut late = LateFile::new(rt, target);
+    let answer = print_rebase(rt, base, file, &mut late);
+    let subject = if late.has_failed() { target } else { source };
+    tell(rt, subject, answer)
+}
+
 /// Why the command line gives no words.
 enum NoWords {
     /// A word is no text.
@@ -246,8 +303,9 @@ fn run<R: Files + Env + Print + Eprint + AllocGlobal>(rt: &R) -> u8 {
         Err(error) => return refuse_command_line(rt, error),
     };
     match parse_words(rt.alloc(), &words) {
-        Ok(Job::Check { file }) => run_check(rt, file.as_str()),
-        Ok(Job::Dump { file }) => run_dump(rt, file.as_str()),
+        Ok(Job::Check { file }) => run_file(rt, Engine::Check, file.as_str()),
+        Ok(Job::Dump { file }) => run_file(rt, Engine::Dump, file.as_str()),
+        Ok(Job::Object { file }) => run_file(rt, Engine::Object, file.as_str()),
         Ok(
             Job::Map {
                 policy,
@@ -255,6 +313,13 @@ fn run<R: Files + Env + Print + Eprint + AllocGlobal>(rt: &R) -> u8 {
                 files,
             },
         ) => run_map(rt, policy, window, &files),
+        Ok(
+            Job::Rebase {
+                base,
+                source,
+                target,
+            },
+        ) => run_rebase(rt, base, source.as_str(), target.as_str()),
         Err(error) => refuse_words(rt, error),
     }
 }

@@ -1,7 +1,7 @@
 //! What the program prints, on which of its outputs, and its exit status.
 
 use super::*;
-use fake::{Fake, Stored};
+use fake::{Fake, Stored, Target};
 use linked_list_allocator::LocalHeap;
 use std::process::Abort;
 use std::test::Fail;
@@ -21,6 +21,8 @@ const HEADERS: &[u8] = b"\
 const CHECK: &[&[u8]] = &[b"petool", b"check", b"a.dll"];
 
 const DUMP: &[&[u8]] = &[b"petool", b"dump", b"a.dll"];
+
+const OBJECT: &[&[u8]] = &[b"petool", b"object", b"a.dll"];
 
 const MAP: &[&[u8]] = &[b"petool", b"map", b"10000000=a.dll"];
 
@@ -81,6 +83,22 @@ fn each_end_has_its_status_and_its_text(rt: HostRuntime) -> Result<(), Fail> {
             is_full: false,
             status: 1,
             printed: "fault 2 image 0 file 0x00000000\n",
+            complained: "",
+        },
+        Case {
+            words: OBJECT,
+            file: Stored::Bytes(b"\x64\x86\0\0\x78\x56\x34\x12\0\0\0\0\0\0\0\0\0\0\x04\0"),
+            is_full: false,
+            status: 0,
+            printed: "Machine 0x8664 AMD64\nTimeDateStamp 0x12345678\nCharacteristics 0x0004\nend\n",
+            complained: "",
+        },
+        Case {
+            words: OBJECT,
+            file: Stored::Bytes(HEADERS),
+            is_full: false,
+            status: 1,
+            printed: "fault 62 image 0 file 0x00000000\n",
             complained: "",
         },
         Case {
@@ -200,6 +218,106 @@ fn each_end_of_map_has_its_status_and_its_text(rt: HostRuntime) -> Result<(), Fa
     assert_ends(&rt, &cases)
 }
 
+const REBASE: &[&[u8]] = &[b"petool", b"rebase", b"20000000", b"a.dll", b"new.dll"];
+
+/// What the program is to do where it writes a file.
+#[derive(Clone, Copy)]
+struct RebaseCase {
+    words: &'static [&'static [u8]],
+    file: Stored,
+    target: Target,
+    is_full: bool,
+    status: u8,
+    printed: &'static str,
+    complained: &'static str,
+    /// The target is made.
+    is_made: bool,
+}
+
+/// A case without a failure.
+const REBASED: RebaseCase = RebaseCase {
+    words: REBASE,
+    file: Stored::Bytes(HEADERS),
+    target: Target::Open,
+    is_full: false,
+    status: 0,
+    printed: "rebased 0x0000000020000000\n",
+    complained: "",
+    is_made: true,
+};
+
+#[test]
+fn each_end_of_rebase_has_its_status_and_its_text(rt: HostRuntime) -> Result<(), Fail> {
+    let cases = [
+        REBASED,
+        // a refused file leaves the target unmade
+        RebaseCase {
+            words: &[b"petool", b"rebase", b"20000001", b"a.dll", b"new.dll"],
+            status: 1,
+            printed: "fault 44 image 0 address 0x0000000020000001\n",
+            is_made: false,
+            ..REBASED
+        },
+        RebaseCase {
+            target: Target::Full,
+            status: 3,
+            printed: "",
+            complained: "petool: new.dll: writing failed\n",
+            ..REBASED
+        },
+        RebaseCase {
+            target: Target::Closed,
+            status: 3,
+            printed: "",
+            complained: "petool: new.dll: writing failed\n",
+            is_made: false,
+            ..REBASED
+        },
+        RebaseCase {
+            file: Stored::Broken,
+            status: 3,
+            printed: "",
+            complained: "petool: a.dll: reading failed\n",
+            is_made: false,
+            ..REBASED
+        },
+        RebaseCase {
+            words: &[b"petool", b"rebase", b"20000000", b"b.dll", b"new.dll"],
+            status: 3,
+            printed: "",
+            complained: "petool: b.dll: cannot be opened: no such file\n",
+            is_made: false,
+            ..REBASED
+        },
+        RebaseCase {
+            words: &[b"petool", b"rebase", b"20000000", b"a.dll", b"a.dll"],
+            status: 3,
+            printed: "",
+            complained: "petool: a.dll: is the file that is read\n",
+            is_made: false,
+            ..REBASED
+        },
+        // the line comes after the file
+        RebaseCase {
+            is_full: true,
+            status: 3,
+            printed: "",
+            complained: "petool: a.dll: writing failed\n",
+            ..REBASED
+        },
+    ];
+    for case in cases {
+        let mut system = Fake::new(rt.alloc(), case.words, case.file);
+        system.target = case.target;
+        system.is_full = case.is_full;
+        assert_eq!(rt; run(&system), case.status);
+        assert_eq!(rt; system.printed()?.as_str(), case.printed);
+        assert_eq!(rt; system.complained()?.as_str(), case.complained);
+        assert_eq!(rt; system.is_made()?, case.is_made);
+    }
+    Ok(())
+}
+
 #[test]
 fn help_goes_to_standard_output(rt: HostRuntime) -> Result<(), Fail> {
     let system = Fake::new(rt.alloc(), &[b"petool", b"--help"], Stored::Broken);
@@ -216,7 +334,7 @@ fn want_of_memory_is_told(rt: HostRuntime) -> Result<(), Fail> {
     for size in [1 << 10, OUTPUT_BUFFER + 64] {
         let heap = LocalHeap::new(rt.alloc(), size)?;
         let system = Fake::new(rt.alloc(), CHECK, Stored::Bytes(HEADERS));
-        assert_eq!(rt; run_check(&(&system, &heap), "a.dll"), 4);
+        assert_eq!(rt; run_file(&(&system, &heap), Engine::Check, "a.dll"), 4);
         assert_eq!(rt; system.printed()?.as_str(), "");
         assert_eq!(rt;
             system.complained()?.as_str(),

@@ -20,14 +20,28 @@ pub(super) enum Stored {
     Broken,
 }
 
-/// A system with one file, `a.dll`.
+/// What a file that is to be written does.
+#[derive(Clone, Copy)]
+pub(super) enum Target {
+    /// It takes all that it is given.
+    Open,
+    /// Each write fails.
+    Full,
+    /// It cannot be made.
+    Closed,
+}
+
+/// A system with one file, `a.dll`, and room for another, `new.dll`.
 #[derive(Drop)]
 pub(super) struct Fake {
     alloc: Global,
     pub words: &'static [&'static [u8]],
     pub file: Stored,
+    pub target: Target,
     /// Standard output takes nothing.
     pub is_full: bool,
+    /// `new.dll` was made.
+    made: RefCell<bool>,
     printed: RefCell<String>,
     complained: RefCell<String>,
 }
@@ -39,7 +53,9 @@ impl Fake {
             alloc,
             words,
             file,
+            target: Target::Closed,
             is_full: false,
+            made: RefCell::new(false),
             printed: RefCell::new(String::new(alloc)),
             complained: RefCell::new(String::new(alloc)),
         }
@@ -48,6 +64,26 @@ impl Fake {
     /// What is on standard output.
     pub fn printed(&self) -> io::Result<String> {
         copy_of(self.alloc, &self.printed)
+    }
+
+    /// Whether `new.dll` was made.
+    pub fn is_made(&self) -> io::Result<bool> {
+        match self.made.try_borrow() {
+            Ok(made) => Ok(*made),
+            Err(_) => Err(Error::from(ErrorKind::ResourceBusy)),
+        }
+    }
+
+    /// Makes `new.dll`.
+    fn make(&self) -> io::Result<Opened> {
+        match (self.target, self.made.try_borrow_mut()) {
+            (Target::Closed, _) => Err(Error::from(ErrorKind::PermissionDenied)),
+            (target, Ok(mut made)) => {
+                *made = true;
+                Ok(Opened::Target(target))
+            }
+            (_, Err(_)) => Err(Error::from(ErrorKind::ResourceBusy)),
+        }
     }
 
     /// What is on standard error.
@@ -138,20 +174,26 @@ impl Eprint for Fake {
 
 /// An open file.
 #[derive(Drop)]
-pub(super) struct Opened(Stored);
+pub(super) enum Opened {
+    Source(Stored),
+    Target(Target),
+}
 
 impl Read for Opened {
     fn read(&mut self, buf: &mut [u8]) -> io::Result<usize> {
-        match &mut self.0 {
-            Stored::Bytes(left) => left.read(buf),
-            Stored::Broken => Err(Error::from(ErrorKind::Other)),
+        match self {
+            Opened::Source(Stored::Bytes(left)) => left.read(buf),
+            _ => Err(Error::from(ErrorKind::Other)),
         }
     }
 }
 
 impl Write for Opened {
-    fn write(&mut self, _buf: &[u8]) -> io::Result<usize> {
-        unsupported()
+    fn write(&mut self, buf: &[u8]) -> io::Result<usize> {
+        match self {
+            Opened::Target(Target::Open) => Ok(buf.len()),
+            _ => Err(Error::from(ErrorKind::StorageFull)),
+        }
     }
 
     fn flush(&mut self) -> io::Result<()> {
@@ -189,10 +231,10 @@ impl Files for Fake {
     type Dir = Empty;
 
     fn open_file(&self, _how: &OpenOptions, path: &str) -> io::Result<Opened> {
-        if path == "a.dll" {
-            Ok(Opened(self.file))
-        } else {
-            Err(Error::new(ErrorKind::NotFound, "no such file"))
+        match path {
+            "a.dll" => Ok(Opened::Source(self.file)),
+            "new.dll" => self.make(),
+            _ => Err(Error::new(ErrorKind::NotFound, "no such file")),
         }
     }
 
