@@ -160,7 +160,7 @@ pub(super) fn fault_of(error: Option<ObjectError>) -> Option<Fault> {
 type Case = (usize, &'static [Piece], Option<(u16, u64)>);
 
 /// O1 changed.
-fn changed(rt: &impl Abort, pieces: &[Piece]) -> [u8; 191] {
+pub(super) fn changed(rt: &impl Abort, pieces: &[Piece]) -> [u8; 191] {
     let mut file = *O1;
     put_pieces(rt, &mut file, pieces);
     file

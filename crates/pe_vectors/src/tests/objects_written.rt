@@ -499,6 +499,29 @@ fn a_section_has_at_most_65534_relocations(rt: HostRuntime) {
 }
 
 #[test]
+fn the_offset_of_a_sections_name_has_at_most_7_digits(rt: HostRuntime) {
+    let alloc = rt.alloc();
+    // behind the size field, the first name and its zero byte the second name stands at the first's length plus 5
+    for (length, expected) in [(9_999_994, None), (9_999_995, Some((82, 1)))] {
+        let long = Vec::from_elem(alloc, b'a', length).expect(&rt, "memory");
+        let sections = [
+            section(alloc, &long, RawData::Absent(0), 0),
+            section(alloc, b"/", RawData::Absent(0), 0),
+        ];
+        let object = with_sections(list(&rt, alloc, sections), Vec::new(alloc));
+        let written = write_object(alloc, &object);
+        if let Ok(file) = &written {
+            assert_holds(
+                &rt,
+                length,
+                bytes_from(&rt, file, 60).starts_with(b"/9999999"),
+            );
+        }
+        assert_fault(&rt, length, written.err(), expected);
+    }
+}
+
+#[test]
 fn a_file_of_4_gib_is_not_written(rt: HostRuntime) {
     let alloc = rt.alloc();
     let bytes = Vec::from_elem(alloc, 1, 0x10_0000).expect(&rt, "memory");

@@ -8,7 +8,7 @@ use super::files::{
 };
 use super::head::{COFF_FIELDS, Field, PE32_FIELDS, PE32_PLUS_FIELDS, distinct_bytes};
 use crate::{StepReader, StepWriter};
-use pe_tool::{Failed, Outcome, Sink, Source, ToolError, check, dump, status};
+use pe_tool::{Failed, Outcome, Sink, Source, ToolError, check, dump, dump_object, status};
 use std::alloc::Global;
 use std::process::Abort;
 
@@ -66,21 +66,22 @@ fn a_writer_takes_steps_until_its_room_is_full(rt: HostRuntime) {
 
 /// An engine that reads one file and writes a text.
 #[derive(Clone, Copy)]
-enum Engine {
+pub(super) enum Engine {
     Check,
     Dump,
+    Object,
 }
 
 /// How the reader and the writer of a run work: the most bytes a call, and the read and the write that fail.
 #[derive(Clone, Copy)]
-struct Devices {
+pub(super) struct Devices {
     step: usize,
     failing_read: Option<u64>,
     failing_write: Option<u64>,
 }
 
 /// Devices of which no call fails.
-fn steps_of(step: usize) -> Devices
+pub(super) fn steps_of(step: usize) -> Devices
     ensures { result.step ≡ step }
 {
     Devices {
@@ -91,7 +92,7 @@ fn steps_of(step: usize) -> Devices
 }
 
 /// What an engine answered, and the writer with what it wrote.
-fn run(
+pub(super) fn run(
     rt: &impl Abort,
     alloc: Global,
     engine: Engine,
@@ -107,6 +108,7 @@ fn run(
     let answer = match engine {
         Engine::Check => check(alloc, &mut reader, &mut writer),
         Engine::Dump => dump(alloc, &mut reader, &mut writer),
+        Engine::Object => dump_object(alloc, &mut reader, &mut writer),
     };
     (answer, writer)
 }
@@ -503,10 +505,16 @@ fn dump_escapes_what_is_not_plain_in_a_name(rt: HostRuntime) {
 }
 
 /// How many bytes devices give or take a call.
-const STEPS: &[usize] = &[1, 7, 64, 4096];
+pub(super) const STEPS: &[usize] = &[1, 7, 64, 4096];
 
 /// Asserts that an engine writes a text in any steps.
-fn assert_any_steps(rt: &impl Abort, alloc: Global, engine: Engine, file: &[u8], text: &str) {
+pub(super) fn assert_any_steps(
+    rt: &impl Abort,
+    alloc: Global,
+    engine: Engine,
+    file: &[u8],
+    text: &str,
+) {
     for step in STEPS {
         assert!(rt; *step > 0);
         assert_written(rt, alloc, engine, file, *step, text);
@@ -575,7 +583,13 @@ fn assert_writes_fail(rt: &impl Abort, alloc: Global, engine: Engine, file: &[u8
 }
 
 /// Asserts what an engine answers where each call of its devices fails in turn.
-fn assert_failures(rt: &impl Abort, alloc: Global, engine: Engine, file: &[u8], steps: &[usize]) {
+pub(super) fn assert_failures(
+    rt: &impl Abort,
+    alloc: Global,
+    engine: Engine,
+    file: &[u8],
+    steps: &[usize],
+) {
     for step in steps {
         assert!(rt; *step > 0);
         assert_reads_fail(rt, alloc, engine, file, *step);

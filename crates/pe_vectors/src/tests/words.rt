@@ -35,6 +35,7 @@ fn is_job(answer: &Result<Job, WordsError>, (command, name): Expected) -> bool {
     match answer {
         Ok(Job::Check { file }) => command == "check" && file.as_str() == name,
         Ok(Job::Dump { file }) => command == "dump" && file.as_str() == name,
+        Ok(Job::Object { file }) => command == "object" && file.as_str() == name,
         _ => false,
     }
 }
@@ -43,6 +44,7 @@ fn is_job(answer: &Result<Job, WordsError>, (command, name): Expected) -> bool {
 const JOBS: &[(&[&str], Expected)] = &[
     (&["check", "a.dll"], ("check", "a.dll")),
     (&["dump", "a.dll"], ("dump", "a.dll")),
+    (&["object", "a.obj"], ("object", "a.obj")),
     (&["check", "--", "--help"], ("check", "--help")),
 ];
 
@@ -67,6 +69,10 @@ const BAD: &[&[&str]] = &[
     &[""],
     &["check"],
     &["dump", "a", "b"],
+    &["object"],
+    &["rebase"],
+    &["rebase", "10", "a"],
+    &["rebase", "10", "a", "b", "c"],
     &["check", "--known", "a"],
     &["a.dll", "check"],
 ];
@@ -223,6 +229,65 @@ fn other_words_of_map_are_told(rt: HostRuntime) {
     }
 }
 
+/// Words of `rebase`, and what they ask for: a base and two files.
+const REBASES: &[(&[&str], u64, &str, &str)] = &[
+    (
+        &["rebase", "20000000", "a.dll", "b.dll"],
+        0x2000_0000,
+        "a.dll",
+        "b.dll",
+    ),
+    (
+        &["rebase", "0xFEDCba9876543210", "x=y", "a"],
+        0xfedc_ba98_7654_3210,
+        "x=y",
+        "a",
+    ),
+];
+
+/// Whether words ask to write a file at a base.
+fn is_rebase(answer: &Result<Job, WordsError>, at: u64, from: &str, to: &str) -> bool {
+    match answer {
+        Ok(
+            Job::Rebase {
+                base,
+                source,
+                target,
+            },
+        ) => *base == at && source.as_str() == from && target.as_str() == to,
+        _ => false,
+    }
+}
+
+#[test]
+fn words_of_rebase_are_a_job(rt: HostRuntime) {
+    for (index, (words, base, source, target)) in REBASES.iter().enumerate() {
+        let answer = parse(&rt, rt.alloc(), words);
+        assert_holds(&rt, index, is_rebase(&answer, *base, source, target));
+    }
+}
+
+#[test]
+fn other_bases_are_told(rt: HostRuntime) {
+    for (index, base) in ["0x", "g", "+10", "10000000000000000"].iter().enumerate() {
+        let answer = parse(&rt, rt.alloc(), &["rebase", base, "a", "b"]);
+        let Err(WordsError::Bad(text)) = &answer else {
+            assert_holds(&rt, index, false);
+            return;
+        };
+        assert_holds(
+            &rt,
+            index,
+            text.contains("' for '<HEX>': no base of 1 to 16 hexadecimal digits\n"),
+        );
+        assert_holds(
+            &rt,
+            index,
+            text.contains("Usage: petool rebase <HEX> <IN> <OUT>\n"),
+        );
+    }
+}
+
 /// The help of `check`.
 const CHECK_HELP: &str = "\
 Prints one line: that the image is accepted, with its form and its number of sections, or its first fault
@@ -247,6 +312,7 @@ fn is_help(answer: &Result<Job, WordsError>, part: &str) -> bool {
 /// Words, and a part of the help that they ask for.
 const HELP: &[(&[&str], &str)] = &[
     (&["dump", "--help"], "\n\nUsage: petool dump <FILE>\n\n"),
+    (&["object", "--help"], "\n\nUsage: petool object <FILE>\n\n"),
     (
         &["map", "-h"],
         "\n\nUsage: petool map [OPTIONS] <HEX=FILE>...\n\n",
@@ -255,9 +321,18 @@ const HELP: &[(&[&str], &str)] = &[
         &["map", "--help"],
         "\nExample:\n  petool map --window 10001000 --count 17 10000000=v1.dll\n",
     ),
+    (
+        &["rebase", "--help"],
+        "\n\nUsage: petool rebase <HEX> <IN> <OUT>\n\n",
+    ),
     (&["--help"], "Usage: petool <COMMAND>"),
-    (&["--help"], "\n  check  Prints one line"),
-    (&["--help"], "\n  dump   Prints the fields"),
+    (&["--help"], "\n  check   Prints one line"),
+    (&["--help"], "\n  dump    Prints the fields"),
+    (&["--help"], "\n  object  Prints what a COFF object holds"),
+    (
+        &["--help"],
+        "\n  rebase  Writes the file of an image that is to stand at another base",
+    ),
 ];
 
 #[test]
