@@ -7,6 +7,7 @@ pub mod Laid
 pub mod Mapped
 pub mod Listed
 pub mod NameFields
+pub mod Near
 pub mod Offsets
 pub mod ReadBack
 pub mod RecordPlaces

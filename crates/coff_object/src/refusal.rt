@@ -31,11 +31,14 @@ pub(crate) fn zero_in_sections<A: Allocator>(sections: &[ObjSection<A>]) -> Opti
     sections.iter().position(|section| has_zero(section.name))
 }
 
+/// The greatest offset of seven digits.
+const LAST_OFFSET: u64 = 9_999_999;
+
 /// Whether a section's name stands in the string table, too far for seven digits.
 fn is_far<A: Allocator + Copy>(strings: &StringTable<A>, section: &ObjSection<A>) -> bool
     ensures { result ≡ is_far (texts_in strings.now) (section_view section.now) }
 {
-    is_long_section_name(section.name) && strings.offset(section.name) > 9_999_999
+    is_long_section_name(section.name) && strings.offset(section.name) > LAST_OFFSET
 }
 
 /// The first section whose name's offset has more than seven digits.
@@ -45,6 +48,10 @@ pub(crate) fn far_section<A: Allocator + Copy>(
 ) -> Option<usize>
     ensures { result ≡ position (is_far (texts_in strings.now)) (map section_view sections.now) }
 {
+    // (a table that ends so near has no far text, and no text has to be looked up)
+    if strings.size() <= LAST_OFFSET {
+        return None;
+    }
     sections.iter().position(|section| is_far(strings, section))
 }
 

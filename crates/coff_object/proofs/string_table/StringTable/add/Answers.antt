@@ -15,15 +15,15 @@ pub invariant_of-self-2 : goal.invariant_of-self-2
 invariant_of-self-2 g c =
     let table = c.args.self.now in
     let new = sym (found-in c.args.text.now table.offsets.entries) ∙ sym c.contains_key.ensures ∙ c.if-contains_key.false in
-    let last = c.in_ok-insert.ensures.entries ∙ inserted_last c.args.text table.size table.offsets.entries new in
+    let last = c.in_ok-insert.ensures.entries ∙ inserted_last (record { bytes = c.args.text }) table.size table.offsets.entries new in
     let size = c.saturating_add-self.ensures ∙ ap (λ (n : ℕ). counted (n + 1)) c.saturating_add.ensures in
     record {
-      whole = subst (λ es. IsTable es c.saturating_add-self.result) (sym last) (with_more table.offsets.entries table.size c.args.text c.saturating_add-self.result table.whole size);
+      whole = subst (λ es. IsTable es c.saturating_add-self.result) (sym last) (with_more table.offsets.entries table.size (record { bytes = c.args.text }) c.saturating_add-self.result table.whole size);
     }
 
 pub returns : goal.returns
 returns g c =
     let table = c.args.self.now in
     let new = sym (found-in c.args.text.now table.offsets.entries) ∙ sym c.contains_key.ensures ∙ c.if-contains_key.false in
-    let last = c.in_ok-insert.ensures.entries ∙ inserted_last c.args.text table.size table.offsets.entries new in
-    rw new (ap texts_of last ∙ map-append (λ e. e.0.now) table.offsets.entries ((c.args.text, table.size) ∷ []))
+    let last = c.in_ok-insert.ensures.entries ∙ inserted_last (record { bytes = c.args.text }) table.size table.offsets.entries new in
+    rw new (ap texts_of last ∙ map-append (λ e. e.0.bytes.now) table.offsets.entries ((record { bytes = c.args.text }, table.size) ∷ []))
