@@ -17,6 +17,7 @@ mod objects;
 mod objects_written;
 mod outcome;
 mod rebased;
+mod refusals;
 mod reports;
 mod sets;
 mod spaces;

@@ -41,7 +41,7 @@ fn finds_names(exports: &Exports<'_, Global>) -> bool {
 }
 
 /// Whether two lists have the same exports by ordinal.
-fn same_ordinals(found: &[(u64, Target)], expected: &[(u64, Target)]) -> bool {
+pub(super) fn same_ordinals(found: &[(u64, Target)], expected: &[(u64, Target)]) -> bool {
     if found.len() != expected.len() {
         return false;
     }
@@ -56,7 +56,7 @@ fn same_ordinals(found: &[(u64, Target)], expected: &[(u64, Target)]) -> bool {
 }
 
 /// Whether two lists have the same exports by name.
-fn same_names(found: &[(&[u8], Target)], expected: &[(&[u8], Target)]) -> bool {
+pub(super) fn same_names(found: &[(&[u8], Target)], expected: &[(&[u8], Target)]) -> bool {
     if found.len() != expected.len() {
         return false;
     }

@@ -16,7 +16,7 @@ type Case = (
 );
 
 /// Whether two lists have the same imports.
-fn same_imports(found: &[Import], expected: &[Import]) -> bool {
+pub(super) fn same_imports(found: &[Import], expected: &[Import]) -> bool {
     if found.len() != expected.len() {
         return false;
     }

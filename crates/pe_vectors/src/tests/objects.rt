@@ -5,7 +5,7 @@ use coff_object::{
     Aux, ObjSection, Object, ObjectError, RawData, Relocation, Symbol, SymbolSection, read_object,
 };
 use pe_view::{Fault, Place};
-use std::alloc::Global;
+use std::alloc::{Allocator, Global};
 use std::process::Abort;
 
 /// O1: for AMD64, a section `.text$long` with one relocation, and four symbols.
@@ -40,7 +40,7 @@ pub(super) const O1: &[u8; 191] = &[
 ];
 
 /// The symbols of O1.
-const O1_SYMBOLS: [Symbol<'static>; 4] = [
+pub(super) const O1_SYMBOLS: [Symbol<'static>; 4] = [
     Symbol {
         name: b".file",
         value: 0,
@@ -110,17 +110,23 @@ pub(super) fn o1(rt: &impl Abort, alloc: Global, name: &'static [u8]) -> Object<
 }
 
 /// Whether two sections are equal.
-fn same_section(one: &ObjSection<'_, Global>, other: &ObjSection<'_, Global>) -> bool {
+fn same_section<A: Allocator, B: Allocator>(
+    one: &ObjSection<'_, A>,
+    other: &ObjSection<'_, B>,
+) -> bool {
     one.name == other.name
         && one.virtual_size == other.virtual_size
         && one.virtual_address == other.virtual_address
         && one.raw == other.raw
         && one.flags == other.flags
-        && one.relocations == other.relocations
+        && one.relocations.as_slice() == other.relocations.as_slice()
 }
 
 /// Whether two lists of sections are equal.
-fn same_sections(one: &[ObjSection<'_, Global>], other: &[ObjSection<'_, Global>]) -> bool {
+fn same_sections<A: Allocator, B: Allocator>(
+    one: &[ObjSection<'_, A>],
+    other: &[ObjSection<'_, B>],
+) -> bool {
     if one.len() != other.len() {
         return false;
     }
@@ -133,7 +139,10 @@ fn same_sections(one: &[ObjSection<'_, Global>], other: &[ObjSection<'_, Global>
 }
 
 /// Whether two objects are equal.
-pub(super) fn same_object(one: &Object<'_, Global>, other: &Object<'_, Global>) -> bool {
+pub(super) fn same_object<A: Allocator, B: Allocator>(
+    one: &Object<'_, A>,
+    other: &Object<'_, B>,
+) -> bool {
     if !same_sections(one.sections.as_slice(), other.sections.as_slice()) {
         return false;
     }

@@ -9,7 +9,7 @@ use super::files::{
 use super::head::{COFF_FIELDS, Field, PE32_FIELDS, PE32_PLUS_FIELDS, distinct_bytes};
 use crate::{StepReader, StepWriter};
 use pe_tool::{Failed, Outcome, Sink, Source, ToolError, check, dump, dump_object, status};
-use std::alloc::Global;
+use std::alloc::{Allocator, Global};
 use std::process::Abort;
 
 /// Whether a read answered with these bytes, or failed.
@@ -75,9 +75,9 @@ pub(super) enum Engine {
 /// How the reader and the writer of a run work: the most bytes a call, and the read and the write that fail.
 #[derive(Clone, Copy)]
 pub(super) struct Devices {
-    step: usize,
-    failing_read: Option<u64>,
-    failing_write: Option<u64>,
+    pub step: usize,
+    pub failing_read: Option<u64>,
+    pub failing_write: Option<u64>,
 }
 
 /// Devices of which no call fails.
@@ -91,10 +91,11 @@ pub(super) fn steps_of(step: usize) -> Devices
     }
 }
 
-/// What an engine answered, and the writer with what it wrote.
-pub(super) fn run(
+/// What an engine answered over an allocator's memory, and the writer with what it wrote.
+pub(super) fn run_over<A: Allocator + Copy>(
     rt: &impl Abort,
     alloc: Global,
+    memory: A,
     engine: Engine,
     file: &[u8],
     devices: Devices,
@@ -106,11 +107,24 @@ pub(super) fn run(
         rt, "memory",
     );
     let answer = match engine {
-        Engine::Check => check(alloc, &mut reader, &mut writer),
-        Engine::Dump => dump(alloc, &mut reader, &mut writer),
-        Engine::Object => dump_object(alloc, &mut reader, &mut writer),
+        Engine::Check => check(memory, &mut reader, &mut writer),
+        Engine::Dump => dump(memory, &mut reader, &mut writer),
+        Engine::Object => dump_object(memory, &mut reader, &mut writer),
     };
     (answer, writer)
+}
+
+/// What an engine answered with ample memory, and the writer with what it wrote.
+pub(super) fn run(
+    rt: &impl Abort,
+    alloc: Global,
+    engine: Engine,
+    file: &[u8],
+    devices: Devices,
+) -> (Result<Outcome, ToolError>, StepWriter)
+    requires { 0 < devices.step }
+{
+    run_over(rt, alloc, alloc, engine, file, devices)
 }
 
 /// Asserts that an engine accepts a file and writes a text, over devices of so many bytes a call.
