@@ -517,7 +517,7 @@ fn a_rebased_file_goes_to_one_output_and_its_line_to_another(rt: HostRuntime) {
         let run = rebased_over(&rt, rt.alloc(), Vector::V2, 0x2000_0000, devices);
         assert_holds(&rt, step, run.answer == Ok(Outcome::Done));
         assert_holds(&rt, step, status(&run.answer) == 0);
-        assert_wrote(&rt, step, &run, &expected, b"rebased 0x0000000020000000\n");
+        assert_wrote(&rt, step, &run, &expected, LINE);
     }
 }
 
@@ -590,5 +590,78 @@ fn the_output_that_fails_counts_it(rt: HostRuntime) {
             index,
             (run.out.failures(), run.line.failures()) == *failures,
         );
+    }
+}
+
+/// A device of a run.
+#[derive(Clone, Copy)]
+enum Device {
+    Reader,
+    Out,
+    Line,
+}
+
+/// Devices of which the call of this number fails, of one of them.
+fn failing(step: usize, device: Device, call: u64) -> Devices {
+    let fine = Devices { step, ..FINE };
+    match device {
+        Device::Reader => Devices {
+            failing_read: Some(call),
+            ..fine
+        },
+        Device::Out => Devices {
+            failing_out: Some(call),
+            ..fine
+        },
+        Device::Line => Devices {
+            failing_line: Some(call),
+            ..fine
+        },
+    }
+}
+
+/// The line of V2 at 0x20000000.
+const LINE: &[u8] = b"rebased 0x0000000020000000\n";
+
+/// Whether what is written is a beginning, and not the whole.
+fn is_beginning(written: &[u8], whole: &[u8]) -> bool {
+    written.len() < whole.len() && whole.starts_with(written)
+}
+
+/// Whether a run in which a device failed answered so, and left the outputs so.
+fn has_failed(run: &Run, device: Device, file: &[u8]) -> bool {
+    let (out, line) = (run.out.taken(), run.line.taken());
+    match device {
+        Device::Reader => run.answer == Err(ToolError::Read) && out.is_empty() && line.is_empty(),
+        Device::Out => {
+            run.answer == Err(ToolError::Write) && is_beginning(out, file) && line.is_empty()
+        }
+        Device::Line => {
+            run.answer == Err(ToolError::Write) && *out == *file && is_beginning(line, LINE)
+        }
+    }
+}
+
+/// Asserts what rebasing V2 answers where each call of a device fails in turn.
+fn assert_each_fails(rt: &impl Abort, alloc: Global, step: usize, device: Device, file: &[u8]) {
+    for call in 0..0x1000_u64 {
+        let devices = failing(step, device, call);
+        let run = rebased_over(rt, alloc, Vector::V2, 0x2000_0000, devices);
+        if run.answer == Ok(Outcome::Done) {
+            assert_holds(rt, step, call > 0);
+            return;
+        }
+        assert_holds(rt, step, has_failed(&run, device, file));
+    }
+    assert_holds(rt, step, false);
+}
+
+#[test]
+fn each_read_and_each_write_that_fails_is_told(rt: HostRuntime) {
+    let file = rebased_v2(&rt, rt.alloc());
+    for step in [1, 7, 64, 4096] {
+        for device in [Device::Reader, Device::Out, Device::Line] {
+            assert_each_fails(&rt, rt.alloc(), step, device, &file);
+        }
     }
 }
