@@ -1,6 +1,7 @@
 pub mod Again
 pub mod Apart
 pub mod Bytes
+pub mod DataSteps
 pub mod FieldSteps
 pub mod HeadKept
 pub mod InWords
@@ -10,9 +11,17 @@ pub mod Moved
 pub mod Numbered
 pub mod Numbers
 pub mod Phases
+pub mod PlanFaults
+pub mod PlanHead
+pub mod PlanLaws
+pub mod PlanPlaces
+pub mod PlanRead
+pub mod PlanWhole
+pub mod Planned
 pub mod RangeSteps
 pub mod Rebasable
 pub mod RebaseRows
 pub mod Rebasing
+pub mod RowsRead
 pub mod Sequence
 pub mod Whole

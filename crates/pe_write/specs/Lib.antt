@@ -1,4 +1,8 @@
 pub use Rattle.pe_tables.specs.Fixups
+pub mod PlanFaults
+pub mod PlanFile
+pub mod PlanFits
+pub mod PlanHeaders
 pub mod Rebase
 pub mod Rebased
 pub mod RebaseFaults

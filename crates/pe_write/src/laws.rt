@@ -9,9 +9,15 @@ ghost use Rattle.pe_layout.specs.Plain.{plain};
 ghost use Rattle.pe_layout.specs.SectionFaults.{layout_tests};
 ghost use Rattle.pe_tables.specs.Fixups.{fixups_of};
 ghost use Rattle.pe_tables.specs.Relocated.{relocated};
+ghost use Rattle.pe_write.specs.PlanFaults.{plan_tests};
+ghost use Rattle.pe_write.specs.PlanFits.{IsPlan};
+ghost use Rattle.pe_write.specs.PlanHeaders.{plan_file, plan_headers, planned};
 ghost use Rattle.pe_write.specs.Rebase.{IsFree, rebased, rebased_head};
 ghost use Rattle.pe_write.specs.Rebased.{IsRebased};
 ghost use Rattle.pe_write.specs.RebaseFaults.{rebase_tests};
+
+use crate::plan::Plan;
+use std::alloc::Allocator;
 
 /// Byte by byte, the new file holds the base in ImageBase, 0 in CheckSum, in each fixup's field what the image holds there at
 /// the base, and everywhere else what the file held.
@@ -55,3 +61,13 @@ pub fn rebased_again()
     pe_layout::laws::sections_are_apart();
     pe_tables::laws::fields_are_apart();
 }
+
+/// The file of a plan against which nothing stands has the plan's headers and none of faults 1 to 15, and lays out what was
+/// planned. The values of every plan in memory fit their fields.
+pub fn file_is_planned<A: Allocator>(plan: &Plan<'_, A>)
+    requires fits { IsPlan plan.now }
+    requires none { first_standing (plan_tests plan.now) ≡ None }
+    ensures head { head_of (plan_file plan.now) ≡ plan_headers plan.now }
+    ensures no_fault { first_standing (layout_tests 0 (plan_file plan.now)) ≡ None }
+    ensures bytes { (r : ℕ) → plain (head_of (plan_file plan.now)) (plan_file plan.now) r ≡ planned plan.now r }
+{}

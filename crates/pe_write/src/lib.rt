@@ -11,8 +11,10 @@
 
 mod error;
 pub mod laws;
+mod plan;
 mod raw_data;
 mod rebase;
 
 pub use error::WriteError;
+pub use plan::{Plan, PlanSection};
 pub use rebase::rebase_file;
