@@ -18,10 +18,12 @@ pub mod PlanPlaces
 pub mod PlanRead
 pub mod PlanWhole
 pub mod Planned
+pub mod Pushing
 pub mod RangeSteps
 pub mod Rebasable
 pub mod RebaseRows
 pub mod Rebasing
 pub mod RowsRead
+pub mod SectionSteps
 pub mod Sequence
 pub mod Whole

@@ -38,7 +38,7 @@ forty (s ∷ ss) f e = (f s e.0, forty ss f e.1)
 
 module _ {A : Type 0} (plan : Plan A) (fits : IsPlan plan) where
   -- the section table ends at
-  table-end : length (table_bytes plan) ≡ table_end plan.magic (length plan.sections.items)
+  pub table-end : length (table_bytes plan) ≡ table_end plan.magic (length plan.sections.items)
   table-end =
       let front = length-rows (header_rows plan) in
       let end = rows_end plan [] fits in

@@ -110,7 +110,7 @@ module _ (a : ℕ) (some : 0 < a) where
   by_holds g r byte other h found true here there = here refl
   by_holds g r byte other h found false here there = there
 
-  end_some : (end : ℕ) (s : PlanSection) → 0 < end → 0 < raw_end a end s
+  pub end_some : (end : ℕ) (s : PlanSection) → 0 < end → 0 < raw_end a end s
   end_some end s here = elim (cases_Bool (is_empty s)) [
     | inl empty ↦ rw empty here
     | inr full ↦ (let least = align_least a end some in let e : raw_end a end s ≡ align_up a end + raw_size a s = rw full refl in omega arith)

@@ -89,11 +89,15 @@ front_rows plan = dos_rows ++ (coff_rows plan ++ optional_rows plan)
 abbrev pub header_rows : {A : Type 0} → Plan A → List Row
 header_rows plan = front_rows plan ++ flat_map directory_rows plan.directories
 
--- a section's header behind its name
+-- a section's header behind its name: where it lies in the image and in the file, and the rest
+abbrev pub place_rows : SectionHeader → List Row
+place_rows s = row 4 s.virtual_size ∷ row 4 s.virtual_address ∷ row 4 s.size_of_raw_data ∷ row 4 s.pointer_to_raw_data ∷ []
+
+abbrev pub rest_rows : SectionHeader → List Row
+rest_rows s = row 4 s.pointer_to_relocations ∷ row 4 s.pointer_to_linenumbers ∷ row 2 s.number_of_relocations ∷ row 2 s.number_of_linenumbers ∷ row 4 s.characteristics ∷ []
+
 abbrev pub section_rows : SectionHeader → List Row
-section_rows s =
-    row 4 s.virtual_size ∷ row 4 s.virtual_address ∷ row 4 s.size_of_raw_data ∷ row 4 s.pointer_to_raw_data ∷ row 4 s.pointer_to_relocations ∷ row 4 s.pointer_to_linenumbers
-    ∷ row 2 s.number_of_relocations ∷ row 2 s.number_of_linenumbers ∷ row 4 s.characteristics ∷ []
+section_rows s = place_rows s ++ rest_rows s
 
 abbrev pub section_bytes : SectionHeader → List ℕ
 section_bytes s = s.name ++ rows_bytes (section_rows s)

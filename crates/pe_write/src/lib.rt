@@ -12,9 +12,14 @@
 mod error;
 pub mod laws;
 mod plan;
+mod plan_data;
+mod plan_faults;
+mod plan_headers;
 mod raw_data;
 mod rebase;
+mod write;
 
 pub use error::WriteError;
 pub use plan::{Plan, PlanSection};
 pub use rebase::rebase_file;
+pub use write::write_image;
