@@ -16,6 +16,7 @@ pub mod PlanHead
 pub mod PlanLaws
 pub mod PlanPlaces
 pub mod PlanRead
+pub mod PlanRows
 pub mod PlanWhole
 pub mod Planned
 pub mod Pushing
