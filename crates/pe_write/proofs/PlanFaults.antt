@@ -1,17 +1,13 @@
 -- None of faults 1 to 15 stands of a written file.
-use Rattle.std.proofs.Common.{◌≡◌, ℕ, zero, suc, ◌+◌, ◌-◌, ◌*◌, ◌^◌, ◌<◌, ◌≤◌, Bool, true, false, cond, List, [], ◌∷◌, ◌++◌, length, Option, Some, None, refl, sym, ap, ◌∙◌, subst, arith, length-append, inl, inr}
-use Rattle.std.specs.Prelude.{nat_lt, nat_le, ◌==◌, ◌&&◌, ◌||◌, min, not, is_some}
-use Rattle.std.proofs.lemmas.Bool.{le-ltb, ltb-false, le-leb, or_from, or_parts, and_from, ne_eqb, eq-eqb, eqb-false, not_from_true, not-false, ltb-true}
+use Rattle.std.proofs.Common.{◌≡◌, ℕ, ◌+◌, ◌*◌, ◌^◌, ◌<◌, ◌≤◌, Bool, true, false, cond, List, ◌∷◌, length, None, refl, ap, ◌∙◌, arith}
+use Rattle.std.specs.Prelude.{nat_lt, nat_le, ◌==◌, ◌&&◌, ◌||◌, min}
+use Rattle.std.proofs.lemmas.Bool.{le-ltb, le-leb, or_from, and_from, ne_eqb, eq-eqb}
 use Rattle.pe_view.specs.Number.{num, byte_of}
-use Rattle.pe_view.specs.declared.fault.Fault.{Fault}
-use Rattle.pe_view.specs.declared.fault.Place.{Place}
-use Rattle.pe_view.specs.declared.fault.Place.TheVariants.{File}
-use Rattle.pe_view.specs.Faults.{Test, test, first_standing}
-use Rattle.pe_view.specs.FirstStanding.{none_stands, first-past}
+use Rattle.pe_view.specs.Faults.{Test, first_standing}
+use Rattle.pe_view.specs.FirstStanding.{first-past}
 use Rattle.pe_head.specs.declared.optional.Magic.{Magic}
 use Rattle.pe_head.specs.declared.optional.Magic.TheVariants.{Pe32, Pe32Plus}
-use Rattle.pe_head.specs.declared.headers.Headers.{Headers}
-use Rattle.pe_head.specs.Head.{head_of, pe_offset, coff_field, field, is_pe32, magic_of, optional_start, fixed_size, directory_count, table_start, section_start}
+use Rattle.pe_head.specs.Head.{head_of, pe_offset, coff_field, field, optional_start, fixed_size, directory_count, table_start, section_start}
 use Rattle.pe_head.specs.HeaderFaults.{head_tests, has_field, directory_bytes}
 use Rattle.pe_head.specs.Optional.{fixed_size_of}
 use Rattle.pe_layout.specs.SectionFaults.{layout_tests, placing_tests}

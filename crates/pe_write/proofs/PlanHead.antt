@@ -1,17 +1,13 @@
 -- The headers of a written file are the plan's.
-use Rattle.std.proofs.Common.{◌≡◌, ℕ, zero, suc, ◌+◌, ◌-◌, ◌*◌, ◌^◌, ◌<◌, ◌≤◌, Bool, true, false, cond, List, [], ◌∷◌, ◌++◌, length, get_or, take, drop, Option, Some, None, refl, sym, ap, ◌∙◌, subst, arith, append_assoc, length-append}
-use Rattle.std.specs.Prelude.{slice_get, map, min, ◌==◌, if◌then◌else◌}
-use Rattle.std.specs.List.{flat_map, range_with_len, AllByRecursion}
-use Rattle.std.proofs.lemmas.List.FromFn.{fill_by_all}
-use Rattle.pe_view.specs.Number.{num, byte_of, part}
+use Rattle.std.proofs.Common.{◌≡◌, ℕ, ◌+◌, true, false, List, [], ◌++◌, length, take, Some, None, refl, sym, ap, ◌∙◌, subst}
+use Rattle.std.specs.Prelude.{slice_get, ◌==◌, if◌then◌else◌}
+use Rattle.std.specs.List.{AllByRecursion}
+use Rattle.pe_view.specs.Number.{num, byte_of}
 use Rattle.pe_head.specs.declared.optional.Magic.{Magic}
 use Rattle.pe_head.specs.declared.optional.Magic.TheVariants.{Pe32, Pe32Plus}
-use Rattle.pe_head.specs.declared.directory.Directory.{Directory}
-use Rattle.pe_head.specs.declared.section.SectionHeader.{SectionHeader}
-use Rattle.pe_head.specs.declared.headers.Headers.{Headers}
-use Rattle.pe_head.specs.Head.{pe_offset, coff_field, optional_start, field, is_pe32, magic_of, either_field, fixed_size, directory_count, directory_at, table_start, section_start, section_at, head_of}
+use Rattle.pe_head.specs.Head.{pe_offset, coff_field, field, is_pe32, magic_of, either_field}
 use Rattle.pe_write.specs.declared.plan.Plan.{Plan}
-use Rattle.pe_write.specs.PlanHeaders.{Row, row, row_bytes, rows_bytes, rows_size, directory_rows, section_bytes, header_rows, table_bytes, plan_sections, plan_headers, optional_size, magic_number, base_of_data_of}
+use Rattle.pe_write.specs.PlanHeaders.{row, row_bytes, rows_bytes, rows_size, header_rows, optional_size, magic_number, base_of_data_of}
 use Rattle.pe_write.specs.PlanFits.{RowFits}
 use Rattle.pe_write.proofs.RowsRead.{row_at}
 

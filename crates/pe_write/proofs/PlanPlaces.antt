@@ -1,7 +1,7 @@
 -- Sections that lie where they may have none of faults 13 to 15.
 use Rattle.std.proofs.Common.{◌≡◌, ℕ, ◌+◌, ◌<◌, ◌≤◌, Bool, true, false, cond, List, [], ◌∷◌, None, refl, inl, inr, arith}
-use Rattle.std.specs.Prelude.{nat_lt, min, ◌==◌, ◌&&◌, ◌||◌}
-use Rattle.std.proofs.lemmas.Bool.{cases_Bool, le-ltb, or_parts, or_from}
+use Rattle.std.specs.Prelude.{nat_lt, min, ◌==◌, ◌&&◌}
+use Rattle.std.proofs.lemmas.Bool.{cases_Bool, le-ltb, or_parts}
 use Rattle.pe_view.specs.Faults.{first_standing}
 use Rattle.pe_view.specs.FirstStanding.{none_stands, none-append}
 use Rattle.pe_head.specs.declared.section.SectionHeader.{SectionHeader}

@@ -1,6 +1,6 @@
 -- The headers of a written file are the plan's.
-use Rattle.std.proofs.Common.{◌≡◌, ℕ, zero, suc, ◌+◌, ◌-◌, ◌*◌, ◌^◌, ◌<◌, ◌≤◌, Bool, true, false, cond, List, [], ◌∷◌, ◌++◌, length, get_or, take, drop, Option, Some, None, refl, sym, ap, ◌∙◌, subst, arith, append_assoc, length-append}
-use Rattle.std.specs.Prelude.{map, min, replicate, if◌then◌else◌}
+use Rattle.std.proofs.Common.{◌≡◌, ℕ, ◌+◌, ◌*◌, ◌<◌, Bool, true, false, cond, List, [], ◌∷◌, ◌++◌, length, get_or, refl, sym, ap, ◌∙◌, subst, arith, append_assoc, length-append}
+use Rattle.std.specs.Prelude.{map, min}
 use Rattle.std.specs.List.{flat_map, range_with_len, AllByRecursion}
 use Rattle.std.proofs.lemmas.List.FromFn.{fill_by_all}
 use Rattle.pe_view.specs.Number.{num, byte_of, part}
@@ -8,12 +8,10 @@ use Rattle.pe_head.specs.declared.optional.Magic.{Magic}
 use Rattle.pe_head.specs.declared.optional.Magic.TheVariants.{Pe32, Pe32Plus}
 use Rattle.pe_head.specs.declared.directory.Directory.{Directory}
 use Rattle.pe_head.specs.declared.section.SectionHeader.{SectionHeader}
-use Rattle.pe_head.specs.declared.headers.Headers.{Headers}
-use Rattle.pe_head.specs.Head.{pe_offset, coff_field, field, is_pe32, magic_of, either_field, directory_count, directory_at, section_start, section_at, head_of}
+use Rattle.pe_head.specs.Head.{coff_field, is_pe32, either_field, directory_count, directory_at, section_start, section_at, head_of}
 use Rattle.pe_head.specs.Optional.{fixed_size_of}
 use Rattle.pe_write.specs.declared.plan.Plan.{Plan}
-use Rattle.pe_write.specs.PlanFile.{data_from}
-use Rattle.pe_write.specs.PlanHeaders.{Row, row_bytes, rows_bytes, rows_size, directory_rows, section_bytes, section_rows, front_rows, header_rows, table_bytes, header_bytes, plan_file, plan_sections, plan_headers, optional_size}
+use Rattle.pe_write.specs.PlanHeaders.{Row, rows_bytes, rows_size, directory_rows, section_bytes, section_rows, front_rows, header_rows, table_bytes, plan_sections, plan_headers, optional_size}
 use Rattle.pe_write.specs.PlanFits.{RowFits, IsRow, IsPlan}
 use Rattle.pe_write.proofs.RowsRead.{length-rows, rows-append, SectionRead, section_here, DirectoryRead, directory_here, each_read}
 use Rattle.pe_write.proofs.PlanHead.{Read, read}

@@ -1,24 +1,17 @@
 -- A written file has no fault, and lays out what was planned.
-use Rattle.std.proofs.Common.{◌≡◌, ℕ, zero, suc, ◌+◌, ◌-◌, ◌*◌, ◌^◌, ◌<◌, ◌≤◌, Bool, true, false, cond, List, [], ◌∷◌, ◌++◌, length, Option, Some, None, refl, sym, ap, ◌∙◌, subst, arith, append_assoc, length-append, inl, inr}
-use Rattle.std.specs.Prelude.{find, replicate, nat_lt, nat_le, ◌==◌, ◌&&◌, ◌||◌, min, not, is_some}
+use Rattle.std.proofs.Common.{◌≡◌, ℕ, suc, ◌-◌, ◌*◌, ◌<◌, ◌≤◌, true, false, List, [], ◌∷◌, ◌++◌, length, refl, ap, ◌∙◌, arith, append_assoc, length-append, inl, inr}
+use Rattle.std.specs.Prelude.{replicate, nat_lt}
 use Rattle.std.specs.List.{flat_map, AllByRecursion}
-use Rattle.std.proofs.lemmas.Bool.{cases_lt, le-ltb, lt-ltb, ltb-true, ltb-false, or_parts, ne_eqb, eqb-false}
+use Rattle.std.proofs.lemmas.Bool.{cases_lt, le-ltb, lt-ltb}
 use Rattle.std.proofs.lemmas.List.{length-replicate}
-use Rattle.pe_view.specs.Number.{num, byte_of}
-use Rattle.pe_view.specs.Faults.{Test, first_standing}
-use Rattle.pe_view.specs.FirstStanding.{none_stands, first-past}
-use Rattle.pe_head.specs.declared.optional.Magic.{Magic}
-use Rattle.pe_head.specs.declared.optional.Magic.TheVariants.{Pe32, Pe32Plus}
 use Rattle.pe_head.specs.declared.section.SectionHeader.{SectionHeader}
-use Rattle.pe_head.specs.declared.headers.Headers.{Headers}
 use Rattle.pe_head.specs.Head.{head_of}
-use Rattle.pe_layout.specs.Piece.{holds, section_of}
-use Rattle.pe_layout.specs.Plain.{plain, section_byte}
+use Rattle.pe_layout.specs.Plain.{plain}
 use Rattle.pe_write.specs.declared.plan.Plan.{Plan}
 use Rattle.pe_write.specs.declared.plan.PlanSection.{PlanSection}
-use Rattle.pe_write.specs.PlanFile.{headers_from, data_from, planned_from, raw_end}
+use Rattle.pe_write.specs.PlanFile.{headers_from, data_from, raw_end}
 use Rattle.pe_write.specs.PlanFaults.{table_end}
-use Rattle.pe_write.specs.PlanHeaders.{rows_bytes, section_bytes, header_rows, table_bytes, header_bytes, plan_file, plan_sections, plan_headers, planned, optional_size}
+use Rattle.pe_write.specs.PlanHeaders.{rows_bytes, section_bytes, header_rows, table_bytes, header_bytes, plan_file, plan_sections, plan_headers, planned}
 use Rattle.pe_write.specs.PlanFits.{IsRow, IsPlan}
 use Rattle.pe_write.proofs.RowsRead.{length-rows}
 use Rattle.pe_write.proofs.Planned.{byte-left, sections_planned}

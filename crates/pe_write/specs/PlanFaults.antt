@@ -1,5 +1,5 @@
 -- What may stand against a plan. Each is fault 53, so their order does not count.
-use Rattle.std.specs.Prelude.{ℕ, ◌+◌, ◌-◌, ◌*◌, ◌^◌, ◌==◌, ◌||◌, Bool, false, nat_lt, nat_le, List, [], ◌∷◌, ◌++◌, length}
+use Rattle.std.specs.Prelude.{ℕ, ◌+◌, ◌-◌, ◌*◌, ◌^◌, ◌==◌, ◌||◌, Bool, false, nat_lt, List, [], ◌∷◌, ◌++◌, length}
 use Rattle.pe_view.specs.declared.fault.Place.TheVariants.{Item}
 use Rattle.pe_view.specs.Faults.{Test, test}
 use Rattle.pe_head.specs.declared.optional.Magic.{Magic}

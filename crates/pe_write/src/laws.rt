@@ -65,9 +65,8 @@ pub fn rebased_again()
 /// The file of a plan against which nothing stands has the plan's headers and none of faults 1 to 15, and lays out what was
 /// planned. The values of every plan in memory fit their fields.
 pub fn file_is_planned<A: Allocator>(plan: &Plan<'_, A>)
-    requires fits { IsPlan plan.now }
-    requires none { first_standing (plan_tests plan.now) ≡ None }
-    ensures head { head_of (plan_file plan.now) ≡ plan_headers plan.now }
-    ensures no_fault { first_standing (layout_tests 0 (plan_file plan.now)) ≡ None }
-    ensures bytes { (r : ℕ) → plain (head_of (plan_file plan.now)) (plan_file plan.now) r ≡ planned plan.now r }
+    ensures head { IsPlan plan.now → first_standing (plan_tests plan.now) ≡ None → head_of (plan_file plan.now) ≡ plan_headers plan.now }
+    ensures accepted { IsPlan plan.now → first_standing (plan_tests plan.now) ≡ None → first_standing (layout_tests 0 (plan_file plan.now)) ≡ None }
+    ensures planned { (r : ℕ) → IsPlan plan.now → first_standing (plan_tests plan.now) ≡ None
+        → plain (head_of (plan_file plan.now)) (plan_file plan.now) r ≡ planned plan.now r }
 {}

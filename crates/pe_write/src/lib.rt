@@ -1,11 +1,15 @@
 //! Images written to files.
 //!
+//! [`write_image`] makes the file of an image that a [`Plan`] describes: headers, section table and the sections' raw data. It is
+//! accepted by those that read it, and lays out what was planned.
+//!
 //! [`rebase_file`] makes of an image's file the file of the same image at another base: its fields hold what they hold in the
 //! image there, and it prefers to stand there.
 //!
 //! ```text
-//! let bytes = rebase_file(alloc, file, 0x2000_0000)?;
-//! assert_eq!(bytes.len(), file.len());
+//! let file = write_image(alloc, &plan)?;
+//! let moved = rebase_file(alloc, &file, 0x2000_0000)?;
+//! assert_eq!(moved.len(), file.len());
 //! ```
 #![tactic(auto)]
 

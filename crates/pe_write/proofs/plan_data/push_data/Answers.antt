@@ -1,4 +1,4 @@
-use Rattle.std.proofs.Common.{◌≡◌, ◌∙◌, sym, ◌≤◌, ℕ, slice_index_or, vec_len, length, drop, [], arith}
+use Rattle.std.proofs.Common.{◌∙◌, sym, slice_index_or, vec_len, drop, arith}
 use Rattle.pe_write.specs.declared.plan.PlanSection.{PlanSection}
 use Rattle.pe_write.proofs.DataSteps.{no_section, end_most, raw_most, end_more, data_more, pushed}
 use Rattle.pe_write.proofs.plan_data.push_data.Goals as goal

@@ -1,10 +1,8 @@
-use Rattle.std.proofs.Common.{◌≡◌, ◌∙◌, ◌∷◌, [], ap, List, ℕ, refl, arith}
+use Rattle.std.proofs.Common.{◌∙◌, ◌∷◌, []}
 use Rattle.std.specs.Prelude.{nat_lt, ◌^◌}
 use Rattle.std.proofs.lemmas.Result.{err_from_is_err_and}
 use Rattle.pe_view.specs.FirstStanding.{first-in, first-past}
-use Rattle.pe_write.specs.declared.plan.PlanSection.{PlanSection}
 use Rattle.pe_write.specs.PlanFaults.{plan_test, number_tests, data_tests, places_tests, plan_tests}
-use Rattle.pe_write.specs.PlanFile.{file_end, headers_from}
 use Rattle.pe_write.specs.PlanHeaders.{plan_sections, plan_size}
 use Rattle.pe_write.proofs.plan_faults.check_plan.Goals as goal
 

@@ -1,5 +1,4 @@
 use Rattle.std.proofs.lemmas.Result.{err_from_is_err_and}
-use Rattle.pe_write.specs.declared.plan.PlanSection.{PlanSection}
 use Rattle.pe_write.proofs.DataSteps.{no_section, too_long}
 use Rattle.pe_write.proofs.plan_faults.checked_size.Goals as goal
 

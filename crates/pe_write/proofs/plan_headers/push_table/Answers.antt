@@ -1,4 +1,4 @@
-use Rattle.std.proofs.Common.{◌≡◌, ◌∙◌, drop, get_or, arith}
+use Rattle.std.proofs.Common.{◌∙◌, drop, get_or, arith}
 use Rattle.pe_write.proofs.DataSteps.{no_section, end_most, raw_most, end_held, end_more}
 use Rattle.pe_write.proofs.Planned.{end_some}
 use Rattle.pe_write.proofs.SectionSteps.{rows_more, table_more}

@@ -1,9 +1,9 @@
-use Rattle.std.proofs.Common.{◌≡◌, ◌∙◌, ◌++◌, ◌≤◌, ℕ, List, sym, ap, subst, ◌^◌}
+use Rattle.std.proofs.Common.{◌∙◌, ◌++◌, ℕ, List, sym, ap, subst}
 use Rattle.std.specs.Prelude.{vec_len}
 use Rattle.std.specs.List.{flat_map, AllByRecursion}
 use Rattle.std.proofs.lemmas.Result.{on_ok_weaker}
 use Rattle.pe_write.specs.declared.plan.PlanSection.{PlanSection}
-use Rattle.pe_write.specs.PlanFile.{headers_from, data_from, file_end}
+use Rattle.pe_write.specs.PlanFile.{headers_from, data_from}
 use Rattle.pe_write.specs.PlanFits.{IsPlan, IsRow}
 use Rattle.pe_write.specs.PlanHeaders.{rows_bytes, header_rows, section_bytes}
 use Rattle.pe_write.proofs.PlanLaws.{alignment_some, headers_some, few, narrow, size_small, made}

@@ -1,4 +1,4 @@
-use Rattle.std.proofs.Common.{◌≡◌, ◌∙◌, ℕ, List, None, sym, subst}
+use Rattle.std.proofs.Common.{◌≡◌, ℕ, List, None, sym, subst}
 use Rattle.pe_view.specs.Faults.{first_standing}
 use Rattle.pe_head.specs.Head.{head_of}
 use Rattle.pe_layout.specs.Plain.{plain}
