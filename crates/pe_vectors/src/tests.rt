@@ -7,6 +7,7 @@ mod files;
 mod fixups;
 mod head;
 mod images;
+mod images_written;
 mod imports;
 mod keys;
 mod layout;
