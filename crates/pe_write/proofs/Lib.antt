@@ -16,6 +16,7 @@ pub mod PlanHead
 pub mod PlanLaws
 pub mod PlanPlaces
 pub mod PlanRead
+pub mod PlanRefused
 pub mod PlanRows
 pub mod PlanWhole
 pub mod Planned

@@ -1,9 +1,9 @@
 -- None of faults 1 to 15 stands of a written file.
-use Rattle.std.proofs.Common.{◌≡◌, ℕ, ◌+◌, ◌*◌, ◌^◌, ◌<◌, ◌≤◌, Bool, true, false, cond, List, ◌∷◌, length, None, refl, ap, ◌∙◌, arith}
+use Rattle.std.proofs.Common.{◌≡◌, ℕ, ◌+◌, ◌*◌, ◌^◌, ◌<◌, ◌≤◌, Bool, true, false, cond, List, length, None, refl, ap, ◌∙◌, arith}
 use Rattle.std.specs.Prelude.{nat_lt, nat_le, ◌==◌, ◌&&◌, ◌||◌, min}
 use Rattle.std.proofs.lemmas.Bool.{le-ltb, le-leb, or_from, and_from, ne_eqb, eq-eqb}
 use Rattle.pe_view.specs.Number.{num, byte_of}
-use Rattle.pe_view.specs.Faults.{Test, first_standing}
+use Rattle.pe_view.specs.Faults.{first_standing}
 use Rattle.pe_view.specs.FirstStanding.{first-past}
 use Rattle.pe_head.specs.declared.optional.Magic.{Magic}
 use Rattle.pe_head.specs.declared.optional.Magic.TheVariants.{Pe32, Pe32Plus}
@@ -13,11 +13,8 @@ use Rattle.pe_head.specs.Optional.{fixed_size_of}
 use Rattle.pe_layout.specs.SectionFaults.{layout_tests, placing_tests}
 use Rattle.pe_write.specs.declared.plan.Plan.{Plan}
 use Rattle.pe_write.specs.PlanFaults.{table_end}
-use Rattle.pe_write.specs.PlanHeaders.{magic_number, optional_size}
+use Rattle.pe_write.specs.PlanHeaders.{magic_number}
 use Rattle.pe_write.proofs.PlanHead.{Read}
-
-step : (t : Test) (ts : List Test) → t.stands ≡ false → first_standing ts ≡ None → first_standing (t ∷ ts) ≡ None
-step t ts here rest = rw here rest
 
 -- a written file's length and numbers are within bounds
 pub record Bounded {A : Type 0} (plan : Plan A) (n : ℕ) : Type 0 where
@@ -37,11 +34,7 @@ cond_most : (b : Bool) (n : ℕ) → cond b n 0 ≤ n
 cond_most true n = omega arith
 cond_most false n = omega arith
 
-optional_least : (m : Magic) → fixed_size_of m + 128 ≤ optional_size m
-optional_least Pe32 = omega arith
-optional_least Pe32Plus = omega arith
-
-not_none : (n : ℕ) → 0 < n → (n == 0) ≡ false
+pub not_none : (n : ℕ) → 0 < n → (n == 0) ≡ false
 not_none n some = ne_eqb n 0 (λ e. omega arith)
 
 pub head_none : {A : Type 0} (plan : Plan A) (g : List ℕ) (image : ℕ) → Read plan g → Bounded plan (length g) → first_standing (head_tests image g) ≡ None
@@ -60,7 +53,6 @@ head_none plan g image r b =
     let table = b.table in
     let inside = b.inside in
     let fixed : fixed_size g ≡ fixed_size_of plan.magic = ap fixed_size_of r.magic in
-    let least = optional_least plan.magic in
     let directories : directory_bytes g ≤ 8 * directory_count g = cond_most (nat_le (optional_start g + fixed_size g) (length g)) (8 * directory_count g) in
     let counted : directory_count g ≡ 16 = ap (λ (n : ℕ). min n 16) r.number in
     let start : section_start g (coff_field g 2 2) ≡ table_end plan.magic (length plan.sections.items) = omega arith in

@@ -27,6 +27,18 @@ positive : (n : ℕ) → (n == 0) ≡ false → 0 < n
 positive zero is = absurd cc
 positive (suc n) is = omega arith
 
+pub all_of : {A : Type 0} (plan : Plan A) → IsPlan plan → Read plan (plan_file plan)
+unfolding plan_file
+all_of plan fits =
+    let zeros : List ℕ = replicate (plan.size_of_headers - length (table_bytes plan)) 0 in
+    let rest : List ℕ = data_from plan.file_alignment plan.size_of_headers plan.sections.items in
+    subst (λ (g : List ℕ). Read plan g) (sym (append_assoc (table_bytes plan) zeros rest)) (all_read plan (zeros ++ rest) fits)
+
+-- its length
+pub size_of_file : {A : Type 0} (plan : Plan A) → IsPlan plan → 0 < plan.file_alignment → table_end plan.magic (length plan.sections.items) ≤ plan.size_of_headers → length (plan_file plan) ≡ plan_size plan
+unfolding plan_file
+size_of_file plan fits some held = data_end plan.file_alignment some (header_bytes plan) plan.size_of_headers plan.sections.items (headers-length plan fits some held)
+
 module _ {A : Type 0} (plan : Plan A) (none : first_standing (plan_tests plan) ≡ None) where
   pub alignment_some : 0 < plan.file_alignment
   unfolding plan_tests
@@ -52,10 +64,8 @@ module _ {A : Type 0} (plan : Plan A) (none : first_standing (plan_tests plan) �
   size_small = ltb-false _ _ (none_stands (plan_tests plan) 5 _ none refl)
 
   module _ (fits : IsPlan plan) where
-    -- its length
     size-is : length (plan_file plan) ≡ plan_size plan
-    unfolding plan_file
-    size-is = data_end plan.file_alignment alignment_some (header_bytes plan) plan.size_of_headers plan.sections.items (headers-length plan fits alignment_some table_held)
+    size-is = size_of_file plan fits alignment_some table_held
 
     bounded : Bounded plan (length (plan_file plan))
     unfolding plan_tests
@@ -82,16 +92,9 @@ module _ {A : Type 0} (plan : Plan A) (none : first_standing (plan_tests plan) �
         let size = size-is in
         sections_none plan.file_alignment alignment_some (plan_headers plan) (length (plan_file plan)) 0 0 plan.size_of_headers plan.sections.items (omega arith) places.1
 
-    all_of : Read plan (plan_file plan)
-    unfolding plan_file
-    all_of =
-        let zeros : List ℕ = replicate (plan.size_of_headers - length (table_bytes plan)) 0 in
-        let rest : List ℕ = data_from plan.file_alignment plan.size_of_headers plan.sections.items in
-        subst (λ (g : List ℕ). Read plan g) (sym (append_assoc (table_bytes plan) zeros rest)) (all_read plan (zeros ++ rest) fits)
-
     pub no_fault : first_standing (layout_tests 0 (plan_file plan)) ≡ None
     no_fault =
-        layout_none plan (plan_file plan) 0 all_of bounded
+        layout_none plan (plan_file plan) 0 (all_of plan fits) bounded
         (ap (λ (h : Headers). first_standing (placing_tests 0 h (length (plan_file plan)))) (head-planned plan fits) ∙ placed)
 
     pub lays_out : (r : ℕ) → plain (head_of (plan_file plan)) (plan_file plan) r ≡ planned plan r

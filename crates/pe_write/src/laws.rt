@@ -1,7 +1,7 @@
 //! What the definitions mean, as laws. The contract of each function here is a law, and its body only calls the laws of other
 //! crates on which that rests.
 
-ghost use Rattle.std.specs.Prelude.{◌≡◌, ◌≤◌, ℕ, List, None};
+ghost use Rattle.std.specs.Prelude.{◌≡◌, ◌<◌, ◌≤◌, ℕ, List, None};
 ghost use Rattle.pe_view.specs.Faults.{first_standing};
 ghost use Rattle.pe_head.specs.Head.{head_of};
 ghost use Rattle.pe_layout.specs.Image.{image_of_file};
@@ -63,10 +63,13 @@ pub fn rebased_again()
 }
 
 /// The file of a plan against which nothing stands has the plan's headers and none of faults 1 to 15, and lays out what was
-/// planned. The values of every plan in memory fit their fields.
+/// planned. The other way round, a plan with a FileAlignment whose file has none of faults 1 to 15 is not refused. Both are said
+/// of plans whose values fit their fields.
 pub fn file_is_planned<A: Allocator>(plan: &Plan<'_, A>)
     ensures head { IsPlan plan.now → first_standing (plan_tests plan.now) ≡ None → head_of (plan_file plan.now) ≡ plan_headers plan.now }
     ensures accepted { IsPlan plan.now → first_standing (plan_tests plan.now) ≡ None → first_standing (layout_tests 0 (plan_file plan.now)) ≡ None }
     ensures planned { (r : ℕ) → IsPlan plan.now → first_standing (plan_tests plan.now) ≡ None
         → plain (head_of (plan_file plan.now)) (plan_file plan.now) r ≡ planned plan.now r }
+    ensures exactly { IsPlan plan.now → 0 < plan.now.file_alignment → first_standing (layout_tests 0 (plan_file plan.now)) ≡ None
+        → first_standing (plan_tests plan.now) ≡ None }
 {}
