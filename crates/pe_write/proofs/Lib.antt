@@ -20,6 +20,7 @@ pub mod PlanRefused
 pub mod PlanRows
 pub mod PlanWhole
 pub mod Planned
+pub mod PlannedPlaces
 pub mod Pushing
 pub mod RangeSteps
 pub mod Rebasable

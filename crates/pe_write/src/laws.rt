@@ -1,17 +1,20 @@
 //! What the definitions mean, as laws. The contract of each function here is a law, and its body only calls the laws of other
 //! crates on which that rests.
 
-ghost use Rattle.std.specs.Prelude.{◌≡◌, ◌<◌, ◌≤◌, ℕ, List, None};
+ghost use Rattle.std.specs.Prelude.{◌≡◌, ◌<◌, ◌≤◌, ◌-◌, ℕ, List, None, Some, slice_get};
 ghost use Rattle.pe_view.specs.Faults.{first_standing};
+ghost use Rattle.pe_view.specs.Number.{byte_of};
+ghost use Rattle.pe_head.specs.declared.section.SectionHeader.{SectionHeader};
 ghost use Rattle.pe_head.specs.Head.{head_of};
 ghost use Rattle.pe_layout.specs.Image.{image_of_file};
-ghost use Rattle.pe_layout.specs.Plain.{plain};
+ghost use Rattle.pe_layout.specs.Plain.{IsIn, plain};
 ghost use Rattle.pe_layout.specs.SectionFaults.{layout_tests};
 ghost use Rattle.pe_tables.specs.Fixups.{fixups_of};
 ghost use Rattle.pe_tables.specs.Relocated.{relocated};
 ghost use Rattle.pe_write.specs.PlanFaults.{plan_tests};
 ghost use Rattle.pe_write.specs.PlanFits.{IsPlan};
-ghost use Rattle.pe_write.specs.PlanHeaders.{plan_file, plan_headers, planned};
+ghost use Rattle.pe_write.specs.PlanHeaders.{header_bytes, plan_file, plan_headers, plan_sections, planned};
+ghost use Rattle.pe_write.specs.declared.plan.PlanSection.{PlanSection};
 ghost use Rattle.pe_write.specs.Rebase.{IsFree, rebased, rebased_head};
 ghost use Rattle.pe_write.specs.Rebased.{IsRebased};
 ghost use Rattle.pe_write.specs.RebaseFaults.{rebase_tests};
@@ -72,4 +75,16 @@ pub fn file_is_planned<A: Allocator>(plan: &Plan<'_, A>)
         → plain (head_of (plan_file plan.now)) (plan_file plan.now) r ≡ planned plan.now r }
     ensures exactly { IsPlan plan.now → 0 < plan.now.file_alignment → first_standing (layout_tests 0 (plan_file plan.now)) ≡ None
         → first_standing (plan_tests plan.now) ≡ None }
+{}
+
+/// What a plan against which nothing stands lays out: below SizeOfHeaders the headers, in each section the bytes that the plan
+/// gives it, and 0 behind them and in no section. Whichever section an RVA lies in, it is the only one.
+pub fn planned_by_places<A: Allocator>(plan: &Plan<'_, A>)
+    ensures headers { (r : ℕ) → r < plan.now.size_of_headers → planned plan.now r ≡ byte_of (header_bytes plan.now) r }
+    ensures sections { (r k : ℕ) (section : PlanSection) (header : SectionHeader) → first_standing (plan_tests plan.now) ≡ None
+        → slice_get plan.now.sections.items k ≡ Some section → slice_get (plan_sections plan.now) k ≡ Some header → IsIn r header
+        → planned plan.now r ≡ byte_of section.raw.now (r - section.virtual_address) }
+    ensures gaps { (r : ℕ) → plan.now.size_of_headers ≤ r
+        → ((k : ℕ) (header : SectionHeader) → slice_get (plan_sections plan.now) k ≡ Some header → ¬ (IsIn r header))
+        → planned plan.now r ≡ 0 }
 {}
