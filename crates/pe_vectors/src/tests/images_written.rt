@@ -14,7 +14,7 @@ type Part = (&'static [u8; 8], u32, usize);
 
 /// What the headers of a file hold beside what all files have alike. Section k stands at 0x1000 * (k + 1).
 #[derive(Clone, Copy)]
-struct Heading {
+pub(super) struct Heading {
     magic: Magic,
     machine: u16,
     characteristics: u16,
@@ -35,7 +35,7 @@ const V1: Heading = Heading {
     sections: &[(b".data\0\0\0", 0x10, 0x200)],
 };
 
-const V2: Heading = Heading {
+pub(super) const V2: Heading = Heading {
     directories: &[(5, 0x2000, 0x0c)],
     sections: &[(b".data\0\0\0", 0x10, 0x200), (b".reloc\0\0", 0x0c, 0x200)],
     ..V1
@@ -121,7 +121,12 @@ fn section(name: [u8; 8], virtual_size: u32, virtual_address: u32, raw: &[u8]) -
 }
 
 /// The plan of a file whose sections' bytes stand behind its headers, one behind the other.
-fn plan_of<'a>(rt: &impl Abort, alloc: Global, heading: &Heading, file: &'a [u8]) -> Plan<'a> {
+pub(super) fn plan_of<'a>(
+    rt: &impl Abort,
+    alloc: Global,
+    heading: &Heading,
+    file: &'a [u8],
+) -> Plan<'a> {
     let mut plan = bare_plan(alloc, heading);
     for (index, rva, size) in heading.directories {
         assert!(rt; *index < 16);
@@ -226,7 +231,7 @@ fn numbered_plan(rt: &impl Abort, alloc: Global, numbers: &Numbers) -> Plan<'sta
 }
 
 /// Fault 53.
-const REFUSED: Option<WriteError> = Some(WriteError::Fault(Fault {
+pub(super) const REFUSED: Option<WriteError> = Some(WriteError::Fault(Fault {
     number: 53,
     image: 0,
     place: Place::Item(0),

@@ -4,6 +4,7 @@ ghost use Rattle.std.specs.Prelude.{◌<◌};
 
 use super::exports::{same_names, same_ordinals};
 use super::files::{Vector, file_of, layout_of};
+use super::images_written::{REFUSED, V2, plan_of};
 use super::imports::same_imports;
 use super::members::{A, B, C, files_of, names_of, repeated, set_of};
 use super::objects::{O1, O1_SYMBOLS, fault_of, list, same_object};
@@ -16,7 +17,7 @@ use pe_space::{Command, MapError, MappedSpace, Policy, SetEntry, Space, map, ope
 use pe_tables::{TableError, ascending, encode_fixups, read_exports, read_fixups, read_imports};
 use pe_tool::{Outcome, ToolError, map_report, rebase};
 use pe_view::{Fault, Place};
-use pe_write::{WriteError, rebase_file};
+use pe_write::{WriteError, rebase_file, write_image};
 use std::alloc::Global;
 use std::process::Abort;
 
@@ -50,6 +51,7 @@ enum Call {
     Run,
     ReadObject,
     WriteObject,
+    WriteImage,
     RebaseFile,
     Check,
     Dump,
@@ -224,6 +226,16 @@ fn writing(rt: &impl Abort, alloc: Global, arena: &Bump) -> Answer {
     }
 }
 
+fn planning(rt: &impl Abort, alloc: Global, arena: &Bump) -> Answer {
+    let file = file_of(rt, alloc, Vector::V2);
+    let plan = plan_of(rt, alloc, &V2, &file);
+    match write_image(arena, &plan) {
+        Ok(bytes) => right_if(*bytes.as_slice() == *file.as_slice()),
+        Err(WriteError::Memory) => Answer::Memory,
+        Err(_) => Answer::Wrong,
+    }
+}
+
 fn rebasing(rt: &impl Abort, alloc: Global, arena: &Bump) -> Answer {
     let file = file_of(rt, alloc, Vector::V2);
     let expected = rebase_file(alloc, &file, 0x2000_0000).expect(rt, "a file");
@@ -294,6 +306,7 @@ fn answer_of(rt: &impl Abort, alloc: Global, arena: &Bump, call: Call) -> Answer
         Call::Run => running(rt, alloc, arena),
         Call::ReadObject => reading(rt, alloc, arena),
         Call::WriteObject => writing(rt, alloc, arena),
+        Call::WriteImage => planning(rt, alloc, arena),
         Call::RebaseFile => rebasing(rt, alloc, arena),
         Call::Check => engine(rt, alloc, arena, Engine::Check),
         Call::Dump => engine(rt, alloc, arena, Engine::Dump),
@@ -383,6 +396,11 @@ fn a_written_object_wants_memory(rt: HostRuntime) {
 }
 
 #[test]
+fn a_written_image_wants_memory(rt: HostRuntime) {
+    assert_wants_memory(&rt, rt.alloc(), Call::WriteImage);
+}
+
+#[test]
 fn a_rebased_file_wants_memory(rt: HostRuntime) {
     assert_wants_memory(&rt, rt.alloc(), Call::RebaseFile);
 }
@@ -448,6 +466,14 @@ fn a_zero_byte_in_a_name_needs_no_memory(rt: HostRuntime) {
         place: Place::Item(0),
     };
     assert!(&rt; fault_of(write_object(&arena, &object).err()) == Some(fault));
+}
+
+#[test]
+fn a_refused_plan_needs_no_memory(rt: HostRuntime) {
+    let file = file_of(&rt, rt.alloc(), Vector::V2);
+    let mut plan = plan_of(&rt, rt.alloc(), &V2, &file);
+    plan.file_alignment = 0;
+    assert!(&rt; write_image(&no_room(rt.alloc()), &plan).err() == REFUSED);
 }
 
 #[test]
