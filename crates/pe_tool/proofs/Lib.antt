@@ -13,5 +13,6 @@ pub mod RebasedSets
 pub mod RebaseRuns
 pub mod Reports
 pub mod Rows
+pub mod RuleWords
 pub mod Token
 pub mod Widths

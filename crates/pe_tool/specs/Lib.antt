@@ -18,6 +18,8 @@ pub mod Device
 pub mod Dump
 pub mod Engine
 pub mod FaultLine
+pub mod FaultWords
+pub mod FileKind
 pub mod Field
 pub mod Format
 pub mod HeaderFields

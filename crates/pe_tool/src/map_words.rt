@@ -75,7 +75,9 @@ pub(crate) fn map_command<'a>(alloc: Global) -> Result<Command<'a>, AllocError> 
         .required(true)
         .action(ArgAction::Append)
         .num_args(1..)
-        .help("The base of an image and its file; the file's name is the module's");
+        .help(
+            "The base of an image and its file, or - for standard input; the file's name is the module's",
+        );
     Command::new(alloc, "map")
         .about(
             "Maps images, binds their imports, and prints where each stands, what each bound slot holds and the bytes of a window, or the first fault",

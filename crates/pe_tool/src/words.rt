@@ -8,6 +8,23 @@ use clap::{Arg, ArgMatches, Command, Error};
 use pe_space::Policy;
 use std::alloc::{AllocError, Global};
 
+/// The program's version, which `--version` prints behind its name.
+const VERSION: &str = "0.1.0";
+
+/// What `--help` says behind the commands and the options.
+const NOTES: &str = "\
+A FILE that is - is standard input.
+
+Exit statuses:
+  0  done
+  1  refused by a fault
+  2  bad command line
+  3  reading or writing failed
+  4  out of memory
+
+A fault is a line on standard output, and on standard error it is told in words.
+docs/FAULTS.md explains each fault by its number.";
+
 /// What the words ask for.
 #[derive(Debug, Drop, PartialEq, Eq)]
 pub enum Job {
@@ -45,7 +62,7 @@ pub enum Job {
 pub enum WordsError {
     /// The words are no command line of the program's: status 2, the text goes to standard error.
     Bad(String),
-    /// The words ask for help: status 0, the text goes to standard output.
+    /// The words ask for help or for the version: status 0, the text goes to standard output.
     Help(String),
     /// Memory was refused: status 4.
     Memory,
@@ -74,24 +91,26 @@ fn command<'a>(alloc: Global) -> Result<Command<'a>, AllocError> {
         alloc,
         "check",
         "Prints one line: that the image is accepted, with its form and its number of sections, or its first fault",
-        "The image's file",
+        "The image's file, or - for standard input",
     )?;
     let dump = file_command(
         alloc,
         "dump",
         "Prints the fields of the image's headers, its directories, sections, exports, imports and base relocations, a line each, or its first fault",
-        "The image's file",
+        "The image's file, or - for standard input",
     )?;
     let object = file_command(
         alloc,
         "object",
         "Prints what a COFF object holds, a line for each section, relocation, symbol and auxiliary record, or its first fault",
-        "The object's file",
+        "The object's file, or - for standard input",
     )?;
     Command::new(alloc, "petool")
         .about(
             "Reads PE images and COFF objects: judges them, shows what they hold, maps images, and writes them at other bases",
         )
+        .version(VERSION)
+        .after_help(NOTES)
         .bin_name("petool")?
         .no_binary_name(true)
         .subcommand_required(true)

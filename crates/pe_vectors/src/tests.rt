@@ -22,6 +22,7 @@ mod refusals;
 mod reports;
 mod sets;
 mod spaces;
+mod told;
 mod tool;
 mod whole;
 mod windows;

@@ -45,6 +45,7 @@ const JOBS: &[(&[&str], Expected)] = &[
     (&["check", "a.dll"], ("check", "a.dll")),
     (&["dump", "a.dll"], ("dump", "a.dll")),
     (&["object", "a.obj"], ("object", "a.obj")),
+    (&["dump", "-"], ("dump", "-")),
     (&["check", "--", "--help"], ("check", "--help")),
 ];
 
@@ -295,7 +296,7 @@ Prints one line: that the image is accepted, with its form and its number of sec
 Usage: petool check <FILE>
 
 Arguments:
-  <FILE>  The image's file
+  <FILE>  The image's file, or - for standard input
 
 Options:
   -h, --help  Print help
@@ -326,6 +327,8 @@ const HELP: &[(&[&str], &str)] = &[
         "\n\nUsage: petool rebase <HEX> <IN> <OUT>\n\n",
     ),
     (&["--help"], "Usage: petool <COMMAND>"),
+    (&["--help"], "\nExit statuses:\n  0  done\n"),
+    (&["--version"], "petool 0.1.0\n"),
     (&["--help"], "\n  check   Prints one line"),
     (&["--help"], "\n  dump    Prints the fields"),
     (&["--help"], "\n  object  Prints what a COFF object holds"),

@@ -1,0 +1,414 @@
+//! Faults in words, and what first bytes show a file to be.
+
+use super::files::assert_holds;
+use pe_tool::{FaultText, FaultWords, FileKind, fault_words, file_kind};
+use pe_view::{Fault, Place};
+
+/// Each fault's number, what stands at its place, and what is wrong with it: the table "In words" of docs/FAULTS.md.
+const WORDS: &[(u16, &str, &str)] = &[
+    (1, "byte", "the file has over 2^32 bytes"),
+    (
+        2,
+        "end of the file",
+        "the file has under 64 bytes, which an MS-DOS header takes",
+    ),
+    (3, "MS-DOS header", "the file does not begin with MZ"),
+    (
+        4,
+        "offset of the signature",
+        "the signature and the COFF file header behind it pass the end of the file",
+    ),
+    (5, "signature", "the bytes are not PE and two zero bytes"),
+    (
+        6,
+        "Magic",
+        "the field is neither 0x10b (PE32) nor 0x20b (PE32+), or passes the end of the file",
+    ),
+    (
+        7,
+        "SizeOfOptionalHeader",
+        "the size is under that of the optional header's fixed fields and data directories",
+    ),
+    (
+        8,
+        "SizeOfOptionalHeader",
+        "the optional header passes the end of the file",
+    ),
+    (9, "NumberOfSections", "the image has over 96 sections"),
+    (
+        10,
+        "NumberOfSections",
+        "the section table passes the end of the file",
+    ),
+    (11, "SizeOfImage", "the size is 0 or over 2^31"),
+    (
+        12,
+        "SizeOfHeaders",
+        "the headers end before the section table does, or pass the end of the file or of the image",
+    ),
+    (
+        13,
+        "section header",
+        "the section's raw data passes the end of the file",
+    ),
+    (
+        14,
+        "section header",
+        "the section passes the end of the image",
+    ),
+    (
+        15,
+        "section header",
+        "the section begins before the headers or the section before it end",
+    ),
+    (
+        16,
+        "export directory table",
+        "the table is not wholly in the image",
+    ),
+    (
+        17,
+        "RVA in the export directory table",
+        "the table at this RVA is not wholly in the image",
+    ),
+    (
+        18,
+        "count in the export directory table",
+        "the table has over 65,536 entries",
+    ),
+    (
+        19,
+        "export name pointer",
+        "the pointer leads to no text that a zero byte ends",
+    ),
+    (
+        20,
+        "export ordinal",
+        "the ordinal is the index of no entry of the export address table",
+    ),
+    (
+        21,
+        "export address",
+        "the address is past the end of the image",
+    ),
+    (
+        22,
+        "export address",
+        "the forwarder is no text of a module, a dot, and a name or an ordinal",
+    ),
+    (
+        24,
+        "import directory entry",
+        "the entry is not wholly in the image",
+    ),
+    (
+        25,
+        "name RVA of an import directory entry",
+        "the RVA leads to no text that a zero byte ends",
+    ),
+    (
+        26,
+        "import lookup entry",
+        "the entry is not wholly in the image",
+    ),
+    (
+        27,
+        "import lookup entry",
+        "the entry leads to no name that a zero byte ends",
+    ),
+    (
+        28,
+        "import lookup entry",
+        "the entry is that of a name, and its bits 62 to 31 are not 0",
+    ),
+    (
+        29,
+        "import lookup entry",
+        "its slot of the import address table is not wholly in the image",
+    ),
+    (
+        30,
+        "import lookup entry",
+        "its slot of the import address table has a byte in common with that of an earlier entry",
+    ),
+    (
+        31,
+        "import lookup entry",
+        "the image has over 1,048,576 imports",
+    ),
+    (
+        32,
+        "import directory entry",
+        "the RVA of the import lookup table is 0, and the time stamp is not",
+    ),
+    (
+        33,
+        "base relocation block",
+        "the block's size is odd, is under 8, or passes the end of the directory",
+    ),
+    (
+        34,
+        "base relocation table",
+        "the table passes the end of the image",
+    ),
+    (
+        35,
+        "base relocation",
+        "the type is none of ABSOLUTE, HIGHLOW and DIR64",
+    ),
+    (
+        36,
+        "base relocation",
+        "its field is not wholly in the image",
+    ),
+    (
+        37,
+        "base relocation",
+        "its field has a byte in common with that of an earlier base relocation",
+    ),
+    (
+        38,
+        "base relocation",
+        "its field has a byte in common with the import address table",
+    ),
+    (41, "file", "the set has over 256 files"),
+    (42, "file", "its module has the name of an earlier one"),
+    (43, "file", "its Magic is not that of file 0"),
+    (44, "base", "the base is no multiple of 65,536"),
+    (45, "base", "the image passes the end of the address space"),
+    (
+        46,
+        "base",
+        "the image has no base relocations, and the base is not its ImageBase",
+    ),
+    (
+        47,
+        "base",
+        "the image has an address in common with another one",
+    ),
+    (
+        48,
+        "import address table slot",
+        "the import leads to a module that is not in the set",
+    ),
+    (
+        49,
+        "import address table slot",
+        "the import leads to a module that does not export it",
+    ),
+    (
+        50,
+        "import address table slot",
+        "the import leads through over 64 forwarders",
+    ),
+    (
+        51,
+        "field of a base relocation",
+        "the field is not wholly in the raw data of one section",
+    ),
+    (
+        52,
+        "section header",
+        "the section's raw data begins in the headers, or has a byte in common with that of an earlier section",
+    ),
+    (53, "image", "its plan does not fit the format"),
+    (54, "window", "the window does not lie in one image"),
+    (55, "image", "there is no image of this index"),
+    (
+        61,
+        "end of the file",
+        "the file has under 20 bytes, which a COFF file header takes, or over 2^32",
+    ),
+    (
+        62,
+        "COFF file header",
+        "the file begins as an image, an archive or an import object does",
+    ),
+    (
+        63,
+        "NumberOfSections",
+        "the section table passes the end of the file",
+    ),
+    (
+        64,
+        "section header",
+        "the section's raw data passes the end of the file",
+    ),
+    (
+        65,
+        "section header",
+        "the count of relocations is an extended one, which is not read",
+    ),
+    (
+        66,
+        "section header",
+        "the section's relocations pass the end of the file",
+    ),
+    (
+        67,
+        "PointerToSymbolTable",
+        "the symbol table passes the end of the file",
+    ),
+    (
+        68,
+        "string table",
+        "the table's size is cut off, is 1 to 3, or passes the end of the file",
+    ),
+    (
+        69,
+        "name",
+        "its offset leads to no text of the string table that a zero byte ends",
+    ),
+    (
+        70,
+        "symbol",
+        "its auxiliary symbol records pass the end of the symbol table",
+    ),
+    (
+        71,
+        "symbol",
+        "its section number is that of no section, nor ABSOLUTE or DEBUG",
+    ),
+    (
+        72,
+        "relocation",
+        "its index is that of no record of the symbol table",
+    ),
+    (81, "name", "the name has a zero byte in it"),
+    (
+        82,
+        "section",
+        "the offset of its name in the string table is over 9,999,999",
+    ),
+    (83, "section", "the section has over 65,534 relocations"),
+    (84, "object", "its file would have over 2^32 - 1 bytes"),
+    (85, "object", "a part of it does not fit the format"),
+];
+
+/// The words of a number in the table.
+fn in_table(number: u16) -> Option<(&'static str, &'static str)> {
+    for (row, subject, rule) in WORDS {
+        if *row == number {
+            return Some((*subject, *rule));
+        }
+    }
+    None
+}
+
+/// Whether a fault has these words.
+fn has_words(words: Option<FaultWords>, expected: Option<(&str, &str)>) -> bool {
+    match (words, expected) {
+        (Some(words), Some((subject, rule))) => words.subject == subject && words.rule == rule,
+        (None, None) => true,
+        _ => false,
+    }
+}
+
+#[test]
+fn each_fault_has_the_words_of_the_table(rt: HostRuntime) {
+    for number in 0..=u16::from(u8::MAX) {
+        let holds = has_words(fault_words(number), in_table(number));
+        assert_holds(&rt, usize::from(number), holds);
+    }
+}
+
+#[test]
+fn the_numbers_between_belong_to_no_fault(rt: HostRuntime) {
+    for number in [0, 23, 39, 40, 56, 60, 73, 80, 86, u16::MAX] {
+        assert_holds(&rt, usize::from(number), fault_words(number).is_none());
+    }
+}
+
+/// A fault, and its words with its place.
+const TEXTS: &[(u16, Place, &str)] = &[
+    (
+        13,
+        Place::File(0x138),
+        "section header at 0x138: the section's raw data passes the end of the file",
+    ),
+    (
+        1,
+        Place::File(0x1_0000_0000),
+        "byte at 0x100000000: the file has over 2^32 bytes",
+    ),
+    (
+        36,
+        Place::Rva(0x2008),
+        "base relocation at RVA 0x2008: its field is not wholly in the image",
+    ),
+    (
+        44,
+        Place::Address(0xffff_ffff_ffff_0001),
+        "base 0xffffffffffff0001: the base is no multiple of 65,536",
+    ),
+    (
+        43,
+        Place::Item(1),
+        "file 1: its Magic is not that of file 0",
+    ),
+    (
+        60,
+        Place::Rva(0),
+        "place at RVA 0x0: no fault has this number",
+    ),
+];
+
+#[test]
+fn a_fault_is_told_with_its_place(rt: HostRuntime) {
+    for (index, (number, place, expected)) in TEXTS.iter().enumerate() {
+        let fault = FaultText(Fault {
+            number: *number,
+            image: 0,
+            place: *place,
+        });
+        let text = format!(in rt.alloc(); "{fault}").expect(&rt, "memory");
+        assert_holds(&rt, index, text.as_str() == *expected);
+    }
+}
+
+/// First bytes, and what they show.
+const KINDS: &[(&[u8], Option<FileKind>)] = &[
+    (b"MZ", Some(FileKind::Image)),
+    (b"M", Some(FileKind::Text)),
+    (b"\x7fELF", Some(FileKind::Elf)),
+    (b"\x7fEL", None),
+    (b"!<arch>\n", Some(FileKind::Archive)),
+    (b"!<arch> ", Some(FileKind::Text)),
+    (b" ~\t\r\n", Some(FileKind::Text)),
+    (b"text\x7f", None),
+    (b"text\0", None),
+    (b"text\x1f", None),
+    (b"\x4c\x01", Some(FileKind::Object)),
+    (b"\x64\x86\x03\0", Some(FileKind::Object)),
+    (b"\x64\xaa\x03\0", Some(FileKind::Object)),
+    (b"\xc0\x01\x03\0", Some(FileKind::Object)),
+    (b"\xc4\x01\x03\0", Some(FileKind::Object)),
+    (b"\x4c", Some(FileKind::Text)),
+    (b"\xc4", None),
+    (b"\x01\x4c", None),
+    (b"\0\0\xff\xff", None),
+    (b"", None),
+];
+
+#[test]
+fn first_bytes_show_a_kind(rt: HostRuntime) {
+    for (index, (first, expected)) in KINDS.iter().enumerate() {
+        assert_holds(&rt, index, file_kind(first) == *expected);
+    }
+}
+
+const KIND_TEXTS: &[(FileKind, &str)] = &[
+    (FileKind::Image, "it is an image"),
+    (FileKind::Elf, "it is an ELF file"),
+    (FileKind::Archive, "it is an archive"),
+    (FileKind::Text, "it is a text"),
+    (FileKind::Object, "it is a COFF object"),
+];
+
+#[test]
+fn each_kind_has_its_words(rt: HostRuntime) {
+    for (index, (kind, expected)) in KIND_TEXTS.iter().enumerate() {
+        let text = format!(in rt.alloc(); "{kind}").expect(&rt, "memory");
+        assert_holds(&rt, index, text.as_str() == *expected);
+    }
+}
