@@ -1,7 +1,5 @@
 //! A file that is made when it is first written to.
 
-ghost use Rattle.std.specs.Prelude.{◌≤◌, length, IfOk};
-
 use std::fs;
 use std::io::{self, Error, ErrorKind, Write};
 use std::os::unix::fs::MetadataExt;
@@ -13,7 +11,6 @@ pub(crate) struct LateFile<'a, R: Files> {
     rt: &'a R,
     path: &'a str,
     file: Option<R::File>,
-    has_failed: bool,
 }
 
 impl<'a, R: Files> LateFile<'a, R> {
@@ -23,19 +20,12 @@ impl<'a, R: Files> LateFile<'a, R> {
             rt,
             path,
             file: None,
-            has_failed: false,
         }
     }
+}
 
-    /// Whether a write has failed, or the file could not be made.
-    pub fn has_failed(&self) -> bool {
-        self.has_failed
-    }
-
-    /// Writes to the file, which is made if it is not there yet.
-    fn write_made(&mut self, bytes: &[u8]) -> io::Result<usize>
-        ensures { IfOk result (λ count. count ≤ length bytes.now) }
-    {
+impl<R: Files> Write for LateFile<'_, R> {
+    fn write(&mut self, bytes: &[u8]) -> io::Result<usize> {
         if self.file.is_none() {
             self.file = Some(fs::create(self.rt, self.path)?);
         }
@@ -43,16 +33,6 @@ impl<'a, R: Files> LateFile<'a, R> {
             Some(file) => file.write(bytes),
             None => Err(Error::from(ErrorKind::Other)),
         }
-    }
-}
-
-impl<R: Files> Write for LateFile<'_, R> {
-    fn write(&mut self, bytes: &[u8]) -> io::Result<usize> {
-        let written = self.write_made(bytes);
-        if written.is_err() {
-            self.has_failed = true;
-        }
-        written
     }
 
     fn flush(&mut self) -> io::Result<()> {

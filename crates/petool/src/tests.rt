@@ -7,6 +7,7 @@ use std::process::Abort;
 use std::test::Fail;
 
 mod fake;
+mod refusals;
 
 /// The file of a PE32 image that has headers alone, with no directory and no section.
 const HEADERS: &[u8] = b"\
@@ -25,6 +26,10 @@ const DUMP: &[&[u8]] = &[b"petool", b"dump", b"a.dll"];
 const OBJECT: &[&[u8]] = &[b"petool", b"object", b"a.dll"];
 
 const MAP: &[&[u8]] = &[b"petool", b"map", b"10000000=a.dll"];
+
+const NO_BYTES: &str = "\
+petool: a.dll: end of the file at 0x0: the file has under 64 bytes, which an MS-DOS header takes
+";
 
 const NO_FILE_GIVEN: &str = "\
 error: the following required arguments were not provided:
@@ -48,7 +53,7 @@ For more information, try '--help'.
 struct Case {
     words: &'static [&'static [u8]],
     file: Stored,
-    is_full: bool,
+    refusal: Option<ErrorKind>,
     status: u8,
     printed: &'static str,
     complained: &'static str,
@@ -58,7 +63,7 @@ struct Case {
 fn assert_ends(rt: &(impl Abort + AllocGlobal), cases: &[Case]) -> Result<(), Fail> {
     for case in cases {
         let mut system = Fake::new(rt.alloc(), case.words, case.file);
-        system.is_full = case.is_full;
+        system.refusal = case.refusal;
         assert_eq!(rt; run(&system), case.status);
         assert_eq!(rt; system.printed()?.as_str(), case.printed);
         assert_eq!(rt; system.complained()?.as_str(), case.complained);
@@ -72,7 +77,7 @@ fn each_end_has_its_status_and_its_text(rt: HostRuntime) -> Result<(), Fail> {
         Case {
             words: CHECK,
             file: Stored::Bytes(HEADERS),
-            is_full: false,
+            refusal: None,
             status: 0,
             printed: "accepted PE32 sections 0\n",
             complained: "",
@@ -80,15 +85,15 @@ fn each_end_has_its_status_and_its_text(rt: HostRuntime) -> Result<(), Fail> {
         Case {
             words: DUMP,
             file: Stored::Bytes(b""),
-            is_full: false,
+            refusal: None,
             status: 1,
             printed: "fault 2 image 0 file 0x00000000\n",
-            complained: "",
+            complained: NO_BYTES,
         },
         Case {
             words: OBJECT,
             file: Stored::Bytes(b"\x64\x86\0\0\x78\x56\x34\x12\0\0\0\0\0\0\0\0\0\0\x04\0"),
-            is_full: false,
+            refusal: None,
             status: 0,
             printed: "Machine 0x8664 AMD64\nTimeDateStamp 0x12345678\nCharacteristics 0x0004\nend\n",
             complained: "",
@@ -96,15 +101,15 @@ fn each_end_has_its_status_and_its_text(rt: HostRuntime) -> Result<(), Fail> {
         Case {
             words: OBJECT,
             file: Stored::Bytes(HEADERS),
-            is_full: false,
+            refusal: None,
             status: 1,
             printed: "fault 62 image 0 file 0x00000000\n",
-            complained: "",
+            complained: "petool: a.dll: COFF file header at 0x0: the file begins as an image, an archive or an import object does; it is an image\n",
         },
         Case {
             words: &[b"petool", b"check"],
             file: Stored::Bytes(HEADERS),
-            is_full: false,
+            refusal: None,
             status: 2,
             printed: "",
             complained: NO_FILE_GIVEN,
@@ -112,15 +117,15 @@ fn each_end_has_its_status_and_its_text(rt: HostRuntime) -> Result<(), Fail> {
         Case {
             words: &[b"petool", b"check", b"\xff"],
             file: Stored::Bytes(HEADERS),
-            is_full: false,
+            refusal: None,
             status: 2,
             printed: "",
-            complained: "petool: the command line cannot be read\n",
+            complained: "petool: word 2 of the command line is not UTF-8\n",
         },
         Case {
             words: &[b"petool", b"dump", b"b.dll"],
             file: Stored::Bytes(HEADERS),
-            is_full: false,
+            refusal: None,
             status: 3,
             printed: "",
             complained: "petool: b.dll: cannot be opened: no such file\n",
@@ -128,26 +133,26 @@ fn each_end_has_its_status_and_its_text(rt: HostRuntime) -> Result<(), Fail> {
         Case {
             words: DUMP,
             file: Stored::Broken,
-            is_full: false,
+            refusal: None,
             status: 3,
             printed: "",
-            complained: "petool: a.dll: reading failed\n",
+            complained: "petool: a.dll: reading failed: other error\n",
         },
         Case {
             words: CHECK,
             file: Stored::Bytes(HEADERS),
-            is_full: true,
+            refusal: Some(ErrorKind::StorageFull),
             status: 3,
             printed: "",
-            complained: "petool: a.dll: writing failed\n",
+            complained: "petool: standard output: writing failed: no storage space\n",
         },
         Case {
             words: &[b"petool", b"--help"],
             file: Stored::Bytes(HEADERS),
-            is_full: true,
+            refusal: Some(ErrorKind::StorageFull),
             status: 3,
             printed: "",
-            complained: "",
+            complained: "petool: standard output: writing failed: no storage space\n",
         },
     ];
     assert_ends(&rt, &cases)
@@ -167,7 +172,7 @@ fn each_end_of_map_has_its_status_and_its_text(rt: HostRuntime) -> Result<(), Fa
                 b"10000000=a.dll",
             ],
             file: Stored::Bytes(HEADERS),
-            is_full: false,
+            refusal: None,
             status: 0,
             printed: "image 0 \"a.dll\" base 0x0000000010000000 size 0x00001000\n0x0000000010000000 4d 5a\nend\n",
             complained: "",
@@ -175,16 +180,16 @@ fn each_end_of_map_has_its_status_and_its_text(rt: HostRuntime) -> Result<(), Fa
         Case {
             words: MAP,
             file: Stored::Bytes(b""),
-            is_full: false,
+            refusal: None,
             status: 1,
             printed: "fault 2 image 0 file 0x00000000\n",
-            complained: "",
+            complained: NO_BYTES,
         },
         // all words are judged before a file is opened
         Case {
             words: &[b"petool", b"map", b"10000000=b.dll", b"a.dll"],
             file: Stored::Bytes(HEADERS),
-            is_full: false,
+            refusal: None,
             status: 2,
             printed: "",
             complained: NO_BASE,
@@ -193,7 +198,7 @@ fn each_end_of_map_has_its_status_and_its_text(rt: HostRuntime) -> Result<(), Fa
         Case {
             words: &[b"petool", b"map", b"10000000=a.dll", b"20000000=b.dll"],
             file: Stored::Bytes(b""),
-            is_full: false,
+            refusal: None,
             status: 3,
             printed: "",
             complained: "petool: b.dll: cannot be opened: no such file\n",
@@ -201,18 +206,18 @@ fn each_end_of_map_has_its_status_and_its_text(rt: HostRuntime) -> Result<(), Fa
         Case {
             words: MAP,
             file: Stored::Broken,
-            is_full: false,
+            refusal: None,
             status: 3,
             printed: "",
-            complained: "petool: a.dll: reading failed\n",
+            complained: "petool: a.dll: reading failed: other error\n",
         },
         Case {
             words: MAP,
             file: Stored::Bytes(HEADERS),
-            is_full: true,
+            refusal: Some(ErrorKind::StorageFull),
             status: 3,
             printed: "",
-            complained: "petool: map: writing failed\n",
+            complained: "petool: standard output: writing failed: no storage space\n",
         },
     ];
     assert_ends(&rt, &cases)
@@ -226,7 +231,7 @@ struct RebaseCase {
     words: &'static [&'static [u8]],
     file: Stored,
     target: Target,
-    is_full: bool,
+    refusal: Option<ErrorKind>,
     status: u8,
     printed: &'static str,
     complained: &'static str,
@@ -239,7 +244,7 @@ const REBASED: RebaseCase = RebaseCase {
     words: REBASE,
     file: Stored::Bytes(HEADERS),
     target: Target::Open,
-    is_full: false,
+    refusal: None,
     status: 0,
     printed: "rebased 0x0000000020000000\n",
     complained: "",
@@ -255,6 +260,7 @@ fn each_end_of_rebase_has_its_status_and_its_text(rt: HostRuntime) -> Result<(),
             words: &[b"petool", b"rebase", b"20000001", b"a.dll", b"new.dll"],
             status: 1,
             printed: "fault 44 image 0 address 0x0000000020000001\n",
+            complained: "petool: a.dll: base 0x20000001: the base is no multiple of 65,536\n",
             is_made: false,
             ..REBASED
         },
@@ -262,14 +268,14 @@ fn each_end_of_rebase_has_its_status_and_its_text(rt: HostRuntime) -> Result<(),
             target: Target::Full,
             status: 3,
             printed: "",
-            complained: "petool: new.dll: writing failed\n",
+            complained: "petool: new.dll: writing failed: no storage space\n",
             ..REBASED
         },
         RebaseCase {
             target: Target::Closed,
             status: 3,
             printed: "",
-            complained: "petool: new.dll: writing failed\n",
+            complained: "petool: new.dll: writing failed: permission denied\n",
             is_made: false,
             ..REBASED
         },
@@ -277,7 +283,7 @@ fn each_end_of_rebase_has_its_status_and_its_text(rt: HostRuntime) -> Result<(),
             file: Stored::Broken,
             status: 3,
             printed: "",
-            complained: "petool: a.dll: reading failed\n",
+            complained: "petool: a.dll: reading failed: other error\n",
             is_made: false,
             ..REBASED
         },
@@ -299,17 +305,17 @@ fn each_end_of_rebase_has_its_status_and_its_text(rt: HostRuntime) -> Result<(),
         },
         // the line comes after the file
         RebaseCase {
-            is_full: true,
+            refusal: Some(ErrorKind::StorageFull),
             status: 3,
             printed: "",
-            complained: "petool: a.dll: writing failed\n",
+            complained: "petool: standard output: writing failed: no storage space\n",
             ..REBASED
         },
     ];
     for case in cases {
         let mut system = Fake::new(rt.alloc(), case.words, case.file);
         system.target = case.target;
-        system.is_full = case.is_full;
+        system.refusal = case.refusal;
         assert_eq!(rt; run(&system), case.status);
         assert_eq!(rt; system.printed()?.as_str(), case.printed);
         assert_eq!(rt; system.complained()?.as_str(), case.complained);
@@ -324,8 +330,80 @@ fn help_goes_to_standard_output(rt: HostRuntime) -> Result<(), Fail> {
     assert_eq!(rt; run(&system), 0);
     let text = system.printed()?;
     assert!(rt; text.contains("\nUsage: petool <COMMAND>\n"), "{text}");
+    assert!(rt; text.contains(STATUSES), "{text}");
+    assert!(rt;
+        text.contains("docs/FAULTS.md explains each fault"),
+        "{text}"
+    );
     assert_eq!(rt; system.complained()?.as_str(), "");
     Ok(())
+}
+
+/// What help says of the exit statuses.
+const STATUSES: &str = "
+Exit statuses:
+  0  done
+  1  refused by a fault
+  2  bad command line
+  3  reading or writing failed
+  4  out of memory
+";
+
+#[test]
+fn dashes_version_and_pipes(rt: HostRuntime) -> Result<(), Fail> {
+    let cases = [
+        Case {
+            words: &[b"petool", b"--version"],
+            file: Stored::Broken,
+            refusal: None,
+            status: 0,
+            printed: "petool 0.1.0\n",
+            complained: "",
+        },
+        Case {
+            words: &[b"petool", b"check", b"-"],
+            file: Stored::Bytes(HEADERS),
+            refusal: None,
+            status: 0,
+            printed: "accepted PE32 sections 0\n",
+            complained: "",
+        },
+        Case {
+            words: &[b"petool", b"map", b"10000000=-"],
+            file: Stored::Bytes(HEADERS),
+            refusal: None,
+            status: 0,
+            printed: "image 0 \"-\" base 0x0000000010000000 size 0x00001000\nend\n",
+            complained: "",
+        },
+        // a path, which is no file of the system
+        Case {
+            words: &[b"petool", b"rebase", b"20000000", b"-", b"new.dll"],
+            file: Stored::Bytes(HEADERS),
+            refusal: None,
+            status: 3,
+            printed: "",
+            complained: "petool: -: cannot be opened: no such file\n",
+        },
+        // a reader of a pipe that went away
+        Case {
+            words: CHECK,
+            file: Stored::Bytes(HEADERS),
+            refusal: Some(ErrorKind::BrokenPipe),
+            status: 3,
+            printed: "",
+            complained: "",
+        },
+        Case {
+            words: &[b"petool", b"--help"],
+            file: Stored::Bytes(HEADERS),
+            refusal: Some(ErrorKind::BrokenPipe),
+            status: 3,
+            printed: "",
+            complained: "",
+        },
+    ];
+    assert_ends(&rt, &cases)
 }
 
 #[test]

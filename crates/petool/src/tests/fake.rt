@@ -8,7 +8,7 @@ use std::env::FillError;
 use std::fmt::Display;
 use std::fs::{Metadata, OpenFile, OpenOptions};
 use std::io;
-use std::io::{Empty, Error, ErrorKind, Read, Seek, SeekFrom, Write};
+use std::io::{BufRead, Empty, Error, ErrorKind, Input, Lines, Read, Seek, SeekFrom, Write};
 use std::rt::{Env, Files};
 
 /// What a file of the runtime does when it is read.
@@ -31,15 +31,15 @@ pub(super) enum Target {
     Closed,
 }
 
-/// A system with one file, `a.dll`, and room for another, `new.dll`.
+/// A system with one file, `a.dll` or `A.DLL`, and room for another, `new.dll`. Standard input gives the bytes of the file.
 #[derive(Drop)]
 pub(super) struct Fake {
     alloc: Global,
     pub words: &'static [&'static [u8]],
     pub file: Stored,
     pub target: Target,
-    /// Standard output takes nothing.
-    pub is_full: bool,
+    /// Why standard output takes nothing.
+    pub refusal: Option<ErrorKind>,
     /// `new.dll` was made.
     made: RefCell<bool>,
     printed: RefCell<String>,
@@ -54,7 +54,7 @@ impl Fake {
             words,
             file,
             target: Target::Closed,
-            is_full: false,
+            refusal: None,
             made: RefCell::new(false),
             printed: RefCell::new(String::new(alloc)),
             complained: RefCell::new(String::new(alloc)),
@@ -153,9 +153,10 @@ impl Print for Fake {
     }
 
     fn write_all(&self, bytes: &[u8]) -> io::Result<()> {
-        match str::from_utf8(bytes) {
-            Ok(text) if !self.is_full => append(&self.printed, text),
-            _ => Err(Error::from(ErrorKind::StorageFull)),
+        match (self.refusal, str::from_utf8(bytes)) {
+            (None, Ok(text)) => append(&self.printed, text),
+            (Some(kind), _) => Err(Error::from(kind)),
+            (None, Err(_)) => Err(Error::from(ErrorKind::InvalidData)),
         }
     }
 }
@@ -169,6 +170,25 @@ impl Eprint for Fake {
     fn eprintln<D: Display + Drop>(&self, value: D) -> io::Result<()> {
         let text = format!(in self.alloc; "{value}\n")?;
         append(&self.complained, text.as_str())
+    }
+}
+
+impl Input for Fake {
+    type Reader = &'static [u8];
+
+    fn read_line<A: Allocator + Clone>(&self, buf: &mut String<A>) -> io::Result<usize> {
+        self.reader().read_line(buf)
+    }
+
+    fn lines<A: Allocator>(&self, alloc: A) -> Lines<&'static [u8], A> {
+        self.reader().lines(alloc)
+    }
+
+    fn reader(&self) -> &'static [u8] {
+        match self.file {
+            Stored::Bytes(bytes) => bytes,
+            Stored::Broken => b"",
+        }
     }
 }
 
@@ -232,7 +252,7 @@ impl Files for Fake {
 
     fn open_file(&self, _how: &OpenOptions, path: &str) -> io::Result<Opened> {
         match path {
-            "a.dll" => Ok(Opened::Source(self.file)),
+            "a.dll" | "A.DLL" => Ok(Opened::Source(self.file)),
             "new.dll" => self.make(),
             _ => Err(Error::new(ErrorKind::NotFound, "no such file")),
         }

@@ -1,0 +1,98 @@
+//! The files that are read: at paths, or standard input.
+
+ghost use Rattle.std.specs.Prelude.{◌≤◌, length, IfOk};
+
+use arrayvec::ArrayVec;
+use std::fs;
+use std::io::{self, Error, Input, Read};
+use std::rt::Files;
+
+/// How many of its first bytes an input keeps.
+pub(crate) const FIRST_BYTES: usize = 16;
+
+/// Where bytes come from.
+#[derive(Drop)]
+enum Stream<F, S> {
+    File(F),
+    Standard(S),
+}
+
+/// A file that is read. It keeps its first bytes, and the error of the read that failed.
+#[derive(Drop)]
+pub(crate) struct InputFile<F, S> {
+    stream: Stream<F, S>,
+    first: ArrayVec<u8, FIRST_BYTES>,
+    error: Option<Error>,
+}
+
+impl<F: Read, S: Read> InputFile<F, S> {
+    /// A file of which nothing was read.
+    fn new(stream: Stream<F, S>) -> InputFile<F, S> {
+        InputFile {
+            stream,
+            first: ArrayVec::new(),
+            error: None,
+        }
+    }
+
+    /// Its first bytes, as far as they were read.
+    pub fn first(&self) -> &[u8] {
+        self.first.as_slice()
+    }
+
+    /// The system's word for the read that failed.
+    pub fn error(&self) -> Option<Error> {
+        self.error
+    }
+
+    /// Reads from where the bytes come from.
+    fn read_stream(&mut self, buffer: &mut [u8]) -> io::Result<usize>
+        ensures { IfOk result (λ count. count ≤ length buffer.new) }
+    {
+        match &mut self.stream {
+            Stream::File(file) => file.read(buffer),
+            Stream::Standard(input) => input.read(buffer),
+        }
+    }
+
+    /// Keeps bytes that were read, as far as they are among the first.
+    fn keep(&mut self, bytes: &[u8]) {
+        let count = bytes.len().min(self.first.remaining_capacity());
+        self.first.try_extend_from_slice(&bytes[..count]).unwrap();
+    }
+}
+
+impl<F: Read, S: Read> Read for InputFile<F, S> {
+    fn read(&mut self, buffer: &mut [u8]) -> io::Result<usize> {
+        let answer = self.read_stream(buffer);
+        match &answer {
+            Ok(count) => self.keep(&buffer[..*count]),
+            Err(error) => self.error = Some(*error),
+        }
+        answer
+    }
+}
+
+/// The file at a path.
+pub(crate) fn open_path<R: Files + Input>(
+    rt: &R,
+    path: &str,
+) -> io::Result<InputFile<R::File, R::Reader>> {
+    Ok(InputFile::new(Stream::File(fs::open(rt, path)?)))
+}
+
+/// The file at a path, or standard input where the path is `-`.
+pub(crate) fn open_file<R: Files + Input>(
+    rt: &R,
+    path: &str,
+) -> io::Result<InputFile<R::File, R::Reader>> {
+    if path == "-" {
+        return Ok(InputFile::new(Stream::Standard(rt.reader())));
+    }
+    open_path(rt, path)
+}
+
+/// What messages call the file at a path.
+pub(crate) fn name_of(path: &str) -> &str {
+    if path == "-" { "standard input" } else { path }
+}
