@@ -1,10 +1,10 @@
 //! What `pe_tables` reads of export tables, and what it finds by ordinal and by name.
 
-use super::files::{
+use crate::files::{
     Piece, Vector, assert_holds, assert_number, assert_refused, changed, file_of, layout_of,
     push_number, put, with_data,
 };
-use super::keys::same_target;
+use crate::same::{same_names, same_ordinals};
 use pe_tables::{Exports, Key, Target, read_exports};
 use std::alloc::Global;
 use std::process::Abort;
@@ -34,36 +34,6 @@ fn finds_ordinals(exports: &Exports<'_, Global>) -> bool {
 fn finds_names(exports: &Exports<'_, Global>) -> bool {
     for (name, target) in exports.names() {
         if exports.by_name(name) != Some(*target) {
-            return false;
-        }
-    }
-    true
-}
-
-/// Whether two lists have the same exports by ordinal.
-pub(super) fn same_ordinals(found: &[(u64, Target)], expected: &[(u64, Target)]) -> bool {
-    if found.len() != expected.len() {
-        return false;
-    }
-    for index in 0..found.len() {
-        let (ordinal, target) = &found[index];
-        let (other, expected) = &expected[index];
-        if *ordinal != *other || !same_target(target, expected) {
-            return false;
-        }
-    }
-    true
-}
-
-/// Whether two lists have the same exports by name.
-pub(super) fn same_names(found: &[(&[u8], Target)], expected: &[(&[u8], Target)]) -> bool {
-    if found.len() != expected.len() {
-        return false;
-    }
-    for index in 0..found.len() {
-        let (name, target) = &found[index];
-        let (other, expected) = &expected[index];
-        if **name != **other || !same_target(target, expected) {
             return false;
         }
     }

@@ -1,6 +1,6 @@
 //! What `pe_tables` reads of base relocation tables, and what it writes.
 
-use super::files::{
+use crate::files::{
     Piece, Vector, assert_holds, assert_refused, changed, file_of, layout_of, with_data,
 };
 use pe_tables::{Fixup, FixupKind, Import, Key, ascending, encode_fixups, read_fixups};

@@ -1,92 +1,13 @@
 //! What `pe_head` reads of headers.
 
-use super::files::{
+use crate::files::{
     Case, IMAGE, Piece, VECTORS, Vector, assert_cases, assert_holds, assert_number, bytes_from,
     changed, file_of, number, put, put_pieces,
 };
+use crate::header_fields::{COFF_FIELDS, Field, PE32_FIELDS, PE32_PLUS_FIELDS, distinct_bytes};
 use pe_head::{Directory, Headers, Magic, SectionHeader, read_headers};
 use pe_view::{Fault, View};
 use std::process::Abort;
-
-/// A field's offset and width.
-pub(super) type Field = (usize, usize);
-
-/// The COFF header, in the format's order.
-pub(super) const COFF_FIELDS: &[Field] = &[
-    (0, 2),
-    (2, 2),
-    (4, 4),
-    (8, 4),
-    (12, 4),
-    (16, 2),
-    (18, 2),
-];
-
-/// The optional header of PE32 behind Magic, in the format's order.
-pub(super) const PE32_FIELDS: &[Field] = &[
-    (2, 1),
-    (3, 1),
-    (4, 4),
-    (8, 4),
-    (12, 4),
-    (16, 4),
-    (20, 4),
-    (24, 4),
-    (28, 4),
-    (32, 4),
-    (36, 4),
-    (40, 2),
-    (42, 2),
-    (44, 2),
-    (46, 2),
-    (48, 2),
-    (50, 2),
-    (52, 4),
-    (56, 4),
-    (60, 4),
-    (64, 4),
-    (68, 2),
-    (70, 2),
-    (72, 4),
-    (76, 4),
-    (80, 4),
-    (84, 4),
-    (88, 4),
-    (92, 4),
-];
-
-/// The same of PE32+. BaseOfData, which it does not have, stands as a field of no bytes.
-pub(super) const PE32_PLUS_FIELDS: &[Field] = &[
-    (2, 1),
-    (3, 1),
-    (4, 4),
-    (8, 4),
-    (12, 4),
-    (16, 4),
-    (20, 4),
-    (24, 0),
-    (24, 8),
-    (32, 4),
-    (36, 4),
-    (40, 2),
-    (42, 2),
-    (44, 2),
-    (46, 2),
-    (48, 2),
-    (50, 2),
-    (52, 4),
-    (56, 4),
-    (60, 4),
-    (64, 4),
-    (68, 2),
-    (70, 2),
-    (72, 8),
-    (80, 8),
-    (88, 8),
-    (96, 8),
-    (104, 4),
-    (108, 4),
-];
 
 /// A section header behind its name, in the format's order.
 const SECTION_FIELDS: &[Field] = &[
@@ -238,15 +159,6 @@ fn assert_headers(rt: &impl Abort, file: &[u8]) -> Headers {
     let size = usize::from(headers.size_of_optional_header);
     assert_sections(rt, sections, bytes_from(rt, optional, size));
     headers
-}
-
-/// A file in which the bytes near each other differ, so that a field read elsewhere has another value.
-pub(super) fn distinct_bytes() -> [u8; 0x400] {
-    let mut file = [0; 0x400];
-    for (offset, byte) in file.iter_mut().enumerate() {
-        *byte = ((offset % 256) * 37 % 256) as u8;
-    }
-    file
 }
 
 /// What the headers of a file of distinct bytes need in either form: two sections, sizes.

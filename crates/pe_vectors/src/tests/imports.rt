@@ -1,10 +1,10 @@
 //! What `pe_tables` reads of import tables.
 
-use super::files::{
+use crate::files::{
     Piece, Vector, assert_holds, assert_number, assert_refused, changed, file_of, layout_of,
     push_number, with_data,
 };
-use super::keys::same_import;
+use crate::same::same_imports;
 use pe_tables::{Import, Key, read_imports};
 use std::alloc::Global;
 use std::process::Abort;
@@ -14,19 +14,6 @@ type Case = (
     &'static [Piece],
     Result<&'static [Import<'static>], (u16, u32)>,
 );
-
-/// Whether two lists have the same imports.
-pub(super) fn same_imports(found: &[Import], expected: &[Import]) -> bool {
-    if found.len() != expected.len() {
-        return false;
-    }
-    for index in 0..found.len() {
-        if !same_import(&found[index], &expected[index]) {
-            return false;
-        }
-    }
-    true
-}
 
 /// Asserts what a file is read as in each case.
 fn assert_imports(rt: &impl Abort, alloc: Global, vector: Vector, cases: &[Case]) {

@@ -1,9 +1,9 @@
 //! What `pe_write` writes of plans, and which plans it refuses.
 
-use super::files::{Vector, assert_holds, bytes_from, file_of, number, put, put_pieces};
-use crate::vf;
 use pe_head::{Directory, Magic};
 use pe_layout::Layout;
+use pe_vectors::files::{Vector, assert_holds, bytes_from, file_of, number, put, put_pieces};
+use pe_vectors::vf;
 use pe_view::{Fault, Place, View};
 use pe_write::{Plan, PlanSection, WriteError, write_image};
 use std::alloc::Global;

@@ -3,12 +3,14 @@
 ghost use Rattle.std.specs.Prelude.{◌≡◌, ◌<◌};
 
 use super::dumps::{dump_text, machine_dump};
-use super::files::{
+use pe_tool::{Failed, Outcome, Sink, Source, ToolError, check, dump, dump_object, status};
+use pe_vectors::files::{
     Piece, Vector, assert_holds, assert_number, bytes_from, changed, file_of, put, put_pieces,
 };
-use super::head::{COFF_FIELDS, Field, PE32_FIELDS, PE32_PLUS_FIELDS, distinct_bytes};
-use crate::{StepReader, StepWriter};
-use pe_tool::{Failed, Outcome, Sink, Source, ToolError, check, dump, dump_object, status};
+use pe_vectors::header_fields::{
+    COFF_FIELDS, Field, PE32_FIELDS, PE32_PLUS_FIELDS, distinct_bytes,
+};
+use pe_vectors::{StepReader, StepWriter};
 use std::alloc::{Allocator, Global};
 use std::process::Abort;
 

@@ -1,9 +1,9 @@
 //! What `coff_object` reads of object files.
 
-use super::files::{Piece, assert_holds, put, put_pieces};
 use coff_object::{
     Aux, ObjSection, Object, ObjectError, RawData, Relocation, Symbol, SymbolSection, read_object,
 };
+use pe_vectors::files::{Piece, assert_holds, put, put_pieces};
 use pe_view::{Fault, Place};
 use std::alloc::{Allocator, Global};
 use std::process::Abort;

@@ -1,9 +1,9 @@
 //! What `pe_tool` writes of objects.
 
-use super::files::{Piece, assert_holds};
 use super::objects::{O1, changed};
 use super::tool::{Engine, STEPS, assert_any_steps, assert_failures, run, steps_of};
 use pe_tool::{Outcome, status};
+use pe_vectors::files::{Piece, assert_holds};
 use std::alloc::Global;
 use std::process::Abort;
 

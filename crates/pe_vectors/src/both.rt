@@ -9,14 +9,14 @@ use std::process::Abort;
 
 /// The two spaces of a set. Each call asks both, and asserts that they give one answer.
 #[derive(Drop)]
-pub(super) struct Both<'a> {
+pub struct Both<'a> {
     mapped: MappedSpace<Global>,
     filed: FileSpace<'a, Global>,
     alloc: Global,
 }
 
 /// The spaces of a set, or its first fault.
-pub(super) fn opened<'a>(
+pub fn opened<'a>(
     rt: &impl Abort,
     alloc: Global,
     set: &'a [SetEntry<'a>],
@@ -37,18 +37,13 @@ pub(super) fn opened<'a>(
 }
 
 impl<'a> Both<'a> {
-    pub(super) fn byte(&self, rt: &impl Abort, address: u64) -> Option<u8> {
+    pub fn byte(&self, rt: &impl Abort, address: u64) -> Option<u8> {
         let byte = self.mapped.byte(address);
         assert_eq!(rt; self.filed.byte(address), byte, "at {address:#x}");
         byte
     }
 
-    pub(super) fn window(
-        &self,
-        rt: &impl Abort,
-        address: u64,
-        buffer: &mut [u8],
-    ) -> Result<(), Fault> {
+    pub fn window(&self, rt: &impl Abort, address: u64, buffer: &mut [u8]) -> Result<(), Fault> {
         let mut other = Vec::new(self.alloc);
         other.extend_from_slice(buffer).expect(rt, "memory");
         let answer = self.mapped.window(address, buffer);
@@ -58,36 +53,31 @@ impl<'a> Both<'a> {
         answer
     }
 
-    pub(super) fn move_image(
-        &mut self,
-        rt: &impl Abort,
-        image: u16,
-        base: u64,
-    ) -> Result<Moved, Fault> {
+    pub fn move_image(&mut self, rt: &impl Abort, image: u16, base: u64) -> Result<Moved, Fault> {
         let answer = self.mapped.move_image(image, base);
         assert_eq!(rt; self.filed.move_image(image, base), answer, "to {base:#x}");
         answer
     }
 
-    pub(super) fn image_count(&self, rt: &impl Abort) -> u16 {
+    pub fn image_count(&self, rt: &impl Abort) -> u16 {
         let count = self.mapped.image_count();
         assert_eq!(rt; self.filed.image_count(), count);
         count
     }
 
-    pub(super) fn base_of(&self, rt: &impl Abort, image: u16) -> Option<u64> {
+    pub fn base_of(&self, rt: &impl Abort, image: u16) -> Option<u64> {
         let base = self.mapped.base_of(image);
         assert_eq!(rt; self.filed.base_of(image), base);
         base
     }
 
-    pub(super) fn size_of(&self, rt: &impl Abort, image: u16) -> Option<u32> {
+    pub fn size_of(&self, rt: &impl Abort, image: u16) -> Option<u32> {
         let size = self.mapped.size_of(image);
         assert_eq!(rt; self.filed.size_of(image), size);
         size
     }
 
-    pub(super) fn bindings(&self, rt: &impl Abort) -> &[Binding] {
+    pub fn bindings(&self, rt: &impl Abort) -> &[Binding] {
         let bindings = self.mapped.bindings();
         assert!(rt; *self.filed.bindings() == *bindings);
         bindings

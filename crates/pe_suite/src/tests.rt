@@ -1,0 +1,13 @@
+mod counted;
+mod dumps;
+mod images_written;
+mod object_dumps;
+mod objects;
+mod objects_written;
+mod outcome;
+mod rebased;
+mod refusals;
+mod reports;
+mod told;
+mod tool;
+mod words;
