@@ -1,13 +1,14 @@
 pub mod Appends
 pub mod Bytes
 pub mod Digits
+pub mod Far
 pub mod Form
 pub mod Items
 pub mod Laid
 pub mod Mapped
 pub mod Listed
 pub mod NameFields
-pub mod Near
+pub mod NamePlaces
 pub mod Offsets
 pub mod ReadBack
 pub mod RecordPlaces

@@ -29,7 +29,7 @@ in-with_strings : (text : List ℕ) (table texts : List (List ℕ)) → is_among
 in-with_strings text table [] is = is
 in-with_strings text table (t ∷ texts) is = in-with_strings text (with_string table t) texts (in-with_string text table t is)
 
-in-new : (table : List (List ℕ)) (t : List ℕ) → is_among t (with_string table t) ≡ true
+pub in-new : (table : List (List ℕ)) (t : List ℕ) → is_among t (with_string table t) ≡ true
 in-new table t = elim (cases_Bool (is_among t table)) [
   | inl there ↦ rw there there
   | inr new ↦ rw new (in-append t table (t ∷ []) (or_right _ _ (or_left _ _ (equal_bytes t))))

@@ -1,6 +1,6 @@
 -- The symbols of an accepted file, with their auxiliary records, are all records of its table.
-use Rattle.std.proofs.Common.{◌≡◌, ◌∙◌, ℕ, zero, suc, ◌+◌, ◌-◌, ◌*◌, ◌/◌, ◌^◌, ◌<◌, ◌≤◌, Bool, true, false, List, [], ◌∷◌, ◌++◌, length, take, drop, Option, None, refl, sym, ap, arith, inl, inr}
-use Rattle.std.specs.Prelude.{map, not, nat_lt, ◌==◌, ◌&&◌, ◌||◌}
+use Rattle.std.proofs.Common.{◌≡◌, ◌∙◌, ℕ, zero, suc, ◌+◌, ◌*◌, ◌^◌, ◌<◌, ◌≤◌, Bool, false, List, ◌++◌, length, take, drop, None, refl, sym, ap, arith, inl, inr}
+use Rattle.std.specs.Prelude.{map, not, nat_lt, ◌==◌, ◌&&◌}
 use Rattle.std.specs.List.{flat_map}
 use Rattle.std.proofs.lemmas.Bool.{cases_Bool, or_parts, ltb-false, eqb-true}
 use Rattle.std.proofs.lemmas.List.{length-drop, length-take-le}

@@ -16,6 +16,7 @@ pub mod Strings
 pub mod StringTableView
 pub mod StringTableWords
 pub mod WriteFaults
+pub mod NamePlaces
 pub mod ObjectView
 pub mod Written
 pub mod Writable

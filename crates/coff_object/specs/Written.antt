@@ -39,9 +39,12 @@ pointer_to at count = if count == 0 then 0 else at
 abbrev pub section_body : Section → List ℕ
 section_body s = raw_bytes s.raw ++ flat_map relocation_bytes s.relocations
 
+-- the name field of a section, whose name stands at an offset of the string table where it is too long
+abbrev pub section_name_at : ℕ → List ℕ → List ℕ
+section_name_at offset name = if is_long_section_name name then padded (47 ∷ decimal_digits offset) else padded name
+
 abbrev pub section_name_field : List (List ℕ) → List ℕ → List ℕ
-section_name_field strings name =
-    if is_long_section_name name then padded (47 ∷ decimal_digits (offset_of strings name)) else padded name
+section_name_field strings name = section_name_at (offset_of strings name) name
 
 -- where a section's bytes, its relocations and its line numbers begin, and how many there are of the last two
 abbrev pub pointer_fields : ℕ → Section → List ℕ
@@ -64,9 +67,12 @@ abbrev pub section_table : List (List ℕ) → ℕ → List Section → List ℕ
 section_table strings at [] = []
 section_table strings at (s ∷ ss) = section_header strings at s ++ section_table strings (at + length (section_body s)) ss
 
+-- the name field of a symbol, whose name stands at an offset of the string table where it is too long
+abbrev pub symbol_name_at : ℕ → List ℕ → List ℕ
+symbol_name_at offset name = if is_long name then number_bytes 4 0 ++ number_bytes 4 offset else padded name
+
 abbrev pub symbol_name_field : List (List ℕ) → List ℕ → List ℕ
-symbol_name_field strings name =
-    if is_long name then number_bytes 4 0 ++ number_bytes 4 (offset_of strings name) else padded name
+symbol_name_field strings name = symbol_name_at (offset_of strings name) name
 
 abbrev pub section_number : SymbolSection → ℕ
 section_number belongs.Undefined = 0

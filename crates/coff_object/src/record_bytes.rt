@@ -2,16 +2,13 @@ ghost use Rattle.std.specs.Prelude.{◌≡◌, ◌+◌, ◌≤◌, ◌<◌, ◌^
 ghost use Rattle.std.specs.List.{flat_map, AllByRecursion};
 ghost use Rattle.coff_object.specs.Field.{number_bytes};
 ghost use Rattle.coff_object.specs.Names.{decimal_digits, padded, is_long, is_long_section_name};
-ghost use Rattle.coff_object.specs.Strings.{offset_of};
 ghost use Rattle.coff_object.specs.Records.{RawFits, RelocationFits, RelocationsFit, SectionFits, SymbolFits};
-ghost use Rattle.coff_object.specs.StringTableWords.{texts_in};
-ghost use Rattle.coff_object.specs.Written.{relocation_bytes, raw_bytes, pointer_to, raw_size, section_body, section_name_field, pointer_fields, section_fields, section_header, symbol_name_field, section_number, aux_records, symbol_fields, symbol_bytes};
+ghost use Rattle.coff_object.specs.Written.{relocation_bytes, raw_bytes, pointer_to, raw_size, section_body, section_name_at, pointer_fields, section_fields, symbol_name_at, section_number, aux_records, symbol_fields};
 ghost use Rattle.coff_object.specs.ObjectView.{raw_view, section_view, symbol_view};
 
 use crate::names::NAME_LEN;
 use crate::relocation::Relocation;
 use crate::section::{ObjSection, RawData};
-use crate::string_table::StringTable;
 use crate::symbol::{Symbol, SymbolSection};
 use itoa::Buffer;
 use std::alloc::{AllocError, Allocator};
@@ -155,17 +152,18 @@ fn push_offset<A: Allocator>(bytes: &mut Vec<u8, A>, offset: u64) -> Result<(), 
     push_zeros(bytes, NAME_LEN - 1 - digits.len())
 }
 
-/// Adds the name field of a section's header.
-fn push_section_name<A: Allocator + Copy>(
+/// Adds the name field of a section's header, where the name stands at an offset of the string table if it is too long.
+fn push_section_name<A: Allocator>(
     bytes: &mut Vec<u8, A>,
-    strings: &StringTable<A>,
+    place: u64,
     name: &[u8],
 ) -> Result<(), AllocError>
-    requires near { IsTrue (is_long_section_name name.now) → offset_of (texts_in strings.now) name.now ≤ 9999999 }
-    ensures { OnOk result (bytes.new.items ≡ bytes.old.items ++ section_name_field (texts_in strings.now) name.now) }
+    requires some { IsTrue (is_long_section_name name.now) → 0 < place }
+    requires near { place ≤ 9999999 }
+    ensures { OnOk result (bytes.new.items ≡ bytes.old.items ++ section_name_at place name.now) }
 {
     if is_long_section_name(name) {
-        push_offset(bytes, strings.offset(name))
+        push_offset(bytes, place)
     } else {
         push_padded(bytes, name)
     }
@@ -228,17 +226,17 @@ fn push_zero_offset<A: Allocator>(bytes: &mut Vec<u8, A>, offset: u32) -> Result
     push_u32(bytes, offset)
 }
 
-/// Adds the name field of a symbol's record.
-fn push_symbol_name<A: Allocator + Copy>(
+/// Adds the name field of a symbol's record, where the name stands at an offset of the string table if it is too long.
+fn push_symbol_name<A: Allocator>(
     bytes: &mut Vec<u8, A>,
-    strings: &StringTable<A>,
+    place: u64,
     name: &[u8],
 ) -> Result<(), AllocError>
-    requires near { IsTrue (is_long name.now) → offset_of (texts_in strings.now) name.now < 2 ^ 32 }
-    ensures { OnOk result (bytes.new.items ≡ bytes.old.items ++ symbol_name_field (texts_in strings.now) name.now) }
+    requires { place < 2 ^ 32 }
+    ensures { OnOk result (bytes.new.items ≡ bytes.old.items ++ symbol_name_at place name.now) }
 {
     if is_long(name) {
-        push_zero_offset(bytes, strings.offset(name) as u32)
+        push_zero_offset(bytes, place as u32)
     } else {
         push_padded(bytes, name)
     }
@@ -261,35 +259,37 @@ fn push_symbol_fields<A: Allocator>(
     Ok(())
 }
 
-/// Adds the header of a section whose body begins at a place.
-pub(crate) fn push_section_header<A: Allocator + Copy>(
+/// Adds the header of a section whose body begins at a file offset, and whose name at an offset of the string table if it is too
+/// long.
+pub(crate) fn push_section_header<A: Allocator>(
     bytes: &mut Vec<u8, A>,
-    strings: &StringTable<A>,
+    place: u64,
     at: u32,
     section: &ObjSection<A>,
 ) -> Result<(), AllocError>
-    requires near { IsTrue (is_long_section_name section.now.name.now) → offset_of (texts_in strings.now) section.now.name.now ≤ 9999999 }
+    requires some { IsTrue (is_long_section_name section.now.name.now) → 0 < place }
+    requires near { place ≤ 9999999 }
     requires fits { at + length (section_body (section_view section.now)) < 2 ^ 32 }
     requires few { length section.now.relocations.items < 2 ^ 16 }
     ensures fits { OnOk result (SectionFits (section_view section.now)) }
-    ensures bytes { OnOk result (bytes.new.items ≡ bytes.old.items ++ section_header (texts_in strings.now) at (section_view section.now)) }
+    ensures bytes { OnOk result (bytes.new.items ≡ bytes.old.items ++ (section_name_at place section.now.name.now ++ section_fields at (section_view section.now))) }
 {
-    push_section_name(bytes, strings, section.name)?;
+    push_section_name(bytes, place, section.name)?;
     push_section_fields(bytes, at, section)
 }
 
-/// Adds a symbol's record and its auxiliary records.
-pub(crate) fn push_symbol<A: Allocator + Copy>(
+/// Adds a symbol's record and its auxiliary records, where its name stands at an offset of the string table if it is too long.
+pub(crate) fn push_symbol<A: Allocator>(
     bytes: &mut Vec<u8, A>,
-    strings: &StringTable<A>,
+    place: u64,
     symbol: &Symbol,
 ) -> Result<(), AllocError>
-    requires near { IsTrue (is_long symbol.now.name.now) → offset_of (texts_in strings.now) symbol.now.name.now < 2 ^ 32 }
+    requires near { place < 2 ^ 32 }
     requires few { aux_records (symbol_view symbol.now) < 2 ^ 8 }
     ensures fits { OnOk result (SymbolFits (symbol_view symbol.now)) }
-    ensures bytes { OnOk result (bytes.new.items ≡ bytes.old.items ++ symbol_bytes (texts_in strings.now) (symbol_view symbol.now)) }
+    ensures bytes { OnOk result (bytes.new.items ≡ bytes.old.items ++ (symbol_name_at place symbol.now.name.now ++ (symbol_fields (symbol_view symbol.now) ++ symbol.now.aux.now))) }
 {
-    push_symbol_name(bytes, strings, symbol.name)?;
+    push_symbol_name(bytes, place, symbol.name)?;
     push_symbol_fields(bytes, symbol)?;
     bytes.extend_from_slice(symbol.aux)
 }

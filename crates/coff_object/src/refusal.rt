@@ -1,18 +1,13 @@
-ghost use Rattle.std.specs.Prelude.{◌≡◌, ◌==◌, ◌≤◌, ◌<◌, ◌^◌, ◌+◌, ℕ, length, map, min, position, nat_le, option_map, IsTrue, OnOk};
+ghost use Rattle.std.specs.Prelude.{◌≡◌, ◌==◌, ◌≤◌, ◌<◌, ◌^◌, ◌+◌, ℕ, length, map, min, position, nat_le, nat_lt, option_map, IsTrue, OnOk};
 ghost use Rattle.std.specs.List.{list_any, flat_map};
-ghost use Rattle.coff_object.specs.Names.{is_long_section_name};
 ghost use Rattle.coff_object.specs.ObjectFaults.{is_other_header};
 ghost use Rattle.coff_object.specs.ObjectView.{raw_view, section_view, symbol_view, object_view};
 ghost use Rattle.coff_object.specs.Records as format;
-ghost use Rattle.coff_object.specs.Strings.{offset_of};
-ghost use Rattle.coff_object.specs.StringTableWords.{texts_in};
-ghost use Rattle.coff_object.specs.WriteFaults.{has_zero, is_far, has_many_relocations, is_bad_raw, is_bad_section, is_bad_number, is_bad_symbol};
+ghost use Rattle.coff_object.specs.WriteFaults.{has_zero, has_many_relocations, is_bad_raw, is_bad_section, is_bad_number, is_bad_symbol};
 
 use crate::error::ObjectError;
-use crate::record_bytes::is_long_section_name;
 use crate::relocation::Relocation;
 use crate::section::{ObjSection, RawData, UNINITIALIZED_DATA};
-use crate::string_table::StringTable;
 use crate::symbol::{Symbol, SymbolSection};
 use pe_view::{Fault, Place};
 use std::alloc::Allocator;
@@ -34,25 +29,11 @@ pub(crate) fn zero_in_sections<A: Allocator>(sections: &[ObjSection<A>]) -> Opti
 /// The greatest offset of seven digits.
 const LAST_OFFSET: u64 = 9_999_999;
 
-/// Whether a section's name stands in the string table, too far for seven digits.
-fn is_far<A: Allocator + Copy>(strings: &StringTable<A>, section: &ObjSection<A>) -> bool
-    ensures { result ≡ is_far (texts_in strings.now) (section_view section.now) }
-{
-    is_long_section_name(section.name) && strings.offset(section.name) > LAST_OFFSET
-}
-
 /// The first section whose name's offset has more than seven digits.
-pub(crate) fn far_section<A: Allocator + Copy>(
-    strings: &StringTable<A>,
-    sections: &[ObjSection<A>],
-) -> Option<usize>
-    ensures { result ≡ position (is_far (texts_in strings.now)) (map section_view sections.now) }
+pub(crate) fn far_section(places: &[u64]) -> Option<usize>
+    ensures { result ≡ position (nat_lt 9999999) places.now }
 {
-    // (a table that ends so near has no far text, and no text has to be looked up)
-    if strings.size() <= LAST_OFFSET {
-        return None;
-    }
-    sections.iter().position(|section| is_far(strings, section))
+    places.iter().position(|place| *place > LAST_OFFSET)
 }
 
 /// The first section with more relocations than a file that is read may have.

@@ -11,11 +11,12 @@ ghost use Rattle.coff_object.specs.StringTableView.{counted};
 ghost use Rattle.coff_object.specs.StringTableWords.{texts_in};
 ghost use Rattle.coff_object.specs.Strings.{offset_of, string_bytes};
 ghost use Rattle.coff_object.specs.Written.{has_strings, symbols_start, header_end, coff_header, string_table, canon, strings_of, section_body, section_table, symbol_bytes, aux_records, records_of};
+ghost use Rattle.coff_object.specs.NamePlaces.{section_places, symbol_places, ArePlacesOf};
 ghost use Rattle.coff_object.specs.Writable.{IsWritable};
 ghost use Rattle.coff_object.specs.WriteFaults.{name_tests, section_tests, form_tests, write_tests, is_far, has_many_relocations, is_bad_symbol, is_bad_object};
 
 use crate::error::ObjectError;
-use crate::layout::{bodies_size, body_size, record_count, strings_of, symbols_size};
+use crate::layout::{NamePlaces, bodies_size, body_size, place_names, record_count, symbols_size};
 use crate::object::Object;
 use crate::record_bytes::{push_body, push_section_header, push_symbol, push_u16, push_u32};
 use crate::refusal::{
@@ -56,12 +57,12 @@ fn check_names<A: Allocator>(object: &Object<A>) -> Result<(), Fault>
 /// That neither of faults 82 and 83 stands.
 fn check_sections<A: Allocator + Copy>(
     object: &Object<A>,
-    strings: &StringTable<A>,
+    places: &NamePlaces<A>,
 ) -> Result<(), Fault>
-    requires { texts_in strings.now ≡ strings_of (object_view object.now) }
+    requires { ArePlacesOf (object_view object.now) places.now }
     ensures { Answers (section_tests (object_view object.now)) (λ _. ⊤) result }
 {
-    if let Some(index) = far_section(strings, object.sections.as_slice()) {
+    if let Some(index) = far_section(places.sections.as_slice()) {
         return Err(item_fault(82, index as u64));
     }
     if let Some(index) = crowded_section(object.sections.as_slice()) {
@@ -73,19 +74,20 @@ fn check_sections<A: Allocator + Copy>(
 /// Adds the section table, where the first body begins at a place.
 fn push_table<A: Allocator + Copy>(
     bytes: &mut Vec<u8, A>,
-    strings: &StringTable<A>,
+    places: &NamePlaces<A>,
     start: u32,
     sections: &[ObjSection<A>],
 ) -> Result<(), AllocError>
-    requires near { AllByRecursion (λ (s : format.Section). is_far (texts_in strings.now) s ≡ false) (map section_view sections.now) }
+    requires places { places.now.sections.items ≡ section_places (texts_in places.now.strings) (map section_view sections.now) }
+    requires near { AllByRecursion (λ (s : format.Section). is_far (texts_in places.now.strings) s ≡ false) (map section_view sections.now) }
     requires few { AllByRecursion (λ (s : format.Section). has_many_relocations s ≡ false) (map section_view sections.now) }
     requires fits { start + length (flat_map section_body (map section_view sections.now)) < 2 ^ 32 }
     ensures fits { OnOk result (AllByRecursion SectionFits (map section_view sections.now)) }
-    ensures bytes { OnOk result (bytes.new.items ≡ bytes.old.items ++ section_table (texts_in strings.now) start (map section_view sections.now)) }
+    ensures bytes { OnOk result (bytes.new.items ≡ bytes.old.items ++ section_table (texts_in places.now.strings) start (map section_view sections.now)) }
 {
     let mut at = start;
-    for section in sections {
-        push_section_header(bytes, strings, at, section)?;
+    for (section, place) in sections.iter().zip(places.sections.as_slice()) {
+        push_section_header(bytes, *place, at, section)?;
         at += body_size(section) as u32;
     }
     Ok(())
@@ -108,16 +110,17 @@ fn push_bodies<A: Allocator>(
 /// Adds the records of symbols.
 fn push_symbols<A: Allocator + Copy>(
     bytes: &mut Vec<u8, A>,
-    strings: &StringTable<A>,
+    places: &NamePlaces<A>,
     symbols: &[Symbol],
 ) -> Result<(), AllocError>
-    requires near { 4 + length (string_bytes (texts_in strings.now)) < 2 ^ 32 }
+    requires places { places.now.symbols.items ≡ symbol_places (texts_in places.now.strings) (map symbol_view symbols.now) }
+    requires near { 4 + length (string_bytes (texts_in places.now.strings)) < 2 ^ 32 }
     requires few { AllByRecursion (λ (s : format.Symbol). aux_records s < 2 ^ 8) (map symbol_view symbols.now) }
     ensures fits { OnOk result (AllByRecursion SymbolFits (map symbol_view symbols.now)) }
-    ensures bytes { OnOk result (bytes.new.items ≡ bytes.old.items ++ flat_map (symbol_bytes (texts_in strings.now)) (map symbol_view symbols.now)) }
+    ensures bytes { OnOk result (bytes.new.items ≡ bytes.old.items ++ flat_map (symbol_bytes (texts_in places.now.strings)) (map symbol_view symbols.now)) }
 {
-    for symbol in symbols {
-        push_symbol(bytes, strings, symbol)?;
+    for (symbol, place) in symbols.iter().zip(places.symbols.as_slice()) {
+        push_symbol(bytes, *place, symbol)?;
     }
     Ok(())
 }
@@ -269,14 +272,15 @@ fn check_form<A: Allocator + Copy>(
 fn write_parts<A: Allocator + Copy>(
     alloc: A,
     object: &Object<A>,
-    strings: &StringTable<A>,
+    places: &NamePlaces<A>,
     size: usize,
 ) -> Result<Vec<u8, A>, AllocError>
-    requires texts { texts_in strings.now ≡ strings_of (object_view object.now) }
+    requires places { ArePlacesOf (object_view object.now) places.now }
     requires form { IsWritable (object_view object.now) }
     ensures fits { OnOk result (Fits (object_view object.now)) }
     ensures bytes { IfOk result (λ bytes. bytes.items ≡ canon (object_view object.now)) }
 {
+    let strings = &places.strings;
     let sections = object.sections.as_slice();
     let symbols = object.symbols.as_slice();
     let start = 20 + object.optional.len() as u32 + 40 * sections.len() as u32;
@@ -284,9 +288,9 @@ fn write_parts<A: Allocator + Copy>(
     let mut bytes = Vec::with_capacity(alloc, size)?;
     push_coff_header(&mut bytes, object, symbols_pointer(object, strings, end))?;
     bytes.extend_from_slice(object.optional)?;
-    push_table(&mut bytes, strings, start, sections)?;
+    push_table(&mut bytes, places, start, sections)?;
     push_bodies(&mut bytes, sections)?;
-    push_symbols(&mut bytes, strings, symbols)?;
+    push_symbols(&mut bytes, places, symbols)?;
     push_strings(&mut bytes, object, strings)?;
     Ok(bytes)
 }
@@ -305,9 +309,9 @@ pub fn write_object<A: Allocator + Copy>(
     ensures early { (fault : code_fault.Fault) → first_standing (name_tests (object_view object.now)) ≡ Some fault → result ≡ Err (ObjectError.Fault fault) }
 {
     check_names(object)?;
-    let strings = strings_of(alloc, object)?;
-    check_sections(object, &strings)?;
-    let size = check_form(object, &strings)?;
-    let bytes = write_parts(alloc, object, &strings, size)?;
+    let places = place_names(alloc, object)?;
+    check_sections(object, &places)?;
+    let size = check_form(object, &places.strings)?;
+    let bytes = write_parts(alloc, object, &places, size)?;
     Ok(bytes)
 }

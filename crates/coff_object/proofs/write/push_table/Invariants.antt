@@ -10,11 +10,11 @@ use Rattle.coff_object.proofs.write.push_table.Given as goal
 
 abbrev pub invariant-loop-section : goal.invariant-loop-section
 invariant-loop-section g l = record {
-  near : AllByRecursion (λ (s : Section). is_far (texts_in l.strings) s ≡ false) (map section_view (drop l.section-index l.sections));
-  few : AllByRecursion (λ (s : Section). has_many_relocations s ≡ false) (map section_view (drop l.section-index l.sections));
-  fits : l.at + length (flat_map section_body (map section_view (drop l.section-index l.sections))) < 2 ^ 32;
-  told : AllByRecursion SectionFits (map section_view (drop l.section-index l.sections)) → AllByRecursion SectionFits (map section_view l.sections);
+  near : AllByRecursion (λ (s : Section). is_far (texts_in l.places.strings) s ≡ false) (map section_view (drop (length l.yielded) l.sections));
+  few : AllByRecursion (λ (s : Section). has_many_relocations s ≡ false) (map section_view (drop (length l.yielded) l.sections));
+  fits : l.at + length (flat_map section_body (map section_view (drop (length l.yielded) l.sections))) < 2 ^ 32;
+  told : AllByRecursion SectionFits (map section_view (drop (length l.yielded) l.sections)) → AllByRecursion SectionFits (map section_view l.sections);
   bytes :
-      l.bytes.items ++ section_table (texts_in l.strings) l.at (map section_view (drop l.section-index l.sections))
-      ≡ l.initial.bytes.items ++ section_table (texts_in l.strings) l.start (map section_view l.sections);
+      l.bytes.items ++ section_table (texts_in l.places.strings) l.at (map section_view (drop (length l.yielded) l.sections))
+      ≡ l.initial.bytes.items ++ section_table (texts_in l.places.strings) l.start (map section_view l.sections);
 }
