@@ -1,7 +1,6 @@
 ghost use Rattle.std.specs.Prelude.{◌≡◌, ◌+◌, ◌-◌, ◌≤◌, ◌<◌, ◌^◌, ◌++◌, false, [], if◌then◌else◌, length, map, min, ⊤, None, Some, Err, ℕ, List, All, IsTrue, OnOk, IfOk};
 ghost use Rattle.std.specs.List.{flat_map, AllByRecursion};
 ghost use Rattle.pe_view.specs.Faults.{Answers, first_standing};
-ghost use Rattle.coff_object.specs.Names.{is_long, is_long_section_name};
 ghost use Rattle.coff_object.specs.ObjectView.{section_view, symbol_view, object_view};
 ghost use Rattle.coff_object.specs.ObjectFaults.{ObjectAnswers, IsObjectOf};
 ghost use Rattle.coff_object.specs.Records as format;
@@ -9,7 +8,7 @@ ghost use Rattle.coff_object.specs.Records.{SectionFits, RelocationsFit, SymbolF
 ghost use Rattle.pe_view.specs.declared.fault.Fault as code_fault;
 ghost use Rattle.coff_object.specs.StringTableView.{counted};
 ghost use Rattle.coff_object.specs.StringTableWords.{texts_in};
-ghost use Rattle.coff_object.specs.Strings.{offset_of, string_bytes};
+ghost use Rattle.coff_object.specs.Strings.{string_bytes};
 ghost use Rattle.coff_object.specs.Written.{has_strings, symbols_start, header_end, coff_header, string_table, canon, strings_of, section_body, section_table, symbol_bytes, aux_records, records_of};
 ghost use Rattle.coff_object.specs.NamePlaces.{section_places, symbol_places, ArePlacesOf};
 ghost use Rattle.coff_object.specs.Writable.{IsWritable};

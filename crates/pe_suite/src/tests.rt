@@ -1,13 +1,5 @@
-mod counted;
-mod dumps;
 mod images_written;
-mod object_dumps;
 mod objects;
 mod objects_written;
-mod outcome;
 mod rebased;
 mod refusals;
-mod reports;
-mod told;
-mod tool;
-mod words;

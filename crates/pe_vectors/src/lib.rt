@@ -17,10 +17,13 @@
 pub mod both;
 mod builder;
 mod devices;
+pub mod engines;
 pub mod files;
 pub mod header_fields;
 mod images;
 pub mod members;
+pub mod objects;
+pub mod plans;
 pub mod same;
 
 pub use devices::{StepReader, StepWriter};

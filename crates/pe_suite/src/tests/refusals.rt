@@ -2,17 +2,19 @@
 
 ghost use Rattle.std.specs.Prelude.{◌<◌};
 
-use super::images_written::{REFUSED, V2, plan_of};
-use super::objects::{O1, O1_SYMBOLS, fault_of, list, same_object};
-use super::tool::{Devices, Engine, run_over, steps_of};
+use super::images_written::REFUSED;
 use bumpalo::Bump;
 use coff_object::{Object, ObjectError, Symbol, read_object, write_object};
 use pe_image::read_image;
+use pe_set::{Module, judge};
 use pe_space::{Command, MapError, MappedSpace, Policy, SetEntry, Space, map, open_space, run};
 use pe_tables::{TableError, ascending, encode_fixups, read_exports, read_fixups, read_imports};
-use pe_tool::{Outcome, ToolError, map_report, rebase};
+use pe_tool::{Outcome, ToolError, map_report, read_whole, rebase};
+use pe_vectors::engines::{Devices, Engine, run_over, steps_of};
 use pe_vectors::files::{Vector, file_of, layout_of};
 use pe_vectors::members::{A, B, C, files_of, names_of, repeated, set_of};
+use pe_vectors::objects::{O1, O1_SYMBOLS, fault_of, list, same_object};
+use pe_vectors::plans::{V2, plan_of};
 use pe_vectors::same::{same_imports, same_names, same_ordinals};
 use pe_vectors::{StepReader, StepWriter};
 use pe_view::{Fault, Place};
@@ -45,6 +47,7 @@ enum Call {
     Fixups,
     Encoding,
     Image,
+    Judge,
     Map,
     Opening,
     Run,
@@ -52,6 +55,7 @@ enum Call {
     WriteObject,
     WriteImage,
     RebaseFile,
+    ReadWhole,
     Check,
     Dump,
     DumpObject,
@@ -124,6 +128,23 @@ fn image(rt: &impl Abort, alloc: Global, arena: &Bump) -> Answer {
     }
 }
 
+/// Whether two lists of modules stand at the same bases, and have the same exports and imports.
+fn same_modules(found: &[Module<'_, &Bump>], expected: &[Module<'_, Global>]) -> bool {
+    if found.len() != expected.len() {
+        return false;
+    }
+    for index in 0..found.len() {
+        let (module, other) = (&found[index], &expected[index]);
+        if module.base != other.base
+            || !same_imports(&module.image.imports, &other.image.imports)
+            || !same_names(module.image.exports.names(), other.image.exports.names())
+        {
+            return false;
+        }
+    }
+    true
+}
+
 /// Whether two spaces have the same bindings, and an image the same base and bytes in both.
 fn same_image<S: Space>(
     rt: &impl Abort,
@@ -147,6 +168,23 @@ fn same_space<S: Space>(rt: &impl Abort, space: &S, other: &MappedSpace<Global>)
     same_image(rt, space, other, 0)
         && same_image(rt, space, other, 1)
         && same_image(rt, space, other, 2)
+}
+
+/// What an accepted set binds, and each module's base and imports.
+fn judging(rt: &impl Abort, alloc: Global, arena: &Bump) -> Answer {
+    let files = files_of(rt, alloc, &[A, B, C]);
+    let set = set_of(rt, alloc, &[A, B, C], &files);
+    let expected = judge(alloc, &set, Policy::Strict).expect(rt, "an accepted set");
+    match judge(arena, &set, Policy::Strict) {
+        Ok(found) => {
+            right_if(
+                *found.bindings.as_slice() == *expected.bindings.as_slice()
+                    && same_modules(&found.modules, &expected.modules),
+            )
+        }
+        Err(MapError::Memory) => Answer::Memory,
+        Err(_) => Answer::Wrong,
+    }
 }
 
 fn mapping(rt: &impl Abort, alloc: Global, arena: &Bump) -> Answer {
@@ -245,6 +283,15 @@ fn rebasing(rt: &impl Abort, alloc: Global, arena: &Bump) -> Answer {
     }
 }
 
+fn whole(rt: &impl Abort, alloc: Global, arena: &Bump) -> Answer {
+    let file = file_of(rt, alloc, Vector::Vr);
+    match read_whole(arena, &mut StepReader::new(&file, 64, None)) {
+        Ok(bytes) => right_if(*bytes.as_slice() == *file.as_slice()),
+        Err(ToolError::Memory) => Answer::Memory,
+        Err(_) => Answer::Wrong,
+    }
+}
+
 /// What is seen of an engine's answer, and of what it has written, which is nothing where it wants memory.
 fn of_engine(answer: Result<Outcome, ToolError>, taken: &[u8], text: &[u8]) -> Answer {
     match answer {
@@ -300,6 +347,7 @@ fn answer_of(rt: &impl Abort, alloc: Global, arena: &Bump, call: Call) -> Answer
         Call::Fixups => fixups(rt, alloc, arena),
         Call::Encoding => encoding(rt, alloc, arena),
         Call::Image => image(rt, alloc, arena),
+        Call::Judge => judging(rt, alloc, arena),
         Call::Map => mapping(rt, alloc, arena),
         Call::Opening => opening(rt, alloc, arena),
         Call::Run => running(rt, alloc, arena),
@@ -307,6 +355,7 @@ fn answer_of(rt: &impl Abort, alloc: Global, arena: &Bump, call: Call) -> Answer
         Call::WriteObject => writing(rt, alloc, arena),
         Call::WriteImage => planning(rt, alloc, arena),
         Call::RebaseFile => rebasing(rt, alloc, arena),
+        Call::ReadWhole => whole(rt, alloc, arena),
         Call::Check => engine(rt, alloc, arena, Engine::Check),
         Call::Dump => engine(rt, alloc, arena, Engine::Dump),
         Call::DumpObject => engine(rt, alloc, arena, Engine::Object),
@@ -370,6 +419,11 @@ fn an_image_wants_memory(rt: HostRuntime) {
 }
 
 #[test]
+fn a_judgement_wants_memory(rt: HostRuntime) {
+    assert_wants_memory(&rt, rt.alloc(), Call::Judge);
+}
+
+#[test]
 fn a_space_wants_memory(rt: HostRuntime) {
     assert_wants_memory(&rt, rt.alloc(), Call::Map);
 }
@@ -402,6 +456,11 @@ fn a_written_image_wants_memory(rt: HostRuntime) {
 #[test]
 fn a_rebased_file_wants_memory(rt: HostRuntime) {
     assert_wants_memory(&rt, rt.alloc(), Call::RebaseFile);
+}
+
+#[test]
+fn a_whole_file_wants_memory(rt: HostRuntime) {
+    assert_wants_memory(&rt, rt.alloc(), Call::ReadWhole);
 }
 
 #[test]

@@ -1,9 +1,10 @@
 //! What `pe_tool` writes, through readers and writers that work in steps and fail.
 
-ghost use Rattle.std.specs.Prelude.{◌≡◌, ◌<◌};
+ghost use Rattle.std.specs.Prelude.{◌<◌};
 
 use super::dumps::{dump_text, machine_dump};
-use pe_tool::{Failed, Outcome, Sink, Source, ToolError, check, dump, dump_object, status};
+use pe_tool::{Failed, Outcome, Sink, Source, ToolError, check, dump, status};
+use pe_vectors::engines::{Devices, Engine, run, steps_of};
 use pe_vectors::files::{
     Piece, Vector, assert_holds, assert_number, bytes_from, changed, file_of, put, put_pieces,
 };
@@ -11,7 +12,7 @@ use pe_vectors::header_fields::{
     COFF_FIELDS, Field, PE32_FIELDS, PE32_PLUS_FIELDS, distinct_bytes,
 };
 use pe_vectors::{StepReader, StepWriter};
-use std::alloc::{Allocator, Global};
+use std::alloc::Global;
 use std::process::Abort;
 
 /// Whether a read answered with these bytes, or failed.
@@ -64,69 +65,6 @@ fn a_writer_takes_steps_until_its_room_is_full(rt: HostRuntime) {
     }
     assert!(rt; writer.failures() == 2);
     assert_holds(&rt, 0, writer.write(b"") == Ok(0));
-}
-
-/// An engine that reads one file and writes a text.
-#[derive(Clone, Copy)]
-pub(super) enum Engine {
-    Check,
-    Dump,
-    Object,
-}
-
-/// How the reader and the writer of a run work: the most bytes a call, and the read and the write that fail.
-#[derive(Clone, Copy)]
-pub(super) struct Devices {
-    pub step: usize,
-    pub failing_read: Option<u64>,
-    pub failing_write: Option<u64>,
-}
-
-/// Devices of which no call fails.
-pub(super) fn steps_of(step: usize) -> Devices
-    ensures { result.step ≡ step }
-{
-    Devices {
-        step,
-        failing_read: None,
-        failing_write: None,
-    }
-}
-
-/// What an engine answered over an allocator's memory, and the writer with what it wrote.
-pub(super) fn run_over<A: Allocator + Copy>(
-    rt: &impl Abort,
-    alloc: Global,
-    memory: A,
-    engine: Engine,
-    file: &[u8],
-    devices: Devices,
-) -> (Result<Outcome, ToolError>, StepWriter)
-    requires { 0 < devices.step }
-{
-    let mut reader = StepReader::new(file, devices.step, devices.failing_read);
-    let mut writer = StepWriter::new(alloc, 0x2000, devices.step, devices.failing_write).expect(
-        rt, "memory",
-    );
-    let answer = match engine {
-        Engine::Check => check(memory, &mut reader, &mut writer),
-        Engine::Dump => dump(memory, &mut reader, &mut writer),
-        Engine::Object => dump_object(memory, &mut reader, &mut writer),
-    };
-    (answer, writer)
-}
-
-/// What an engine answered with ample memory, and the writer with what it wrote.
-pub(super) fn run(
-    rt: &impl Abort,
-    alloc: Global,
-    engine: Engine,
-    file: &[u8],
-    devices: Devices,
-) -> (Result<Outcome, ToolError>, StepWriter)
-    requires { 0 < devices.step }
-{
-    run_over(rt, alloc, alloc, engine, file, devices)
 }
 
 /// Asserts that an engine accepts a file and writes a text, over devices of so many bytes a call.

@@ -1,0 +1,154 @@
+//! The plans of which the files are written.
+
+use pe_head::{Directory, Magic};
+use pe_write::{Plan, PlanSection};
+use std::alloc::Global;
+use std::process::Abort;
+
+/// A section of a file: its name, its VirtualSize, and how many bytes the file has of it.
+pub type Part = (&'static [u8; 8], u32, usize);
+
+/// What the headers of a file hold beside what all files have alike. Section k stands at 0x1000 * (k + 1).
+#[derive(Clone, Copy)]
+pub struct Heading {
+    magic: Magic,
+    machine: u16,
+    characteristics: u16,
+    image_base: u64,
+    size_of_image: u32,
+    /// Each by its index, RVA and size.
+    directories: &'static [(usize, u32, u32)],
+    sections: &'static [Part],
+}
+
+/// What the headers of V1 hold.
+pub const V1: Heading = Heading {
+    magic: Magic::Pe32,
+    machine: 0x14c,
+    characteristics: 0x2102,
+    image_base: 0x1000_0000,
+    size_of_image: 0x3000,
+    directories: &[],
+    sections: &[(b".data\0\0\0", 0x10, 0x200)],
+};
+
+/// What the headers of V2 hold.
+pub const V2: Heading = Heading {
+    directories: &[(5, 0x2000, 0x0c)],
+    sections: &[(b".data\0\0\0", 0x10, 0x200), (b".reloc\0\0", 0x0c, 0x200)],
+    ..V1
+};
+
+/// What the headers of V3 hold.
+pub const V3: Heading = Heading {
+    magic: Magic::Pe32Plus,
+    machine: 0x8664,
+    characteristics: 0x2022,
+    image_base: 0x1_8000_0000,
+    ..V2
+};
+
+/// What the headers of VA hold.
+pub const VA: Heading = Heading {
+    directories: &[(0, 0x1020, 0x60)],
+    sections: &[(b".edata\0\0", 0x80, 0x200)],
+    ..V1
+};
+
+/// What the headers of VB hold.
+pub const VB: Heading = Heading {
+    image_base: 0x2000_0000,
+    ..VA
+};
+
+/// What the headers of VC hold.
+pub const VC: Heading = Heading {
+    characteristics: 0x0102,
+    image_base: 0x40_0000,
+    directories: &[(1, 0x1000, 0x28)],
+    sections: &[(b".idata\0\0", 0x80, 0x200)],
+    ..V1
+};
+
+/// What the headers of VD hold.
+pub const VD: Heading = Heading {
+    magic: Magic::Pe32Plus,
+    machine: 0x8664,
+    characteristics: 0x0022,
+    image_base: 0x1_4000_0000,
+    ..VC
+};
+
+/// What the headers of VS hold.
+pub const VS: Heading = Heading {
+    size_of_image: 0x2_0000,
+    directories: &[(0, 0x1020, 0x60), (1, 0x2000, 0x28)],
+    sections: &[(b".edata\0\0", 0x80, 0x200), (b".idata\0\0", 0x80, 0x200)],
+    ..VB
+};
+
+/// What the headers of VF(64) hold.
+pub const VF: Heading = Heading {
+    directories: &[(0, 0x1020, 0x5e0)],
+    sections: &[(b".edata\0\0", 0x600, 0x600)],
+    ..VB
+};
+
+/// A plan without directories and sections.
+pub fn bare_plan<'a>(alloc: Global, heading: &Heading) -> Plan<'a> {
+    Plan {
+        magic: heading.magic,
+        machine: heading.machine,
+        time_stamp: 0,
+        characteristics: heading.characteristics,
+        entry: 0,
+        image_base: heading.image_base,
+        section_alignment: 0x1000,
+        file_alignment: 0x200,
+        size_of_image: heading.size_of_image,
+        size_of_headers: 0x200,
+        subsystem: 0,
+        dll_characteristics: 0,
+        directories: [Directory::default(); 16],
+        sections: Vec::new(alloc),
+    }
+}
+
+/// A section at an RVA, readable, writable and initialized.
+pub fn section(
+    name: [u8; 8],
+    virtual_size: u32,
+    virtual_address: u32,
+    raw: &[u8],
+) -> PlanSection<'_> {
+    PlanSection {
+        name,
+        virtual_size,
+        virtual_address,
+        raw,
+        flags: 0xc000_0040,
+    }
+}
+
+/// The plan of a file whose sections' bytes stand behind its headers, one behind the other.
+pub fn plan_of<'a>(rt: &impl Abort, alloc: Global, heading: &Heading, file: &'a [u8]) -> Plan<'a> {
+    let mut plan = bare_plan(alloc, heading);
+    for (index, rva, size) in heading.directories {
+        assert!(rt; *index < 16);
+        plan.directories[*index] = Directory {
+            rva: *rva,
+            size: *size,
+        };
+    }
+    let (mut rva, mut start) = (0x1000_u32, 0x200_usize);
+    for (name, virtual_size, size) in heading.sections {
+        assert!(rt; start <= file.len() && *size <= file.len() - start && rva < 0x10_0000);
+        let raw = &file[start..start + *size];
+        plan.sections
+            .push(section(**name, *virtual_size, rva, raw))
+            .expect(rt, "memory");
+        rva += 0x1000;
+        start += *size;
+    }
+    plan
+}
