@@ -27,13 +27,13 @@ pub(crate) fn is_long_section_name(name: &[u8]) -> bool
     is_long(name) || name.first() == Some(&b'/')
 }
 
-/// Adds a number's bytes, the lowest first.
+/// A number's bytes, the lowest first.
 #[tactic(auto, unfolding(crate::specs::Field::number_bytes))]
-fn push_u8<A: Allocator>(bytes: &mut Vec<u8, A>, number: u8) -> Result<(), AllocError>
-    ensures bytes { OnOk result (bytes.new.items ≡ bytes.old.items ++ number_bytes 1 number) }
+fn bytes_of_u8(number: u8) -> [u8; 1]
+    ensures bytes { result ≡ number_bytes 1 number }
     ensures fits { number < 2 ^ 8 }
 {
-    bytes.extend_from_slice(&number.to_le_bytes())
+    number.to_le_bytes()
 }
 
 /// Adds a number's bytes, the lowest first.
@@ -71,6 +71,35 @@ fn push_padded<A: Allocator>(bytes: &mut Vec<u8, A>, text: &[u8]) -> Result<(), 
     push_zeros(bytes, NAME_LEN - text.len())
 }
 
+/// A number's bytes, the lowest first.
+#[tactic(auto, unfolding(crate::specs::Field::number_bytes))]
+fn bytes_of_u16(number: u16) -> [u8; 2]
+    ensures bytes { result ≡ number_bytes 2 number }
+    ensures fits { number < 2 ^ 16 }
+{
+    number.to_le_bytes()
+}
+
+/// A number's bytes, the lowest first.
+#[tactic(auto, unfolding(crate::specs::Field::number_bytes))]
+fn bytes_of_u32(number: u32) -> [u8; 4]
+    ensures bytes { result ≡ number_bytes 4 number }
+    ensures fits { number < 2 ^ 32 }
+{
+    number.to_le_bytes()
+}
+
+/// The bytes of a relocation of these fields.
+fn relocation_record(address: u32, symbol: u32, kind: u16) -> [u8; 10]
+    ensures bytes { result ≡ relocation_bytes (record { address = address; symbol = symbol; kind = kind }) }
+    ensures fits { RelocationFits (record { address = address; symbol = symbol; kind = kind }) }
+{
+    let [a, b, c, d] = bytes_of_u32(address);
+    let [e, f, g, h] = bytes_of_u32(symbol);
+    let [i, j] = bytes_of_u16(kind);
+    [a, b, c, d, e, f, g, h, i, j]
+}
+
 /// Adds the bytes of a relocation.
 fn push_relocation<A: Allocator>(
     bytes: &mut Vec<u8, A>,
@@ -79,9 +108,8 @@ fn push_relocation<A: Allocator>(
     ensures bytes { OnOk result (bytes.new.items ≡ bytes.old.items ++ relocation_bytes relocation.now) }
     ensures fits { OnOk result (RelocationFits relocation.now) }
 {
-    push_u32(bytes, relocation.address)?;
-    push_u32(bytes, relocation.symbol)?;
-    push_u16(bytes, relocation.kind)
+    let record = relocation_record(relocation.address, relocation.symbol, relocation.kind);
+    bytes.extend_from_slice(&record)
 }
 
 /// Adds the bytes of relocations.
@@ -169,23 +197,39 @@ fn push_section_name<A: Allocator>(
     }
 }
 
-/// Adds the fields of a section's header that tell where its parts begin, where its body begins at a place.
-fn push_pointers<A: Allocator>(
-    bytes: &mut Vec<u8, A>,
-    at: u32,
-    section: &ObjSection<A>,
-) -> Result<(), AllocError>
+/// The fields of a section's header that tell where its bytes, its relocations and its line numbers begin, and how many there
+/// are of the last two.
+fn section_pointers(raw: u32, relocations: u32, count: u16) -> [u8; 16]
+    ensures { result ≡ number_bytes 4 raw ++ (number_bytes 4 relocations ++ (number_bytes 4 0 ++ (number_bytes 2 count ++ number_bytes 2 0))) }
+{
+    let [a, b, c, d] = bytes_of_u32(raw);
+    let [e, f, g, h] = bytes_of_u32(relocations);
+    let [i, j] = bytes_of_u16(count);
+    [a, b, c, d, e, f, g, h, 0, 0, 0, 0, i, j, 0, 0]
+}
+
+/// Those fields of a section whose body begins at a place.
+fn pointers_of<A: Allocator>(at: u32, section: &ObjSection<A>) -> [u8; 16]
     requires fits { at + length (section_body (section_view section.now)) < 2 ^ 32 }
     requires few { length section.now.relocations.items < 2 ^ 16 }
-    ensures { OnOk result (bytes.new.items ≡ bytes.old.items ++ pointer_fields at (section_view section.now)) }
+    ensures { result ≡ pointer_fields at (section_view section.now) }
 {
     let raw = raw_bytes(section.raw).len();
     let count = section.relocations.len();
-    push_u32(bytes, pointer_to(at, raw))?;
-    push_u32(bytes, pointer_to(at + raw as u32, count))?;
-    push_u32(bytes, 0)?;
-    push_u16(bytes, count as u16)?;
-    push_u16(bytes, 0)
+    let relocations = pointer_to(at + raw as u32, count);
+    section_pointers(pointer_to(at, raw), relocations, count as u16)
+}
+
+/// The sizes and the address in a section's header.
+fn section_sizes(virtual_size: u32, virtual_address: u32, raw_size: u32) -> [u8; 12]
+    ensures bytes { result ≡ number_bytes 4 virtual_size ++ (number_bytes 4 virtual_address ++ number_bytes 4 raw_size) }
+    ensures size { virtual_size < 2 ^ 32 }
+    ensures address { virtual_address < 2 ^ 32 }
+{
+    let [a, b, c, d] = bytes_of_u32(virtual_size);
+    let [e, f, g, h] = bytes_of_u32(virtual_address);
+    let [i, j, k, l] = bytes_of_u32(raw_size);
+    [a, b, c, d, e, f, g, h, i, j, k, l]
 }
 
 /// Adds the fields of a section's header behind its name, where its body begins at a place.
@@ -199,10 +243,10 @@ fn push_section_fields<A: Allocator>(
     ensures fits { OnOk result (SectionFits (section_view section.now)) }
     ensures bytes { OnOk result (bytes.new.items ≡ bytes.old.items ++ section_fields at (section_view section.now)) }
 {
-    push_u32(bytes, section.virtual_size)?;
-    push_u32(bytes, section.virtual_address)?;
-    push_u32(bytes, raw_size(section.raw))?;
-    push_pointers(bytes, at, section)?;
+    let raw_size = raw_size(section.raw);
+    let sizes = section_sizes(section.virtual_size, section.virtual_address, raw_size);
+    bytes.extend_from_slice(&sizes)?;
+    bytes.extend_from_slice(&pointers_of(at, section))?;
     push_u32(bytes, section.flags)
 }
 
@@ -242,6 +286,22 @@ fn push_symbol_name<A: Allocator>(
     }
 }
 
+/// The fields of a symbol's record behind its name.
+fn symbol_tail(value: u32, section: u16, kind: u16, class: u8, aux: u8) -> [u8; 10]
+    ensures bytes { result ≡ number_bytes 4 value ++ (number_bytes 2 section ++ (number_bytes 2 kind ++ (number_bytes 1 class ++ number_bytes 1 aux))) }
+    ensures value { value < 2 ^ 32 }
+    ensures section { section < 2 ^ 16 }
+    ensures kind { kind < 2 ^ 16 }
+    ensures class { class < 2 ^ 8 }
+{
+    let [a, b, c, d] = bytes_of_u32(value);
+    let [e, f] = bytes_of_u16(section);
+    let [g, h] = bytes_of_u16(kind);
+    let [i] = bytes_of_u8(class);
+    let [j] = bytes_of_u8(aux);
+    [a, b, c, d, e, f, g, h, i, j]
+}
+
 /// Adds the fields of a symbol's record behind its name.
 fn push_symbol_fields<A: Allocator>(
     bytes: &mut Vec<u8, A>,
@@ -251,12 +311,10 @@ fn push_symbol_fields<A: Allocator>(
     ensures fits { OnOk result (SymbolFits (symbol_view symbol.now)) }
     ensures bytes { OnOk result (bytes.new.items ≡ bytes.old.items ++ symbol_fields (symbol_view symbol.now)) }
 {
-    push_u32(bytes, symbol.value)?;
-    push_u16(bytes, section_number(symbol.section))?;
-    push_u16(bytes, symbol.kind)?;
-    push_u8(bytes, symbol.class)?;
-    push_u8(bytes, (symbol.aux.len() / 18) as u8)?;
-    Ok(())
+    let section = section_number(symbol.section);
+    let records = (symbol.aux.len() / 18) as u8;
+    let tail = symbol_tail(symbol.value, section, symbol.kind, symbol.class, records);
+    bytes.extend_from_slice(&tail)
 }
 
 /// Adds the header of a section whose body begins at a file offset, and whose name at an offset of the string table if it is too
