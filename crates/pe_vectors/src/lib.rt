@@ -16,9 +16,11 @@
 mod builder;
 mod devices;
 mod images;
+mod slow_checker;
 
 pub use devices::{StepReader, StepWriter};
 pub use images::{v1, v2, v3, va, vb, vc, vd, vf, vr, vs};
+pub use slow_checker::slow_first;
 
 #[cfg(test)]
 mod tests;
