@@ -11,6 +11,7 @@ mod images_written;
 mod imports;
 mod keys;
 mod layout;
+mod malicious;
 mod members;
 mod moves;
 mod object_dumps;

@@ -46,7 +46,7 @@ pub(super) fn number(rt: &impl Abort, file: &[u8], offset: usize, width: usize) 
 }
 
 /// One of the files.
-#[derive(Clone, Copy)]
+#[derive(Clone, Copy, Debug)]
 pub(super) enum Vector {
     V1,
     V2,
