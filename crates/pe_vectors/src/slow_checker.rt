@@ -1,9 +1,9 @@
 //! A checker of sets that is apart from the product: it lists every fault of a set, with the key by which faults are ordered, and
 //! answers the one of the least key.
 //!
-//! It follows the table of faults word by word. Each test is a plain scan, which asks for one byte of a file or of a laid-out image
-//! at a time, so it shares no reader, no search and no definition with the crates that it is compared with. It is slow: the time of
-//! its tests for overlaps and of its searches grows with the square of what an image holds.
+//! It follows the table of faults word by word. Each test is a plain scan, which asks for one byte of a file or of a laid-out
+//! image at a time, so it shares no reader, no search and no definition with the crates that it is compared with. It is slow: the
+//! time of its tests for overlaps and of its searches grows with the square of what an image holds.
 
 mod bases;
 mod directories;

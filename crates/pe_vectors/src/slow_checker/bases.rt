@@ -33,21 +33,12 @@ fn rows(index: usize, judged: &Judged, first: &Judged, overlaps_earlier: bool) -
     let is_other_form = headers.magic != first.image.headers.magic;
     let is_moved = headers.is_stripped() && base != headers.image_base;
     [
-        row(43, is_other_form, item),
-        row(44, base % BASE_ALIGNMENT != 0, place),
-        row(45, end > limit, place),
-        row(46, is_moved, place),
-        row(47, overlaps_earlier, place),
+        Row::new(43, is_other_form, item),
+        Row::new(44, base % BASE_ALIGNMENT != 0, place),
+        Row::new(45, end > limit, place),
+        Row::new(46, is_moved, place),
+        Row::new(47, overlaps_earlier, place),
     ]
-}
-
-/// A row of the table.
-fn row(number: u16, stands: bool, place: Place) -> Row {
-    Row {
-        number,
-        stands,
-        place,
-    }
 }
 
 /// The addresses that an image takes.

@@ -77,7 +77,8 @@ impl Headers {
         self.pe_offset as u64 + 24 + self.size_of_optional_header as u64 + 40 * index as u64
     }
 
-    /// The rows of the headers; each counts only where none before it stands, as the least number does.
+    /// The rows of the headers, of which the first that stands counts. A row speaks of bytes past the file only where one before it
+    /// stands.
     pub fn rows(&self, file: File) -> [Row; 12] {
         let n = file.len();
         let p = self.pe_offset as u64;

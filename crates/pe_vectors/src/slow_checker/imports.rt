@@ -23,13 +23,13 @@ pub(super) struct Import {
 }
 
 impl Import {
-    /// The name of its module.
+    /// The name of its module, which the image has where it has no fault.
     pub fn module(&self, alloc: Global, image: &Image) -> Result<Vec<u8>, AllocError> {
         let name = image.text(alloc, self.module as u64)?;
         Ok(name.unwrap_or(Vec::new(alloc)))
     }
 
-    /// The export that it looks up.
+    /// The export that it looks up, whose name the image has where it has no fault.
     pub fn wanted(&self, alloc: Global, image: &Image) -> Result<Wanted, AllocError> {
         if is_ordinal(image, self.entry) {
             return Ok(Wanted::Ordinal((self.entry & 0xffff) as u16));

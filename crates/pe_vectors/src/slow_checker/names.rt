@@ -27,16 +27,8 @@ pub(super) fn list_names(set: &[SetEntry], faults: &mut Faults) -> Result<(), Al
         faults.begin(Class::Entries, index as usize);
         let is_repeated = matches_earlier(set, index as usize, entry.name);
         faults.record(&[
-            Row {
-                number: 41,
-                stands: index == MOST_IMAGES,
-                place: Place::Item(MOST_IMAGES),
-            },
-            Row {
-                number: 42,
-                stands: is_repeated,
-                place: Place::Item(index),
-            },
+            Row::new(41, index == MOST_IMAGES, Place::Item(MOST_IMAGES)),
+            Row::new(42, is_repeated, Place::Item(index)),
         ])?;
     }
     Ok(())

@@ -48,22 +48,26 @@ pub(super) struct Row {
     pub place: Place,
 }
 
+impl Row {
+    /// A row of the table.
+    pub fn new(number: u16, stands: bool, place: Place) -> Row {
+        Row {
+            number,
+            stands,
+            place,
+        }
+    }
+}
+
 /// A row whose place is a file offset.
 pub(super) fn file_row(number: u16, stands: bool, offset: u64) -> Row {
-    Row {
-        number,
-        stands,
-        place: Place::File(offset),
-    }
+    Row::new(number, stands, Place::File(offset))
 }
 
 /// A row whose place is an RVA. A row that stands has one below 2^32: a walk through a table ends where it leaves the image.
 pub(super) fn rva_row(number: u16, stands: bool, rva: u64) -> Row {
-    Row {
-        number,
-        stands,
-        place: Place::Rva(u32::try_from(rva).unwrap_or(u32::MAX)),
-    }
+    let rva = u32::try_from(rva).unwrap_or(u32::MAX);
+    Row::new(number, stands, Place::Rva(rva))
 }
 
 /// The faults that stand, each under its key, and the record that is asked next.

@@ -56,8 +56,8 @@ impl Image<'_> {
         None
     }
 
-    /// The text at an RVA: the bytes before the first zero byte, which must lie in the same piece; in a gap no bytes; `None` where
-    /// there is no text.
+    /// The text at an RVA: the bytes before the first zero byte, which must lie in the same piece; in a gap no bytes. It is `None`
+    /// where there is no text.
     pub fn text(&self, alloc: Global, rva: u64) -> Result<Option<Vec<u8>>, AllocError> {
         if !self.holds(rva, 1) {
             return Ok(None);
@@ -76,7 +76,7 @@ impl Image<'_> {
         Ok(None)
     }
 
-    /// The least RVA from one on at which the file has a byte; the end of the image where there is none. All bytes before it are 0.
+    /// The least RVA from one on at which the file has a byte; the end of the image where there is none. The bytes between are 0.
     pub fn next_in_file(&self, rva: u64) -> u64 {
         if rva < self.headers.size_of_headers as u64 {
             return rva;

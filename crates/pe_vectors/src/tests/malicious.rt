@@ -1,7 +1,7 @@
-//! Malicious files and sets: `map` and `open_space` accept exactly those in which `slow_first` finds no fault, and refuse all others
-//! by the fault that it finds.
+//! Malicious files and sets: `map` and `open_space` accept exactly those in which `slow_first` finds no fault, and refuse all
+//! others by the fault that it finds.
 
-use super::files::{Piece, Vector, file_of, put_pieces};
+use super::files::{Piece, Vector, changed, file_of, put_pieces};
 use super::members::{
     A, B, C, Member, PLAIN, RELOCATED, Refusal, WIDE, fault_of, files_of, names_of, repeated,
     set_of,
@@ -23,8 +23,8 @@ const FILES: [Vector; 7] = [
     Vector::Vs,
 ];
 
-/// The extents of those files' base relocation tables, export tables and import tables: where each begins in the file, and where it
-/// ends.
+/// The extents of those files' base relocation tables, export tables and import tables: where each begins in the file, and where
+/// it ends.
 const TABLES: [(Vector, usize, usize); 7] = [
     (Vector::V2, 0x400, 0x40c),
     (Vector::V3, 0x400, 0x40c),
@@ -55,7 +55,7 @@ enum Case {
     /// A file in which the byte at an offset has a value.
     Byte(Vector, usize, u8),
     /// An entry of a list.
-    Listed(usize),
+    Listed(&'static str, usize),
 }
 
 /// Asserts that both spaces of a set are refused by the fault that the slow checker finds, and gives it.
@@ -152,254 +152,299 @@ fn files_with_a_changed_byte_in_a_table_agree_with_the_slow_checker(rt: HostRunt
     assert_eq!(rt; sets, 1_328);
 }
 
-/// A file, cut to a length and changed, and its fault, by number and place; None where it is accepted. A length of 0x600 fills the
-/// file up with zeros.
-type FileCase = (Vector, usize, &'static [Piece], Option<(u16, Place)>);
+/// V1, cut to a length and changed, and its fault by number and file offset; None where it is accepted.
+type HeaderCase = (usize, &'static [Piece], Option<(u16, u64)>);
 
 /// Files that are refused in their headers, and the nearest that are accepted.
-const HEADERS: &[FileCase] = &[
-    (Vector::V1, 0, &[], Some((2, Place::File(0)))),
-    (Vector::V1, 0x57, &[], Some((4, Place::File(60)))),
-    (Vector::V1, 0x58, &[], Some((6, Place::File(0x58)))),
-    (Vector::V1, 0x5a, &[], Some((8, Place::File(0x54)))),
-    (Vector::V1, 0x138, &[], Some((10, Place::File(0x46)))),
-    (Vector::V1, 0x150, &[], Some((10, Place::File(0x46)))),
-    (Vector::V1, 0x160, &[], Some((12, Place::File(0x94)))),
-    (Vector::V1, 0x200, &[], Some((13, Place::File(0x138)))),
-    (Vector::V1, 0x20f, &[], Some((13, Place::File(0x138)))),
-    (Vector::V1, 0x210, &[], None),
-    // SizeOfOptionalHeader 0xdf, 97 sections, the signature at 0xffffffff
-    (
-        Vector::V1,
-        0x400,
-        &[(0x54, &[0xdf])],
-        Some((7, Place::File(0x54))),
-    ),
-    (
-        Vector::V1,
-        0x400,
-        &[(0x46, &[97])],
-        Some((9, Place::File(0x46))),
-    ),
-    (
-        Vector::V1,
-        0x400,
-        &[(0x3c, &[0xff; 4])],
-        Some((4, Place::File(60))),
-    ),
-    // NumberOfRvaAndSizes 0xffffffff
-    (Vector::V1, 0x400, &[(0xb4, &[0xff; 4])], None),
+const HEADERS: &[HeaderCase] = &[
+    (0, &[], Some((2, 0))),
+    (0x57, &[], Some((4, 60))),
+    (0x58, &[], Some((6, 0x58))),
+    (0x5a, &[], Some((8, 0x54))),
+    (0x138, &[], Some((10, 0x46))),
+    (0x150, &[], Some((10, 0x46))),
+    (0x160, &[], Some((12, 0x94))),
+    (0x200, &[], Some((13, 0x138))),
+    (0x20f, &[], Some((13, 0x138))),
+    (0x210, &[], None),
+    // SizeOfOptionalHeader 0xdf, 97 sections, the signature at 0xffffffff, NumberOfRvaAndSizes 0xffffffff
+    (0x400, &[(0x54, &[0xdf])], Some((7, 0x54))),
+    (0x400, &[(0x46, &[97])], Some((9, 0x46))),
+    (0x400, &[(0x3c, &[0xff; 4])], Some((4, 60))),
+    (0x400, &[(0xb4, &[0xff; 4])], None),
 ];
 
-/// V2 with another base relocation table.
-const FIXUPS: &[FileCase] = &[
-    // a field twice, one of 9 bytes, and a field that passes the image
+#[test]
+fn malformed_headers_are_refused_by_the_slow_checker_too(rt: HostRuntime) {
+    let file = file_of(&rt, rt.alloc(), Vector::V1);
+    for (index, (len, pieces, expected)) in HEADERS.iter().enumerate() {
+        let changed = changed(&rt, &file, pieces);
+        assert!(rt; *len <= changed.len());
+        let base = image_base(Vector::V1);
+        let case = Case::Listed("headers", index);
+        let found = assert_file_agrees(&rt, rt.alloc(), &changed[..*len], base, case);
+        let expected = match *expected {
+            Some((number, offset)) => Some(fault_of((number, 0, Place::File(offset)))),
+            None => None,
+        };
+        assert_eq!(rt; found, expected, "in {case:?}");
+    }
+}
+
+/// A file, filled up with zeros to 0x600 bytes and changed, and its fault by number and RVA; None where it is accepted.
+type TableCase = (Vector, &'static [Piece], Option<(u16, u32)>);
+
+/// V2 with other base relocation tables.
+const FIXUPS: &[TableCase] = &[
+    // BlockSize 9, 8 and 0xfffffffe; Size 0xffffffff, 7 and 0x14
+    (Vector::V2, &[(0x404, &[0x09])], Some((33, 0x2000))),
+    (Vector::V2, &[(0x404, &[0x08])], None),
     (
         Vector::V2,
-        0x600,
-        &[(0x408, &[0x08, 0x30, 0x08, 0x30])],
-        Some((37, Place::Rva(0x200a))),
+        &[(0x404, &[0xfe, 0xff, 0xff, 0xff])],
+        Some((33, 0x2000)),
     ),
+    (Vector::V2, &[(0xe4, &[0xff; 4])], Some((34, 0x2000))),
+    (Vector::V2, &[(0xe4, &[0x07])], None),
+    (Vector::V2, &[(0xe4, &[0x14])], None),
+    // the last field of the image, one that passes it, and one at 2^32
     (
         Vector::V2,
-        0x600,
-        &[(0x404, &[0x09])],
-        Some((33, Place::Rva(0x2000))),
-    ),
-    (
-        Vector::V2,
-        0x600,
         &[(0x400, &[0x00, 0x20]), (0x408, &[0xfc, 0x3f])],
         None,
     ),
     (
         Vector::V2,
-        0x600,
         &[(0x400, &[0x00, 0x20]), (0x408, &[0xfd, 0x3f])],
-        Some((36, Place::Rva(0x2008))),
+        Some((36, 0x2008)),
     ),
-    // a field at 2^32
     (
         Vector::V2,
-        0x600,
         &[(0x400, &[0xff, 0xff, 0xff, 0xff]), (0x408, &[0x01, 0x30])],
-        Some((36, Place::Rva(0x2008))),
+        Some((36, 0x2008)),
     ),
-    // BlockSize 0xfffffffe and 8; Size 0xffffffff, 7 and 0x14
+    // a type that is not applied
+    (Vector::V2, &[(0x409, &[0x40])], Some((35, 0x2008))),
+    // a second field: the same one, with one byte in common at either end, and with none
+    (Vector::V2, &[(0x40a, &[0x08, 0x30])], Some((37, 0x200a))),
+    (Vector::V2, &[(0x40a, &[0x05, 0x30])], Some((37, 0x200a))),
+    (Vector::V2, &[(0x40a, &[0x04, 0x30])], None),
+    (Vector::V2, &[(0x40a, &[0x0b, 0x30])], Some((37, 0x200a))),
+    (Vector::V2, &[(0x40a, &[0x0c, 0x30])], None),
+    // the same with one of 8 bytes
+    (Vector::V2, &[(0x40a, &[0x01, 0xa0])], Some((37, 0x200a))),
+    (Vector::V2, &[(0x40a, &[0x00, 0xa0])], None),
+    // a fault in the first block, before one of the second
     (
         Vector::V2,
-        0x600,
-        &[(0x404, &[0xfe, 0xff, 0xff, 0xff])],
-        Some((33, Place::Rva(0x2000))),
-    ),
-    (Vector::V2, 0x600, &[(0x404, &[0x08])], None),
-    (
-        Vector::V2,
-        0x600,
-        &[(0xe4, &[0xff; 4])],
-        Some((34, Place::Rva(0x2000))),
-    ),
-    (Vector::V2, 0x600, &[(0xe4, &[0x07])], None),
-    (Vector::V2, 0x600, &[(0xe4, &[0x14])], None),
-    // VC with the section `.reloc` of V2, and a field that meets the slot
-    (
-        Vector::Vc,
-        0x600,
         &[
-            (0x46, &[0x02]),
-            (0xe0, &[0x00, 0x20, 0x00, 0x00, 0x0c]),
-            (
-                0x160,
-                b".reloc\0\0\x0c\0\0\0\x00\x20\0\0\x00\x02\0\0\x00\x04",
-            ),
-            (0x184, &[0x40, 0x00, 0x00, 0xc0]),
-            (
-                0x400,
-                &[0x00, 0x10, 0x00, 0x00, 0x0c, 0x00, 0x00, 0x00, 0x33, 0x30],
-            ),
+            (0xe4, &[0x18]),
+            (0x168, &[0x18]),
+            (0x40a, &[0x08, 0x30]),
+            (0x410, &[0x09]),
         ],
-        Some((38, Place::Rva(0x2008))),
+        Some((37, 0x200a)),
     ),
 ];
 
 /// VA with other texts of its forwarder, and VB with other tables.
-const EXPORTS: &[FileCase] = &[
-    (
-        Vector::Va,
-        0x400,
-        &[(0x261, b"\0\0\0")],
-        Some((22, Place::Rva(0x1048))),
-    ),
-    (
-        Vector::Va,
-        0x400,
-        &[(0x262, b"\0\0")],
-        Some((22, Place::Rva(0x1048))),
-    ),
-    (
-        Vector::Va,
-        0x400,
-        &[(0x260, b".f\0\0")],
-        Some((22, Place::Rva(0x1048))),
-    ),
-    (
-        Vector::Va,
-        0x400,
-        &[(0x263, b"\0")],
-        Some((22, Place::Rva(0x1048))),
-    ),
-    (
-        Vector::Va,
-        0x400,
-        &[(0x264, b"x")],
-        Some((22, Place::Rva(0x1048))),
-    ),
-    (
-        Vector::Va,
-        0x400,
-        &[(0x263, b"65536")],
-        Some((22, Place::Rva(0x1048))),
-    ),
-    (Vector::Va, 0x400, &[(0x263, b"65535")], None),
-    (Vector::Va, 0x400, &[(0x263, b"007")], None),
-    (Vector::Va, 0x400, &[(0x260, b"b.x.dll.f")], None),
+const EXPORTS: &[TableCase] = &[
+    (Vector::Va, &[(0x261, b"\0\0\0")], Some((22, 0x1048))),
+    (Vector::Va, &[(0x262, b"\0\0")], Some((22, 0x1048))),
+    (Vector::Va, &[(0x260, b".f\0\0")], Some((22, 0x1048))),
+    (Vector::Va, &[(0x263, b"\0")], Some((22, 0x1048))),
+    (Vector::Va, &[(0x264, b"x")], Some((22, 0x1048))),
+    (Vector::Va, &[(0x263, b"65536")], Some((22, 0x1048))),
+    (Vector::Va, &[(0x263, b"65535")], None),
+    (Vector::Va, &[(0x263, b"007")], None),
+    (Vector::Va, &[(0x260, b"b.x.dll.f")], None),
     // an ordinal entry of 3 and of 1; an address of 0x3000 and of 0x2fff
+    (Vector::Vb, &[(0x258, &[3])], Some((20, 0x1058))),
+    (Vector::Vb, &[(0x258, &[1])], None),
+    (Vector::Vb, &[(0x248, &[0x00, 0x30])], Some((21, 0x1048))),
+    (Vector::Vb, &[(0x248, &[0xff, 0x2f])], None),
+    // an address past the image and in a directory that passes it too: a forwarder without a text
     (
         Vector::Vb,
-        0x400,
-        &[(0x258, &[3])],
-        Some((20, Place::Rva(0x1058))),
+        &[(0xbc, &[0xff; 4]), (0x248, &[0x00, 0x30])],
+        Some((22, 0x1048)),
     ),
-    (Vector::Vb, 0x400, &[(0x258, &[1])], None),
-    (
-        Vector::Vb,
-        0x400,
-        &[(0x248, &[0x00, 0x30])],
-        Some((21, Place::Rva(0x1048))),
-    ),
-    (Vector::Vb, 0x400, &[(0x248, &[0xff, 0x2f])], None),
     // 65,537 address entries, past the image and inside a larger one
     (
         Vector::Vb,
-        0x400,
         &[(0x234, &[0x01, 0x00, 0x01])],
-        Some((17, Place::Rva(0x103c))),
+        Some((17, 0x103c)),
     ),
     (
         Vector::Vb,
-        0x400,
         &[(0x234, &[0x01, 0x00, 0x01]), (0x90, &[0x00, 0x00, 0x08])],
-        Some((18, Place::Rva(0x1034))),
+        Some((18, 0x1034)),
+    ),
+    // a name in a gap, one that does not end in its section, and one past the image; the last with a bad ordinal entry too
+    (Vector::Vb, &[(0x254, &[0x00, 0x11])], None),
+    (
+        Vector::Vb,
+        &[(0x254, &[0x7f, 0x10]), (0x27f, b"x")],
+        Some((19, 0x1054)),
+    ),
+    (Vector::Vb, &[(0x254, &[0x00, 0x30])], Some((19, 0x1054))),
+    (
+        Vector::Vb,
+        &[(0x254, &[0x00, 0x30]), (0x258, &[3])],
+        Some((19, 0x1054)),
     ),
 ];
 
 /// VC and VD with other import tables.
-const IMPORTS: &[FileCase] = &[
-    // a lookup entry whose bits 31 to 62 are not 0
+const IMPORTS: &[TableCase] = &[
+    // a lookup entry whose bits 31 to 62 are not 0; the same without a text
+    (Vector::Vd, &[(0x254, &[0x01])], Some((28, 0x1050))),
     (
         Vector::Vd,
-        0x400,
-        &[(0x254, &[0x01])],
-        Some((28, Place::Rva(0x1050))),
-    ),
-    // the first descriptor twice
-    (
-        Vector::Vc,
-        0x400,
-        &[
-            (0x214, &[0x28, 0x10]),
-            (0x220, &[0x40, 0x10, 0x00, 0x00, 0x30, 0x10]),
-        ],
-        Some((30, Place::Rva(0x1028))),
+        &[(0x250, &[0x00, 0x30, 0x00, 0x00, 0x01])],
+        Some((27, 0x1050)),
     ),
     // the address table at 0x2ffe; the lookup table at 0x3000
+    (Vector::Vc, &[(0x210, &[0xfe, 0x2f])], Some((29, 0x1028))),
+    (Vector::Vc, &[(0x200, &[0x00, 0x30])], Some((26, 0x3000))),
+    // no lookup table; the same with a time stamp, and with a name past the image besides
+    (Vector::Vc, &[(0x200, &[0x00, 0x00])], None),
     (
         Vector::Vc,
-        0x400,
-        &[(0x210, &[0xfe, 0x2f])],
-        Some((29, Place::Rva(0x1028))),
-    ),
-    (
-        Vector::Vc,
-        0x400,
-        &[(0x200, &[0x00, 0x30])],
-        Some((26, Place::Rva(0x3000))),
-    ),
-    // no lookup table; the same with a time stamp
-    (Vector::Vc, 0x400, &[(0x200, &[0x00, 0x00])], None),
-    (
-        Vector::Vc,
-        0x400,
         &[(0x200, &[0x00, 0x00]), (0x204, &[0x01])],
-        Some((32, Place::Rva(0x1000))),
+        Some((32, 0x1000)),
+    ),
+    (
+        Vector::Vc,
+        &[
+            (0x200, &[0x00, 0x00]),
+            (0x204, &[0x01]),
+            (0x20c, &[0x00, 0x30]),
+        ],
+        Some((25, 0x100c)),
     ),
     // no imports, by either field
-    (Vector::Vc, 0x400, &[(0x20c, &[0x00, 0x00])], None),
-    (Vector::Vc, 0x400, &[(0x210, &[0x00, 0x00])], None),
+    (Vector::Vc, &[(0x20c, &[0x00, 0x00])], None),
+    (Vector::Vc, &[(0x210, &[0x00, 0x00])], None),
+    // a second descriptor: with the same slot, with one byte in common at either end, and with none
+    (
+        Vector::Vc,
+        &[
+            (0x214, &[0x28, 0x10]),
+            (0x220, &[0x40, 0x10, 0, 0, 0x30, 0x10]),
+        ],
+        Some((30, 0x1028)),
+    ),
+    (
+        Vector::Vc,
+        &[
+            (0x214, &[0x28, 0x10]),
+            (0x220, &[0x40, 0x10, 0, 0, 0x33, 0x10]),
+        ],
+        Some((30, 0x1028)),
+    ),
+    (
+        Vector::Vc,
+        &[
+            (0x214, &[0x28, 0x10]),
+            (0x220, &[0x40, 0x10, 0, 0, 0x34, 0x10]),
+        ],
+        None,
+    ),
+    (
+        Vector::Vc,
+        &[
+            (0x214, &[0x28, 0x10]),
+            (0x220, &[0x40, 0x10, 0, 0, 0x2d, 0x10]),
+        ],
+        Some((30, 0x1028)),
+    ),
+    (
+        Vector::Vc,
+        &[
+            (0x214, &[0x28, 0x10]),
+            (0x220, &[0x40, 0x10, 0, 0, 0x2c, 0x10]),
+        ],
+        None,
+    ),
+    // a fault in the entries of the first descriptor, before one of the second
+    (
+        Vector::Vc,
+        &[
+            (0x228, &[0x00, 0x30]),
+            (0x214, &[0x28, 0x10]),
+            (0x220, &[0x00, 0x30, 0, 0, 0x34, 0x10]),
+        ],
+        Some((27, 0x1028)),
+    ),
 ];
 
-/// Asserts the fault of each file, in which both spaces and the slow checker agree.
-fn assert_files_refused(rt: &impl Abort, alloc: Global, cases: &[FileCase]) {
-    for (index, (vector, len, pieces, expected)) in cases.iter().enumerate() {
-        let mut file = file_of(rt, alloc, *vector);
-        file.resize(*len, 0).expect(rt, "memory");
-        put_pieces(rt, &mut file, pieces);
-        let base = image_base(*vector);
-        let found = assert_file_agrees(rt, alloc, &file, base, Case::Listed(index));
-        let expected = match *expected {
-            Some((number, place)) => Some(fault_of((number, 0, place))),
-            None => None,
-        };
-        assert_eq!(rt; found, expected, "in case {index}");
+/// The section `.reloc` of V2 in VC, up to its first entry: NumberOfSections, the directory, the section's header, the block.
+const RELOCATED_IMPORTER: &[Piece] = &[
+    (0x46, &[0x02]),
+    (0xe0, &[0x00, 0x20, 0x00, 0x00, 0x0c]),
+    (
+        0x160,
+        b".reloc\0\0\x0c\0\0\0\x00\x20\0\0\x00\x02\0\0\x00\x04",
+    ),
+    (0x184, &[0x40, 0x00, 0x00, 0xc0]),
+    (0x400, &[0x00, 0x10, 0x00, 0x00, 0x0c, 0x00, 0x00, 0x00]),
+];
+
+/// First entries of that block, and their faults: fields of four bytes with one byte in common with the slot, which is at 0x1030,
+/// at either end, and with none.
+const BESIDE_THE_SLOT: &[([u8; 2], Option<(u16, u32)>)] = &[
+    ([0x33, 0x30], Some((38, 0x2008))),
+    ([0x2d, 0x30], Some((38, 0x2008))),
+    ([0x34, 0x30], None),
+    ([0x2c, 0x30], None),
+];
+
+/// Asserts the fault of a file, in which both spaces and the slow checker agree.
+fn assert_table_judged(
+    rt: &impl Abort,
+    alloc: Global,
+    case: Case,
+    (file, base): (&[u8], u64),
+    expected: Option<(u16, u32)>,
+) {
+    let found = assert_file_agrees(rt, alloc, file, base, case);
+    let expected = match expected {
+        Some((number, rva)) => Some(fault_of((number, 0, Place::Rva(rva)))),
+        None => None,
+    };
+    assert_eq!(rt; found, expected, "in {case:?}");
+}
+
+#[test]
+fn malformed_tables_are_refused_by_the_slow_checker_too(rt: HostRuntime) {
+    let lists = [
+        ("fixups", FIXUPS),
+        ("exports", EXPORTS),
+        ("imports", IMPORTS),
+    ];
+    for (name, cases) in lists {
+        for (index, (vector, pieces, expected)) in cases.iter().enumerate() {
+            let file = file_of(&rt, rt.alloc(), *vector);
+            let changed = changed(&rt, &file, pieces);
+            let judged = (changed.as_slice(), image_base(*vector));
+            let case = Case::Listed(name, index);
+            assert_table_judged(&rt, rt.alloc(), case, judged, *expected);
+        }
     }
 }
 
 #[test]
-fn malformed_files_are_refused_by_the_slow_checker_too(rt: HostRuntime) {
-    assert_files_refused(&rt, rt.alloc(), HEADERS);
-    assert_files_refused(&rt, rt.alloc(), FIXUPS);
-    assert_files_refused(&rt, rt.alloc(), EXPORTS);
-    assert_files_refused(&rt, rt.alloc(), IMPORTS);
+fn fields_that_meet_a_slot_are_refused_by_the_slow_checker_too(rt: HostRuntime) {
+    let file = file_of(&rt, rt.alloc(), Vector::Vc);
+    let mut changed = changed(&rt, &file, RELOCATED_IMPORTER);
+    for (index, (entry, expected)) in BESIDE_THE_SLOT.iter().enumerate() {
+        changed[0x408] = entry[0];
+        changed[0x409] = entry[1];
+        let judged = (changed.as_slice(), image_base(Vector::Vc));
+        let case = Case::Listed("fields beside a slot", index);
+        assert_table_judged(&rt, rt.alloc(), case, judged, *expected);
+    }
 }
 
 /// A set and a policy, and its fault; None where it is accepted.
@@ -462,6 +507,24 @@ const SECOND: Member = Member {
 const STRIPPED: Member = Member {
     pieces: &[(0x56, &[0x03])],
     ..PLAIN
+};
+
+/// V1 at a base that is no multiple of 65,536; V1 without `MZ`; V2 with a field that passes the image.
+const UNALIGNED: Member = Member {
+    name: b"u.dll",
+    base: 0x3000_8000,
+    ..PLAIN
+};
+
+const UNREADABLE: Member = Member {
+    name: b"x.dll",
+    pieces: &[(0x00, &[0x00])],
+    ..PLAIN
+};
+
+const OUTSIDE: Member = Member {
+    pieces: &[(0x401, &[0x20]), (0x408, &[0xfd, 0x3f])],
+    ..RELOCATED
 };
 
 /// Sets of a few images.
@@ -565,6 +628,41 @@ const SETS: &[SetCase] = &[
         Some((45, 0, Place::Address(0xffff_0000))),
     ),
     (&[], Policy::Strict, None),
+    // several faults: the least class, then the least image, then the least number
+    (
+        &[C, UNALIGNED],
+        Policy::Strict,
+        Some((44, 1, Place::Address(0x3000_8000))),
+    ),
+    (
+        &[UNALIGNED, UNREADABLE],
+        Policy::Strict,
+        Some((3, 1, Place::File(0))),
+    ),
+    (
+        &[UNREADABLE, A, UPPER],
+        Policy::Strict,
+        Some((42, 2, Place::Item(2))),
+    ),
+    (
+        &[OUTSIDE, UNREADABLE],
+        Policy::Strict,
+        Some((36, 0, Place::Rva(0x2008))),
+    ),
+    (
+        &[UNREADABLE, OUTSIDE],
+        Policy::Strict,
+        Some((3, 0, Place::File(0))),
+    ),
+    (
+        &[Member {
+            pieces: &[(0x56, &[0x03]), (0x90, &[0x00, 0x00, 0x02])],
+            base: 0xffff_0000,
+            ..PLAIN
+        }],
+        Policy::Strict,
+        Some((45, 0, Place::Address(0xffff_0000))),
+    ),
 ];
 
 /// Asserts the fault of a set, in which both spaces and the slow checker agree.
@@ -573,15 +671,15 @@ fn assert_set_refused(
     alloc: Global,
     set: &[SetEntry],
     policy: Policy,
-    case: usize,
+    case: Case,
     expected: Option<Refusal>,
 ) {
-    let found = assert_agree(rt, alloc, set, policy, Case::Listed(case));
+    let found = assert_agree(rt, alloc, set, policy, case);
     let expected = match expected {
         Some(refusal) => Some(fault_of(refusal)),
         None => None,
     };
-    assert_eq!(rt; found, expected, "in case {case}");
+    assert_eq!(rt; found, expected, "in {case:?}");
 }
 
 #[test]
@@ -589,7 +687,8 @@ fn sets_are_refused_by_the_slow_checker_too(rt: HostRuntime) {
     for (index, (members, policy, expected)) in SETS.iter().enumerate() {
         let files = files_of(&rt, rt.alloc(), members);
         let set = set_of(&rt, rt.alloc(), members, &files);
-        assert_set_refused(&rt, rt.alloc(), &set, *policy, index, *expected);
+        let case = Case::Listed("sets", index);
+        assert_set_refused(&rt, rt.alloc(), &set, *policy, case, *expected);
     }
 }
 
@@ -615,14 +714,8 @@ fn chains_of_forwarders_end_for_the_slow_checker_too(rt: HostRuntime) {
                 base: 0x40_0000,
             },
         ];
-        assert_set_refused(
-            &rt,
-            rt.alloc(),
-            &set,
-            Policy::Strict,
-            forwarders as usize,
-            expected,
-        );
+        let case = Case::Listed("chains", forwarders as usize);
+        assert_set_refused(&rt, rt.alloc(), &set, Policy::Strict, case, expected);
     }
 }
 
@@ -631,11 +724,13 @@ fn long_lists_are_refused_by_the_slow_checker_too(rt: HostRuntime) {
     let names = names_of(&rt, rt.alloc(), 257);
     let mut set = repeated(&rt, rt.alloc(), &names, b"");
     let too_many = Some((41, 256, Place::Item(256)));
-    assert_set_refused(&rt, rt.alloc(), &set, Policy::Strict, 0, too_many);
+    let case = Case::Listed("long lists", 0);
+    assert_set_refused(&rt, rt.alloc(), &set, Policy::Strict, case, too_many);
     assert_eq!(rt; set.len(), 257);
     set[255].name = b"0000";
     let repeats = Some((42, 255, Place::Item(255)));
-    assert_set_refused(&rt, rt.alloc(), &set, Policy::Strict, 1, repeats);
+    let case = Case::Listed("long lists", 1);
+    assert_set_refused(&rt, rt.alloc(), &set, Policy::Strict, case, repeats);
 }
 
 #[test]
