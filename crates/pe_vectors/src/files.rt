@@ -46,7 +46,7 @@ pub fn number(rt: &impl Abort, file: &[u8], offset: usize, width: usize) -> u64 
 }
 
 /// One of the files.
-#[derive(Clone, Copy)]
+#[derive(Clone, Copy, Debug)]
 pub enum Vector {
     V1,
     V2,

@@ -6,6 +6,9 @@
 //! escaped. So a dump that shows one value for another, or a byte as it stands, differs from the one that is written down.
 //! Another, [`vf`], is a chain of as many forwarders as are asked for.
 //!
+//! A checker, [`slow_first`], judges sets of files by plain scans, with nothing of what the other crates read and search by; the
+//! tests compare its answers with those of `map` and `open_space`.
+//!
 //! A builder uses none of the other crates, so that what they read is told apart from what they wrote:
 //!
 //! ```text
@@ -25,9 +28,11 @@ pub mod members;
 pub mod objects;
 pub mod plans;
 pub mod same;
+mod slow_checker;
 
 pub use devices::{StepReader, StepWriter};
 pub use images::{v1, v2, v3, va, vb, vc, vd, vf, vr, vs};
+pub use slow_checker::slow_first;
 
 #[cfg(test)]
 mod tests;

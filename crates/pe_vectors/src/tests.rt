@@ -5,6 +5,7 @@ mod head;
 mod images;
 mod imports;
 mod layout;
+mod malicious;
 mod moves;
 mod sets;
 mod spaces;

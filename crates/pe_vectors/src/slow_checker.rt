@@ -1,0 +1,73 @@
+//! A checker of sets that is apart from the product: it lists every fault of a set, with the key by which faults are ordered, and
+//! answers the one of the least key.
+//!
+//! It follows the table of faults word by word. Each test is a plain scan, which asks for one byte of a file or of a laid-out
+//! image at a time, so it shares no reader, no search and no definition with the crates that it is compared with. It is slow: the
+//! time of its tests for overlaps and of its searches grows with the square of what an image holds.
+
+mod bases;
+mod directories;
+mod exports;
+mod fixups;
+mod forwarders;
+mod headers;
+mod images;
+mod imports;
+mod modules;
+mod names;
+mod numbers;
+mod ordering;
+mod overlaps;
+mod plain;
+mod sections;
+
+use self::bases::list_bases;
+use self::images::{Judged, list_image};
+use self::modules::list_searches;
+use self::names::list_names;
+use self::ordering::{Class, Faults};
+use pe_space::{Policy, SetEntry};
+use pe_view::Fault;
+use std::alloc::{AllocError, Global};
+
+/// The first fault of a set, or `None` where none stands.
+///
+/// The classes of faults are asked in their order, and one counts only where no class before it has a fault: names of entries,
+/// images one by one, their bases, the searches of their imports. Want of memory is an error.
+pub fn slow_first(
+    alloc: Global,
+    set: &[SetEntry],
+    policy: Policy,
+) -> Result<Option<Fault>, AllocError> {
+    let mut faults = Faults::new(alloc);
+    list_names(set, &mut faults)?;
+    if !faults.is_empty() {
+        return Ok(faults.least());
+    }
+    let images = judged_images(alloc, set, &mut faults)?;
+    if !faults.is_empty() {
+        return Ok(faults.least());
+    }
+    list_bases(&images, &mut faults)?;
+    if !faults.is_empty() {
+        return Ok(faults.least());
+    }
+    list_searches(alloc, &images, policy, &mut faults)?;
+    Ok(faults.least())
+}
+
+/// The images of a set that have no fault of their own; the faults of the others are listed.
+fn judged_images<'a>(
+    alloc: Global,
+    set: &[SetEntry<'a>],
+    faults: &mut Faults,
+) -> Result<Vec<Judged<'a>>, AllocError> {
+    let mut images = Vec::new(alloc);
+    for (index, entry) in set.iter().enumerate() {
+        faults.begin(Class::Images, index);
+        if let Some(image) = list_image(alloc, *entry, faults)? {
+            images.push(image)?;
+        }
+    }
+    Ok(images)
+}

@@ -1,0 +1,77 @@
+//! The text of a forwarder, split into a module's name and the key of an export.
+
+use std::alloc::{AllocError, Global};
+
+/// By what an export is looked up.
+#[derive(Drop)]
+pub(super) enum Wanted {
+    Ordinal(u16),
+    Name(Vec<u8>),
+}
+
+/// A module's name, with `.dll`, and the export that is looked up in it.
+#[derive(Drop)]
+pub(super) struct Forwarder {
+    pub module: Vec<u8>,
+    pub wanted: Wanted,
+}
+
+/// The forwarder of a text, which is split at its last dot; `None` where the text does not have the form of one.
+pub(super) fn split_forwarder(alloc: Global, text: &[u8]) -> Result<Option<Forwarder>, AllocError> {
+    let Some((left, right)) = split_at_last_dot(text) else {
+        return Ok(None);
+    };
+    if left.is_empty() || right.is_empty() {
+        return Ok(None);
+    }
+    let Some(wanted) = wanted_by(alloc, right)? else {
+        return Ok(None);
+    };
+    let module = module_name(alloc, left)?;
+    Ok(Some(Forwarder { module, wanted }))
+}
+
+/// What stands before the last dot of a text, and what stands after it.
+fn split_at_last_dot(text: &[u8]) -> Option<(&[u8], &[u8])> {
+    let mut last_dot = None;
+    for (index, byte) in text.iter().enumerate() {
+        if *byte == b'.' {
+            last_dot = Some(index);
+        }
+    }
+    let dot = last_dot?;
+    Some((text.get(..dot)?, text.get(dot.saturating_add(1)..)?))
+}
+
+/// The name of the module that a forwarder's left side stands for: `.dll` is added where it has no dot.
+fn module_name(alloc: Global, left: &[u8]) -> Result<Vec<u8>, AllocError> {
+    let mut module = Vec::from_slice(alloc, left)?;
+    if !left.contains(&b'.') {
+        module.extend_from_slice(b".dll")?;
+    }
+    Ok(module)
+}
+
+/// What the right side of a forwarder looks up: `#` begins an ordinal, and all else is a name.
+fn wanted_by(alloc: Global, right: &[u8]) -> Result<Option<Wanted>, AllocError> {
+    let Some((b'#', digits)) = right.split_first() else {
+        return Ok(Some(Wanted::Name(Vec::from_slice(alloc, right)?)));
+    };
+    Ok(ordinal(digits).map(Wanted::Ordinal))
+}
+
+/// The number that one or more decimal digits write; `None` of anything else, and over 65,535.
+fn ordinal(digits: &[u8]) -> Option<u16> {
+    if digits.is_empty() {
+        return None;
+    }
+    let mut value: u32 = 0;
+    for byte in digits {
+        let digit = match byte {
+            b'0'..=b'9' => *byte - b'0',
+            _ => return None,
+        };
+        value = value.saturating_mul(10).saturating_add(u32::from(digit));
+    }
+    u16::try_from(value).ok()
+}

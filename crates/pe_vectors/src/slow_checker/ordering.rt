@@ -1,0 +1,158 @@
+//! The order of a set's faults: their keys, and the list of those that stand.
+
+use pe_view::{Fault, Place};
+use std::alloc::{AllocError, Global};
+
+/// The classes of a set's faults, in their order.
+#[derive(Clone, Copy, PartialEq, Eq, PartialOrd, Ord)]
+pub(super) enum Class {
+    /// The number and the names of the entries.
+    Entries,
+    /// The images, each by itself.
+    Images,
+    /// The bases of the images.
+    Bases,
+    /// The searches of the imports.
+    Searches,
+}
+
+/// The phases of an image, in their order.
+#[derive(Clone, Copy, PartialEq, Eq, PartialOrd, Ord)]
+pub(super) enum Phase {
+    Headers,
+    Sections,
+    Exports,
+    Imports,
+    Fixups,
+}
+
+/// The place of a fault in the order: keys are compared part by part. A class that has no phases keeps the first one.
+#[derive(Clone, Copy, PartialEq, Eq, PartialOrd, Ord)]
+struct Key {
+    class: Class,
+    /// The index of the entry.
+    entry: usize,
+    phase: Phase,
+    /// The index of the record in its phase.
+    record: u64,
+    /// The fault's number.
+    number: u16,
+}
+
+/// A row of the table of faults, asked of one record.
+#[derive(Clone, Copy)]
+pub(super) struct Row {
+    pub number: u16,
+    /// Whether its condition holds.
+    pub stands: bool,
+    pub place: Place,
+}
+
+impl Row {
+    /// A row of the table.
+    pub fn new(number: u16, stands: bool, place: Place) -> Row {
+        Row {
+            number,
+            stands,
+            place,
+        }
+    }
+}
+
+/// A row whose place is a file offset.
+pub(super) fn file_row(number: u16, stands: bool, offset: u64) -> Row {
+    Row::new(number, stands, Place::File(offset))
+}
+
+/// A row whose place is an RVA. A row that stands has one below 2^32: a walk through a table ends where it leaves the image.
+pub(super) fn rva_row(number: u16, stands: bool, rva: u64) -> Row {
+    let rva = u32::try_from(rva).unwrap_or(u32::MAX);
+    Row::new(number, stands, Place::Rva(rva))
+}
+
+/// The faults that stand, each under its key, and the record that is asked next.
+#[derive(Drop)]
+pub(super) struct Faults {
+    listed: Vec<(Key, Fault)>,
+    class: Class,
+    entry: usize,
+    phase: Phase,
+    record: u64,
+}
+
+impl Faults {
+    /// No faults.
+    pub fn new(alloc: Global) -> Self {
+        Faults {
+            listed: Vec::new(alloc),
+            class: Class::Entries,
+            entry: 0,
+            phase: Phase::Headers,
+            record: 0,
+        }
+    }
+
+    /// Whether none stands so far.
+    pub fn is_empty(&self) -> bool {
+        self.listed.is_empty()
+    }
+
+    /// Begins with the faults that a class has of an entry.
+    pub fn begin(&mut self, class: Class, entry: usize) {
+        self.class = class;
+        self.entry = entry;
+        self.begin_phase(Phase::Headers);
+    }
+
+    /// Begins with the records of a phase.
+    pub fn begin_phase(&mut self, phase: Phase) {
+        self.phase = phase;
+        self.record = 0;
+    }
+
+    /// Lists the faults of the next record, and tells whether it has one.
+    pub fn record(&mut self, rows: &[Row]) -> Result<bool, AllocError> {
+        let mut refused = false;
+        for row in rows {
+            if row.stands {
+                refused = true;
+                self.list(*row)?;
+            }
+        }
+        self.record = self.record.saturating_add(1);
+        Ok(refused)
+    }
+
+    /// Lists a fault of the record.
+    fn list(&mut self, row: Row) -> Result<(), AllocError> {
+        let key = Key {
+            class: self.class,
+            entry: self.entry,
+            phase: self.phase,
+            record: self.record,
+            number: row.number,
+        };
+        let fault = Fault {
+            number: row.number,
+            image: u16::try_from(self.entry).unwrap_or(u16::MAX),
+            place: row.place,
+        };
+        self.listed.push((key, fault))?;
+        Ok(())
+    }
+
+    /// The fault of the least key.
+    pub fn least(&self) -> Option<Fault> {
+        let mut least: Option<(Key, Fault)> = None;
+        for keyed in &self.listed {
+            let is_less = match least {
+                None => true,
+                Some((key, _)) => keyed.0 < key,
+            };
+            if is_less {
+                least = Some(*keyed);
+            }
+        }
+        least.map(|keyed| keyed.1)
+    }
+}
