@@ -3,6 +3,7 @@ use Rattle.std.proofs.Common.{◌≡◌, ◌∙◌, ◌+◌, ◌%◌, ◌<◌, �
 use Rattle.std.specs.Prelude.{slice_get, nat_lt, ◌&&◌}
 use Rattle.std.specs.List.{list_any}
 use Rattle.std.proofs.lemmas.Bool.{or_parts, or_from, and_cases, ltb-false}
+use Rattle.std.proofs.lemmas.Bool.Decides.{nat_tests}
 use Rattle.std.proofs.lemmas.Option.{same_Some}
 use Rattle.pe_view.specs.Faults.{Test, first_standing}
 use Rattle.pe_view.specs.FirstStanding.{first-past, none_stands}
@@ -41,6 +42,9 @@ fits others i p none = record {
   preferred = none_stands (base_tests others i p) 2 _ none refl;
   free = none_stands (base_tests others i p) 3 _ none refl;
 }
+
+pub aligned_base : {others : List Placement} (p : Placement) → Fits others p → p.base % 65536 ≡ 0
+aligned_base p ok = let aligned = ok.aligned in grind (arith, nat_tests)
 
 none_of_base : (others : List Placement) (i : ℕ) (p : Placement) → Fits others p → first_standing (base_tests others i p) ≡ None
 none_of_base others i p ok = rw (ok.aligned, ok.room, ok.preferred, ok.free) refl

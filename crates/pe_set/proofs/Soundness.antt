@@ -1,5 +1,5 @@
 -- The fields and bound slots of an accepted set are in order, and so are the places of its images.
-use Rattle.std.proofs.Common.{◌≡◌, ◌∙◌, ◌+◌, ◌*◌, ◌≤◌, ℕ, zero, suc, List, [], ◌∷◌, length, None, Some, refl, sym, ap, subst, arith}
+use Rattle.std.proofs.Common.{◌≡◌, ◌∙◌, ◌+◌, ◌*◌, ◌%◌, ◌≤◌, ℕ, zero, suc, List, [], ◌∷◌, length, None, Some, refl, sym, ap, subst, arith}
 use Rattle.std.specs.Prelude.{slice_get, All, AllPairs}
 use Rattle.std.proofs.lemmas.Bool.{ltb-false}
 use Rattle.std.proofs.lemmas.List.Elements.{All-weaker}
@@ -29,7 +29,7 @@ use Rattle.pe_set.proofs.Ending.{ends}
 use Rattle.pe_set.proofs.Faultless.{classes}
 use Rattle.pe_set.proofs.Gathered.{all_got, pairs_got, AllPairs-nil, AllPairs-append, all_given, pairs_given, few_given, all_numbered, few_numbered}
 use Rattle.pe_set.proofs.Images.{Laws, IsFreeSlot, IsKnown, known}
-use Rattle.pe_set.proofs.Places.{stands, none_before, apart_unless}
+use Rattle.pe_set.proofs.Places.{aligned_base, stands, none_before, apart_unless}
 
 -- ---- bindings
 bound_parts : (i slot : ℕ) (r : Resolution) (b : Binding) → bound_to i slot r ≡ Some b → (j : ℕ) × (u : ℕ) × (r ≡ Bound j u) × (b ≡ record { image = i; slot = slot; exporter = j; rva = u })
@@ -119,6 +119,9 @@ module _ (s : List Module) (each : (j : ℕ) (m : Module) → slice_get s j ≡ 
 
 -- ---- places
 module _ (s : List Module) (none : first_standing (places_tests s) ≡ None) where
+  whole_bases : All (λ (m : Module). m.base % 65536 ≡ 0) s
+  whole_bases = all_got (λ (m : Module). m.base % 65536 ≡ 0) s (λ j m at. aligned_base (placement_of m) (stands s none j m at).fits)
+
   below_limit : All (λ (m : Module). m.base + m.image.size ≤ address_limit m.magic) s
   below_limit = all_got (λ (m : Module). m.base + m.image.size ≤ address_limit m.magic) s
       (λ j m at. ltb-false (address_limit m.magic) (m.base + m.image.size) (stands s none j m at).fits.room)
@@ -141,6 +144,7 @@ accepted_sound laws policy es none =
     record {
       few = few;
       images = all_got IsSoundImage s (λ j m at. (each j m at).image);
+      aligned = whole_bases s ok.places;
       room = below_limit s ok.places;
       apart = images_apart s ok.places;
       slots = all_bound s each;

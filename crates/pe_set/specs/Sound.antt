@@ -1,5 +1,5 @@
 -- What holds of the images of each set that is accepted, and of its bound slots.
-use Rattle.std.specs.Prelude.{◌≡◌, ◌+◌, ◌*◌, ◌<◌, ◌≤◌, ◌^◌, ℕ, List, Some, All, AllPairs, length, slice_get}
+use Rattle.std.specs.Prelude.{◌≡◌, ◌+◌, ◌*◌, ◌%◌, ◌<◌, ◌≤◌, ◌^◌, ℕ, List, Some, All, AllPairs, length, slice_get}
 use Rattle.pe_layout.specs.Image.{slot_width_of}
 use Rattle.pe_tables.specs.Fixups.{width_of, range_of}
 use Rattle.pe_tables.specs.Ranges.{AreApart}
@@ -37,6 +37,7 @@ SlotsApart s b other = (m : Module) → slice_get s b.image ≡ Some m → b.ima
 pub record IsSound (s : List Module) : Type 0 where
   pub few : length s ≤ 256
   pub images : All IsSoundImage s
+  pub aligned : All (λ (m : Module). m.base % 65536 ≡ 0) s
   pub room : All (λ (m : Module). m.base + m.image.size ≤ address_limit m.magic) s
   pub apart : AllPairs (λ (m other : Module). AreApart (m.base, m.image.size) (other.base, other.image.size)) s
   pub slots : All (IsSoundBinding s) (bindings_of s)

@@ -1,5 +1,5 @@
 -- What a space of an accepted set rests on: its fields and slots, and where its images stand.
-use Rattle.std.proofs.Common.{◌≡◌, ◌∙◌, ◌+◌, ◌<◌, ◌≤◌, ◌^◌, ℕ, zero, suc, List, [], ◌∷◌, length, map, refl, sym, ap, subst, Some, arith, inl, inr}
+use Rattle.std.proofs.Common.{◌≡◌, ◌∙◌, ◌+◌, ◌%◌, ◌<◌, ◌≤◌, ◌^◌, ℕ, zero, suc, List, [], ◌∷◌, length, map, refl, sym, ap, subst, Some, arith, inl, inr}
 use Rattle.std.specs.Prelude.{pos, ◌-ℤ◌, slice_get, AllPairs, slice_index_or}
 use Rattle.std.proofs.lemmas.Bool.{cases_lt}
 use Rattle.std.proofs.lemmas.List.{length-map}
@@ -75,6 +75,14 @@ module _ (s : List Module) (sound : IsSound s) where
     apart = pairs_of_all (SlotsApart images) (bindings_of s) slots_apart;
   }
 
+  aligned_at : (j : ℕ) → (image_of images j).base % 65536 ≡ 0
+  aligned_at j = elim (cases_lt j (length s)) [
+    | inl lt ↦
+        (let got = module_got s j lt in
+        subst (λ (g : Image). g.base % 65536 ≡ 0) (sym got.2) (all_got (λ (m : Module). m.base % 65536 ≡ 0) s j got.0 sound.aligned got.1))
+    | inr past ↦ subst (λ (g : Image). g.base % 65536 ≡ 0) (sym (past_end s j past)) refl
+  ]
+
   room_at : (j : ℕ) → (image_of images j).base + (image_of images j).size ≤ address_limit (image_of images j).magic
   room_at j = elim (cases_lt j (length s)) [
     | inl lt ↦
@@ -103,6 +111,7 @@ module _ (s : List Module) (sound : IsSound s) where
       record {
         few = omega (arith, count, few);
         few_slots = omega (arith, slots);
+        aligned = aligned_at;
         room = room_at;
         apart = λ i j lt_i lt_j ne. apart_at i j (omega (arith, count, lt_i)) (omega (arith, count, lt_j)) ne;
       }

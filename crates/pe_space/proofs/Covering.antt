@@ -7,7 +7,7 @@ use Rattle.pe_head.specs.declared.optional.Magic.TheVariants.{Pe32, Pe32Plus}
 use Rattle.pe_layout.specs.Image as layout
 use Rattle.pe_tables.specs.declared.fixups.Fixup.{Fixup}
 use Rattle.pe_tables.specs.declared.fixups.FixupKind.{FixupKind}
-use Rattle.pe_tables.specs.declared.fixups.FixupKind.TheVariants.{Bits32, Bits64}
+use Rattle.pe_tables.specs.declared.fixups.FixupKind.TheVariants.{Bits32, Bits64, High, Low}
 use Rattle.pe_set.specs.declared.binding.Binding.{Binding}
 use Rattle.pe_space.specs.Bare.{bare}
 use Rattle.pe_space.specs.Number.{digit}
@@ -46,6 +46,8 @@ any_contains p xs x c passes = any_at p xs c.0 x c.1 c.2 passes
 
 -- ---- fields
 pub field_width_small : (kind : FixupKind) → width_of kind ≤ 8
+field_width_small High = omega arith
+field_width_small Low = omega arith
 field_width_small Bits32 = omega arith
 field_width_small Bits64 = omega arith
 

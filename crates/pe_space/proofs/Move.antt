@@ -1,7 +1,7 @@
 -- An accepted move leaves what a space keeps.
-use Rattle.std.proofs.Common.{◌≡◌, ℕ, zero, suc, ◌+◌, ◌<◌, ◌≤◌, ◌^◌, ◌⊎◌, Bool, true, false, cond, not, ◌&&◌, ◌||◌, List, [], ◌∷◌, ◌++◌, map, take, drop, length, get_or, refl, ap, ◌∙◌, sym, subst, arith, inl, inr}
-use Rattle.std.specs.Prelude.{slice_set, None, nat_lt, pos, ◌-ℤ◌}
-use Rattle.std.proofs.lemmas.Bool.{cases_eq}
+use Rattle.std.proofs.Common.{◌≡◌, ℕ, zero, suc, ◌+◌, ◌%◌, ◌<◌, ◌≤◌, ◌^◌, ◌⊎◌, Bool, true, false, cond, not, ◌&&◌, ◌||◌, List, [], ◌∷◌, ◌++◌, map, take, drop, length, get_or, refl, ap, ◌∙◌, sym, subst, arith, inl, inr}
+use Rattle.std.specs.Prelude.{slice_set, None, nat_lt, ◌==◌, pos, ◌-ℤ◌}
+use Rattle.std.proofs.lemmas.Bool.{cases_eq, eqb-true}
 use Rattle.std.proofs.lemmas.List.{map-set, length-map, length-set}
 use borrow.Author.Tests.{ltb-true, ltb-false}
 use Rattle.pe_set.specs.declared.binding.Binding.{Binding}
@@ -66,6 +66,7 @@ limit_le Pe32Plus = omega arith
 -- what an accepted move shows
 pub record Accepts (c : Content) (i base : ℕ) : Type 0 where
   pub image : i < length c.images
+  pub aligned : base % 65536 ≡ 0
   pub room : base + (image_of c.images i).size ≤ address_limit (image_of c.images i).magic
   pub others : (k : ℕ) → k < length c.images → (k ≡ i → ⊥) → Apart base (image_of c.images i).size (image_of c.images k).base (image_of c.images k).size
 
@@ -74,6 +75,7 @@ accepts c i base none =
     let ps = map placement_of c.images in
     let count = length-map c.images placement_of in
     let there = none_stands (move_tests ps i base) 0 _ none refl in
+    let whole = none_stands (move_tests ps i base) 1 _ none refl in
     let ends = none_stands (move_tests ps i base) 2 _ none refl in
     let free = none_stands (move_tests ps i base) 4 _ none refl in
     let own = placed_at c.images i in
@@ -81,6 +83,7 @@ accepts c i base none =
     let room = ltb-false _ _ ends in
     record {
       image = omega (arith, below, count);
+      aligned = eqb-true (base % 65536) 0 (not_false (base % 65536 == 0) whole);
       room = subst (λ (p : Placement). base + p.size ≤ address_limit p.magic) own room;
       others = λ k lt ne.
           let met = others_free (overlap (record (placement_at ps i) { base = base })) ps no_placement i k free (omega (arith, lt, count)) ne in
@@ -93,12 +96,19 @@ pub placed_moved : (c : Content) (i base : ℕ) → Accepts c i base → IsPlace
 placed_moved c i base ok placed = record {
   few = rw (length-set c.images i (record (image_of c.images i) { base = base })) placed.few;
   few_slots = placed.few_slots;
+  aligned = aligned;
   room = room;
   apart = λ j k small_j small_k ne. apart j k (rw count at small_j) (rw count at small_k) ne;
 }
   where
     count : length (moved c i base).images ≡ length c.images
     count = length-set c.images i _
+
+    aligned : (j : ℕ) → (image_of (moved c i base).images j).base % 65536 ≡ 0
+    aligned j = elim (cases_eq j i) [
+      | inl here ↦ rw (here, image_moved c i base ok.image) ok.aligned
+      | inr ne ↦ rw (image_kept c i base j ne) (placed.aligned j)
+    ]
 
     room : (j : ℕ) → (image_of (moved c i base).images j).base + (image_of (moved c i base).images j).size ≤ address_limit (image_of (moved c i base).images j).magic
     room j = elim (cases_eq j i) [
@@ -161,7 +171,7 @@ kept_moved hs after bs i base h new kept none is made same written =
       record {
         tied = rw content (tied_moved c i base ok.image kept.tied);
         placed = rw content (placed_moved c i base ok kept.placed);
-        laid = rw (content, memory) (laid_moved c i base (memories_of hs) ok.image kept.tied kept.laid);
+        laid = rw (content, memory) (laid_moved c i base (memories_of hs) ok.image ok.aligned (kept.placed.aligned i) kept.tied kept.laid);
         whole = λ j. ap (λ (x : List Image). length (image_of x j).plain) images ∙ part_kept (λ (m : Image). length m.plain) c i base j ok.image (λ m. refl)
             ∙ kept.whole j ∙ sym (ap (λ (x : List Image). (image_of x j).size) images ∙ part_kept (λ (m : Image). m.size) c i base j ok.image (λ m. refl));
       },

@@ -1,5 +1,5 @@
 -- A move rewrites the fields of one image and the slots that end in it, and then the memory is that of the content with the new base.
-use Rattle.std.proofs.Common.{◌≡◌, ℕ, ◌+◌, ◌-◌, ◌<◌, ◌≤◌, ◌⊎◌, true, List, [], length, get_or, refl, ap, ◌∙◌, sym, subst, arith, inl, inr}
+use Rattle.std.proofs.Common.{◌≡◌, ℕ, ◌+◌, ◌-◌, ◌%◌, ◌<◌, ◌≤◌, ◌⊎◌, true, List, [], length, get_or, refl, ap, ◌∙◌, sym, subst, arith, inl, inr}
 use Rattle.std.specs.Prelude.{Option, Some, None, pos, ◌-ℤ◌, slice_set}
 use Rattle.std.specs.List.{find}
 use Rattle.std.proofs.lemmas.Bool.{cases_eq, eqb-true, eq-eqb}
@@ -12,7 +12,8 @@ use Rattle.pe_space.specs.Content.{Image, Content, image_of, no_image, width_of,
 use Rattle.pe_space.specs.Moves.{moved}
 use Rattle.pe_space.specs.Memory.{shifted_all, memory_of, rebound, ends_in, from_base}
 use Rattle.pe_space.specs.Tied.{Each, SlotsApart, IsImage, IsSlot, IsTied, IsLaid}
-use Rattle.pe_space.proofs.Numbers.{number_of_own_digits, shift_lt, shift-shift}
+use Rattle.pe_tables.proofs.Shifts.{shift_lt, shift-shift}
+use Rattle.pe_space.proofs.Numbers.{number_of_own_digits}
 use Rattle.pe_space.proofs.Lists.{each_map, each_both, pair_map}
 use Rattle.pe_space.proofs.SlotsAndFields.{slot_byte, field_byte, value_of, in_slots, in_fields}
 use Rattle.pe_space.proofs.Laying.{InField, InSlot, width_in, Fits, StillFields, StillSlots, laid_fields, laid_slots, rebound_lengths, length-shifted_all}
@@ -102,8 +103,8 @@ moved_memory c i base ms =
     (slice_set ms i (shifted_all (pos base -ℤ pos (image_of c.images i).base) (image_of c.images i).fixups (memory_of ms i)))
 
 -- the memories after a move are those of the content after the move
-pub laid_moved : (c : Content) (i base : ℕ) (ms : List (List ℕ)) → i < length c.images → IsTied c → IsLaid c ms → IsLaid (moved c i base) (moved_memory c i base ms)
-laid_moved c i base ms lt tied laid = record {
+pub laid_moved : (c : Content) (i base : ℕ) (ms : List (List ℕ)) → i < length c.images → base % 65536 ≡ 0 → (image_of c.images i).base % 65536 ≡ 0 → IsTied c → IsLaid c ms → IsLaid (moved c i base) (moved_memory c i base ms)
+laid_moved c i base ms lt aligned was_aligned tied laid = record {
   count = ends.0 ∙ length-set ms i _ ∙ laid.count ∙ sym (length-set c.images i _);
   lengths = λ j. ends.1 j ∙ size_first j ∙ sym (size j);
   each = λ j r small. bytes j r (rw (← size j) small);
@@ -147,14 +148,14 @@ laid_moved c i base ms lt tied laid = record {
 
     held : Each (λ (f : Fixup). number_at old f.field (width_of f.kind) ≡ value_of image f) image.fixups
     held = each_map _ _ image.fixups
-        (λ f both. number_of_own_digits old f.field (width_of f.kind) (value_of image f) (shift_lt f.kind _ _)
+        (λ f both. number_of_own_digits old f.field (width_of f.kind) (value_of image f) (shift_lt _ f.kind _)
         (λ k small. (let inside = both.0 in let back : f.field + k - f.field ≡ k = omega arith in
         laid.each i (f.field + k) (omega arith) ∙ both.1 (f.field + k) (omega arith) (omega arith) ∙ ap (digit (value_of image f)) back)))
         (each_both (λ (f : Fixup). f.field + width_of f.kind ≤ image.size) (λ (f : Fixup). (r : ℕ) → f.field ≤ r → r < f.field + width_of f.kind → byte_in c i r ≡ digit (value_of image f) (r - f.field)) image.fixups (tied.images i).inside (field_byte c i tied))
 
     wanted_fields : Each (λ (f : Fixup). (r : ℕ) → f.field ≤ r → r < f.field + width_of f.kind → byte_in (moved c i base) i r ≡ digit (shift f.kind (value_of image f) (pos base -ℤ pos image.base)) (r - f.field)) image.fixups
     wanted_fields = each_map (λ (f : Fixup). (r : ℕ) → f.field ≤ r → r < f.field + width_of f.kind → byte_in (moved c i base) i r ≡ digit (value_of (record image { base = base }) f) (r - f.field)) _ image.fixups
-        (λ f is r low high. is r low high ∙ ap (λ (v : ℕ). digit v (r - f.field)) (sym (shift-shift f.kind (number_at image.plain f.field (width_of f.kind)) image.image_base image.base base)))
+        (λ f is r low high. is r low high ∙ ap (λ (v : ℕ). digit v (r - f.field)) (sym (shift-shift (number_at image.plain f.field (width_of f.kind)) f.kind image.image_base image.base base was_aligned aligned)))
         (subst (λ (m : Image). Each (λ (f : Fixup). (r : ℕ) → f.field ≤ r → r < f.field + width_of f.kind → byte_in (moved c i base) i r ≡ digit (value_of m f) (r - f.field)) m.fixups) (image_moved c i base lt) (field_byte (moved c i base) i tied_after))
 
     still_fields : StillFields (byte_in (moved c i base) i) (λ r. InSlot c.images (ends_in i) i r c.bindings) image.size image.fixups old

@@ -1,13 +1,7 @@
--- Numbers in bytes, and shifts.
-use Rattle.std.proofs.Common.{◌≡◌, ℕ, zero, suc, ◌+◌, ◌-◌, ◌*◌, ◌/◌, ◌%◌, ◌^◌, ◌<◌, ◌≤◌, List, get_or, refl, sym, ap, ◌∙◌, arith}
-use Rattle.std.proofs.Math.Nat.{add-mul, add_assoc, div-add-mod', div-div-eq-div-mul, div-one, mod-eq_of_lt, mod-lt, mul-add-mod_self_right, mul_assoc, one-le-pow, pow-suc, pow-succ'}
-use Rattle.std.proofs.Math.Nat.{mul-le-mul_right, mul-le-mul_left}
-use Rattle.std.specs.Prelude.{ℤ, pos, negsuc, ◌+ℤ◌, ◌-ℤ◌, unsigned_abs}
-use Rattle.std.proofs.lemmas.Int.{ints, int_rem_euclid_is}
-use Rattle.std.specs.Int.{int_rem_euclid}
-use Rattle.pe_tables.specs.Fixups.{width_of}
-use Rattle.pe_tables.specs.declared.fixups.FixupKind.{FixupKind}
-use Rattle.pe_space.specs.Number.{digit, number_at, shift}
+-- Numbers in bytes.
+use Rattle.std.proofs.Common.{◌≡◌, ℕ, zero, suc, ◌+◌, ◌*◌, ◌/◌, ◌%◌, ◌^◌, ◌<◌, ◌≤◌, List, get_or, refl, sym, ap, ◌∙◌, arith}
+use Rattle.std.proofs.Math.Nat.{add-mul, add_assoc, div-add-mod', div-div-eq-div-mul, div-one, mod-eq_of_lt, mod-lt, mul-add-mod_self_right, mul-le-mul_right, mul_assoc, one-le-pow, pow-suc, pow-succ'}
+use Rattle.pe_space.specs.Number.{digit, number_at}
 
 -- the number depends on its bytes alone
 pub same_number : (xs ys : List ℕ) (a b w : ℕ) → ((k : ℕ) → k < w → get_or xs (a + k) 0 ≡ get_or ys (b + k) 0) → number_at xs a w ≡ number_at ys b w
@@ -57,34 +51,3 @@ number_lt xs a (suc w) h =
     let byte = h a in
     let rest = number_lt xs (a + 1) w h in
     rw (pow-succ' 256 w) (omega arith)
-
--- ---- shifts
-pub shift_is : (kind : FixupKind) (v b o k m : ℕ) → v + b + k * 256 ^ width_of kind ≡ m + o → shift kind v (pos b -ℤ pos o) ≡ m % 256 ^ width_of kind
-unfolding shift
-shift_is kind v b o k m e = ap unsigned_abs (int_rem_euclid_is _ _ (256 ^ width_of kind) k m (pow_pos256 (width_of kind)) refl (omega (arith, ints)))
-
-rem_lt : (z : ℤ) (n : ℕ) → zero < n → unsigned_abs (int_rem_euclid z (pos n)) < n
-rem_lt (pos a) n h = mod-lt a h
-rem_lt (negsuc a) n h = omega arith
-
-pub shift_lt : (kind : FixupKind) (v : ℕ) (d : ℤ) → shift kind v d < 256 ^ width_of kind
-unfolding shift
-shift_lt kind v d = rem_lt (pos v +ℤ d) (256 ^ width_of kind) (pow_pos256 (width_of kind))
-
--- a shift to one base and then to another is the shift to the other
-pub shift-shift : (kind : FixupKind) (v o b c : ℕ) → shift kind (shift kind v (pos b -ℤ pos o)) (pos c -ℤ pos b) ≡ shift kind v (pos c -ℤ pos o)
-shift-shift kind v o b c =
-    let w : ℕ = width_of kind in
-    let big = pow_pos256 w in
-    let low_o : o * 1 ≤ o * 256 ^ w = mul-le-mul_left o (omega arith) in
-    let low_b : b * 1 ≤ b * 256 ^ w = mul-le-mul_left b (omega arith) in
-    let m = v + b + o * 256 ^ w - o in
-    let x = m % 256 ^ w in
-    let q = m / 256 ^ w in
-    let whole : q * 256 ^ w + x ≡ m = div-add-mod' m (256 ^ w) in
-    let n = x + c + b * 256 ^ w - b in
-    let spread : (b + o) * 256 ^ w ≡ b * 256 ^ w + o * 256 ^ w = add-mul b o (256 ^ w) in
-    let first : shift kind v (pos b -ℤ pos o) ≡ x = shift_is kind v b o o m (omega arith) in
-    let second : shift kind x (pos c -ℤ pos b) ≡ n % 256 ^ w = shift_is kind x c b b n (omega arith) in
-    let both : shift kind v (pos c -ℤ pos o) ≡ (q * 256 ^ w + n) % 256 ^ w = shift_is kind v c o (b + o) (q * 256 ^ w + n) (omega arith) in
-    ap (λ (y : ℕ). shift kind y (pos c -ℤ pos b)) first ∙ second ∙ sym (both ∙ mul-add-mod_self_right q (256 ^ w) n)

@@ -9,7 +9,7 @@ use Rattle.pe_tables.specs.Key.{Ordinal, Name, Target, Forward}
 use Rattle.pe_tables.specs.Key as keys
 use Rattle.pe_tables.specs.Imports.{Import}
 use Rattle.pe_tables.specs.declared.fixups.Fixup.{Fixup}
-use Rattle.pe_tables.specs.declared.fixups.FixupKind.TheVariants.{Bits32, Bits64}
+use Rattle.pe_tables.specs.declared.fixups.FixupKind.TheVariants.{Bits32, Bits64, High, Low}
 use Rattle.pe_set.specs.Set.{Module}
 use Rattle.pe_set.specs.Search.{resolve}
 use Rattle.pe_set.specs.Bindings.{bindings_of}
@@ -98,6 +98,37 @@ down_third = refl
 down_fifth : defined_byte moved_down 0x14000100c ≡ Some 0x01
 unfolding defined_byte bindings_of shift
 down_fifth = refl
+
+-- two fields of 2 bytes, which hold 0x1008 and 0x1000, in an image whose ImageBase is 0x10008000
+abbrev halves : ℕ → List Module
+halves base =
+    with_tables [] base Pe32 (image 0x1008 (0x08 ∷ 0x10 ∷ 0x00 ∷ 0x10 ∷ 0x0c ∷ []) 0x10008000) [] []
+    (record { entry = 0x2008; field = 0x1008; kind = Low } ∷ record { entry = 0x200a; field = 0x100a; kind = High } ∷ []) ∷ []
+
+low_last : defined_byte (halves 0x20000000) 0x20001009 ≡ Some 0x90
+unfolding defined_byte bindings_of shift
+low_last = refl
+
+high_first : defined_byte (halves 0x20000000) 0x2000100a ≡ Some 0xff
+unfolding defined_byte bindings_of shift
+high_first = refl
+
+high_last : defined_byte (halves 0x20000000) 0x2000100b ≡ Some 0x1f
+unfolding defined_byte bindings_of shift
+high_last = refl
+
+past_high : defined_byte (halves 0x20000000) 0x2000100c ≡ Some 0x0c
+unfolding defined_byte bindings_of
+past_high = refl
+
+-- below its ImageBase
+low_below : defined_byte (halves 0x10000000) 0x10001009 ≡ Some 0x90
+unfolding defined_byte bindings_of shift
+low_below = refl
+
+high_below : defined_byte (halves 0x10000000) 0x1000100b ≡ Some 0x0f
+unfolding defined_byte bindings_of shift
+high_below = refl
 
 -- `a.dll` forwards its `f` to `g` of `b`, which is at 0x1010 there; `c.exe` imports `f` from `A.DLL`
 abbrev forwarding : Module

@@ -13,7 +13,7 @@ use crate::window::{REACH, lay_on};
 use pe_head::Magic;
 use pe_layout::Layout;
 use pe_set::{Module, Placed};
-use pe_tables::{Fixup, FixupKind, shift_32, shift_64};
+use pe_tables::{Fixup, FixupKind, shift_32, shift_64, shift_high, shift_low};
 use std::alloc::Allocator;
 use std::marker::Model;
 use std::snapshot::Snapshot;
@@ -118,6 +118,14 @@ impl<'a, A: Allocator + Copy> FileImage<'a, A> {
                 u64::from(shift_32(number, from, to))
             }
             FixupKind::Bits64 => shift_64(self.layout.u64_at(fixup.field).unwrap(), from, to),
+            FixupKind::High => {
+                let number = self.layout.u16_at(fixup.field).unwrap();
+                u64::from(shift_high(number, from, to))
+            }
+            FixupKind::Low => {
+                let number = self.layout.u16_at(fixup.field).unwrap();
+                u64::from(shift_low(number, from, to))
+            }
         }
     }
 

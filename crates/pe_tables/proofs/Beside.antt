@@ -9,7 +9,7 @@ use Rattle.pe_tables.specs.Ranges.{meets, meets_any, FitsBeside, SameRanges}
 use Rattle.pe_tables.specs.Fixups.{width_of, range_of}
 use Rattle.pe_tables.specs.declared.fixups.Fixup.{Fixup}
 use Rattle.pe_tables.specs.declared.fixups.FixupKind.{FixupKind}
-use Rattle.pe_tables.specs.declared.fixups.FixupKind.TheVariants.{Bits32, Bits64}
+use Rattle.pe_tables.specs.declared.fixups.FixupKind.TheVariants.{Bits32, Bits64, High, Low}
 
 -- no element passes a test that none passes
 pub none_at : {X : Type 0} (p : X → Bool) (xs : List X) (k : ℕ) (d : X) → list_any p xs ≡ false → k < length xs → p (get_or xs k d) ≡ false
@@ -53,6 +53,8 @@ all_equal start len entries none = λ k d lt. beside_equal start len (get_or ent
     equal a b e = grind (arith, nat_tests)
 
 wide : (kind : FixupKind) → nat_lt (width_of kind) 1 ≡ false
+wide High = refl
+wide Low = refl
 wide Bits32 = refl
 wide Bits64 = refl
 
@@ -62,6 +64,8 @@ fields_long [] = refl
 fields_long (f ∷ fixups) = rw (wide f.kind) (fields_long fixups)
 
 pub width_some : (kind : FixupKind) → 0 < width_of kind
+width_some High = lit< tt
+width_some Low = lit< tt
 width_some Bits32 = lit< tt
 width_some Bits64 = lit< tt
 

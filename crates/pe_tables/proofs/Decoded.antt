@@ -6,6 +6,7 @@ use Rattle.std.proofs.lemmas.Bool.{lt-ltb, le-ltb, eqb-true, cases_Bool}
 use Rattle.std.proofs.lemmas.List.Elements.{All-head, All-tail}
 use Rattle.std.proofs.Math.ListN.{get_or-append}
 use Rattle.pe_tables.proofs.Blocks.{blocks-end, blocks-step, not_equal_zero}
+use Rattle.pe_tables.proofs.FixupPlaces.{type_kind}
 use Rattle.std.proofs.Math.Seq.{get_or-append_right}
 use Rattle.pe_layout.specs.Image.{Image, number_at}
 use Rattle.pe_tables.specs.Fixups.{Block, Entry, block_at, blocks_from, ends_table, entry_of, fixup_of, fixup_by, fixups_at, fixups_in, kind_of}
@@ -15,7 +16,7 @@ use Rattle.pe_tables.specs.Encoded.{Page, page_of, before_pages, pages_of, type_
 use Rattle.pe_tables.specs.Standing.{StandsAt, view}
 use Rattle.pe_tables.specs.declared.fixups.Fixup.{Fixup}
 use Rattle.pe_tables.specs.declared.fixups.FixupKind.{FixupKind}
-use Rattle.pe_tables.specs.declared.fixups.FixupKind.TheVariants.{Bits32, Bits64}
+use Rattle.pe_tables.specs.declared.fixups.FixupKind.TheVariants.{Bits32, Bits64, High, Low}
 
 pub stands-front : (i : Image) (rva : ℕ) (xs ys : List ℕ) → StandsAt i rva (xs ++ ys) → StandsAt i rva xs
 stands-front i rva xs ys stands = λ k lt. stands k (omega (arith, length-append xs ys)) ∙ get_or-append xs ys 0 k lt
@@ -49,11 +50,9 @@ abbrev pub AllOfPage : ℕ → List Fixup → Type 0
 AllOfPage page [] = Unit {0}
 AllOfPage page (f ∷ fs) = (page_of f ≡ page) × AllOfPage page fs
 
-type_kind : (kind : FixupKind) → kind_of (type_of kind) ≡ Some kind
-type_kind Bits32 = refl
-type_kind Bits64 = refl
-
 pub type_small : (kind : FixupKind) → type_of kind < 16
+type_small High = lit< tt
+type_small Low = lit< tt
 type_small Bits32 = lit< tt
 type_small Bits64 = lit< tt
 

@@ -15,7 +15,7 @@ use Rattle.pe_tables.specs.Encoded.{Page, pages_of, type_of, entry_bytes, block_
 use Rattle.pe_tables.specs.Standing.{StandsAt, IsFieldFault}
 use Rattle.pe_tables.specs.declared.fixups.Fixup.{Fixup}
 use Rattle.pe_tables.specs.declared.fixups.FixupKind.{FixupKind}
-use Rattle.pe_tables.specs.declared.fixups.FixupKind.TheVariants.{Bits32, Bits64}
+use Rattle.pe_tables.specs.declared.fixups.FixupKind.TheVariants.{Bits32, Bits64, High, Low}
 use Rattle.pe_tables.proofs.Blocks.{blocks-step}
 use Rattle.pe_tables.proofs.Decoded.{stands-front, stands-back, byte_at, reads_2, type_small, IsBlockOf, block_read, length-block, goes_on, AllPages, all-pages}
 
@@ -55,6 +55,8 @@ entries-spare i slots before (e ∷ es) known =
     (entries-spare i slots (before ++ option_to_list (fixup_of e)) es known.1)
 
 type_known : (kind : FixupKind) → is_known (type_of kind) ≡ true
+type_known High = refl
+type_known Low = refl
 type_known Bits32 = refl
 type_known Bits64 = refl
 

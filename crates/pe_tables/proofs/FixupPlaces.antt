@@ -13,7 +13,7 @@ use Rattle.pe_tables.specs.Encoded.{type_of}
 use Rattle.pe_tables.specs.FixupPlaces.{page_rva, block_size_at, HasBlock, LeadsTo, here, past, IsEntry, IsNamed}
 use Rattle.pe_tables.specs.declared.fixups.Fixup.{Fixup}
 use Rattle.pe_tables.specs.declared.fixups.FixupKind.{FixupKind}
-use Rattle.pe_tables.specs.declared.fixups.FixupKind.TheVariants.{Bits32, Bits64}
+use Rattle.pe_tables.specs.declared.fixups.FixupKind.TheVariants.{Bits32, Bits64, High, Low}
 use Rattle.pe_tables.proofs.Blocks.{blocks-step, not_equal_zero}
 use Rattle.pe_tables.proofs.Holding.{nothing, onto_cases, onto_here, onto_later}
 
@@ -22,15 +22,19 @@ abbrev KindIs : ℕ → Option FixupKind → Type 0
 KindIs t None = Unit {0}
 KindIs t (Some kind) = t ≡ type_of kind
 
-kind_by : (t : ℕ) (first second : Bool) → (t == 3) ≡ first → (t == 10) ≡ second → KindIs t (kind_of t)
-kind_by t true second is _ = subst (KindIs t) (sym (let e : kind_of t ≡ Some Bits32 = rw is refl in e)) (eqb-true _ _ is)
-kind_by t false true not_3 is = subst (KindIs t) (sym (let e : kind_of t ≡ Some Bits64 = rw (not_3, is) refl in e)) (eqb-true _ _ is)
-kind_by t false false not_3 not_10 = subst (KindIs t) (sym (let e : kind_of t ≡ None = rw (not_3, not_10) refl in e)) tt
+kind_by : (t : ℕ) (first second third fourth : Bool) → (t == 1) ≡ first → (t == 2) ≡ second → (t == 3) ≡ third → (t == 10) ≡ fourth → KindIs t (kind_of t)
+kind_by t true second third fourth is _ _ _ = subst (KindIs t) (sym (let e : kind_of t ≡ Some High = rw is refl in e)) (eqb-true _ _ is)
+kind_by t false true third fourth not_1 is _ _ = subst (KindIs t) (sym (let e : kind_of t ≡ Some Low = rw (not_1, is) refl in e)) (eqb-true _ _ is)
+kind_by t false false true fourth not_1 not_2 is _ = subst (KindIs t) (sym (let e : kind_of t ≡ Some Bits32 = rw (not_1, not_2, is) refl in e)) (eqb-true _ _ is)
+kind_by t false false false true not_1 not_2 not_3 is = subst (KindIs t) (sym (let e : kind_of t ≡ Some Bits64 = rw (not_1, not_2, not_3, is) refl in e)) (eqb-true _ _ is)
+kind_by t false false false false not_1 not_2 not_3 not_10 = subst (KindIs t) (sym (let e : kind_of t ≡ None = rw (not_1, not_2, not_3, not_10) refl in e)) tt
 
 kind_is : (t : ℕ) → KindIs t (kind_of t)
-kind_is t = kind_by t (t == 3) (t == 10) refl refl
+kind_is t = kind_by t (t == 1) (t == 2) (t == 3) (t == 10) refl refl refl refl
 
-type_kind : (kind : FixupKind) → kind_of (type_of kind) ≡ Some kind
+pub type_kind : (kind : FixupKind) → kind_of (type_of kind) ≡ Some kind
+type_kind High = refl
+type_kind Low = refl
 type_kind Bits32 = refl
 type_kind Bits64 = refl
 

@@ -12,8 +12,8 @@ use Rattle.pe_tables.specs.Patch.{patch, bytes, shifted_at}
 use Rattle.pe_tables.specs.Patched.{length-bytes_from}
 use Rattle.pe_tables.specs.Relocated.{shift}
 use Rattle.pe_tables.specs.declared.fixups.FixupKind.{FixupKind}
-use Rattle.pe_tables.specs.declared.fixups.FixupKind.TheVariants.{Bits32, Bits64}
-use Rattle.pe_tables.proofs.Shifts.{shift_is}
+use Rattle.pe_tables.specs.declared.fixups.FixupKind.TheVariants.{Bits32, Bits64, High, Low}
+use Rattle.pe_tables.proofs.Shifts.{added, added_is, added_quotient}
 
 take-bytes : (i k n x : ℕ) → n ≤ k → take n (bytes_low_first i k x) ≡ bytes_low_first i n x
 take-bytes i k zero x h = refl
@@ -63,20 +63,37 @@ add_mod a b n =
     sym (mul-add-mod_self_right (b / n) n (a + b % n)) ∙ ap (λ (x : ℕ). x % n) joined
 
 -- a sum of 64 bits in place of the difference of two bases is a shift
-sum_is_shift : (kind : FixupKind) (v from to q : ℕ) → from < 2 ^ 64 → q * 256 ^ width_of kind ≡ 2 ^ 64 → (v + (to + (2 ^ 64 - from))) % 256 ^ width_of kind ≡ shift kind v (pos to -ℤ pos from)
-sum_is_shift kind v from to q small whole = sym (shift_is v kind to from q (v + (to + (2 ^ 64 - from))) (omega (arith, small, whole)))
+sum_is_added : (kind : FixupKind) (v from to q : ℕ) → from < 2 ^ 64 → q * 256 ^ width_of kind ≡ 2 ^ 64 → (v + (to + (2 ^ 64 - from))) % 256 ^ width_of kind ≡ added kind v (pos to -ℤ pos from)
+sum_is_added kind v from to q small whole = sym (added_is v kind to from q (v + (to + (2 ^ 64 - from))) (omega (arith, small, whole)))
+
+-- a field of 2 bytes, to which the high half of the difference is added
+pub shift_in_high : (v from to : ℕ) → from < 2 ^ 64 → (v + (to + (2 ^ 64 - from)) % 2 ^ 64 / 65536 % 2 ^ 16) % 2 ^ 16 ≡ shift High v (pos to -ℤ pos from)
+unfolding shift
+shift_in_high v from to small =
+    let by : ℕ = to + (2 ^ 64 - from) in
+    add_mod v (by % 2 ^ 64 / 65536) (2 ^ 16) ∙ sym (added_quotient v from to (by / 2 ^ 64) (by % 2 ^ 64) (omega (arith, small)))
+
+-- a field of 2 bytes, to which the low half is added
+pub shift_in_low : (v from to : ℕ) → from < 2 ^ 64 → (v + (to + (2 ^ 64 - from)) % 2 ^ 64 % 2 ^ 16) % 2 ^ 16 ≡ shift Low v (pos to -ℤ pos from)
+unfolding shift
+shift_in_low v from to small =
+    let by : ℕ = to + (2 ^ 64 - from) in
+    ap (λ (x : ℕ). (v + x) % 2 ^ 16) (mod-mod by (2 ^ 48) (2 ^ 16) (omega arith) (omega arith)) ∙ add_mod v by (2 ^ 16)
+    ∙ sum_is_added Low v from to (2 ^ 48) small refl
 
 -- a field of 4 bytes
 pub shift_in_32 : (v from to : ℕ) → from < 2 ^ 64 → (v + (to + (2 ^ 64 - from)) % 2 ^ 64 % 2 ^ 32) % 2 ^ 32 ≡ shift Bits32 v (pos to -ℤ pos from)
+unfolding shift
 shift_in_32 v from to small =
     let by : ℕ = to + (2 ^ 64 - from) in
     add_mod v (by % 2 ^ 64) (2 ^ 32)
     ∙ sym (add_mod v (by % 2 ^ 64) (2 ^ 32)) ∙ ap (λ (x : ℕ). (v + x) % 2 ^ 32) (mod-mod by (2 ^ 32) (2 ^ 32) (omega arith) (omega arith)) ∙ add_mod v by (2 ^ 32)
-    ∙ sum_is_shift Bits32 v from to (2 ^ 32) small refl
+    ∙ sum_is_added Bits32 v from to (2 ^ 32) small refl
 
 -- a field of 8 bytes
 pub shift_in_64 : (v from to : ℕ) → from < 2 ^ 64 → (v + (to + (2 ^ 64 - from)) % 2 ^ 64) % 2 ^ 64 ≡ shift Bits64 v (pos to -ℤ pos from)
-shift_in_64 v from to small = add_mod v (to + (2 ^ 64 - from)) (2 ^ 64) ∙ sum_is_shift Bits64 v from to 1 small refl
+unfolding shift
+shift_in_64 v from to small = add_mod v (to + (2 ^ 64 - from)) (2 ^ 64) ∙ sum_is_added Bits64 v from to 1 small refl
 
 -- a number written over the first bytes of what stands from a place on
 pub written_from : (xs ys : List ℕ) (place w v : ℕ) → place ≤ length xs → ys ≡ bytes w v ++ drop w (take (length xs - place) (drop place xs)) → put_mid place (length xs - place) xs ys ≡ patch xs place (bytes w v)

@@ -4,7 +4,7 @@ use Rattle.std.specs.List.{flat_map}
 use Rattle.pe_view.specs.Number.{little}
 use Rattle.pe_tables.specs.declared.fixups.Fixup.{Fixup}
 use Rattle.pe_tables.specs.declared.fixups.FixupKind.{FixupKind}
-use Rattle.pe_tables.specs.declared.fixups.FixupKind.TheVariants.{Bits32, Bits64}
+use Rattle.pe_tables.specs.declared.fixups.FixupKind.TheVariants.{Bits32, Bits64, High, Low}
 
 -- the fields strictly ascend
 abbrev pub FieldsAscend : List Fixup → Type 0
@@ -37,6 +37,8 @@ IsPage p = (0 < length p.fixups) × All (λ (f : Fixup). page_of f ≡ p.page) p
 
 -- the type that stands for a kind
 abbrev pub type_of : FixupKind → ℕ
+type_of High = 1
+type_of Low = 2
 type_of Bits32 = 3
 type_of Bits64 = 10
 

@@ -1,12 +1,12 @@
 -- The base relocation table ("PE Format", The .reloc Section): blocks of entries, each of which names a field to be
 -- relocated.
-use Rattle.std.specs.Prelude.{◌≡◌, true, false, ℕ, zero, suc, ◌+◌, ◌-◌, ◌*◌, ◌/◌, ◌%◌, Bool, ◌||◌, ◌==◌, List, [], ◌∷◌, Option, Some, None, nat_lt, if◌then◌else◌, map}
+use Rattle.std.specs.Prelude.{◌≡◌, true, false, ℕ, zero, suc, ◌+◌, ◌-◌, ◌*◌, ◌/◌, ◌%◌, Bool, ◌||◌, ◌==◌, List, [], ◌∷◌, Option, Some, None, nat_lt, if◌then◌else◌, is_some, map}
 use Rattle.std.specs.List.{filter_map, flat_map, range_with_len}
 use Rattle.pe_head.specs.declared.directory.Directory.{Directory}
 use Rattle.pe_layout.specs.Image.{Image, number_at}
 use Rattle.pe_tables.specs.declared.fixups.Fixup.{Fixup}
 use Rattle.pe_tables.specs.declared.fixups.FixupKind.{FixupKind}
-use Rattle.pe_tables.specs.declared.fixups.FixupKind.TheVariants.{Bits32, Bits64}
+use Rattle.pe_tables.specs.declared.fixups.FixupKind.TheVariants.{Bits32, Bits64, High, Low}
 
 -- a block: where it stands, its PageRVA and its BlockSize, which counts the whole block
 pub record Block : Type 0 where
@@ -54,15 +54,22 @@ entries_at i page rva count = map (λ k. entry_of i page (rva + 2 * k)) (range_w
 abbrev pub entries_of : Image → Block → List Entry
 entries_of i b = map (entry_at i b) (range_with_len 0 ((b.size - 8) / 2))
 
--- the kind of field that a type stands for: 3 is HIGHLOW, 10 is DIR64; 0, ABSOLUTE, names no field
+-- the kind of field that a type stands for: 1 is HIGH, 2 is LOW, 3 is HIGHLOW, 10 is DIR64; 0, ABSOLUTE, names no field
 abbrev pub kind_of : ℕ → Option FixupKind
-kind_of t = if t == 3 then Some Bits32 else if t == 10 then Some Bits64 else None
+kind_of t =
+    if t == 1 then Some High
+    else if t == 2 then Some Low
+    else if t == 3 then Some Bits32
+    else if t == 10 then Some Bits64
+    else None
 
 abbrev pub is_known : ℕ → Bool
-is_known t = (t == 0) || ((t == 3) || (t == 10))
+is_known t = (t == 0) || is_some (kind_of t)
 
 -- how many bytes a field has
 abbrev pub width_of : FixupKind → ℕ
+width_of High = 2
+width_of Low = 2
 width_of Bits32 = 4
 width_of Bits64 = 8
 

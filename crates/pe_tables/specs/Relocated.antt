@@ -1,16 +1,25 @@
 -- An image that stands at a base: the number in each fixup's field is moved on by as much as the base lies above ImageBase
 -- ("PE Format", Base Relocation Types).
 use Rattle.std.specs.Prelude.{ℕ, ◌-◌, ◌^◌, Bool, find, Option, None, Some, ℤ, pos, ◌+ℤ◌, ◌-ℤ◌, unsigned_abs}
-use Rattle.std.specs.Int.{int_rem_euclid}
+use Rattle.std.specs.Int.{int_div_euclid, int_rem_euclid}
 use Rattle.pe_view.specs.Number.{digit, is_in}
 use Rattle.pe_layout.specs.Image.{Image, number_at}
 use Rattle.pe_tables.specs.Fixups.{width_of, fixups_of}
 use Rattle.pe_tables.specs.declared.fixups.Fixup.{Fixup}
 use Rattle.pe_tables.specs.declared.fixups.FixupKind.{FixupKind}
+use Rattle.pe_tables.specs.declared.fixups.FixupKind.TheVariants.{Bits32, Bits64, High, Low}
 
--- a field's number with d added, modulo what the field holds; d may be below zero
+-- what is added to a field whose image stands d above ImageBase, of a d that may be below zero: d itself, or of HIGH the greatest
+-- whole number that is not above d / 65,536
+abbrev pub amount : FixupKind → ℤ → ℤ
+amount High d = int_div_euclid d (pos 65536)
+amount Low d = d
+amount Bits32 d = d
+amount Bits64 d = d
+
+-- a field's number with the amount for d added, modulo what the field holds
 unfoldable pub shift : FixupKind → ℕ → ℤ → ℕ
-shift kind v d = unsigned_abs (int_rem_euclid (pos v +ℤ d) (pos (256 ^ width_of kind)))
+shift kind v d = unsigned_abs (int_rem_euclid (pos v +ℤ amount kind d) (pos (256 ^ width_of kind)))
 
 -- an RVA is one of a field
 abbrev pub in_field : ℕ → Fixup → Bool

@@ -4,7 +4,7 @@ ghost use Rattle.std.specs.Prelude.{◌≡◌, ◌+◌, ◌≤◌, length, pos, 
 ghost use Rattle.pe_tables.specs.Fixups.{width_of};
 ghost use Rattle.pe_tables.specs.Patch.{patch, bytes, shifted_at};
 ghost use Rattle.pe_tables.specs.Relocated.{shift};
-ghost use Rattle.pe_tables.specs.declared.fixups.FixupKind.TheVariants.{Bits32, Bits64};
+ghost use Rattle.pe_tables.specs.declared.fixups.FixupKind.TheVariants.{Bits32, Bits64, High, Low};
 
 use crate::fixups::FixupKind;
 use byteorder::{ByteOrder, LittleEndian};
@@ -16,6 +16,21 @@ pub fn write_low(memory: &mut [u8], place: usize, value: u64, width: usize)
     ensures { memory.new ≡ patch memory.old place (bytes width value) }
 {
     memory[place..place + width].copy_from_slice(&value.to_le_bytes()[..width]);
+}
+
+/// The number of a HIGH field, moved on from one base to another: by the greatest whole number that is not above their
+/// difference divided by 65,536. The sum wraps.
+pub fn shift_high(number: u16, from: u64, to: u64) -> u16
+    ensures { result ≡ shift High number (pos to -ℤ pos from) }
+{
+    number.wrapping_add((to.wrapping_sub(from) / 65536 % (1 << 16)) as u16)
+}
+
+/// The number of a LOW field, moved on from one base to another. The sum wraps.
+pub fn shift_low(number: u16, from: u64, to: u64) -> u16
+    ensures { result ≡ shift Low number (pos to -ℤ pos from) }
+{
+    number.wrapping_add((to.wrapping_sub(from) % (1 << 16)) as u16)
 }
 
 /// The number of a field of 4 bytes, moved on from one base to another. The sum wraps.
@@ -39,6 +54,14 @@ pub fn shift_field(memory: &mut [u8], place: usize, kind: FixupKind, from: u64, 
 {
     let field = &mut memory[place..];
     match kind {
+        FixupKind::High => {
+            let number = LittleEndian::read_u16(field);
+            LittleEndian::write_u16(field, shift_high(number, from, to));
+        }
+        FixupKind::Low => {
+            let number = LittleEndian::read_u16(field);
+            LittleEndian::write_u16(field, shift_low(number, from, to));
+        }
         FixupKind::Bits32 => {
             let number = LittleEndian::read_u32(field);
             LittleEndian::write_u32(field, shift_32(number, from, to));

@@ -31,6 +31,10 @@ pub enum FixupKind {
     Bits32,
     /// DIR64: the difference of the bases is added to a field of 8 bytes.
     Bits64,
+    /// HIGH: the difference of the bases, divided by 65,536 and rounded down, is added to a field of 2 bytes.
+    High,
+    /// LOW: the difference of the bases is added to a field of 2 bytes.
+    Low,
 }
 
 impl FixupKind {
@@ -39,16 +43,20 @@ impl FixupKind {
         ensures { result ≡ width_of self }
     {
         match self {
+            FixupKind::High => 2,
+            FixupKind::Low => 2,
             FixupKind::Bits32 => 4,
             FixupKind::Bits64 => 8,
         }
     }
 
-    /// The type that stands for it in an entry's high four bits: 3, HIGHLOW, or 10, DIR64.
+    /// The type that stands for it in an entry's high four bits.
     pub(crate) fn entry_type(self) -> u16
         ensures { result ≡ type_of self }
     {
         match self {
+            FixupKind::High => 1,
+            FixupKind::Low => 2,
             FixupKind::Bits32 => 3,
             FixupKind::Bits64 => 10,
         }
@@ -59,6 +67,8 @@ impl FixupKind {
         ensures { result ≡ kind_of entry_type }
     {
         match entry_type {
+            1 => Some(FixupKind::High),
+            2 => Some(FixupKind::Low),
             3 => Some(FixupKind::Bits32),
             10 => Some(FixupKind::Bits64),
             _ => None,

@@ -1,6 +1,6 @@
 //! What the definitions mean, as laws: each function has an empty body, and its contract is the law.
 
-ghost use Rattle.std.specs.Prelude.{◌≡◌, ◌≢◌, ◌+◌, ◌<◌, ◌≤◌, ◌^◌, ◌↔◌, ◌+ℤ◌, ℕ, ℤ, true, List, None, Some, All, AllPairs, Contains, length, map};
+ghost use Rattle.std.specs.Prelude.{◌≡◌, ◌≢◌, ◌+◌, ◌<◌, ◌≤◌, ◌^◌, ◌↔◌, ◌+ℤ◌, ◌*ℤ◌, ◌≤ℤ◌, ℕ, ℤ, pos, true, List, None, Some, All, AllPairs, Contains, length, map};
 ghost use Rattle.std.specs.List.{flat_map};
 ghost use Rattle.pe_head.specs.declared.directory.Directory.{Directory};
 ghost use Rattle.pe_view.specs.declared.fault.Fault.{Fault};
@@ -14,8 +14,9 @@ ghost use Rattle.pe_tables.specs.Fixups.{width_of, range_of, slot_range, fixups_
 ghost use Rattle.pe_tables.specs.FixupFaults.{fixup_tests, fixup_tests_at};
 ghost use Rattle.pe_tables.specs.Ranges.{meets_any, AreApart, HasCommon};
 ghost use Rattle.pe_tables.specs.Forwarder.{forwarder_of, IsForwarderText};
-ghost use Rattle.pe_tables.specs.Relocated.{shift};
+ghost use Rattle.pe_tables.specs.Relocated.{amount, shift};
 ghost use Rattle.pe_tables.specs.declared.fixups.FixupKind.{FixupKind};
+ghost use Rattle.pe_tables.specs.declared.fixups.FixupKind.TheVariants.{High};
 ghost use Rattle.pe_tables.specs.FixupPlaces.{IsNamed};
 ghost use Rattle.pe_tables.specs.Encoded.{Page, IsPage, FieldsAscend, pages_of};
 ghost use Rattle.pe_tables.specs.Standing.{StandsWhole, IsFieldFault, view};
@@ -114,9 +115,16 @@ pub fn targets_are_inside()
         → target_at (exports_of i) key ≡ Some (Rva rva) → rva < i.size }
 {}
 
-/// A field that is moved on by one difference of bases and then by another is moved on by their sum, modulo what it holds.
+/// A field that is moved on by one difference of bases and then by another is moved on by their sum, modulo what it holds: a
+/// HIGH field where the second is a multiple of 65,536, as that of two chosen bases is, and every other field in any case.
 pub fn shifts_compose()
-    ensures { (kind : FixupKind) (v : ℕ) (d e : ℤ) → shift kind (shift kind v d) e ≡ shift kind v (d +ℤ e) }
+    ensures whole { (kind : FixupKind) (v : ℕ) (d n : ℤ) → shift kind (shift kind v d) (pos 65536 *ℤ n) ≡ shift kind v (d +ℤ pos 65536 *ℤ n) }
+    ensures others { (kind : FixupKind) (v : ℕ) (d e : ℤ) → kind ≢ High → shift kind (shift kind v d) e ≡ shift kind v (d +ℤ e) }
+{}
+
+/// What is added to a HIGH field is the greatest whole number that is not above the difference of the bases divided by 65,536.
+pub fn high_amounts_are_greatest()
+    ensures { (d n : ℤ) → ((pos 65536 *ℤ n) ≤ℤ d) ↔ (n ≤ℤ amount High d) }
 {}
 
 /// A range meets some others, of which none is empty, exactly where one of them has an RVA in common with it. So fault 30

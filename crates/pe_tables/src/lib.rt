@@ -27,7 +27,7 @@ mod name_index;
 mod ranges;
 mod text_map;
 
-pub use bytes::{shift_32, shift_64, shift_field, write_low};
+pub use bytes::{shift_32, shift_64, shift_field, shift_high, shift_low, write_low};
 pub use encode::{ascending, encode_fixups};
 pub use error::TableError;
 pub use export_lookup::Exports;

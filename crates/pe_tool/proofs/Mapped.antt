@@ -1,5 +1,5 @@
 -- What a space that was mapped from a set tells of it.
-use Rattle.std.proofs.Common.{◌≡◌, ◌∙◌, ℕ, zero, suc, ◌+◌, ◌<◌, ◌≤◌, ◌^◌, Bool, false, cond, List, [], ◌∷◌, ◌++◌, length, map, refl, sym, ap, subst, arith, Some, None, Ok, Err}
+use Rattle.std.proofs.Common.{◌≡◌, ◌∙◌, ℕ, zero, suc, ◌+◌, ◌%◌, ◌<◌, ◌≤◌, ◌^◌, Bool, false, cond, List, [], ◌∷◌, ◌++◌, length, map, refl, sym, ap, subst, arith, Some, None, Ok, Err}
 use Rattle.std.specs.Prelude.{Option, All, ◌==◌, unwrap_or, option_map, slice_index_or, Result}
 use Rattle.std.proofs.lemmas.Simd.{map-map}
 use Rattle.std.proofs.lemmas.List.{length-map}
@@ -55,6 +55,7 @@ placed_alike c d same bound all =
     record {
       few = omega (arith, few, count);
       few_slots = subst (λ (bs : List Binding). length bs < 2 ^ 32) (sym bound) all.few_slots;
+      aligned = λ j. subst (λ (p : Placement). p.base % 65536 ≡ 0) (sym (at j)) (all.aligned j);
       room = λ j. subst (λ (p : Placement). p.base + p.size ≤ address_limit p.magic) (sym (at j)) (all.room j);
       apart = λ j k lt lt' ne.
           subst (λ (p : Placement). Apart p.base p.size (image_of c.images k).base (image_of c.images k).size) (sym (at j))

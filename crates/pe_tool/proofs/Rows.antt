@@ -4,12 +4,12 @@ use Rattle.std.specs.Fmt.{digits}
 use Rattle.pe_view.specs.declared.fault.Place.TheVariants.{File, Rva, Address, Item}
 use Rattle.pe_head.specs.declared.section.SectionHeader.{SectionHeader}
 use Rattle.pe_tables.specs.Key.{Ordinal, Name, Forward, Rva as ExportedRva}
-use Rattle.pe_tables.specs.declared.fixups.FixupKind.TheVariants.{Bits32, Bits64}
+use Rattle.pe_tables.specs.declared.fixups.FixupKind.TheVariants.{Bits32, Bits64, High, Low}
 use Rattle.pe_tool.specs.Dump.{directory_line, machine_line, section_line}
 use Rattle.pe_tool.specs.FaultLine.{place_text, fault_line}
 use Rattle.pe_tool.specs.HeaderFields.{field, field_line}
 use Rattle.pe_tool.specs.MapReport.{image_line, bind_line, bytes_line, window_lines}
-use Rattle.pe_tool.specs.TableLines.{key_text, target_text, ordinal_line, name_line, export_lines, import_line, fixup_line}
+use Rattle.pe_tool.specs.TableLines.{key_text, target_text, ordinal_line, name_line, export_lines, import_line, kind_text, fixup_line}
 use Rattle.pe_tool.specs.Text.{hex, width_from, escaped, quoted}
 
 no_bytes : fault_line (record { number = 2; image = 0; place = File 0 }) ≡ codes "fault 2 image 0 file 0x00000000\n"
@@ -143,12 +143,20 @@ unfolding import_line key_text quoted escaped hex
 import_escaped = refl
 
 field_of_32_bits : fixup_line (record { entry = 0x3008; field = 0x1008; kind = Bits32 }) ≡ codes "fixup 0x00001008 32\n"
-unfolding fixup_line hex digits
+unfolding fixup_line kind_text hex
 field_of_32_bits = refl
 
 field_of_64_bits : fixup_line (record { entry = 0x300a; field = 0x1ff8; kind = Bits64 }) ≡ codes "fixup 0x00001ff8 64\n"
-unfolding fixup_line hex digits
+unfolding fixup_line kind_text hex
 field_of_64_bits = refl
+
+high_field : fixup_line (record { entry = 0x2008; field = 0x100a; kind = High }) ≡ codes "fixup 0x0000100a high\n"
+unfolding fixup_line kind_text hex
+high_field = refl
+
+low_field : fixup_line (record { entry = 0x200a; field = 0x1008; kind = Low }) ≡ codes "fixup 0x00001008 low\n"
+unfolding fixup_line kind_text hex
+low_field = refl
 
 -- ---- the report of a mapped set
 mapped_image : image_line 2 (codes "c.exe") 0x400000 0x3000 ≡ codes "image 2 \"c.exe\" base 0x0000000000400000 size 0x00003000\n"

@@ -49,7 +49,7 @@ rules =
     ∷ (32, (codes "import directory entry", codes "the RVA of the import lookup table is 0, and the time stamp is not"))
     ∷ (33, (codes "base relocation block", codes "the block's size is odd, is under 8, or passes the end of the directory"))
     ∷ (34, (codes "base relocation table", codes "the table passes the end of the image"))
-    ∷ (35, (codes "base relocation", codes "the type is none of ABSOLUTE, HIGHLOW and DIR64"))
+    ∷ (35, (codes "base relocation", codes "the type is none of ABSOLUTE, HIGH, LOW, HIGHLOW and DIR64"))
     ∷ (36, (codes "base relocation", codes "its field is not wholly in the image"))
     ∷ (37, (codes "base relocation", codes "its field has a byte in common with that of an earlier base relocation"))
     ∷ (38, (codes "base relocation", codes "its field has a byte in common with the import address table"))

@@ -1,5 +1,5 @@
 -- A set of images of which one has the file of another base.
-use Rattle.std.specs.Prelude.{◌≡◌, ◌-◌, ◌≤◌, ℕ, List, Some, None, slice_get, slice_set}
+use Rattle.std.specs.Prelude.{◌≡◌, ◌-◌, ◌%◌, ◌≤◌, ℕ, List, Some, None, slice_get, slice_set}
 use Rattle.pe_view.specs.Faults.{first_standing}
 use Rattle.pe_head.specs.Head.{head_of}
 use Rattle.pe_layout.specs.Image.{Image, image_of_file}
@@ -16,10 +16,11 @@ pub record ReadsAlike (i g : Image) : Type 0 where
   pub imports : imports_of g ≡ imports_of i
   pub fixups : fixups_of g ≡ fixups_of i
 
--- Entry k of a set is e, whose file may be rebased, its signature not in the first 16 bytes; the other set has the new file in
--- its place and differs in nothing else; and the new file's tables read as before.
+-- Entry k of a set is e, whose base is a multiple of 65,536 and whose file may be rebased, its signature not in the first 16
+-- bytes; the other set has the new file in its place and differs in nothing else; and the new file's tables read as before.
 pub record IsRebasedSet (es es' : List Entry) (k : ℕ) (e : Entry) (base : ℕ) : Type 0 where
   pub entry : slice_get es k ≡ Some e
+  pub aligned : e.base % 65536 ≡ 0
   pub new_file : es' ≡ slice_set es k (record e { file = rebased e.file base })
   pub no_fault : first_standing (rebase_tests e.file base) ≡ None
   pub late : 16 ≤ (head_of e.file).pe_offset

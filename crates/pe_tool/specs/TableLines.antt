@@ -1,10 +1,11 @@
 -- The lines of a dump that show what an image's tables hold.
-use Rattle.std.specs.Prelude.{ℕ, ◌*◌, List, ◌++◌, codes, decimal, flat_map}
+use Rattle.std.specs.Prelude.{ℕ, List, ◌++◌, codes, decimal, flat_map}
 use Rattle.pe_tables.specs.Key.{Key, Ordinal, Name, Target, Rva, Forward}
 use Rattle.pe_tables.specs.Exports.{Exports}
 use Rattle.pe_tables.specs.Imports.{Import}
 use Rattle.pe_tables.specs.declared.fixups.Fixup.{Fixup}
-use Rattle.pe_tables.specs.Fixups.{width_of}
+use Rattle.pe_tables.specs.declared.fixups.FixupKind.{FixupKind}
+use Rattle.pe_tables.specs.declared.fixups.FixupKind.TheVariants.{Bits32, Bits64, High, Low}
 use Rattle.pe_tool.specs.Text.{hex, quoted}
 
 -- by what an export is looked up
@@ -33,6 +34,13 @@ export_lines e = flat_map ordinal_line e.ordinals ++ flat_map name_line e.names
 unfoldable pub import_line : Import → List ℕ
 import_line i = codes "import " ++ quoted i.module_name ++ codes " " ++ key_text i.key ++ codes " slot 0x" ++ hex 8 i.slot ++ codes "\n"
 
--- a fixup: the RVA of its field, and how many bits the field has
+-- what a field is: how many bits it has, or which half of the difference is added to it
+unfoldable pub kind_text : FixupKind → List ℕ
+kind_text Bits32 = codes "32"
+kind_text Bits64 = codes "64"
+kind_text High = codes "high"
+kind_text Low = codes "low"
+
+-- a fixup: the RVA of its field, and what the field is
 unfoldable pub fixup_line : Fixup → List ℕ
-fixup_line f = codes "fixup 0x" ++ hex 8 f.field ++ codes " " ++ decimal (8 * width_of f.kind) ++ codes "\n"
+fixup_line f = codes "fixup 0x" ++ hex 8 f.field ++ codes " " ++ kind_text f.kind ++ codes "\n"

@@ -143,7 +143,7 @@ pub fn fault_words(number: u16) -> Option<FaultWords>
         ),
         35 => words!(
             "base relocation",
-            "the type is none of ABSOLUTE, HIGHLOW and DIR64"
+            "the type is none of ABSOLUTE, HIGH, LOW, HIGHLOW and DIR64"
         ),
         36 => words!("base relocation", "its field is not wholly in the image"),
         37 => words!(

@@ -18,8 +18,8 @@ pub fn records_are_shown_under_their_indexes()
 {}
 
 /// Where two sets differ only in that an image of one has its file rebased, and the new file's tables read as before, each address
-/// holds the same byte in both, outside the fields ImageBase and CheckSum of that image. Neither has to be accepted: this says of
-/// accepted sets which bytes their spaces hold.
+/// holds the same byte in both, outside the fields ImageBase and CheckSum of that image, whose base is a multiple of 65,536.
+/// Neither set has to be accepted: this says of accepted sets which bytes their spaces hold.
 pub fn rebased_files_map_alike()
     ensures { (es es' : List Entry) (k : ℕ) (e : Entry) (base a : ℕ) → IsRebasedSet es es' k e base → IsElsewhere e a
         → defined_byte (modules_of es') a ≡ defined_byte (modules_of es) a }

@@ -5,11 +5,11 @@ ghost use Rattle.pe_tables.specs.Key.{key_view, target_view};
 ghost use Rattle.pe_tables.specs.ExportsView.{exports_view};
 ghost use Rattle.pe_tables.specs.ImportView.{import_view};
 ghost use Rattle.pe_tool.specs.TextWriter.{IsReady, Adds};
-ghost use Rattle.pe_tool.specs.TableLines.{key_text, target_text, ordinal_line, name_line, export_lines, import_line, fixup_line};
+ghost use Rattle.pe_tool.specs.TableLines.{key_text, target_text, ordinal_line, name_line, export_lines, import_line, kind_text, fixup_line};
 
 use crate::device::Sink;
 use crate::text_writer::TextWriter;
-use pe_tables::{Exports, Fixup, Import, Key, Target};
+use pe_tables::{Exports, Fixup, FixupKind, Import, Key, Target};
 use std::alloc::Allocator;
 
 /// Adds `#` and an ordinal, or a quoted name.
@@ -126,6 +126,19 @@ pub(crate) fn write_imports<W: Sink>(text: &mut TextWriter<W>, imports: &[Import
     }
 }
 
+/// What the line of a fixup says of its field.
+#[tactic(auto, unfolding(crate::specs::TableLines::kind_text))]
+fn kind_text(kind: FixupKind) -> &'static [u8]
+    ensures { result.now ≡ kind_text kind }
+{
+    match kind {
+        FixupKind::Bits32 => b"32",
+        FixupKind::Bits64 => b"64",
+        FixupKind::High => b"high",
+        FixupKind::Low => b"low",
+    }
+}
+
 #[tactic(auto, unfolding(crate::specs::TableLines::fixup_line))]
 fn write_fixup<W: Sink>(line: &mut TextWriter<W>, fixup: &Fixup)
     requires { IsReady W.failures line.old }
@@ -134,7 +147,7 @@ fn write_fixup<W: Sink>(line: &mut TextWriter<W>, fixup: &Fixup)
     line.text(b"fixup 0x");
     line.hex(8, fixup.field as u64);
     line.text(b" ");
-    line.decimal(8 * fixup.kind.width() as u64);
+    line.text(kind_text(fixup.kind));
     line.text(b"\n");
 }
 

@@ -410,7 +410,7 @@ fn put_rich_imports(image: &mut Image) {
     image.put_bytes(0x4c0, b"\xff\xff\xff");
 }
 
-/// The base relocation table of VR: two blocks, each with a field of each kind, and a tail of zeros.
+/// The base relocation table of VR: two blocks, each with a field of 4 bytes and one of 8, and a tail of zeros.
 fn put_rich_relocations(image: &mut Image) {
     image.put_u32(0x500, 0x2_1000);
     image.put_u32(0x504, 0x10);

@@ -1,5 +1,5 @@
 -- An image that stood at one base and is read again at another.
-use Rattle.std.proofs.Common.{◌≡◌, ℕ, ◌+◌, ◌-◌, ◌<◌, true, false, List, length, get_or, Option, Some, None, refl, ap, ◌∙◌, inl, inr, arith}
+use Rattle.std.proofs.Common.{◌≡◌, ℕ, ◌+◌, ◌-◌, ◌%◌, ◌<◌, true, false, List, length, get_or, Option, Some, None, refl, ap, ◌∙◌, inl, inr, arith}
 use Rattle.std.specs.Prelude.{find, AllPairs, pos, ◌-ℤ◌, Contains}
 use Rattle.pe_view.specs.Number.{digit}
 use Rattle.pe_layout.specs.Image.{Image, number_at}
@@ -11,9 +11,10 @@ use Rattle.pe_write.proofs.Lists.{found, find_first, in_range, below_range, abov
 use Rattle.pe_write.proofs.Numbers.{num_of_own_digits}
 use Rattle.pe_write.proofs.Whole.{FieldsApart}
 
--- The image of g is that of i at the base, wherever `free` holds, and it has the same fixups; their fields are free and share
+-- The image of g is that of i at the base, a multiple of 65,536, wherever `free` holds, and it has the same fixups; their fields are free and share
 -- no byte.
 pub record IsRebasedImage (free : ℕ → Type 0) (i g : Image) (base : ℕ) : Type 0 where
+  pub aligned : base % 65536 ≡ 0
   pub image_base : g.image_base ≡ base
   pub bytes : (r : ℕ) → free r → g.byte r ≡ relocated i base r
   pub fixups : fixups_of g ≡ fixups_of i
@@ -38,18 +39,18 @@ module _ (Free : ℕ → Type 0) (i g : Image) (base : ℕ) (s : IsRebasedImage 
       num_of_own_digits g.byte f.field (width_of f.kind) (shifted i base f) (shift_lt (number_at (width_of f.kind) i f.field) f.kind (pos base -ℤ pos i.image_base))
       (λ k small. s.bytes (f.field + k) (s.fields f k contains small) ∙ ap (relocated_by i base (f.field + k)) (own (fixups_of i) f k s.apart j lt is small) ∙ ap (digit (shifted i base f)) (omega arith))
 
-  by_field : (at r : ℕ) (o : Option Fixup) → Free r → find (in_field r) (fixups_of i) ≡ o → relocated_by g at r o ≡ relocated_by i at r o
-  by_field at r None free none = s.bytes r free ∙ ap (relocated_by i base r) none
-  by_field at r (Some f) free some =
+  by_field : (at r : ℕ) (o : Option Fixup) → at % 65536 ≡ 0 → Free r → find (in_field r) (fixups_of i) ≡ o → relocated_by g at r o ≡ relocated_by i at r o
+  by_field at r None aligned free none = s.bytes r free ∙ ap (relocated_by i base r) none
+  by_field at r (Some f) aligned free some =
       let place = found (in_field r) (fixups_of i) f some in
       let value : shifted g at f ≡ shifted i at f =
       ap (λ (v : ℕ). shift f.kind v (pos at -ℤ pos g.image_base)) (field_number f place.place place.inside place.is)
       ∙ ap (λ (b : ℕ). shift f.kind (shifted i base f) (pos at -ℤ pos b)) s.image_base
-      ∙ shift-shift (number_at (width_of f.kind) i f.field) f.kind i.image_base base at in
+      ∙ shift-shift (number_at (width_of f.kind) i f.field) f.kind i.image_base base at s.aligned aligned in
       ap (λ (v : ℕ). digit v (r - f.field)) value
 
-  -- at every base the new image is as the old one
-  pub relocated-again : (at r : ℕ) → Free r → relocated g at r ≡ relocated i at r
-  relocated-again at r free =
+  -- at every base that is a multiple of 65,536 the new image is as the old one
+  pub relocated-again : (at r : ℕ) → at % 65536 ≡ 0 → Free r → relocated g at r ≡ relocated i at r
+  relocated-again at r aligned free =
       ap (λ (fs : List Fixup). relocated_by g at r (find (in_field r) fs)) s.fixups
-      ∙ by_field at r (find (in_field r) (fixups_of i)) free refl
+      ∙ by_field at r (find (in_field r) (fixups_of i)) aligned free refl

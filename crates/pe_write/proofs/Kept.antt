@@ -11,7 +11,7 @@ use Rattle.pe_layout.specs.Piece.{holds, end_of, section_of}
 use Rattle.pe_tables.specs.Fixups.{width_of}
 use Rattle.pe_tables.specs.declared.fixups.Fixup.{Fixup}
 use Rattle.pe_tables.specs.declared.fixups.FixupKind.{FixupKind}
-use Rattle.pe_tables.specs.declared.fixups.FixupKind.TheVariants.{Bits32, Bits64}
+use Rattle.pe_tables.specs.declared.fixups.FixupKind.TheVariants.{Bits32, Bits64, High, Low}
 use Rattle.pe_tables.specs.Relocated.{in_field}
 use Rattle.pe_write.specs.Rebase.{keeps, raw_section, place_in, place_of}
 use Rattle.pe_write.specs.RebaseFaults.{field_test, fields_tests}
@@ -19,7 +19,9 @@ use Rattle.pe_write.specs.Rewriting.{AreLaid}
 use Rattle.pe_write.proofs.Lists.{Each, found, find_first, is_some_of, range_parts}
 use Rattle.pe_write.proofs.Apart.{RawApart}
 
-pub width_some : (kind : FixupKind) → 4 ≤ width_of kind
+pub width_some : (kind : FixupKind) → 2 ≤ width_of kind
+width_some High = omega arith
+width_some Low = omega arith
 width_some Bits32 = omega arith
 width_some Bits64 = omega arith
 

@@ -1,7 +1,8 @@
 -- What is true of a file none of whose faults stands against another base.
-use Rattle.std.proofs.Common.{◌≡◌, ℕ, ◌+◌, ◌^◌, ◌<◌, ◌≤◌, ◌⊎◌, true, false, List, [], ◌++◌, length, take, drop, Some, None, refl, sym, ap, ◌∙◌, inl, inr, arith, subst}
+use Rattle.std.proofs.Common.{◌≡◌, ℕ, ◌+◌, ◌%◌, ◌^◌, ◌<◌, ◌≤◌, ◌⊎◌, true, false, List, [], ◌++◌, length, take, drop, Some, None, refl, sym, ap, ◌∙◌, inl, inr, arith, subst}
 use Rattle.std.specs.Prelude.{map, find, All, AllPairs}
 use Rattle.std.proofs.lemmas.Bool.{ltb-false}
+use Rattle.std.proofs.lemmas.Bool.Decides.{nat_tests}
 use Rattle.pe_view.specs.Number.{num, byte_of, part, digit, is_in}
 use Rattle.pe_view.specs.Faults.{first_standing}
 use Rattle.pe_view.specs.FirstStanding.{none_stands, none-append}
@@ -241,6 +242,11 @@ field_free h n f k l kept =
     let low = w.low in
     free_behind h n (f.field + k) l (omega arith)
 
+aligned_base : (file : List ℕ) (base : ℕ) → IsSound file base → base % 65536 ≡ 0
+aligned_base file base n =
+    let whole = none_stands (own_base_tests (head_of file).magic (image_of_file 0 file) base) 0 _ n.none.placed refl in
+    grind (arith, nat_tests)
+
 -- the image of the new file is the old one at the base
 pub image_rebased : (file : List ℕ) (base : ℕ) → IsSound file base → 16 ≤ pe_offset file → fixups_of (image_of_file 0 (rebased_from (head_of file) file base)) ≡ fixups_of (image_of_file 0 file)
     → IsRebasedImage (IsFree (head_of file)) (image_of_file 0 file) (image_of_file 0 (rebased_from (head_of file) file base)) base
@@ -250,6 +256,7 @@ image_rebased file base n late same =
     let l = lies file base n in
     let head = head-kept g file base (keeps_head file base n late) in
     record {
+      aligned = aligned_base file base n;
       image_base = ap (λ (x : Headers). x.image_base) head;
       bytes = λ r free. ap (λ (x : Headers). plain x g r) head ∙ plain-rebased h file base l (kept file base n) r free;
       fixups = same;

@@ -77,6 +77,26 @@ v3_field_high : at v3 0x140000000 0x20c ≡ 0x01
 unfolding shift
 v3_field_high = refl
 
+-- V2 with ImageBase 0x10008000 and two fields of 2 bytes: LOW at 0x1008, HIGH at 0x100a
+abbrev halves : List ℕ
+halves = put 0x75 (0x80 ∷ []) (put 0x408 (8 ∷ 0x20 ∷ 0x0a ∷ 0x10 ∷ []) v2)
+
+halves_have_none : first_standing (rebase_tests halves 0x20000000) ≡ None
+unfolding rebase_tests head_tests sections_tests blocks_tests entries_tests fields_tests ranges_tests
+halves_have_none = refl
+
+halves_low : at halves 0x20000000 0x209 ≡ 0x90
+unfolding shift
+halves_low = refl
+
+halves_high : at halves 0x20000000 0x20a ≡ 0xff
+unfolding shift
+halves_high = refl
+
+halves_high_below : at halves 0x10000000 0x20b ≡ 0x0f
+unfolding shift
+halves_high_below = refl
+
 -- a field that begins four bytes before the image's end, in a gap
 in_gap : first_standing (rebase_tests (put 0x401 (0x20 ∷ []) (put 0x408 (0xfc ∷ 0x3f ∷ []) v2)) 0x20000000) ≡ Some (record { number = 51; image = 0; place = Rva 0x2ffc })
 unfolding rebase_tests head_tests sections_tests blocks_tests entries_tests fields_tests

@@ -1,7 +1,7 @@
 //! What the definitions mean, as laws. The contract of each function here is a law, and its body only calls the laws of other
 //! crates on which that rests.
 
-ghost use Rattle.std.specs.Prelude.{◌≡◌, ◌<◌, ◌≤◌, ◌-◌, ℕ, List, None, Some, slice_get};
+ghost use Rattle.std.specs.Prelude.{◌≡◌, ◌%◌, ◌<◌, ◌≤◌, ◌-◌, ℕ, List, None, Some, slice_get};
 ghost use Rattle.pe_view.specs.Faults.{first_standing};
 ghost use Rattle.pe_view.specs.Number.{byte_of};
 ghost use Rattle.pe_head.specs.declared.section.SectionHeader.{SectionHeader};
@@ -54,11 +54,11 @@ pub fn rebased_headers()
     pe_tables::laws::fields_are_apart();
 }
 
-/// A file that is rebased and then stands at any base, under any number, has there the bytes that the file itself has, outside
-/// ImageBase and CheckSum, where its fixups read as before.
+/// A file that is rebased and then stands at any base, which is a multiple of 65,536, under any number, has there the bytes that
+/// the file itself has, outside ImageBase and CheckSum, where its fixups read as before.
 pub fn rebased_again()
     ensures { (file : List ℕ) (base image at r : ℕ) → first_standing (rebase_tests file base) ≡ None → 16 ≤ (head_of file).pe_offset
-        → fixups_of (image_of_file image (rebased file base)) ≡ fixups_of (image_of_file image file) → IsFree (head_of file) r
+        → fixups_of (image_of_file image (rebased file base)) ≡ fixups_of (image_of_file image file) → at % 65536 ≡ 0 → IsFree (head_of file) r
         → relocated (image_of_file image (rebased file base)) at r ≡ relocated (image_of_file image file) at r }
 {
     pe_layout::laws::sections_are_apart();

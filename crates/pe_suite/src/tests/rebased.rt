@@ -20,6 +20,9 @@ const CHECK_SUM: usize = 0x98;
 /// A file with pieces written over it, the base that it gets, and what is to change.
 type Written = (Vector, &'static [Piece], u64, &'static [Piece]);
 
+/// ImageBase 0x10008000, and two fields of two bytes: LOW at 0x1008 and HIGH at 0x100a.
+const HALVES: &[Piece] = &[(0x75, &[0x80]), (0x408, &[0x08, 0x20, 0x0a, 0x10])];
+
 const WRITTEN: &[Written] = &[
     (
         Vector::V2,
@@ -74,6 +77,16 @@ const WRITTEN: &[Written] = &[
         &[
             (IMAGE_BASE, &[0x00, 0x00, 0x00, 0x00]),
             (0x208, &[0x08, 0x10, 0x00, 0x00]),
+        ],
+    ),
+    // two fields of two bytes, LOW and HIGH, with ImageBase 0x10008000
+    (
+        Vector::V2,
+        HALVES,
+        0x2000_0000,
+        &[
+            (IMAGE_BASE, &[0x00, 0x00, 0x00, 0x20]),
+            (0x208, &[0x08, 0x90, 0xff, 0x1f]),
         ],
     ),
     // exports are not asked
@@ -227,6 +240,19 @@ const FIELDS: &[Case] = &[
         &[(0x408, &[0x09, 0xa0])],
         0x2000_0000,
         Some((51, Place::Rva(0x1009))),
+    ),
+    (Vector::V2, &[(0x408, &[0x0e, 0x10])], 0x2000_0000, None),
+    (
+        Vector::V2,
+        &[(0x408, &[0x0f, 0x10])],
+        0x2000_0000,
+        Some((51, Place::Rva(0x100f))),
+    ),
+    (
+        Vector::V2,
+        &[(0x408, &[0x0f, 0x20])],
+        0x2000_0000,
+        Some((51, Place::Rva(0x100f))),
     ),
     // from its first byte, and before it
     (Vector::V2, &[(0x408, &[0x00, 0x30])], 0x2000_0000, None),
@@ -449,6 +475,18 @@ fn v2_rebased_holds_at_0x30000000_what_v2_holds_there(rt: HostRuntime) {
         &rt,
         0,
         bytes[0x1008..0x100c].starts_with(&[0x08, 0x10, 0x00, 0x30]),
+    );
+}
+
+#[test]
+fn halves_that_were_rebased_are_moved_on_as_those_of_the_old_file(rt: HostRuntime) {
+    let old = changed(&rt, &file_of(&rt, rt.alloc(), Vector::V2), HALVES);
+    let new = rebase_file(rt.alloc(), &old, 0x2000_0000).expect(&rt, "a file");
+    let bytes = mapped_bytes(&rt, rt.alloc(), &new, 0x3000_0000);
+    assert_holds(
+        &rt,
+        0,
+        bytes[0x1008..0x100c].starts_with(&[0x08, 0x90, 0xff, 0x2f]),
     );
 }
 

@@ -229,6 +229,24 @@ const V2_CHANGES: &[Change] = &[
     ),
 ];
 
+/// The dump of V2 with a LOW field at 0x1008 and a HIGH field at 0x100a, from that of V1.
+const HALVES_CHANGES: &[Change] = &[
+    ("NumberOfSections 0x0001", &["NumberOfSections 0x0002"]),
+    (
+        "Directory 5 0x00000000 0x00000000",
+        &["Directory 5 0x00002000 0x0000000c"],
+    ),
+    (
+        "end",
+        &[
+            "section 1 \".reloc\" va 0x00002000 extent 0x0000000c raw 0x00000400 rawlen 0x0000000c flags 0xc0000040",
+            "fixup 0x00001008 low",
+            "fixup 0x0000100a high",
+            "end",
+        ],
+    ),
+];
+
 /// V1's section.
 const DATA: &str =
     "section 0 \".data\" va 0x00001000 extent 0x00000010 raw 0x00000200 rawlen 0x00000010 flags 0xc0000040";
@@ -387,6 +405,11 @@ pub(super) fn dump_text(rt: &impl Abort, alloc: Global, vector: Vector) -> Strin
         Vector::Vr => (VR_DUMP, NO_CHANGES),
     };
     text_of(rt, alloc, lines, changes)
+}
+
+/// The dump of V2 with two fields of two bytes.
+pub(super) fn halves_dump(rt: &impl Abort, alloc: Global) -> String {
+    text_of(rt, alloc, V1_DUMP, HALVES_CHANGES)
 }
 
 /// The dump of V1 with another line of the Machine field.

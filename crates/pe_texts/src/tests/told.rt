@@ -154,7 +154,7 @@ const WORDS: &[(u16, &str, &str)] = &[
     (
         35,
         "base relocation",
-        "the type is none of ABSOLUTE, HIGHLOW and DIR64",
+        "the type is none of ABSOLUTE, HIGH, LOW, HIGHLOW and DIR64",
     ),
     (
         36,

@@ -2,7 +2,7 @@
 
 ghost use Rattle.std.specs.Prelude.{◌<◌};
 
-use super::dumps::{dump_text, machine_dump};
+use super::dumps::{dump_text, halves_dump, machine_dump};
 use pe_tool::{Failed, Outcome, Sink, Source, ToolError, check, dump, status};
 use pe_vectors::engines::{Devices, Engine, run, steps_of};
 use pe_vectors::files::{
@@ -143,6 +143,14 @@ fn each_machine_has_its_name(rt: HostRuntime) {
         let text = machine_dump(&rt, rt.alloc(), line);
         assert_done(&rt, rt.alloc(), Engine::Dump, &file, text.as_str());
     }
+}
+
+#[test]
+fn a_field_of_two_bytes_is_shown_by_the_half_that_is_added(rt: HostRuntime) {
+    let vector = file_of(&rt, rt.alloc(), Vector::V2);
+    let file = changed(&rt, &vector, &[(0x408, &[0x08, 0x20, 0x0a, 0x10])]);
+    let text = halves_dump(&rt, rt.alloc());
+    assert_done(&rt, rt.alloc(), Engine::Dump, &file, text.as_str());
 }
 
 /// V1 cut to a length and changed, and the line by which it is refused.

@@ -76,6 +76,7 @@ fn entry_at(image: &Image, block: &Block, rva: u64) -> Entry {
     let start = block.page_rva as u64 + (number & 0xfff) as u64;
     match number >> 12 {
         0 => Entry::Absolute,
+        1 | 2 => Entry::Field(Span { start, len: 2 }),
         3 => Entry::Field(Span { start, len: 4 }),
         10 => Entry::Field(Span { start, len: 8 }),
         _ => Entry::Unknown,

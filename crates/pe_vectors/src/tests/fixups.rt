@@ -3,12 +3,13 @@
 use crate::files::{
     Piece, Vector, assert_holds, assert_refused, changed, file_of, layout_of, with_data,
 };
-use pe_tables::{Fixup, FixupKind, Import, Key, ascending, encode_fixups, read_fixups};
+use pe_tables::FixupKind::{self, Bits32, Bits64, High, Low};
+use pe_tables::{Fixup, Import, Key, ascending, encode_fixups, read_fixups};
 use std::alloc::Global;
 use std::process::Abort;
 
-/// A fixup by the RVA of its entry, the RVA of its field and the field's bits.
-type Row = (u32, u32, u32);
+/// A fixup by the RVA of its entry, the RVA of its field and the field's kind.
+type Row = (u32, u32, FixupKind);
 
 /// A file changed, the slots of its imports, and its fixups or the fault that stands, by number and RVA.
 type Case = (
@@ -18,16 +19,8 @@ type Case = (
 );
 
 /// A fixup of a row.
-fn fixup((entry, field, bits): Row) -> Fixup {
-    Fixup {
-        entry,
-        field,
-        kind: if bits == 32 {
-            FixupKind::Bits32
-        } else {
-            FixupKind::Bits64
-        },
-    }
+fn fixup((entry, field, kind): Row) -> Fixup {
+    Fixup { entry, field, kind }
 }
 
 /// The fixups of rows, in their order.
@@ -83,13 +76,13 @@ fn assert_fixups(rt: &impl Abort, alloc: Global, vector: Vector, cases: &[Case])
 
 /// V2, whose table at 0x2000 stands at the file offset 0x400, in cases of its directory, blocks and entries.
 const ONE_BLOCK: &[Case] = &[
-    (&[], &[], Ok(&[(0x2008, 0x1008, 32)])),
+    (&[], &[], Ok(&[(0x2008, 0x1008, Bits32)])),
     // 34: the directory
     (&[(0xe4, &[0xff, 0xff, 0xff, 0xff])], &[], Err((34, 0x2000))),
     (&[(0xe4, &[0x01, 0x10])], &[], Err((34, 0x2000))),
     (&[(0xe4, &[0x07])], &[], Ok(&[])),
     // after the block 8 bytes remain, with a BlockSize of 0
-    (&[(0xe4, &[0x14])], &[], Ok(&[(0x2008, 0x1008, 32)])),
+    (&[(0xe4, &[0x14])], &[], Ok(&[(0x2008, 0x1008, Bits32)])),
     // 33: the block
     (&[(0x404, &[0x08])], &[], Ok(&[])),
     (&[(0x404, &[0x09])], &[], Err((33, 0x2000))),
@@ -104,14 +97,21 @@ const ONE_BLOCK: &[Case] = &[
     // 35: the types
     (&[(0x408, &[0x00, 0x00])], &[], Ok(&[])),
     (&[(0x408, &[0xff, 0x0f])], &[], Ok(&[])),
-    (&[(0x408, &[0x08, 0x10])], &[], Err((35, 0x2008))),
+    (
+        &[(0x408, &[0x08, 0x10])],
+        &[],
+        Ok(&[(0x2008, 0x1008, High)]),
+    ),
+    (&[(0x408, &[0x08, 0x20])], &[], Ok(&[(0x2008, 0x1008, Low)])),
+    (&[(0x408, &[0x08, 0x40])], &[], Err((35, 0x2008))),
+    (&[(0x408, &[0x08, 0x90])], &[], Err((35, 0x2008))),
     (&[(0x40a, &[0x00, 0xb0])], &[], Err((35, 0x200a))),
-    (&[(0x409, &[0xa0])], &[], Ok(&[(0x2008, 0x1008, 64)])),
+    (&[(0x409, &[0xa0])], &[], Ok(&[(0x2008, 0x1008, Bits64)])),
     // 36: the field in the image
     (
         &[(0x400, &[0x00, 0x20]), (0x408, &[0xfc, 0x3f])],
         &[],
-        Ok(&[(0x2008, 0x2ffc, 32)]),
+        Ok(&[(0x2008, 0x2ffc, Bits32)]),
     ),
     (
         &[(0x400, &[0x00, 0x20]), (0x408, &[0xfd, 0x3f])],
@@ -121,10 +121,30 @@ const ONE_BLOCK: &[Case] = &[
     (
         &[(0x400, &[0x00, 0x20]), (0x408, &[0xf8, 0xaf])],
         &[],
-        Ok(&[(0x2008, 0x2ff8, 64)]),
+        Ok(&[(0x2008, 0x2ff8, Bits64)]),
     ),
     (
         &[(0x400, &[0x00, 0x20]), (0x408, &[0xf9, 0xaf])],
+        &[],
+        Err((36, 0x2008)),
+    ),
+    (
+        &[(0x400, &[0x00, 0x20]), (0x408, &[0xfe, 0x1f])],
+        &[],
+        Ok(&[(0x2008, 0x2ffe, High)]),
+    ),
+    (
+        &[(0x400, &[0x00, 0x20]), (0x408, &[0xff, 0x1f])],
+        &[],
+        Err((36, 0x2008)),
+    ),
+    (
+        &[(0x400, &[0x00, 0x20]), (0x408, &[0xfe, 0x2f])],
+        &[],
+        Ok(&[(0x2008, 0x2ffe, Low)]),
+    ),
+    (
+        &[(0x400, &[0x00, 0x20]), (0x408, &[0xff, 0x2f])],
         &[],
         Err((36, 0x2008)),
     ),
@@ -142,19 +162,43 @@ const ONE_BLOCK: &[Case] = &[
     (
         &[(0x40a, &[0x0c, 0x30])],
         &[],
-        Ok(&[(0x2008, 0x1008, 32), (0x200a, 0x100c, 32)]),
+        Ok(&[(0x2008, 0x1008, Bits32), (0x200a, 0x100c, Bits32)]),
     ),
     (
         &[(0x40a, &[0x00, 0xa0])],
         &[],
-        Ok(&[(0x2008, 0x1008, 32), (0x200a, 0x1000, 64)]),
+        Ok(&[(0x2008, 0x1008, Bits32), (0x200a, 0x1000, Bits64)]),
+    ),
+    (
+        &[(0x408, &[0x08, 0x20, 0x0a, 0x10])],
+        &[],
+        Ok(&[(0x2008, 0x1008, Low), (0x200a, 0x100a, High)]),
+    ),
+    (
+        &[(0x408, &[0x08, 0x20, 0x09, 0x10])],
+        &[],
+        Err((37, 0x200a)),
+    ),
+    (&[(0x40a, &[0x0b, 0x10])], &[], Err((37, 0x200a))),
+    (&[(0x40a, &[0x07, 0x20])], &[], Err((37, 0x200a))),
+    (
+        &[(0x40a, &[0x06, 0x20])],
+        &[],
+        Ok(&[(0x2008, 0x1008, Bits32), (0x200a, 0x1006, Low)]),
     ),
     // 38: slots, of 4 bytes
     (&[], &[0x100b], Err((38, 0x2008))),
     (&[], &[0x1005], Err((38, 0x2008))),
     (&[], &[0x2000, 0x1008, 0x1800], Err((38, 0x2008))),
-    (&[], &[0x1004, 0x100c], Ok(&[(0x2008, 0x1008, 32)])),
+    (&[], &[0x1004, 0x100c], Ok(&[(0x2008, 0x1008, Bits32)])),
     (&[(0x40a, &[0x08, 0x30])], &[0x1008], Err((38, 0x2008))),
+    (&[(0x408, &[0x08, 0x10])], &[0x1009], Err((38, 0x2008))),
+    (&[(0x408, &[0x08, 0x20])], &[0x1005], Err((38, 0x2008))),
+    (
+        &[(0x408, &[0x08, 0x10])],
+        &[0x1004, 0x100a],
+        Ok(&[(0x2008, 0x1008, High)]),
+    ),
 ];
 
 #[test]
@@ -176,7 +220,7 @@ const TWO_BLOCKS: &[Case] = &[
             ),
         ],
         &[],
-        Ok(&[(0x2008, 0x1008, 32), (0x2014, 0x1010, 32)]),
+        Ok(&[(0x2008, 0x1008, Bits32), (0x2014, 0x1010, Bits32)]),
     ),
     (
         &[
@@ -191,9 +235,9 @@ const TWO_BLOCKS: &[Case] = &[
         ],
         &[],
         Ok(&[
-            (0x2008, 0x1008, 32),
-            (0x2014, 0x0fff, 64),
-            (0x2016, 0x0ff7, 32),
+            (0x2008, 0x1008, Bits32),
+            (0x2014, 0x0fff, Bits64),
+            (0x2016, 0x0ff7, Bits32),
         ]),
     ),
     // fields that meet, both below an earlier one
@@ -248,7 +292,7 @@ fn a_table_of_two_blocks(rt: HostRuntime) {
 
 /// V3: its slots have 8 bytes.
 const WIDE_SLOTS: &[Case] = &[
-    (&[], &[0x1000, 0x1010], Ok(&[(0x2008, 0x1008, 64)])),
+    (&[], &[0x1000, 0x1010], Ok(&[(0x2008, 0x1008, Bits64)])),
     (&[], &[0x1001], Err((38, 0x2008))),
     (&[], &[0x100f], Err((38, 0x2008))),
 ];
@@ -292,21 +336,31 @@ fn an_image_without_the_table_has_no_fixups(rt: HostRuntime) {
 const ENCODED: &[(&[Row], &[u8])] = &[
     (&[], &[]),
     (
-        &[(0, 0x1008, 32), (0, 0x1010, 32), (0, 0x3004, 32)],
+        &[
+            (0, 0x1008, Bits32),
+            (0, 0x1010, Bits32),
+            (0, 0x3004, Bits32),
+        ],
         &[
             0x00, 0x10, 0x00, 0x00, 0x0c, 0x00, 0x00, 0x00, 0x08, 0x30, 0x10, 0x30, 0x00, 0x30,
             0x00, 0x00, 0x0c, 0x00, 0x00, 0x00, 0x04, 0x30, 0x00, 0x00,
         ],
     ),
     (
-        &[(0, 0x1ffc, 64), (0, 0x2004, 32)],
+        &[(0, 0x1ffc, Bits64), (0, 0x2004, Bits32)],
         &[
             0x00, 0x10, 0x00, 0x00, 0x0c, 0x00, 0x00, 0x00, 0xfc, 0xaf, 0x00, 0x00, 0x00, 0x20,
             0x00, 0x00, 0x0c, 0x00, 0x00, 0x00, 0x04, 0x30, 0x00, 0x00,
         ],
     ),
     (
-        &[(0, 0xffff_ffff, 32)],
+        &[(0, 0x100a, High), (0, 0x1100, Low)],
+        &[
+            0x00, 0x10, 0x00, 0x00, 0x0c, 0x00, 0x00, 0x00, 0x0a, 0x10, 0x00, 0x21,
+        ],
+    ),
+    (
+        &[(0, 0xffff_ffff, Bits32)],
         &[
             0x00, 0xf0, 0xff, 0xff, 0x0c, 0x00, 0x00, 0x00, 0xff, 0x3f, 0x00, 0x00,
         ],
@@ -325,9 +379,12 @@ fn tables_are_encoded(rt: HostRuntime) {
 
 /// Fixups, and whether their fields ascend.
 const ORDERS: &[(&[Row], bool)] = &[
-    (&[(0, 0x1008, 32), (0, 0x1008, 64)], false),
-    (&[(0, 0, 32), (0, 0x1008, 32), (0, 0x1007, 32)], false),
-    (&[(9, 0, 32), (8, 1, 64)], true),
+    (&[(0, 0x1008, Bits32), (0, 0x1008, Bits64)], false),
+    (
+        &[(0, 0, Bits32), (0, 0x1008, Bits32), (0, 0x1007, Bits32)],
+        false,
+    ),
+    (&[(9, 0, Bits32), (8, 1, Bits64)], true),
 ];
 
 #[test]
@@ -345,7 +402,8 @@ const MANY: u32 = 1_000_000;
 fn many_fixups(rt: &impl Abort, alloc: Global) -> Vec<Fixup> {
     let mut many = Vec::new(alloc);
     for index in 0..MANY {
-        many.push(fixup((0, 4 * index, 32))).expect(rt, "memory");
+        many.push(fixup((0, 4 * index, Bits32)))
+            .expect(rt, "memory");
     }
     many
 }

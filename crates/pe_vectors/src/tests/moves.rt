@@ -156,6 +156,40 @@ fn wide_fields_move_with_their_image(rt: HostRuntime) {
     assert_moves(&rt, rt.alloc(), &[WIDE], WIDE_FIELDS);
 }
 
+/// V2 with ImageBase 0x10008000 and two fields of two bytes, LOW at 0x1008 and HIGH at 0x100a.
+const HALVES: Member = Member {
+    pieces: &[(0x75, &[0x80]), (0x408, &[0x08, 0x20, 0x0a, 0x10])],
+    base: 0x2000_0000,
+    ..RELOCATED
+};
+
+/// Its moves: the fields are those of an image that was mapped there.
+const HALF_FIELDS: &[Step] = &[
+    (
+        0,
+        0x1000_0000,
+        Answer::Moves(2, 0),
+        &[(0x1000_1007, &[0x07, 0x08, 0x90, 0xff, 0x0f, 0x0c])],
+    ),
+    (
+        0,
+        0x3000_0000,
+        Answer::Moves(2, 0),
+        &[(0x3000_1007, &[0x07, 0x08, 0x90, 0xff, 0x2f, 0x0c])],
+    ),
+    (
+        0,
+        0,
+        Answer::Moves(2, 0),
+        &[(0x1007, &[0x07, 0x08, 0x90, 0xff, 0xff, 0x0c])],
+    ),
+];
+
+#[test]
+fn halves_of_the_difference_move_with_their_image(rt: HostRuntime) {
+    assert_moves(&rt, rt.alloc(), &[HALVES], HALF_FIELDS);
+}
+
 /// A field of V2 that holds 0xffffffff, behind which 0x0c stands.
 const FULL: Member = Member {
     pieces: &[(0x208, &[0xff, 0xff, 0xff, 0xff])],
@@ -355,6 +389,7 @@ fn a_move_there_and_back_gives_every_byte_of_before(rt: HostRuntime) {
     assert_returns(&rt, alloc, &[RELOCATED], 0, 0xffff_0000);
     assert_returns(&rt, alloc, &[WIDE], 0, 0xffff_ffff_fff0_0000);
     assert_returns(&rt, alloc, &[OWN], 0, 0x2001_0000);
+    assert_returns(&rt, alloc, &[HALVES], 0, 0x7fff_0000);
 }
 
 /// `f.dll` forwards 64 times; the 32nd forwarder goes through `g.dll`, which is at 0x30000000.

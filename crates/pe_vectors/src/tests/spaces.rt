@@ -83,6 +83,9 @@ fn an_image_stands_at_its_base(rt: HostRuntime) {
     assert_alone(&rt, rt.alloc(), UNCHANGED);
 }
 
+/// ImageBase 0x10008000, and two fields of two bytes: LOW at 0x1008 and HIGH at 0x100a.
+const HALVES: &[Piece] = &[(0x75, &[0x80]), (0x408, &[0x08, 0x20, 0x0a, 0x10])];
+
 /// V2 and V3, with one field in most cases, which is at 0x1008 and is moved on by the base less the ImageBase.
 const FIELDS: &[Case] = &[
     (
@@ -163,6 +166,59 @@ const FIELDS: &[Case] = &[
             0x1_4000_1008,
             &[0x00, 0x10, 0x00, 0x40, 0x01, 0x00, 0x00, 0x00],
         )],
+    ),
+    // two bytes, to which the difference divided by 65,536 is added
+    (
+        RELOCATED,
+        &[(0x408, &[0x0a, 0x10, 0x00, 0x00])],
+        0x2000_0000,
+        &[
+            (0x2000_1008, &[0x08, 0x10, 0x00, 0x20, 0x0c]),
+            (0x2000_100a, &[0x00, 0x20]),
+        ],
+    ),
+    // it is rounded down, below ImageBase too
+    (
+        RELOCATED,
+        HALVES,
+        0x2000_0000,
+        &[(0x2000_1007, &[0x07, 0x08, 0x90, 0xff, 0x1f, 0x0c])],
+    ),
+    (
+        RELOCATED,
+        HALVES,
+        0x1000_0000,
+        &[(0x1000_1007, &[0x07, 0x08, 0x90, 0xff, 0x0f, 0x0c])],
+    ),
+    (
+        RELOCATED,
+        HALVES,
+        0x1001_0000,
+        &[(0x1001_1007, &[0x07, 0x08, 0x90, 0x00, 0x10, 0x0c])],
+    ),
+    // nothing is carried out of two bytes, nor from the lower half to the higher
+    (
+        RELOCATED,
+        &[
+            (0x75, &[0x80]),
+            (0x208, &[0xff, 0xff, 0xff, 0xff]),
+            (0x408, &[0x08, 0x20, 0x0a, 0x10]),
+        ],
+        0x2000_0000,
+        &[(0x2000_1008, &[0xff, 0x7f, 0xfe, 0x0f, 0x0c])],
+    ),
+    // two bytes in PE32+
+    (
+        WIDE,
+        &[(0x408, &[0x08, 0x10])],
+        0x1_4000_0000,
+        &[(0x1_4000_1007, &[0x07, 0x00, 0xd0, 0x00, 0x80, 0x01])],
+    ),
+    (
+        WIDE,
+        &[(0x408, &[0x08, 0x10])],
+        0xffff_ffff_ffff_0000,
+        &[(0xffff_ffff_ffff_1007, &[0x07, 0xff, 0x8f, 0x00, 0x80, 0x01])],
     ),
 ];
 

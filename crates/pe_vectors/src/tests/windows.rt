@@ -22,9 +22,20 @@ const TWO_FIELDS: Member = Member {
     ..RELOCATED
 };
 
+/// V2 with four fields, of 2 bytes each, side by side in pairs.
+const HALVES: Member = Member {
+    pieces: &[
+        (0x404, &[0x10]),
+        (0xe4, &[0x10]),
+        (0x168, &[0x10]),
+        (0x408, &[0x08, 0x20, 0x0a, 0x10, 0x02, 0x10, 0x0e, 0x20]),
+    ],
+    ..RELOCATED
+};
+
 #[test]
 fn fields_are_cut_by_each_edge_of_a_window(rt: HostRuntime) {
-    for member in [RELOCATED, TWO_FIELDS] {
+    for member in [RELOCATED, TWO_FIELDS, HALVES] {
         let members = [Member {
             base: 0x2000_0000,
             ..member

@@ -9,4 +9,4 @@ pub returns : goal.returns
 returns c = λ es es' k e base a set elsewhere.
     ap (λ (es : List Entry). defined_byte (modules_of es) a) set.new_file
     ∙ mapped_alike es k e (rebased e.file base) base a set.entry (c.rebased_headers.ensures.head e.file base set.no_fault set.late) set.tables c.tables_decide_bindings.ensures
-    (λ r free. c.rebased_again.ensures e.file base k e.base r set.no_fault set.late set.tables.fixups free) elsewhere
+    (λ r free. c.rebased_again.ensures e.file base k e.base r set.no_fault set.late set.tables.fixups set.aligned free) elsewhere

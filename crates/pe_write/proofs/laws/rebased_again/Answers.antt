@@ -11,9 +11,9 @@ pub returns : goal.returns
 unfolding rebased
 returns c =
     let laws : Laws = record { behind = c.sections_are_apart.ensures.behind; apart = c.sections_are_apart.ensures.apart; held = c.sections_are_apart.ensures.held; fields = c.fields_are_apart.ensures.apart } in
-    λ file base image at r none late same free.
+    λ file base image at r none late same aligned free.
     let g = rebased_from (head_of file) file base in
     let fixups = fixups_numbered 0 image (head_of g) g ∙ same ∙ fixups_numbered image 0 (head_of file) file in
     relocated_numbered image 0 (head_of g) g at r
-    ∙ relocated-again (IsFree (head_of file)) (image_of_file 0 file) (image_of_file 0 g) base (image_rebased file base (sound laws file base none) late fixups) at r free
+    ∙ relocated-again (IsFree (head_of file)) (image_of_file 0 file) (image_of_file 0 g) base (image_rebased file base (sound laws file base none) late fixups) at r aligned free
     ∙ relocated_numbered 0 image (head_of file) file at r
