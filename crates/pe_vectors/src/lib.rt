@@ -1,6 +1,5 @@
 //! Small image files with known bytes, made field by field at the offsets of "PE Format"; a source and a sink over memory
-//! that work in steps and fail on demand; what tests share; and the tests of one image, and of sets and spaces, that run several
-//! crates over these.
+//! that work in steps and fail on demand; and the tests that run several crates over them.
 //!
 //! One file, [`vr`], is rich: each field that its dump shows has a value of its own, and each kind of text bytes that are
 //! escaped. So a dump that shows one value for another, or a byte as it stands, differs from the one that is written down.
@@ -17,17 +16,9 @@
 //! ```
 #![tactic(auto)]
 
-pub mod both;
 mod builder;
 mod devices;
-pub mod engines;
-pub mod files;
-pub mod header_fields;
 mod images;
-pub mod members;
-pub mod objects;
-pub mod plans;
-pub mod same;
 mod slow_checker;
 
 pub use devices::{StepReader, StepWriter};

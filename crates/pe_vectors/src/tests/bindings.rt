@@ -1,8 +1,8 @@
 //! What `pe_space` binds imports to: which module and which export is found, through forwarders too.
 
-use crate::both::{Both, opened};
-use crate::files::{Piece, Vector, assert_holds, file_of, put_pieces};
-use crate::members::{
+use super::both::{Both, opened};
+use super::files::{Piece, Vector, assert_holds, file_of, put_pieces};
+use super::members::{
     A, B, C, Member, PLAIN, assert_bytes, assert_refusal, files_of, set_of, spaces_of,
 };
 use crate::vf;

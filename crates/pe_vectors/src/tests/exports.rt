@@ -1,10 +1,10 @@
 //! What `pe_tables` reads of export tables, and what it finds by ordinal and by name.
 
-use crate::files::{
+use super::files::{
     Piece, Vector, assert_holds, assert_number, assert_refused, changed, file_of, layout_of,
     push_number, put, with_data,
 };
-use crate::same::{same_names, same_ordinals};
+use super::same::{same_names, same_ordinals};
 use pe_tables::{Exports, Key, Target, read_exports};
 use std::alloc::Global;
 use std::process::Abort;

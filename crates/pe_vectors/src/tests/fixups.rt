@@ -1,6 +1,6 @@
 //! What `pe_tables` reads of base relocation tables, and what it writes.
 
-use crate::files::{
+use super::files::{
     Piece, Vector, assert_holds, assert_refused, changed, file_of, layout_of, with_data,
 };
 use pe_tables::FixupKind::{self, Bits32, Bits64, High, Low};

@@ -1,10 +1,10 @@
 //! What `pe_head` reads of headers.
 
-use crate::files::{
+use super::files::{
     Case, IMAGE, Piece, VECTORS, Vector, assert_cases, assert_holds, assert_number, bytes_from,
     changed, file_of, number, put, put_pieces,
 };
-use crate::header_fields::{COFF_FIELDS, Field, PE32_FIELDS, PE32_PLUS_FIELDS, distinct_bytes};
+use super::header_fields::{COFF_FIELDS, Field, PE32_FIELDS, PE32_PLUS_FIELDS, distinct_bytes};
 use pe_head::{Directory, Headers, Magic, SectionHeader, read_headers};
 use pe_view::{Fault, View};
 use std::process::Abort;

@@ -1,6 +1,6 @@
 //! Each file, byte by byte.
 
-use crate::files::{Piece, Vector, assert_holds, file_of, put_pieces};
+use super::files::{Piece, Vector, assert_holds, file_of, put_pieces};
 use crate::vf;
 use std::process::Abort;
 

@@ -1,10 +1,10 @@
 //! What `pe_tables` reads of import tables.
 
-use crate::files::{
+use super::files::{
     Piece, Vector, assert_holds, assert_number, assert_refused, changed, file_of, layout_of,
     push_number, with_data,
 };
-use crate::same::same_imports;
+use super::same::same_imports;
 use pe_tables::{Import, Key, read_imports};
 use std::alloc::Global;
 use std::process::Abort;

@@ -1,6 +1,6 @@
 //! What `pe_layout` shows of laid-out images.
 
-use crate::files::{
+use super::files::{
     Case, IMAGE, Piece, VECTORS, Vector, assert_cases, assert_holds, bytes_from, changed, file_of,
     layout_of, number, put, put_pieces,
 };

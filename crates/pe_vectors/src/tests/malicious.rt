@@ -1,8 +1,8 @@
 //! Malicious files and sets: `map` and `open_space` accept exactly those in which `slow_first` finds no fault, and refuse all
 //! others by the fault that it finds.
 
-use crate::files::{Piece, Vector, changed, file_of, put_pieces};
-use crate::members::{
+use super::files::{Piece, Vector, changed, file_of, put_pieces};
+use super::members::{
     A, B, C, Member, PLAIN, RELOCATED, Refusal, WIDE, fault_of, files_of, names_of, repeated,
     set_of,
 };

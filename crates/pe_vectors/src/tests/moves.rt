@@ -1,8 +1,8 @@
 //! Moves of images of a space, and runs of commands.
 
-use crate::both::Both;
-use crate::files::{Piece, Vector, assert_holds, put_pieces};
-use crate::members::{
+use super::both::Both;
+use super::files::{Piece, Vector, assert_holds, put_pieces};
+use super::members::{
     A, B, C, Member, PLAIN, RELOCATED, Refusal, WIDE, assert_bytes, fault_of, files_of, set_of,
     spaces_of,
 };

@@ -1,8 +1,8 @@
 //! Which sets of images `pe_space` refuses, and by which fault: their names, their bases, and the order in which faults count.
 
-use crate::both::opened;
-use crate::files::Piece;
-use crate::members::{
+use super::both::opened;
+use super::files::Piece;
+use super::members::{
     A, B, C, Member, PLAIN, RELOCATED, Refusal, WIDE, assert_refusal, error_of, names_of, repeated,
 };
 use pe_space::Policy;

@@ -1,8 +1,8 @@
 //! Which bytes `pe_space` has at which addresses.
 
-use crate::both::Both;
-use crate::files::{Piece, Vector, assert_holds, file_of};
-use crate::members::{
+use super::both::Both;
+use super::files::{Piece, Vector, assert_holds, file_of};
+use super::members::{
     A, B, C, Member, PLAIN, RELOCATED, WIDE, assert_bytes, fault_of, files_of, names_of, repeated,
     set_of, spaces_of,
 };

@@ -1,6 +1,6 @@
 //! What `pe_image` reads of whole files.
 
-use crate::files::{Vector, assert_holds, file_of};
+use super::files::{Vector, assert_holds, file_of};
 use pe_image::read_image;
 use pe_tables::TableError;
 use pe_view::{Fault, Place};

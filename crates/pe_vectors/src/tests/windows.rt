@@ -1,7 +1,7 @@
 //! Windows of one image and of several by both spaces: what is laid on them, at each edge and behind each move.
 
-use crate::both::Both;
-use crate::members::{A, B, C, Member, RELOCATED, files_of, set_of, spaces_of};
+use super::both::Both;
+use super::members::{A, B, C, Member, RELOCATED, files_of, set_of, spaces_of};
 use pe_space::Policy;
 use std::process::Abort;
 

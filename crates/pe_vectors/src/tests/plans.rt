@@ -6,11 +6,11 @@ use std::alloc::Global;
 use std::process::Abort;
 
 /// A section of a file: its name, its VirtualSize, and how many bytes the file has of it.
-pub type Part = (&'static [u8; 8], u32, usize);
+pub(super) type Part = (&'static [u8; 8], u32, usize);
 
 /// What the headers of a file hold beside what all files have alike. Section k stands at 0x1000 * (k + 1).
 #[derive(Clone, Copy)]
-pub struct Heading {
+pub(super) struct Heading {
     magic: Magic,
     machine: u16,
     characteristics: u16,
@@ -22,7 +22,7 @@ pub struct Heading {
 }
 
 /// What the headers of V1 hold.
-pub const V1: Heading = Heading {
+pub(super) const V1: Heading = Heading {
     magic: Magic::Pe32,
     machine: 0x14c,
     characteristics: 0x2102,
@@ -33,14 +33,14 @@ pub const V1: Heading = Heading {
 };
 
 /// What the headers of V2 hold.
-pub const V2: Heading = Heading {
+pub(super) const V2: Heading = Heading {
     directories: &[(5, 0x2000, 0x0c)],
     sections: &[(b".data\0\0\0", 0x10, 0x200), (b".reloc\0\0", 0x0c, 0x200)],
     ..V1
 };
 
 /// What the headers of V3 hold.
-pub const V3: Heading = Heading {
+pub(super) const V3: Heading = Heading {
     magic: Magic::Pe32Plus,
     machine: 0x8664,
     characteristics: 0x2022,
@@ -49,20 +49,20 @@ pub const V3: Heading = Heading {
 };
 
 /// What the headers of VA hold.
-pub const VA: Heading = Heading {
+pub(super) const VA: Heading = Heading {
     directories: &[(0, 0x1020, 0x60)],
     sections: &[(b".edata\0\0", 0x80, 0x200)],
     ..V1
 };
 
 /// What the headers of VB hold.
-pub const VB: Heading = Heading {
+pub(super) const VB: Heading = Heading {
     image_base: 0x2000_0000,
     ..VA
 };
 
 /// What the headers of VC hold.
-pub const VC: Heading = Heading {
+pub(super) const VC: Heading = Heading {
     characteristics: 0x0102,
     image_base: 0x40_0000,
     directories: &[(1, 0x1000, 0x28)],
@@ -71,7 +71,7 @@ pub const VC: Heading = Heading {
 };
 
 /// What the headers of VD hold.
-pub const VD: Heading = Heading {
+pub(super) const VD: Heading = Heading {
     magic: Magic::Pe32Plus,
     machine: 0x8664,
     characteristics: 0x0022,
@@ -80,7 +80,7 @@ pub const VD: Heading = Heading {
 };
 
 /// What the headers of VS hold.
-pub const VS: Heading = Heading {
+pub(super) const VS: Heading = Heading {
     size_of_image: 0x2_0000,
     directories: &[(0, 0x1020, 0x60), (1, 0x2000, 0x28)],
     sections: &[(b".edata\0\0", 0x80, 0x200), (b".idata\0\0", 0x80, 0x200)],
@@ -88,14 +88,14 @@ pub const VS: Heading = Heading {
 };
 
 /// What the headers of VF(64) hold.
-pub const VF: Heading = Heading {
+pub(super) const VF: Heading = Heading {
     directories: &[(0, 0x1020, 0x5e0)],
     sections: &[(b".edata\0\0", 0x600, 0x600)],
     ..VB
 };
 
 /// A plan without directories and sections.
-pub fn bare_plan<'a>(alloc: Global, heading: &Heading) -> Plan<'a> {
+pub(super) fn bare_plan<'a>(alloc: Global, heading: &Heading) -> Plan<'a> {
     Plan {
         magic: heading.magic,
         machine: heading.machine,
@@ -115,7 +115,7 @@ pub fn bare_plan<'a>(alloc: Global, heading: &Heading) -> Plan<'a> {
 }
 
 /// A section at an RVA, readable, writable and initialized.
-pub fn section(
+pub(super) fn section(
     name: [u8; 8],
     virtual_size: u32,
     virtual_address: u32,
@@ -131,7 +131,12 @@ pub fn section(
 }
 
 /// The plan of a file whose sections' bytes stand behind its headers, one behind the other.
-pub fn plan_of<'a>(rt: &impl Abort, alloc: Global, heading: &Heading, file: &'a [u8]) -> Plan<'a> {
+pub(super) fn plan_of<'a>(
+    rt: &impl Abort,
+    alloc: Global,
+    heading: &Heading,
+    file: &'a [u8],
+) -> Plan<'a> {
     let mut plan = bare_plan(alloc, heading);
     for (index, rva, size) in heading.directories {
         assert!(rt; *index < 16);

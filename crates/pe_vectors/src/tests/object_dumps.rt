@@ -1,10 +1,10 @@
 //! What `pe_tool` writes of objects.
 
+use super::engines::{Engine, run, steps_of};
+use super::files::{Piece, assert_holds};
+use super::o1::{O1, changed};
 use super::tool::{STEPS, assert_any_steps, assert_failures};
 use pe_tool::{Outcome, status};
-use pe_vectors::engines::{Engine, run, steps_of};
-use pe_vectors::files::{Piece, assert_holds};
-use pe_vectors::objects::{O1, changed};
 use std::alloc::Global;
 use std::process::Abort;
 

@@ -1,10 +1,10 @@
 //! What `pe_write` writes of plans, and which plans it refuses.
 
+use super::files::{Vector, assert_holds, bytes_from, file_of, number, put, put_pieces};
+use super::plans::{Heading, V1, V2, V3, VA, VB, VC, VD, VF, VS, bare_plan, plan_of, section};
+use crate::vf;
 use pe_head::{Directory, Magic};
 use pe_layout::Layout;
-use pe_vectors::files::{Vector, assert_holds, bytes_from, file_of, number, put, put_pieces};
-use pe_vectors::plans::{Heading, V1, V2, V3, VA, VB, VC, VD, VF, VS, bare_plan, plan_of, section};
-use pe_vectors::vf;
 use pe_view::{Fault, Place, View};
 use pe_write::{Plan, WriteError, write_image};
 use std::alloc::Global;

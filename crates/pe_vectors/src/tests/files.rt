@@ -10,10 +10,10 @@ use std::alloc::Global;
 use std::process::Abort;
 
 /// Bytes at a file offset.
-pub type Piece = (usize, &'static [u8]);
+pub(super) type Piece = (usize, &'static [u8]);
 
 /// Writes the pieces over a file's bytes; each lies inside the file.
-pub fn put_pieces(rt: &impl Abort, file: &mut [u8], pieces: &[Piece]) {
+pub(super) fn put_pieces(rt: &impl Abort, file: &mut [u8], pieces: &[Piece]) {
     for (offset, bytes) in pieces {
         assert!(rt;
             *offset <= file.len() && bytes.len() <= file.len() - *offset,
@@ -24,20 +24,20 @@ pub fn put_pieces(rt: &impl Abort, file: &mut [u8], pieces: &[Piece]) {
 }
 
 /// Writes bytes at a file offset.
-pub fn put(file: &mut [u8], offset: usize, bytes: &[u8])
+pub(super) fn put(file: &mut [u8], offset: usize, bytes: &[u8])
     requires { offset + length bytes.now ≤ length file.old }
 {
     file[offset..offset + bytes.len()].copy_from_slice(bytes);
 }
 
 /// The bytes from an offset on, which lies inside the file.
-pub fn bytes_from<'a>(rt: &impl Abort, file: &'a [u8], offset: usize) -> &'a [u8] {
+pub(super) fn bytes_from<'a>(rt: &impl Abort, file: &'a [u8], offset: usize) -> &'a [u8] {
     assert!(rt; offset <= file.len(), "at {offset:#x}");
     &file[offset..]
 }
 
 /// The number of at most 8 bytes at an offset, lowest byte first, which lies inside the file.
-pub fn number(rt: &impl Abort, file: &[u8], offset: usize, width: usize) -> u64 {
+pub(super) fn number(rt: &impl Abort, file: &[u8], offset: usize, width: usize) -> u64 {
     let field = bytes_from(rt, file, offset);
     assert!(rt; width <= 8 && width <= field.len(), "at {offset:#x}");
     let mut bytes = [0; 8];
@@ -47,7 +47,7 @@ pub fn number(rt: &impl Abort, file: &[u8], offset: usize, width: usize) -> u64 
 
 /// One of the files.
 #[derive(Clone, Copy, Debug)]
-pub enum Vector {
+pub(super) enum Vector {
     V1,
     V2,
     V3,
@@ -60,7 +60,7 @@ pub enum Vector {
 }
 
 /// All the files.
-pub const VECTORS: [Vector; 9] = [
+pub(super) const VECTORS: [Vector; 9] = [
     Vector::V1,
     Vector::V2,
     Vector::V3,
@@ -73,7 +73,7 @@ pub const VECTORS: [Vector; 9] = [
 ];
 
 /// The bytes of a file.
-pub fn file_of(rt: &impl Abort, alloc: Global, vector: Vector) -> Vec<u8>
+pub(super) fn file_of(rt: &impl Abort, alloc: Global, vector: Vector) -> Vec<u8>
     ensures { vec_len result ≤ 0x600 }
 {
     let file = match vector {
@@ -91,7 +91,7 @@ pub fn file_of(rt: &impl Abort, alloc: Global, vector: Vector) -> Vec<u8>
 }
 
 /// A file of at most 0x600 bytes, filled up with zeros and changed.
-pub fn changed(rt: &impl Abort, file: &[u8], pieces: &[Piece]) -> [u8; 0x600] {
+pub(super) fn changed(rt: &impl Abort, file: &[u8], pieces: &[Piece]) -> [u8; 0x600] {
     let mut changed = [0; 0x600];
     assert!(rt; file.len() <= 0x600);
     put(&mut changed, 0, file);
@@ -100,12 +100,12 @@ pub fn changed(rt: &impl Abort, file: &[u8], pieces: &[Piece]) -> [u8; 0x600] {
 }
 
 /// The layout of an accepted file.
-pub fn layout_of<'a>(rt: &impl Abort, file: &'a [u8]) -> Layout<'a> {
+pub(super) fn layout_of<'a>(rt: &impl Abort, file: &'a [u8]) -> Layout<'a> {
     Layout::new(View::new(file), IMAGE).expect(rt, "a layout")
 }
 
 /// V1 with other bytes in its section, which ends the file.
-pub fn with_data(rt: &impl Abort, alloc: Global, pieces: &[Piece], data: &[u8]) -> Vec<u8> {
+pub(super) fn with_data(rt: &impl Abort, alloc: Global, pieces: &[Piece], data: &[u8]) -> Vec<u8> {
     let mut file = file_of(rt, alloc, Vector::V1);
     put_pieces(rt, &mut file, pieces);
     let size = u32::try_from(data.len()).expect(rt, "a size").to_le_bytes();
@@ -118,17 +118,17 @@ pub fn with_data(rt: &impl Abort, alloc: Global, pieces: &[Piece], data: &[u8]) 
 }
 
 /// Adds a number of 4 bytes.
-pub fn push_number(rt: &impl Abort, table: &mut Vec<u8>, number: u32) {
+pub(super) fn push_number(rt: &impl Abort, table: &mut Vec<u8>, number: u32) {
     table
         .extend_from_slice(&number.to_le_bytes())
         .expect(rt, "memory");
 }
 
 /// The image number that tests of faults hand in.
-pub const IMAGE: u16 = 3;
+pub(super) const IMAGE: u16 = 3;
 
 /// A file cut to a length and changed, and the fault that stands, by number and file offset; None where it is accepted.
-pub type Case = (usize, &'static [Piece], Option<(u16, u64)>);
+pub(super) type Case = (usize, &'static [Piece], Option<(u16, u64)>);
 
 /// Asserts the fault of a case.
 fn assert_fault(rt: &impl Abort, case: usize, found: Option<Fault>, expected: Option<Fault>) {
@@ -145,7 +145,7 @@ fn fault(number: u16, place: Place) -> Fault {
 }
 
 /// Asserts the fault that a call answers of a file of at most 0x600 bytes in each case.
-pub fn assert_cases<F: Fn(&[u8]) -> Option<Fault>>(
+pub(super) fn assert_cases<F: Fn(&[u8]) -> Option<Fault>>(
     rt: &impl Abort,
     file: &[u8],
     cases: &[Case],
@@ -165,7 +165,12 @@ pub fn assert_cases<F: Fn(&[u8]) -> Option<Fault>>(
 }
 
 /// Asserts that a case of a table's reading is refused by a fault at an RVA.
-pub fn assert_refused(rt: &impl Abort, case: usize, error: Option<TableError>, at: (u16, u32)) {
+pub(super) fn assert_refused(
+    rt: &impl Abort,
+    case: usize,
+    error: Option<TableError>,
+    at: (u16, u32),
+) {
     let found = match error {
         Some(TableError::Fault(fault)) => Some(fault),
         _ => None,
@@ -174,11 +179,11 @@ pub fn assert_refused(rt: &impl Abort, case: usize, error: Option<TableError>, a
 }
 
 /// Asserts that a number of a case is the one that it is to be.
-pub fn assert_number(rt: &impl Abort, case: usize, found: u64, expected: u64) {
+pub(super) fn assert_number(rt: &impl Abort, case: usize, found: u64, expected: u64) {
     assert_eq!(rt; found, expected, "in case {case:#x}");
 }
 
 /// Asserts what holds of a case.
-pub fn assert_holds(rt: &impl Abort, case: usize, holds: bool) {
+pub(super) fn assert_holds(rt: &impl Abort, case: usize, holds: bool) {
     assert!(rt; holds, "in case {case:#x}");
 }

@@ -2,7 +2,14 @@
 
 ghost use Rattle.std.specs.Prelude.{◌<◌};
 
+use super::engines::{Devices, Engine, run_over, steps_of};
+use super::files::{Vector, file_of, layout_of};
 use super::images_written::REFUSED;
+use super::members::{A, B, C, files_of, names_of, repeated, set_of};
+use super::o1::{O1, O1_SYMBOLS, fault_of, list, same_object};
+use super::plans::{V2, plan_of};
+use super::same::{same_imports, same_names, same_ordinals};
+use crate::{StepReader, StepWriter};
 use bumpalo::Bump;
 use coff_object::{Object, ObjectError, Symbol, read_object, write_object};
 use pe_image::read_image;
@@ -10,13 +17,6 @@ use pe_set::{Module, judge};
 use pe_space::{Command, MapError, MappedSpace, Policy, SetEntry, Space, map, open_space, run};
 use pe_tables::{TableError, ascending, encode_fixups, read_exports, read_fixups, read_imports};
 use pe_tool::{Outcome, ToolError, map_report, read_whole, rebase};
-use pe_vectors::engines::{Devices, Engine, run_over, steps_of};
-use pe_vectors::files::{Vector, file_of, layout_of};
-use pe_vectors::members::{A, B, C, files_of, names_of, repeated, set_of};
-use pe_vectors::objects::{O1, O1_SYMBOLS, fault_of, list, same_object};
-use pe_vectors::plans::{V2, plan_of};
-use pe_vectors::same::{same_imports, same_names, same_ordinals};
-use pe_vectors::{StepReader, StepWriter};
 use pe_view::{Fault, Place};
 use pe_write::{WriteError, rebase_file, write_image};
 use std::alloc::Global;

@@ -1,7 +1,7 @@
 //! The status and the text of each answer of an engine.
 
+use super::files::assert_holds;
 use pe_tool::{Outcome, ToolError, status};
-use pe_vectors::files::assert_holds;
 use pe_view::{Fault, Place};
 
 /// An engine's answer, and its status.

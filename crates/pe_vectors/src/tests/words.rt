@@ -1,7 +1,7 @@
 //! The words of the command line.
 
+use super::files::assert_holds;
 use pe_tool::{Job, MapFile, Policy, WordsError, parse_words};
-use pe_vectors::files::assert_holds;
 use std::alloc::Global;
 use std::process::Abort;
 

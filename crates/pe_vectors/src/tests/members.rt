@@ -1,7 +1,7 @@
 //! Sets of images, for what a test maps, and what a space is to hold.
 
-use crate::both::{Both, opened};
-use crate::files::{Piece, Vector, assert_holds, file_of, put_pieces};
+use super::both::{Both, opened};
+use super::files::{Piece, Vector, assert_holds, file_of, put_pieces};
 use pe_space::{MapError, Policy, SetEntry};
 use pe_view::{Fault, Place};
 use std::alloc::Global;
@@ -9,7 +9,7 @@ use std::process::Abort;
 
 /// An image of a set: its name and its base, and a file with pieces written over it.
 #[derive(Clone, Copy)]
-pub struct Member {
+pub(super) struct Member {
     pub name: &'static [u8],
     pub vector: Vector,
     pub pieces: &'static [Piece],
@@ -17,21 +17,21 @@ pub struct Member {
 }
 
 /// VA, VB and VC as a set: the slot of `c.exe` gets the address of ordinal 7 of `b.dll`, by way of `a.dll`.
-pub const A: Member = Member {
+pub(super) const A: Member = Member {
     name: b"a.dll",
     vector: Vector::Va,
     pieces: &[],
     base: 0x1000_0000,
 };
 
-pub const B: Member = Member {
+pub(super) const B: Member = Member {
     name: b"b.dll",
     vector: Vector::Vb,
     pieces: &[],
     base: 0x2000_0000,
 };
 
-pub const C: Member = Member {
+pub(super) const C: Member = Member {
     name: b"c.exe",
     vector: Vector::Vc,
     pieces: &[],
@@ -39,24 +39,24 @@ pub const C: Member = Member {
 };
 
 /// V1, V2 and V3, each at its ImageBase; no two of them stand in one set.
-pub const PLAIN: Member = Member {
+pub(super) const PLAIN: Member = Member {
     vector: Vector::V1,
     ..A
 };
 
-pub const RELOCATED: Member = Member {
+pub(super) const RELOCATED: Member = Member {
     vector: Vector::V2,
     ..A
 };
 
-pub const WIDE: Member = Member {
+pub(super) const WIDE: Member = Member {
     vector: Vector::V3,
     base: 0x1_8000_0000,
     ..A
 };
 
 /// The files of a set, each filled up with zeros to 0x600 bytes.
-pub fn files_of(rt: &impl Abort, alloc: Global, members: &[Member]) -> Vec<Vec<u8>> {
+pub(super) fn files_of(rt: &impl Abort, alloc: Global, members: &[Member]) -> Vec<Vec<u8>> {
     let mut files = Vec::new(alloc);
     for member in members {
         let mut file = file_of(rt, alloc, member.vector);
@@ -68,7 +68,7 @@ pub fn files_of(rt: &impl Abort, alloc: Global, members: &[Member]) -> Vec<Vec<u
 }
 
 /// A set of images, which borrows their files.
-pub fn set_of<'a>(
+pub(super) fn set_of<'a>(
     rt: &impl Abort,
     alloc: Global,
     members: &[Member],
@@ -87,7 +87,7 @@ pub fn set_of<'a>(
 }
 
 /// The spaces of an accepted set.
-pub fn spaces_of<'a>(
+pub(super) fn spaces_of<'a>(
     rt: &impl Abort,
     alloc: Global,
     set: &'a [SetEntry<'a>],
@@ -97,7 +97,7 @@ pub fn spaces_of<'a>(
 }
 
 /// The first fault of a set, if there is one.
-pub fn error_of(
+pub(super) fn error_of(
     rt: &impl Abort,
     alloc: Global,
     members: &[Member],
@@ -109,10 +109,10 @@ pub fn error_of(
 }
 
 /// A fault by number, image and place.
-pub type Refusal = (u16, u16, Place);
+pub(super) type Refusal = (u16, u16, Place);
 
 /// The fault of a refusal.
-pub fn fault_of((number, image, place): Refusal) -> Fault {
+pub(super) fn fault_of((number, image, place): Refusal) -> Fault {
     Fault {
         number,
         image,
@@ -121,7 +121,7 @@ pub fn fault_of((number, image, place): Refusal) -> Fault {
 }
 
 /// Asserts the fault of a set in a case, or that it has none.
-pub fn assert_refusal(
+pub(super) fn assert_refusal(
     rt: &impl Abort,
     case: usize,
     found: Option<MapError>,
@@ -135,7 +135,13 @@ pub fn assert_refusal(
 }
 
 /// Asserts that these bytes, at most 16, stand from an address on: in a window, and one by one.
-pub fn assert_bytes(rt: &impl Abort, case: usize, space: &Both, address: u64, expected: &[u8]) {
+pub(super) fn assert_bytes(
+    rt: &impl Abort,
+    case: usize,
+    space: &Both,
+    address: u64,
+    expected: &[u8],
+) {
     let mut buffer = [0xee; 16];
     assert!(rt; expected.len() <= 16);
     let window = &mut buffer[..expected.len()];
@@ -148,7 +154,7 @@ pub fn assert_bytes(rt: &impl Abort, case: usize, space: &Both, address: u64, ex
 }
 
 /// Distinct names, `0000`, `0001` and so on.
-pub fn names_of(rt: &impl Abort, alloc: Global, count: usize) -> Vec<String> {
+pub(super) fn names_of(rt: &impl Abort, alloc: Global, count: usize) -> Vec<String> {
     let mut names = Vec::new(alloc);
     for index in 0..count {
         let name = format!(in alloc; "{index:04x}").expect(rt, "memory");
@@ -158,7 +164,7 @@ pub fn names_of(rt: &impl Abort, alloc: Global, count: usize) -> Vec<String> {
 }
 
 /// A set of one file under many names, each 0x10000 above the one before.
-pub fn repeated<'a>(
+pub(super) fn repeated<'a>(
     rt: &impl Abort,
     alloc: Global,
     names: &'a [String],

@@ -1,13 +1,13 @@
 //! The object file O1, the object that it holds, and objects compared.
 
-use crate::files::{Piece, put_pieces};
+use super::files::{Piece, put_pieces};
 use coff_object::{ObjSection, Object, ObjectError, RawData, Relocation, Symbol, SymbolSection};
 use pe_view::Fault;
 use std::alloc::{Allocator, Global};
 use std::process::Abort;
 
 /// O1: for AMD64, a section `.text$long` with one relocation, and four symbols.
-pub const O1: &[u8; 191] = &[
+pub(super) const O1: &[u8; 191] = &[
     // the COFF header
     0x64, 0x86, 0x01, 0x00, 0x00, 0x00, 0x00, 0x00, 0x4c, 0x00, 0x00, 0x00, 0x05, 0x00, 0x00, 0x00,
     0x00, 0x00, 0x00, 0x00, //
@@ -38,7 +38,7 @@ pub const O1: &[u8; 191] = &[
 ];
 
 /// The symbols of O1.
-pub const O1_SYMBOLS: [Symbol<'static>; 4] = [
+pub(super) const O1_SYMBOLS: [Symbol<'static>; 4] = [
     Symbol {
         name: b".file",
         value: 0,
@@ -74,12 +74,16 @@ pub const O1_SYMBOLS: [Symbol<'static>; 4] = [
 ];
 
 /// A list of these items.
-pub fn list<T: Drop, const N: usize>(rt: &impl Abort, alloc: Global, items: [T; N]) -> Vec<T> {
+pub(super) fn list<T: Drop, const N: usize>(
+    rt: &impl Abort,
+    alloc: Global,
+    items: [T; N],
+) -> Vec<T> {
     Vec::from_array(alloc, items).expect(rt, "memory")
 }
 
 /// The object that O1 holds, with another name of its section.
-pub fn o1(rt: &impl Abort, alloc: Global, name: &'static [u8]) -> Object<'static, Global> {
+pub(super) fn o1(rt: &impl Abort, alloc: Global, name: &'static [u8]) -> Object<'static, Global> {
     let relocation = Relocation {
         address: 1,
         symbol: 3,
@@ -133,7 +137,10 @@ fn same_sections<A: Allocator, B: Allocator>(
 }
 
 /// Whether two objects are equal.
-pub fn same_object<A: Allocator, B: Allocator>(one: &Object<'_, A>, other: &Object<'_, B>) -> bool {
+pub(super) fn same_object<A: Allocator, B: Allocator>(
+    one: &Object<'_, A>,
+    other: &Object<'_, B>,
+) -> bool {
     if !same_sections(one.sections.as_slice(), other.sections.as_slice()) {
         return false;
     }
@@ -149,7 +156,7 @@ pub fn same_object<A: Allocator, B: Allocator>(one: &Object<'_, A>, other: &Obje
 }
 
 /// The fault of an error, if it is one.
-pub fn fault_of(error: Option<ObjectError>) -> Option<Fault> {
+pub(super) fn fault_of(error: Option<ObjectError>) -> Option<Fault> {
     match error {
         Some(ObjectError::Fault(fault)) => Some(fault),
         _ => None,
@@ -157,7 +164,7 @@ pub fn fault_of(error: Option<ObjectError>) -> Option<Fault> {
 }
 
 /// O1 changed.
-pub fn changed(rt: &impl Abort, pieces: &[Piece]) -> [u8; 191] {
+pub(super) fn changed(rt: &impl Abort, pieces: &[Piece]) -> [u8; 191] {
     let mut file = *O1;
     put_pieces(rt, &mut file, pieces);
     file

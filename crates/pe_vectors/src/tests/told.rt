@@ -1,7 +1,7 @@
 //! Faults in words, and what first bytes show a file to be.
 
+use super::files::assert_holds;
 use pe_tool::{FaultText, FaultWords, FileKind, fault_words, file_kind};
-use pe_vectors::files::assert_holds;
 use pe_view::{Fault, Place};
 
 /// Each fault's number, what stands at its place, and what is wrong with it: the table "In words" of docs/FAULTS.md.

@@ -9,14 +9,14 @@ use std::process::Abort;
 
 /// The two spaces of a set. Each call asks both, and asserts that they give one answer.
 #[derive(Drop)]
-pub struct Both<'a> {
+pub(super) struct Both<'a> {
     mapped: MappedSpace<Global>,
     filed: FileSpace<'a, Global>,
     alloc: Global,
 }
 
 /// The spaces of a set, or its first fault.
-pub fn opened<'a>(
+pub(super) fn opened<'a>(
     rt: &impl Abort,
     alloc: Global,
     set: &'a [SetEntry<'a>],

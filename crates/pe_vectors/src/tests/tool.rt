@@ -3,15 +3,13 @@
 ghost use Rattle.std.specs.Prelude.{◌<◌};
 
 use super::dumps::{dump_text, halves_dump, machine_dump};
-use pe_tool::{Failed, Outcome, Sink, Source, ToolError, check, dump, status};
-use pe_vectors::engines::{Devices, Engine, run, steps_of};
-use pe_vectors::files::{
+use super::engines::{Devices, Engine, run, steps_of};
+use super::files::{
     Piece, Vector, assert_holds, assert_number, bytes_from, changed, file_of, put, put_pieces,
 };
-use pe_vectors::header_fields::{
-    COFF_FIELDS, Field, PE32_FIELDS, PE32_PLUS_FIELDS, distinct_bytes,
-};
-use pe_vectors::{StepReader, StepWriter};
+use super::header_fields::{COFF_FIELDS, Field, PE32_FIELDS, PE32_PLUS_FIELDS, distinct_bytes};
+use crate::{StepReader, StepWriter};
+use pe_tool::{Failed, Outcome, Sink, Source, ToolError, check, dump, status};
 use std::alloc::Global;
 use std::process::Abort;
 

@@ -2,12 +2,12 @@
 
 ghost use Rattle.std.specs.Prelude.{◌<◌};
 
-use pe_tool::{Outcome, Policy, SetEntry, ToolError, map_report, status};
-use pe_vectors::StepWriter;
-use pe_vectors::files::{Vector, assert_holds};
-use pe_vectors::members::{
+use super::files::{Vector, assert_holds};
+use super::members::{
     A, B, C, Member, PLAIN, RELOCATED, WIDE, files_of, names_of, repeated, set_of,
 };
+use crate::StepWriter;
+use pe_tool::{Outcome, Policy, SetEntry, ToolError, map_report, status};
 use std::alloc::Global;
 use std::process::Abort;
 

@@ -1,6 +1,6 @@
 //! Whole dumps, a line each.
 
-use pe_vectors::files::{Vector, assert_holds};
+use super::files::{Vector, assert_holds};
 use std::alloc::Global;
 use std::process::Abort;
 

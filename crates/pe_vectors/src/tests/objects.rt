@@ -1,8 +1,8 @@
 //! What `coff_object` reads of object files.
 
+use super::files::{Piece, assert_holds, put};
+use super::o1::{O1, changed, fault_of, list, o1, same_object};
 use coff_object::{Aux, Object, Symbol, SymbolSection, read_object};
-use pe_vectors::files::{Piece, assert_holds, put};
-use pe_vectors::objects::{O1, changed, fault_of, list, o1, same_object};
 use pe_view::{Fault, Place};
 use std::alloc::Global;
 use std::process::Abort;

@@ -9,7 +9,7 @@ use std::process::Abort;
 
 /// An engine that reads one file and writes a text.
 #[derive(Clone, Copy)]
-pub enum Engine {
+pub(super) enum Engine {
     Check,
     Dump,
     Object,
@@ -17,14 +17,14 @@ pub enum Engine {
 
 /// How the reader and the writer of a run work: the most bytes a call, and the read and the write that fail.
 #[derive(Clone, Copy)]
-pub struct Devices {
+pub(super) struct Devices {
     pub step: usize,
     pub failing_read: Option<u64>,
     pub failing_write: Option<u64>,
 }
 
 /// Devices of which no call fails.
-pub fn steps_of(step: usize) -> Devices
+pub(super) fn steps_of(step: usize) -> Devices
     ensures { result.step ≡ step }
 {
     Devices {
@@ -35,7 +35,7 @@ pub fn steps_of(step: usize) -> Devices
 }
 
 /// What an engine answered over an allocator's memory, and the writer with what it wrote.
-pub fn run_over<A: Allocator + Copy>(
+pub(super) fn run_over<A: Allocator + Copy>(
     rt: &impl Abort,
     alloc: Global,
     memory: A,
@@ -58,7 +58,7 @@ pub fn run_over<A: Allocator + Copy>(
 }
 
 /// What an engine answered with ample memory, and the writer with what it wrote.
-pub fn run(
+pub(super) fn run(
     rt: &impl Abort,
     alloc: Global,
     engine: Engine,

@@ -1,10 +1,10 @@
 //! Files at other bases: which bytes `pe_write` changes, which files it refuses by which fault, and what the engine writes.
 
+use super::both::opened;
+use super::files::{Piece, Vector, assert_holds, changed, file_of};
+use crate::{StepReader, StepWriter};
 use pe_space::{Policy, SetEntry};
 use pe_tool::{Outcome, Sink, ToolError, rebase, status};
-use pe_vectors::both::opened;
-use pe_vectors::files::{Piece, Vector, assert_holds, changed, file_of};
-use pe_vectors::{StepReader, StepWriter};
 use pe_view::{Fault, Place};
 use pe_write::{WriteError, rebase_file};
 use std::alloc::Global;

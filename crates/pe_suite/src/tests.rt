@@ -1,5 +1,0 @@
-mod images_written;
-mod objects;
-mod objects_written;
-mod rebased;
-mod refusals;
