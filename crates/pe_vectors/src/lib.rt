@@ -1,29 +1,41 @@
-//! Small image files with known bytes, made field by field at the offsets of "PE Format"; a source and a sink over memory
-//! that work in steps and fail on demand; and the tests that run several crates over them.
+//! What tests of several crates share, and the tests that run several crates over it.
 //!
-//! One file, [`vr`], is rich: each field that its dump shows has a value of its own, and each kind of text bytes that are
-//! escaped. So a dump that shows one value for another, or a byte as it stands, differs from the one that is written down.
-//! Another, [`vf`], is a chain of as many forwarders as are asked for.
-//!
-//! A checker, [`slow_first`], judges sets of files by plain scans, with nothing of what the other crates read and search by; the
-//! tests compare its answers with those of `map` and `open_space`.
-//!
-//! A builder uses none of the other crates, so that what they read is told apart from what they wrote:
+//! Small image files with known bytes are made field by field at the offsets of "PE Format". One of them, [`vr`], is rich: each
+//! field that its dump shows has a value of its own, and each kind of text bytes that are escaped. So a dump that shows one value
+//! for another, or a byte as it stands, differs from the one that is written down. Another, [`vf`], is a chain of as many
+//! forwarders as are asked for. A builder uses none of the other crates, so that what they read is told apart from what they
+//! wrote:
 //!
 //! ```text
 //! let file = v1(alloc)?;
 //! assert_eq!(file.len(), 0x400);
 //! ```
+//!
+//! Over these stand pieces of bytes that are written over a file ([`files`]), sets of files ([`members`]), an object file
+//! ([`objects`]), where the fields of headers stand ([`header_fields`]), comparisons ([`same`]), a source and a sink over memory
+//! that work in steps and fail on demand, and engines that are run over these ([`engines`]).
+//!
+//! No function here stops a test: want of memory is answered, and so is a piece that does not lie in its file. A test unwraps the
+//! answer:
+//!
+//! ```text
+//! let files = files_of(rt.alloc(), &[A, B, C]).expect(&rt, "files");
+//! let set = set_of(rt.alloc(), &[A, B, C], &files).expect(&rt, "memory");
+//! ```
 #![tactic(auto)]
 
 mod builder;
 mod devices;
+pub mod engines;
+pub mod files;
+pub mod header_fields;
 mod images;
-mod slow_checker;
+pub mod members;
+pub mod objects;
+pub mod same;
 
 pub use devices::{StepReader, StepWriter};
 pub use images::{v1, v2, v3, va, vb, vc, vd, vf, vr, vs};
-pub use slow_checker::slow_first;
 
 #[cfg(test)]
 mod tests;

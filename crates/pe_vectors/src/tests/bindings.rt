@@ -1,10 +1,10 @@
 //! What `pe_space` binds imports to: which module and which export is found, through forwarders too.
 
 use super::both::{Both, opened};
-use super::files::{Piece, Vector, assert_holds, file_of, put_pieces};
-use super::members::{
-    A, B, C, Member, PLAIN, assert_bytes, assert_refusal, files_of, set_of, spaces_of,
-};
+use super::files::assert_holds;
+use super::members::{assert_bytes, assert_refusal, spaces_of};
+use crate::files::{Piece, Vector, file_of, put_pieces};
+use crate::members::{A, B, C, Member, PLAIN, files_of, set_of};
 use crate::vf;
 use pe_space::{Binding, MapError, Policy, SetEntry};
 use pe_view::Place;
@@ -66,8 +66,8 @@ fn assert_ends(rt: &impl Abort, alloc: Global, cases: &[Case]) {
     for (index, (members, end)) in cases.iter().enumerate() {
         assert!(rt; !members.is_empty() && members.len() <= 256);
         let importer = (members.len() - 1) as u16;
-        let files = files_of(rt, alloc, members);
-        let set = set_of(rt, alloc, members, &files);
+        let files = files_of(alloc, members).expect(rt, "files");
+        let set = set_of(alloc, members, &files).expect(rt, "memory");
         for policy in [Policy::Strict, Policy::Known] {
             let found = opened(rt, alloc, &set, policy);
             assert_end(rt, index, found, policy, importer, *end);
@@ -607,13 +607,13 @@ fn assert_chain(
 ) {
     assert!(rt; *forwarders <= 65);
     let mut library = vf(alloc, *forwarders).expect(rt, "memory");
-    put_pieces(rt, &mut library, pieces);
-    let mut program = file_of(rt, alloc, Vector::Vc);
+    put_pieces(&mut library, pieces).expect(rt, "pieces in the file");
+    let mut program = file_of(alloc, Vector::Vc).expect(rt, "memory");
     put_pieces(
-        rt,
         &mut program,
         &[(0x240, b"F"), (0x228, &[0x00, 0x00, 0x00, 0x80])],
-    );
+    )
+    .expect(rt, "pieces in the file");
     assert!(rt; program.len() > 0x228);
     program[0x228] = *ordinal;
     let set = [
@@ -729,8 +729,8 @@ const BINDINGS: &[(&[Member], &[Binding])] = &[
 #[test]
 fn bindings_are_told_by_image_and_then_in_the_order_of_its_imports(rt: HostRuntime) {
     for (index, (members, expected)) in BINDINGS.iter().enumerate() {
-        let files = files_of(&rt, rt.alloc(), members);
-        let set = set_of(&rt, rt.alloc(), members, &files);
+        let files = files_of(rt.alloc(), members).expect(&rt, "files");
+        let set = set_of(rt.alloc(), members, &files).expect(&rt, "memory");
         let space = spaces_of(&rt, rt.alloc(), &set, Policy::Known);
         assert_holds(&rt, index, *space.bindings(&rt) == **expected);
     }

@@ -1,10 +1,10 @@
 //! What `pe_tables` reads of export tables, and what it finds by ordinal and by name.
 
 use super::files::{
-    Piece, Vector, assert_holds, assert_number, assert_refused, changed, file_of, layout_of,
-    push_number, put, with_data,
+    assert_holds, assert_number, assert_refused, layout_of, push_number, with_data,
 };
-use super::same::{same_names, same_ordinals};
+use crate::files::{Piece, Vector, changed_file, put};
+use crate::same::{same_names, same_ordinals};
 use pe_tables::{Exports, Key, Target, read_exports};
 use std::alloc::Global;
 use std::process::Abort;
@@ -56,7 +56,7 @@ fn assert_listed(
 /// Asserts what a file is read as in each case.
 fn assert_exports(rt: &impl Abort, alloc: Global, vector: Vector, cases: &[Case]) {
     for (index, (pieces, expected)) in cases.iter().enumerate() {
-        let file = changed(rt, &file_of(rt, alloc, vector), pieces);
+        let file = changed_file(alloc, vector, pieces).expect(rt, "a changed file");
         let found = read_exports(alloc, &layout_of(rt, &file));
         match *expected {
             Ok((ordinals, names)) => {
@@ -380,7 +380,7 @@ const FORWARDERS: &[Forwarder] = &[
 /// Asserts what a forwarder of VA is read as.
 fn assert_forwarder(rt: &impl Abort, alloc: Global, case: usize, forwarder: &Forwarder) {
     let (text, expected) = forwarder;
-    let mut file = changed(rt, &file_of(rt, alloc, Vector::Va), &[]);
+    let mut file = changed_file(alloc, Vector::Va, &[]).expect(rt, "a changed file");
     assert!(rt; text.len() < 0x1f);
     put(&mut file, 0x260, &[0; 0x20]);
     put(&mut file, 0x260, text);
@@ -438,7 +438,7 @@ fn finds_an_ordinal(exports: &Exports<'_, Global>, ordinals: &[u32]) -> bool {
 #[test]
 fn what_is_not_exported_is_not_found(rt: HostRuntime) {
     for (index, (pieces, names, ordinals)) in ABSENT.iter().enumerate() {
-        let file = changed(&rt, &file_of(&rt, rt.alloc(), Vector::Vb), pieces);
+        let file = changed_file(rt.alloc(), Vector::Vb, pieces).expect(&rt, "a changed file");
         let exports = read_exports(rt.alloc(), &layout_of(&rt, &file)).expect(&rt, "exports");
         assert_holds(&rt, index, !finds_a_name(&exports, names));
         assert_holds(&rt, index, !finds_an_ordinal(&exports, ordinals));

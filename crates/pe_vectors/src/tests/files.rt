@@ -1,34 +1,11 @@
-//! Files written byte by byte, for what a test compares with and what it reads.
+//! What tests of one image's file share: cases of it, and what is asserted of them.
 
-ghost use Rattle.std.specs.Prelude.{◌+◌, ◌≤◌, vec_len, length};
-
-use crate::{v1, v2, v3, va, vb, vc, vd, vr, vs};
+use crate::files::{Piece, Vector, changed, file_of, number, put, put_pieces};
 use pe_layout::Layout;
 use pe_tables::TableError;
 use pe_view::{Fault, Place, View};
 use std::alloc::Global;
 use std::process::Abort;
-
-/// Bytes at a file offset.
-pub(super) type Piece = (usize, &'static [u8]);
-
-/// Writes the pieces over a file's bytes; each lies inside the file.
-pub(super) fn put_pieces(rt: &impl Abort, file: &mut [u8], pieces: &[Piece]) {
-    for (offset, bytes) in pieces {
-        assert!(rt;
-            *offset <= file.len() && bytes.len() <= file.len() - *offset,
-            "at {offset:#x}"
-        );
-        put(file, *offset, bytes);
-    }
-}
-
-/// Writes bytes at a file offset.
-pub(super) fn put(file: &mut [u8], offset: usize, bytes: &[u8])
-    requires { offset + length bytes.now ≤ length file.old }
-{
-    file[offset..offset + bytes.len()].copy_from_slice(bytes);
-}
 
 /// The bytes from an offset on, which lies inside the file.
 pub(super) fn bytes_from<'a>(rt: &impl Abort, file: &'a [u8], offset: usize) -> &'a [u8] {
@@ -37,66 +14,8 @@ pub(super) fn bytes_from<'a>(rt: &impl Abort, file: &'a [u8], offset: usize) -> 
 }
 
 /// The number of at most 8 bytes at an offset, lowest byte first, which lies inside the file.
-pub(super) fn number(rt: &impl Abort, file: &[u8], offset: usize, width: usize) -> u64 {
-    let field = bytes_from(rt, file, offset);
-    assert!(rt; width <= 8 && width <= field.len(), "at {offset:#x}");
-    let mut bytes = [0; 8];
-    bytes[..width].copy_from_slice(&field[..width]);
-    u64::from_le_bytes(bytes)
-}
-
-/// One of the files.
-#[derive(Clone, Copy, Debug)]
-pub(super) enum Vector {
-    V1,
-    V2,
-    V3,
-    Va,
-    Vb,
-    Vc,
-    Vd,
-    Vs,
-    Vr,
-}
-
-/// All the files.
-pub(super) const VECTORS: [Vector; 9] = [
-    Vector::V1,
-    Vector::V2,
-    Vector::V3,
-    Vector::Va,
-    Vector::Vb,
-    Vector::Vc,
-    Vector::Vd,
-    Vector::Vs,
-    Vector::Vr,
-];
-
-/// The bytes of a file.
-pub(super) fn file_of(rt: &impl Abort, alloc: Global, vector: Vector) -> Vec<u8>
-    ensures { vec_len result ≤ 0x600 }
-{
-    let file = match vector {
-        Vector::V1 => v1(alloc),
-        Vector::V2 => v2(alloc),
-        Vector::V3 => v3(alloc),
-        Vector::Va => va(alloc),
-        Vector::Vb => vb(alloc),
-        Vector::Vc => vc(alloc),
-        Vector::Vd => vd(alloc),
-        Vector::Vs => vs(alloc),
-        Vector::Vr => vr(alloc),
-    };
-    file.expect(rt, "memory")
-}
-
-/// A file of at most 0x600 bytes, filled up with zeros and changed.
-pub(super) fn changed(rt: &impl Abort, file: &[u8], pieces: &[Piece]) -> [u8; 0x600] {
-    let mut changed = [0; 0x600];
-    assert!(rt; file.len() <= 0x600);
-    put(&mut changed, 0, file);
-    put_pieces(rt, &mut changed, pieces);
-    changed
+pub(super) fn number_at(rt: &impl Abort, file: &[u8], offset: usize, width: usize) -> u64 {
+    number(file, offset, width).expect(rt, "a number in the file")
 }
 
 /// The layout of an accepted file.
@@ -106,8 +25,8 @@ pub(super) fn layout_of<'a>(rt: &impl Abort, file: &'a [u8]) -> Layout<'a> {
 
 /// V1 with other bytes in its section, which ends the file.
 pub(super) fn with_data(rt: &impl Abort, alloc: Global, pieces: &[Piece], data: &[u8]) -> Vec<u8> {
-    let mut file = file_of(rt, alloc, Vector::V1);
-    put_pieces(rt, &mut file, pieces);
+    let mut file = file_of(alloc, Vector::V1).expect(rt, "memory");
+    put_pieces(&mut file, pieces).expect(rt, "pieces in the file");
     let size = u32::try_from(data.len()).expect(rt, "a size").to_le_bytes();
     assert!(rt; file.len() == 0x400);
     put(&mut file, 0x140, &size);
@@ -154,7 +73,7 @@ pub(super) fn assert_cases<F: Fn(&[u8]) -> Option<Fault>>(
     requires { F.IsAlwaysCallable fault_of }
 {
     for (index, (len, pieces, expected)) in cases.iter().enumerate() {
-        let changed = changed(rt, file, pieces);
+        let changed = changed(file, pieces).expect(rt, "a changed file");
         assert!(rt; *len <= file.len() && *len <= 0x600);
         let expected = match *expected {
             Some((number, offset)) => Some(fault(number, Place::File(offset))),

@@ -1,8 +1,7 @@
 //! What `pe_tables` reads of base relocation tables, and what it writes.
 
-use super::files::{
-    Piece, Vector, assert_holds, assert_refused, changed, file_of, layout_of, with_data,
-};
+use super::files::{assert_holds, assert_refused, layout_of, with_data};
+use crate::files::{Piece, Vector, changed_file};
 use pe_tables::FixupKind::{self, Bits32, Bits64, High, Low};
 use pe_tables::{Fixup, Import, Key, ascending, encode_fixups, read_fixups};
 use std::alloc::Global;
@@ -62,7 +61,7 @@ fn same_fixups(found: &[Fixup], rows: &[Row]) -> bool {
 /// Asserts what a file is read as in each case.
 fn assert_fixups(rt: &impl Abort, alloc: Global, vector: Vector, cases: &[Case]) {
     for (index, (pieces, slots, expected)) in cases.iter().enumerate() {
-        let file = changed(rt, &file_of(rt, alloc, vector), pieces);
+        let file = changed_file(alloc, vector, pieces).expect(rt, "a changed file");
         let found = read_fixups(alloc, &layout_of(rt, &file), &imports(rt, alloc, slots));
         match *expected {
             Ok(rows) => {

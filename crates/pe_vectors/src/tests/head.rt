@@ -1,10 +1,8 @@
 //! What `pe_head` reads of headers.
 
-use super::files::{
-    Case, IMAGE, Piece, VECTORS, Vector, assert_cases, assert_holds, assert_number, bytes_from,
-    changed, file_of, number, put, put_pieces,
-};
-use super::header_fields::{COFF_FIELDS, Field, PE32_FIELDS, PE32_PLUS_FIELDS, distinct_bytes};
+use super::files::{Case, IMAGE, assert_cases, assert_holds, assert_number, bytes_from, number_at};
+use crate::files::{Piece, VECTORS, Vector, changed_file, file_of, put, put_pieces};
+use crate::header_fields::{COFF_FIELDS, Field, PE32_FIELDS, PE32_PLUS_FIELDS, distinct_bytes};
 use pe_head::{Directory, Headers, Magic, SectionHeader, read_headers};
 use pe_view::{Fault, View};
 use std::process::Abort;
@@ -89,7 +87,7 @@ fn section_values(section: &SectionHeader) -> [u64; 9] {
 fn assert_values(rt: &impl Abort, values: &[u64], header: &[u8], fields: &[Field]) {
     assert_eq!(rt; values.len(), fields.len());
     for (value, (offset, width)) in values.iter().zip(fields) {
-        assert_number(rt, *offset, *value, number(rt, header, *offset, *width));
+        assert_number(rt, *offset, *value, number_at(rt, header, *offset, *width));
     }
 }
 
@@ -97,8 +95,8 @@ fn assert_values(rt: &impl Abort, values: &[u64], header: &[u8], fields: &[Field
 fn assert_directories(rt: &impl Abort, directories: &[Directory], bytes: &[u8]) {
     let mut rest = bytes;
     for directory in directories {
-        assert_number(rt, 0, u64::from(directory.rva), number(rt, rest, 0, 4));
-        assert_number(rt, 4, u64::from(directory.size), number(rt, rest, 4, 4));
+        assert_number(rt, 0, u64::from(directory.rva), number_at(rt, rest, 0, 4));
+        assert_number(rt, 4, u64::from(directory.size), number_at(rt, rest, 4, 4));
         rest = bytes_from(rt, rest, 8);
     }
 }
@@ -124,10 +122,10 @@ fn assert_optional_header(rt: &impl Abort, headers: &Headers, optional: &[u8]) {
         Magic::Pe32 => (0x10b, PE32_FIELDS, 96),
         Magic::Pe32Plus => (0x20b, PE32_PLUS_FIELDS, 112),
     };
-    assert_number(rt, 0, number(rt, optional, 0, 2), magic);
+    assert_number(rt, 0, number_at(rt, optional, 0, 2), magic);
     assert_values(rt, &optional_values(headers), optional, fields);
     let directories = headers.directories.as_slice();
-    let count = number(rt, optional, fixed_size - 4, 4).min(16);
+    let count = number_at(rt, optional, fixed_size - 4, 4).min(16);
     assert_number(rt, fixed_size, directories.len() as u64, count);
     assert_directories(rt, directories, bytes_from(rt, optional, fixed_size));
 }
@@ -141,7 +139,7 @@ fn assert_headers(rt: &impl Abort, file: &[u8]) -> Headers {
         rt,
         0x3c,
         u64::from(headers.pe_offset),
-        number(rt, file, 0x3c, 4),
+        number_at(rt, file, 0x3c, 4),
     );
     assert_values(
         rt,
@@ -181,8 +179,8 @@ const FORM: [&[Piece]; 2] = [
 fn every_field_is_read_from_its_place(rt: HostRuntime) {
     for (index, form) in FORM.iter().enumerate() {
         let mut file = distinct_bytes();
-        put_pieces(&rt, &mut file, ACCEPTED);
-        put_pieces(&rt, &mut file, form);
+        put_pieces(&mut file, ACCEPTED).expect(&rt, "pieces in the file");
+        put_pieces(&mut file, form).expect(&rt, "pieces in the file");
         let headers = assert_headers(&rt, &file);
         assert_holds(&rt, index, (headers.magic == Magic::Pe32) == (index == 0));
         assert_holds(&rt, index, headers.base_of_data.is_some() == (index == 0));
@@ -239,7 +237,7 @@ fn assert_outer(rt: &impl Abort, headers: &Headers, coff: &[u64], section: &[u64
 
 #[test]
 fn v1_has_the_named_header_values(rt: HostRuntime) {
-    let headers = headers_of(&rt, &file_of(&rt, rt.alloc(), Vector::V1));
+    let headers = headers_of(&rt, &file_of(rt.alloc(), Vector::V1).expect(&rt, "memory"));
     let section = [0x10, 0x1000, 0x200, 0x200, 0, 0, 0, 0, 0xc000_0040];
     assert_outer(&rt, &headers, &[0x14c, 1, 0, 0, 0, 0xe0, 0x2102], &section);
     assert_named(&rt, &optional_values(&headers), &V1_OPTIONAL);
@@ -247,7 +245,7 @@ fn v1_has_the_named_header_values(rt: HostRuntime) {
 
 #[test]
 fn v3_has_the_named_header_values(rt: HostRuntime) {
-    let headers = headers_of(&rt, &file_of(&rt, rt.alloc(), Vector::V3));
+    let headers = headers_of(&rt, &file_of(rt.alloc(), Vector::V3).expect(&rt, "memory"));
     let section = [0x0c, 0x2000, 0x200, 0x400, 0, 0, 0, 0, 0xc000_0040];
     assert_outer(&rt, &headers, &[0x8664, 2, 0, 0, 0, 0xf0, 0x2022], &section);
     assert_number(&rt, 0x70, headers.image_base, 0x1_8000_0000);
@@ -266,7 +264,7 @@ fn v3_has_the_named_header_values(rt: HostRuntime) {
 #[test]
 fn every_vector_is_read_field_by_field(rt: HostRuntime) {
     for vector in VECTORS {
-        let _ = assert_headers(&rt, &file_of(&rt, rt.alloc(), vector));
+        let _ = assert_headers(&rt, &file_of(rt.alloc(), vector).expect(&rt, "memory"));
     }
 }
 
@@ -436,7 +434,7 @@ fn header_fault(file: &[u8]) -> Option<Fault> {
 // Fault 1 needs a file of more than 2^32 bytes, so no test asks it; that it is asked first, at its place, is proved.
 #[test]
 fn each_fault_stands_from_its_boundary_on(rt: HostRuntime) {
-    let file = file_of(&rt, rt.alloc(), Vector::V1);
+    let file = file_of(rt.alloc(), Vector::V1).expect(&rt, "memory");
     for cases in [SIGNATURES, FORMS, SIZES] {
         assert_cases(&rt, &file, cases, header_fault);
     }
@@ -444,20 +442,20 @@ fn each_fault_stands_from_its_boundary_on(rt: HostRuntime) {
 
 #[test]
 fn the_least_fault_counts(rt: HostRuntime) {
-    let file = file_of(&rt, rt.alloc(), Vector::V1);
+    let file = file_of(rt.alloc(), Vector::V1).expect(&rt, "memory");
     assert_cases(&rt, &file, LEAST, header_fault);
 }
 
 #[test]
 fn each_fault_of_pe32_plus_stands_from_its_boundary_on(rt: HostRuntime) {
-    let file = file_of(&rt, rt.alloc(), Vector::V3);
+    let file = file_of(rt.alloc(), Vector::V3).expect(&rt, "memory");
     assert_cases(&rt, &file, PE32_PLUS, header_fault);
 }
 
 #[test]
 fn a_number_of_directories_over_16_is_kept_and_gives_16(rt: HostRuntime) {
     let pieces: &[Piece] = &[(0xb4, &[0xff, 0xff, 0xff, 0xff])];
-    let file = changed(&rt, &file_of(&rt, rt.alloc(), Vector::V1), pieces);
+    let file = changed_file(rt.alloc(), Vector::V1, pieces).expect(&rt, "a changed file");
     let headers = headers_of(&rt, &file);
     assert_holds(&rt, 0, headers.number_of_rva_and_sizes == 0xffff_ffff);
     assert_holds(&rt, 0, headers.directories.len() == 16);
@@ -466,9 +464,13 @@ fn a_number_of_directories_over_16_is_kept_and_gives_16(rt: HostRuntime) {
 #[test]
 fn ninety_six_sections_are_read(rt: HostRuntime) {
     let mut file = [0; 0x1200];
-    put(&mut file, 0, &file_of(&rt, rt.alloc(), Vector::V1));
+    put(
+        &mut file,
+        0,
+        &file_of(rt.alloc(), Vector::V1).expect(&rt, "memory"),
+    );
     let pieces: &[Piece] = &[(0x46, &[0x60]), (0x94, &[0x38, 0x10]), (0x1010, b".last")];
-    put_pieces(&rt, &mut file, pieces);
+    put_pieces(&mut file, pieces).expect(&rt, "pieces in the file");
     let headers = assert_headers(&rt, &file);
     let sections = headers.sections.as_slice();
     assert_holds(&rt, 0, sections.len() == 96);
@@ -478,7 +480,7 @@ fn ninety_six_sections_are_read(rt: HostRuntime) {
 
 #[test]
 fn the_signature_may_stand_anywhere(rt: HostRuntime) {
-    let vector = changed(&rt, &file_of(&rt, rt.alloc(), Vector::V1), &[]);
+    let vector = changed_file(rt.alloc(), Vector::V1, &[]).expect(&rt, "a changed file");
     // Up to 0x18 the field at 0x3c is one with fields of the optional header.
     for pe_offset in [2_u8, 4, 5, 0x18, 0x41, 0xe0] {
         let mut file = [0; 0x400];

@@ -1,6 +1,7 @@
 //! Each file, byte by byte.
 
-use super::files::{Piece, Vector, assert_holds, file_of, put_pieces};
+use super::files::assert_holds;
+use crate::files::{Piece, Vector, file_of, put_pieces};
 use crate::vf;
 use std::process::Abort;
 
@@ -336,7 +337,7 @@ const LISTED: &[(Vector, usize, bool, &[&[Piece]])] = &[
 /// Writes lists of pieces over a file's bytes.
 fn put_lists(rt: &impl Abort, file: &mut [u8], lists: &[&[Piece]]) {
     for pieces in lists {
-        put_pieces(rt, file, pieces);
+        put_pieces(file, pieces).expect(rt, "pieces in the file");
     }
 }
 
@@ -348,7 +349,7 @@ fn each_vector_has_the_listed_bytes(rt: HostRuntime) {
             put_data(&rt, &mut expected);
         }
         put_lists(&rt, &mut expected, lists);
-        let file = file_of(&rt, rt.alloc(), *vector);
+        let file = file_of(rt.alloc(), *vector).expect(&rt, "memory");
         assert_holds(&rt, index, Some(file.as_slice()) == expected.get(..*len));
     }
 }

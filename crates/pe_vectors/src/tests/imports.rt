@@ -1,10 +1,10 @@
 //! What `pe_tables` reads of import tables.
 
 use super::files::{
-    Piece, Vector, assert_holds, assert_number, assert_refused, changed, file_of, layout_of,
-    push_number, with_data,
+    assert_holds, assert_number, assert_refused, layout_of, push_number, with_data,
 };
-use super::same::same_imports;
+use crate::files::{Piece, Vector, changed_file};
+use crate::same::same_imports;
 use pe_tables::{Import, Key, read_imports};
 use std::alloc::Global;
 use std::process::Abort;
@@ -18,7 +18,7 @@ type Case = (
 /// Asserts what a file is read as in each case.
 fn assert_imports(rt: &impl Abort, alloc: Global, vector: Vector, cases: &[Case]) {
     for (index, (pieces, expected)) in cases.iter().enumerate() {
-        let file = changed(rt, &file_of(rt, alloc, vector), pieces);
+        let file = changed_file(alloc, vector, pieces).expect(rt, "a changed file");
         let found = read_imports(alloc, &layout_of(rt, &file));
         match *expected {
             Ok(imports) => {

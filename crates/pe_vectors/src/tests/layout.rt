@@ -1,9 +1,7 @@
 //! What `pe_layout` shows of laid-out images.
 
-use super::files::{
-    Case, IMAGE, Piece, VECTORS, Vector, assert_cases, assert_holds, bytes_from, changed, file_of,
-    layout_of, number, put, put_pieces,
-};
+use super::files::{Case, IMAGE, assert_cases, assert_holds, bytes_from, layout_of, number_at};
+use crate::files::{Piece, VECTORS, Vector, changed_file, file_of, put, put_pieces};
 use pe_head::Directory;
 use pe_layout::{Layout, Located};
 use pe_view::{Fault, View};
@@ -12,7 +10,7 @@ use std::process::Abort;
 
 /// The number of 4 bytes at an offset.
 fn word(rt: &impl Abort, file: &[u8], offset: usize) -> u64 {
-    number(rt, file, offset, 4)
+    number_at(rt, file, offset, 4)
 }
 
 /// Writes the bytes that the file holds for a section of its own place in the image; the rest of the section is zeros.
@@ -45,8 +43,8 @@ fn laid_out(rt: &impl Abort, alloc: Global, file: &[u8]) -> Vec<u8> {
     let mut image = vec![in alloc; 0; size_of_image].expect(rt, "memory");
     assert!(rt; size_of_headers <= file.len() && size_of_headers <= image.len());
     put(&mut image, 0, &file[..size_of_headers]);
-    let mut table = bytes_from(rt, optional, number(rt, signature, 20, 2) as usize);
-    for _ in 0..number(rt, signature, 6, 2) {
+    let mut table = bytes_from(rt, optional, number_at(rt, signature, 20, 2) as usize);
+    for _ in 0..number_at(rt, signature, 6, 2) {
         lay_section(rt, &mut image, file, table);
         table = bytes_from(rt, table, 40);
     }
@@ -70,7 +68,7 @@ fn has_bytes(layout: &Layout, image: &[u8]) -> bool {
 #[test]
 fn each_byte_of_each_vector_is_the_one_that_the_rule_lays_there(rt: HostRuntime) {
     for (index, vector) in VECTORS.iter().enumerate() {
-        let file = file_of(&rt, rt.alloc(), *vector);
+        let file = file_of(rt.alloc(), *vector).expect(&rt, "memory");
         let image = laid_out(&rt, rt.alloc(), &file);
         assert_holds(&rt, index, has_bytes(&layout_of(&rt, &file), &image));
     }
@@ -193,22 +191,22 @@ fn layout_fault(file: &[u8]) -> Option<Fault> {
 #[test]
 fn a_slot_has_four_bytes_in_pe32_and_eight_in_pe32_plus(rt: HostRuntime) {
     for (vector, width) in [(Vector::V2, 4), (Vector::V3, 8)] {
-        let file = file_of(&rt, rt.alloc(), vector);
+        let file = file_of(rt.alloc(), vector).expect(&rt, "memory");
         assert_holds(&rt, 0, layout_of(&rt, &file).slot_width() == width);
     }
 }
 
 #[test]
 fn each_section_fault_stands_from_its_boundary_on(rt: HostRuntime) {
-    let file = file_of(&rt, rt.alloc(), Vector::V1);
+    let file = file_of(rt.alloc(), Vector::V1).expect(&rt, "memory");
     assert_cases(&rt, &file, ONE_SECTION, layout_fault);
-    let file = file_of(&rt, rt.alloc(), Vector::V2);
+    let file = file_of(rt.alloc(), Vector::V2).expect(&rt, "memory");
     assert_cases(&rt, &file, TWO_SECTIONS, layout_fault);
 }
 
 #[test]
 fn a_layout_shows_its_headers_and_its_number(rt: HostRuntime) {
-    let file = file_of(&rt, rt.alloc(), Vector::V1);
+    let file = file_of(rt.alloc(), Vector::V1).expect(&rt, "memory");
     let layout = layout_of(&rt, &file);
     assert_holds(&rt, 0, layout.image() == IMAGE);
     assert_holds(&rt, 0, layout.headers().image_base == 0x1000_0000);
@@ -248,7 +246,7 @@ const BYTES: &[Byte] = &[
 #[test]
 fn a_byte_and_what_stands_there(rt: HostRuntime) {
     for (index, (pieces, rva, byte, located)) in BYTES.iter().enumerate() {
-        let file = changed(&rt, &file_of(&rt, rt.alloc(), Vector::V1), pieces);
+        let file = changed_file(rt.alloc(), Vector::V1, pieces).expect(&rt, "a changed file");
         let layout = layout_of(&rt, &file);
         assert_holds(&rt, index, layout.byte(*rva) == *byte);
         assert_holds(&rt, index, layout.locate(*rva) == *located);
@@ -301,7 +299,7 @@ const PLACES: &[(u32, Located)] = &[
 #[test]
 fn locate_names_the_piece_and_the_file_offset(rt: HostRuntime) {
     let pieces: &[Piece] = &[(0x140, &[0x00, 0x03])];
-    let file = changed(&rt, &file_of(&rt, rt.alloc(), Vector::V2), pieces);
+    let file = changed_file(rt.alloc(), Vector::V2, pieces).expect(&rt, "a changed file");
     let layout = layout_of(&rt, &file);
     for (rva, expected) in PLACES {
         assert_holds(&rt, *rva as usize, layout.locate(*rva) == *expected);
@@ -395,7 +393,7 @@ fn assert_numbers(rt: &impl Abort, layout: &Layout, numbers: &[Numbers]) {
 #[test]
 fn numbers_cross_pieces_and_end_with_the_image(rt: HostRuntime) {
     for (vector, pieces, numbers) in NUMBERS {
-        let file = changed(&rt, &file_of(&rt, rt.alloc(), *vector), pieces);
+        let file = changed_file(rt.alloc(), *vector, pieces).expect(&rt, "a changed file");
         assert_numbers(&rt, &layout_of(&rt, &file), numbers);
     }
 }
@@ -477,7 +475,7 @@ const NAMED: &[(Vector, &[Piece], &[Text])] = &[
 #[test]
 fn a_text_ends_inside_its_piece(rt: HostRuntime) {
     for (vector, pieces, texts) in NAMED {
-        let file = changed(&rt, &file_of(&rt, rt.alloc(), *vector), pieces);
+        let file = changed_file(rt.alloc(), *vector, pieces).expect(&rt, "a changed file");
         assert_texts(&rt, &layout_of(&rt, &file), texts);
     }
 }
@@ -523,7 +521,7 @@ fn is_directory(found: Option<Directory>, expected: Option<(u32, u32)>) -> bool 
 #[test]
 fn a_directory_is_present_where_the_headers_hold_it_and_its_rva_is_not_0(rt: HostRuntime) {
     for (case, (pieces, index, expected)) in DIRECTORIES.iter().enumerate() {
-        let file = changed(&rt, &file_of(&rt, rt.alloc(), Vector::V2), pieces);
+        let file = changed_file(rt.alloc(), Vector::V2, pieces).expect(&rt, "a changed file");
         let found = layout_of(&rt, &file).directory(*index);
         assert_holds(&rt, case, is_directory(found, *expected));
     }
@@ -609,7 +607,7 @@ fn assert_filled(rt: &impl Abort, layout: &Layout, image: &[u8], rva: u32, len: 
 #[test]
 fn fill_gives_what_byte_gives_for_every_range(rt: HostRuntime) {
     let mut file = [0; 0x180];
-    put_pieces(&rt, &mut file, SMALL);
+    put_pieces(&mut file, SMALL).expect(&rt, "pieces in the file");
     let layout = layout_of(&rt, &file);
     let image = laid_out(&rt, rt.alloc(), &file);
     assert_holds(&rt, 0, has_bytes(&layout, &image));

@@ -1,10 +1,11 @@
 //! Moves of images of a space, and runs of commands.
 
 use super::both::Both;
-use super::files::{Piece, Vector, assert_holds, put_pieces};
-use super::members::{
-    A, B, C, Member, PLAIN, RELOCATED, Refusal, WIDE, assert_bytes, fault_of, files_of, set_of,
-    spaces_of,
+use super::files::assert_holds;
+use super::members::{assert_bytes, spaces_of};
+use crate::files::{Piece, Vector, put_pieces};
+use crate::members::{
+    A, B, C, Member, PLAIN, RELOCATED, Refusal, WIDE, fault_of, files_of, set_of,
 };
 use crate::{vc, vf};
 use pe_space::{Command, Moved, Policy, Reply, SetEntry, Space, map, open_space, run};
@@ -26,8 +27,8 @@ type Step = (u16, u64, Answer, &'static [(u64, &'static [u8])]);
 
 /// Asserts what moves answer, one after the other, and what stands behind each.
 fn assert_moves(rt: &impl Abort, alloc: Global, members: &[Member], steps: &[Step]) {
-    let files = files_of(rt, alloc, members);
-    let set = set_of(rt, alloc, members, &files);
+    let files = files_of(alloc, members).expect(rt, "files");
+    let set = set_of(alloc, members, &files).expect(rt, "memory");
     let mut space = spaces_of(rt, alloc, &set, Policy::Strict);
     for (index, (image, base, answer, expected)) in steps.iter().enumerate() {
         let answer = match *answer {
@@ -254,8 +255,8 @@ const OWN_SLOTS: &[Step] = &[
 fn an_image_may_overlap_where_it_stood(rt: HostRuntime) {
     let members = [OWN, PLAIN];
     assert_moves(&rt, rt.alloc(), &members, OWN_SLOTS);
-    let files = files_of(&rt, rt.alloc(), &members);
-    let set = set_of(&rt, rt.alloc(), &members, &files);
+    let files = files_of(rt.alloc(), &members).expect(&rt, "files");
+    let set = set_of(rt.alloc(), &members, &files).expect(&rt, "memory");
     let mut space = spaces_of(&rt, rt.alloc(), &set, Policy::Strict);
     let moved = space.move_image(&rt, 0, 0x2001_0000);
     assert!(rt; moved.is_ok() && space.byte(&rt, 0x2000_0000).is_none());
@@ -371,8 +372,8 @@ fn bytes_of(rt: &impl Abort, alloc: Global, space: &Both) -> Vec<Vec<u8>> {
 
 /// Moves there and back, and asserts that each byte is as before.
 fn assert_returns(rt: &impl Abort, alloc: Global, members: &[Member], image: u16, away: u64) {
-    let files = files_of(rt, alloc, members);
-    let set = set_of(rt, alloc, members, &files);
+    let files = files_of(alloc, members).expect(rt, "files");
+    let set = set_of(alloc, members, &files).expect(rt, "memory");
     let mut space = spaces_of(rt, alloc, &set, Policy::Strict);
     let home = space.base_of(rt, image).expect(rt, "a base");
     let before = bytes_of(rt, alloc, &space);
@@ -401,10 +402,10 @@ const FROM_F: &[Piece] = &[(0x240, b"F"), (0x228, &[0x01, 0x00, 0x00, 0x80])];
 #[test]
 fn the_middle_of_a_chain_moves_and_no_slot_does(rt: HostRuntime) {
     let mut first = vf(rt.alloc(), 64).expect(&rt, "memory");
-    put_pieces(&rt, &mut first, BY_G);
+    put_pieces(&mut first, BY_G).expect(&rt, "pieces in the file");
     let middle = vf(rt.alloc(), 64).expect(&rt, "memory");
     let mut importer = vc(rt.alloc()).expect(&rt, "memory");
-    put_pieces(&rt, &mut importer, FROM_F);
+    put_pieces(&mut importer, FROM_F).expect(&rt, "pieces in the file");
     let entry = |name, file, base| SetEntry { name, file, base };
     let set = [
         entry(b"f.dll", first.as_slice(), 0x2000_0000),
@@ -538,8 +539,8 @@ fn assert_told<S: Space>(rt: &impl Abort, alloc: Global, space: &mut S) {
 #[test]
 fn commands_answer_in_their_order(rt: HostRuntime) {
     let alloc = rt.alloc();
-    let files = files_of(&rt, alloc, &[A, B, C]);
-    let set = set_of(&rt, alloc, &[A, B, C], &files);
+    let files = files_of(alloc, &[A, B, C]).expect(&rt, "files");
+    let set = set_of(alloc, &[A, B, C], &files).expect(&rt, "memory");
     let mut mapped = map(alloc, &set, Policy::Strict).expect(&rt, "a space");
     assert_told(&rt, alloc, &mut mapped);
     let mut filed = open_space(alloc, &set, Policy::Strict).expect(&rt, "a space");
@@ -549,8 +550,8 @@ fn commands_answer_in_their_order(rt: HostRuntime) {
 #[test]
 fn no_commands_answer_nothing(rt: HostRuntime) {
     let alloc = rt.alloc();
-    let files = files_of(&rt, alloc, &[PLAIN]);
-    let set = set_of(&rt, alloc, &[PLAIN], &files);
+    let files = files_of(alloc, &[PLAIN]).expect(&rt, "files");
+    let set = set_of(alloc, &[PLAIN], &files).expect(&rt, "memory");
     let mut mapped = map(alloc, &set, Policy::Strict).expect(&rt, "a space");
     assert!(rt; run(alloc, &mut mapped, &[]).is_ok_and(|replies| replies.is_empty()));
     let mut filed = open_space(alloc, &set, Policy::Strict).expect(&rt, "a space");

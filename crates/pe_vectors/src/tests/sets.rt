@@ -1,10 +1,9 @@
 //! Which sets of images `pe_space` refuses, and by which fault: their names, their bases, and the order in which faults count.
 
 use super::both::opened;
-use super::files::Piece;
-use super::members::{
-    A, B, C, Member, PLAIN, RELOCATED, Refusal, WIDE, assert_refusal, error_of, names_of, repeated,
-};
+use super::members::{assert_refusal, error_of};
+use crate::files::Piece;
+use crate::members::{A, B, C, Member, PLAIN, RELOCATED, Refusal, WIDE, names_of, repeated};
 use pe_space::Policy;
 use pe_view::Place;
 use std::alloc::Global;
@@ -133,8 +132,8 @@ const COUNTS: &[(usize, Option<(usize, usize)>, Refusal)] = &[
 #[test]
 fn a_set_has_at_most_256_entries(rt: HostRuntime) {
     for (index, (count, repeat, expected)) in COUNTS.iter().enumerate() {
-        let names = names_of(&rt, rt.alloc(), *count);
-        let mut set = repeated(&rt, rt.alloc(), &names, b"");
+        let names = names_of(rt.alloc(), *count).expect(&rt, "memory");
+        let mut set = repeated(rt.alloc(), &names, b"").expect(&rt, "memory");
         if let Some((from, to)) = *repeat {
             assert!(rt; from < set.len() && to < set.len());
             set[to].name = set[from].name;

@@ -1,10 +1,11 @@
 //! Which bytes `pe_space` has at which addresses.
 
 use super::both::Both;
-use super::files::{Piece, Vector, assert_holds, file_of};
-use super::members::{
-    A, B, C, Member, PLAIN, RELOCATED, WIDE, assert_bytes, fault_of, files_of, names_of, repeated,
-    set_of, spaces_of,
+use super::files::assert_holds;
+use super::members::{assert_bytes, spaces_of};
+use crate::files::{Piece, Vector, file_of};
+use crate::members::{
+    A, B, C, Member, PLAIN, RELOCATED, WIDE, fault_of, files_of, names_of, repeated, set_of,
 };
 use pe_space::Policy;
 use pe_view::Place;
@@ -27,8 +28,8 @@ fn assert_alone(rt: &impl Abort, alloc: Global, cases: &[Case]) {
             base: *base,
             ..*file
         };
-        let files = files_of(rt, alloc, &[member]);
-        let set = set_of(rt, alloc, &[member], &files);
+        let files = files_of(alloc, &[member]).expect(rt, "files");
+        let set = set_of(alloc, &[member], &files).expect(rt, "memory");
         let space = spaces_of(rt, alloc, &set, Policy::Strict);
         for (address, bytes) in expected.iter() {
             assert_bytes(rt, index, &space, *address, bytes);
@@ -289,8 +290,8 @@ type Seen = (&'static [Member], &'static [(u64, &'static [u8])]);
 /// Asserts what stands in the space of each set.
 fn assert_seen(rt: &impl Abort, alloc: Global, sets: &[Seen]) {
     for (index, (members, expected)) in sets.iter().enumerate() {
-        let files = files_of(rt, alloc, members);
-        let set = set_of(rt, alloc, members, &files);
+        let files = files_of(alloc, members).expect(rt, "files");
+        let set = set_of(alloc, members, &files).expect(rt, "memory");
         let space = spaces_of(rt, alloc, &set, Policy::Strict);
         for (address, bytes) in expected.iter() {
             assert_bytes(rt, index, &space, *address, bytes);
@@ -519,8 +520,8 @@ const OUTSIDE: &[(&[Member], &[u64])] = &[
 #[test]
 fn no_byte_stands_outside_the_images(rt: HostRuntime) {
     for (index, (members, addresses)) in OUTSIDE.iter().enumerate() {
-        let files = files_of(&rt, rt.alloc(), members);
-        let set = set_of(&rt, rt.alloc(), members, &files);
+        let files = files_of(rt.alloc(), members).expect(&rt, "files");
+        let set = set_of(rt.alloc(), members, &files).expect(&rt, "memory");
         let space = spaces_of(&rt, rt.alloc(), &set, Policy::Strict);
         for address in addresses.iter() {
             assert_holds(&rt, index, space.byte(&rt, *address).is_none());
@@ -536,8 +537,8 @@ const UNTOUCHED: [u8; 4] = [0xee; 4];
 
 /// Asserts what windows of the space of a set answer, in a buffer that they change where they are granted alone.
 fn assert_windows(rt: &impl Abort, alloc: Global, members: &[Member], windows: &[Window]) {
-    let files = files_of(rt, alloc, members);
-    let set = set_of(rt, alloc, members, &files);
+    let files = files_of(alloc, members).expect(rt, "files");
+    let set = set_of(alloc, members, &files).expect(rt, "memory");
     let space = spaces_of(rt, alloc, &set, Policy::Strict);
     for (index, (address, len, expected)) in windows.iter().enumerate() {
         let mut buffer = UNTOUCHED;
@@ -616,8 +617,8 @@ fn a_window_lies_in_one_image(rt: HostRuntime) {
 
 #[test]
 fn a_window_may_be_the_whole_image(rt: HostRuntime) {
-    let files = files_of(&rt, rt.alloc(), &[PLAIN]);
-    let set = set_of(&rt, rt.alloc(), &[PLAIN], &files);
+    let files = files_of(rt.alloc(), &[PLAIN]).expect(&rt, "files");
+    let set = set_of(rt.alloc(), &[PLAIN], &files).expect(&rt, "memory");
     let space = spaces_of(&rt, rt.alloc(), &set, Policy::Strict);
     let mut longer = [0xee; 0x3001];
     let fault = fault_of((54, 0, Place::Address(0x1000_0000)));
@@ -662,8 +663,8 @@ fn assert_count(rt: &impl Abort, case: usize, space: &Both, count: u16) {
 #[test]
 fn images_have_their_bases_and_sizes(rt: HostRuntime) {
     for (index, (members, images)) in IMAGES.iter().enumerate() {
-        let files = files_of(&rt, rt.alloc(), members);
-        let set = set_of(&rt, rt.alloc(), members, &files);
+        let files = files_of(rt.alloc(), members).expect(&rt, "files");
+        let set = set_of(rt.alloc(), members, &files).expect(&rt, "memory");
         let space = spaces_of(&rt, rt.alloc(), &set, Policy::Strict);
         let count = u16::try_from(images.len()).expect(&rt, "a count");
         assert_count(&rt, index, &space, count);
@@ -677,9 +678,9 @@ fn images_have_their_bases_and_sizes(rt: HostRuntime) {
 
 #[test]
 fn a_space_of_256_images(rt: HostRuntime) {
-    let file = file_of(&rt, rt.alloc(), Vector::V1);
-    let names = names_of(&rt, rt.alloc(), 256);
-    let set = repeated(&rt, rt.alloc(), &names, &file);
+    let file = file_of(rt.alloc(), Vector::V1).expect(&rt, "memory");
+    let names = names_of(rt.alloc(), 256).expect(&rt, "memory");
+    let set = repeated(rt.alloc(), &names, &file).expect(&rt, "memory");
     let space = spaces_of(&rt, rt.alloc(), &set, Policy::Strict);
     assert_count(&rt, 0, &space, 256);
     assert!(rt; space.base_of(&rt, 255) == Some(0xff_0000));

@@ -1,6 +1,7 @@
 //! What `pe_image` reads of whole files.
 
-use super::files::{Vector, assert_holds, file_of};
+use super::files::assert_holds;
+use crate::files::{Vector, file_of};
 use pe_image::read_image;
 use pe_tables::TableError;
 use pe_view::{Fault, Place};
@@ -19,7 +20,7 @@ const COUNTS: &[(Vector, [usize; 4])] = &[
 #[test]
 fn an_image_is_read_whole(rt: HostRuntime) -> Result<(), Fail> {
     for (index, (vector, counts)) in COUNTS.iter().enumerate() {
-        let file = file_of(&rt, rt.alloc(), *vector);
+        let file = file_of(rt.alloc(), *vector).expect(&rt, "memory");
         let image = read_image(rt.alloc(), &file, 7).expect(&rt, "an image");
         assert_holds(&rt, index, image.layout.image() == 7);
         assert_holds(&rt, index, image.exports.ordinals().len() == counts[0]);
@@ -32,7 +33,7 @@ fn an_image_is_read_whole(rt: HostRuntime) -> Result<(), Fail> {
 
 #[test]
 fn a_fault_bears_the_number_of_its_image(rt: HostRuntime) -> Result<(), Fail> {
-    let file = file_of(&rt, rt.alloc(), Vector::V1);
+    let file = file_of(rt.alloc(), Vector::V1).expect(&rt, "memory");
     let fault = Fault {
         number: 2,
         image: 300,

@@ -1,7 +1,8 @@
 //! Windows of one image and of several by both spaces: what is laid on them, at each edge and behind each move.
 
 use super::both::Both;
-use super::members::{A, B, C, Member, RELOCATED, files_of, set_of, spaces_of};
+use super::members::spaces_of;
+use crate::members::{A, B, C, Member, RELOCATED, files_of, set_of};
 use pe_space::Policy;
 use std::process::Abort;
 
@@ -40,8 +41,8 @@ fn fields_are_cut_by_each_edge_of_a_window(rt: HostRuntime) {
             base: 0x2000_0000,
             ..member
         }];
-        let files = files_of(&rt, rt.alloc(), &members);
-        let set = set_of(&rt, rt.alloc(), &members, &files);
+        let files = files_of(rt.alloc(), &members).expect(&rt, "files");
+        let set = set_of(rt.alloc(), &members, &files).expect(&rt, "memory");
         let mut space = spaces_of(&rt, rt.alloc(), &set, Policy::Strict);
         assert_same_windows(&rt, &space, 0x2000_1000);
         assert!(rt; space.move_image(&rt, 0, 0x6543_0000).is_ok());
@@ -51,8 +52,8 @@ fn fields_are_cut_by_each_edge_of_a_window(rt: HostRuntime) {
 
 #[test]
 fn slots_are_cut_by_each_edge_of_a_window(rt: HostRuntime) {
-    let files = files_of(&rt, rt.alloc(), &[A, B, C]);
-    let set = set_of(&rt, rt.alloc(), &[A, B, C], &files);
+    let files = files_of(rt.alloc(), &[A, B, C]).expect(&rt, "files");
+    let set = set_of(rt.alloc(), &[A, B, C], &files).expect(&rt, "memory");
     let mut space = spaces_of(&rt, rt.alloc(), &set, Policy::Strict);
     assert_same_windows(&rt, &space, 0x40_1028);
     assert!(rt; space.move_image(&rt, 1, 0x6543_0000).is_ok());
@@ -79,8 +80,8 @@ fn both_spaces_answer_the_same_in_any_order_of_calls(rt: HostRuntime) {
             ..TWO_FIELDS
         },
     ];
-    let files = files_of(&rt, rt.alloc(), &members);
-    let set = set_of(&rt, rt.alloc(), &members, &files);
+    let files = files_of(rt.alloc(), &members).expect(&rt, "files");
+    let set = set_of(rt.alloc(), &members, &files).expect(&rt, "memory");
     let mut space = spaces_of(&rt, rt.alloc(), &set, Policy::Strict);
     let mut state = 1;
     for _ in 0..400u32 {

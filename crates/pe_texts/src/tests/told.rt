@@ -1,6 +1,6 @@
 //! Faults in words, and what first bytes show a file to be.
 
-use super::files::assert_holds;
+use super::asserts::assert_holds;
 use pe_tool::{FaultText, FaultWords, FileKind, fault_words, file_kind};
 use pe_view::{Fault, Place};
 

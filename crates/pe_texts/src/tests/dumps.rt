@@ -1,6 +1,7 @@
 //! Whole dumps, a line each.
 
-use super::files::{Vector, assert_holds};
+use super::asserts::assert_holds;
+use pe_vectors::files::Vector;
 use std::alloc::Global;
 use std::process::Abort;
 

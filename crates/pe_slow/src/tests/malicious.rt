@@ -1,13 +1,14 @@
 //! Malicious files and sets: `map` and `open_space` accept exactly those in which `slow_first` finds no fault, and refuse all
 //! others by the fault that it finds.
 
-use super::files::{Piece, Vector, changed, file_of, put_pieces};
-use super::members::{
+use crate::slow_first;
+use pe_space::{MapError, Policy, SetEntry, map, open_space};
+use pe_vectors::files::{Piece, Vector, changed, file_of, put_pieces};
+use pe_vectors::members::{
     A, B, C, Member, PLAIN, RELOCATED, Refusal, WIDE, fault_of, files_of, names_of, repeated,
     set_of,
 };
-use crate::{slow_first, vf};
-use pe_space::{MapError, Policy, SetEntry, map, open_space};
+use pe_vectors::vf;
 use pe_view::{Fault, Place};
 use std::alloc::Global;
 use std::process::Abort;
@@ -99,7 +100,7 @@ fn assert_file_agrees(
 fn files_that_are_cut_agree_with_the_slow_checker(rt: HostRuntime) {
     let mut sets: usize = 0;
     for vector in FILES {
-        let file = file_of(&rt, rt.alloc(), vector);
+        let file = file_of(rt.alloc(), vector).expect(&rt, "memory");
         let base = image_base(vector);
         for len in 0..file.len() {
             assert_file_agrees(&rt, rt.alloc(), &file[..len], base, Case::Cut(vector, len));
@@ -117,7 +118,7 @@ fn assert_changes_agree(
     (from, to): (usize, usize),
 ) -> usize {
     let base = image_base(vector);
-    let mut file = file_of(rt, alloc, vector);
+    let mut file = file_of(alloc, vector).expect(rt, "memory");
     let mut sets: usize = 0;
     for place in from..to {
         assert!(rt; place < file.len());
@@ -176,9 +177,9 @@ const HEADERS: &[HeaderCase] = &[
 
 #[test]
 fn malformed_headers_are_refused_by_the_slow_checker_too(rt: HostRuntime) {
-    let file = file_of(&rt, rt.alloc(), Vector::V1);
+    let file = file_of(rt.alloc(), Vector::V1).expect(&rt, "memory");
     for (index, (len, pieces, expected)) in HEADERS.iter().enumerate() {
-        let changed = changed(&rt, &file, pieces);
+        let changed = changed(&file, pieces).expect(&rt, "a changed file");
         assert!(rt; *len <= changed.len());
         let base = image_base(Vector::V1);
         let case = Case::Listed("headers", index);
@@ -425,8 +426,8 @@ fn malformed_tables_are_refused_by_the_slow_checker_too(rt: HostRuntime) {
     ];
     for (name, cases) in lists {
         for (index, (vector, pieces, expected)) in cases.iter().enumerate() {
-            let file = file_of(&rt, rt.alloc(), *vector);
-            let changed = changed(&rt, &file, pieces);
+            let file = file_of(rt.alloc(), *vector).expect(&rt, "memory");
+            let changed = changed(&file, pieces).expect(&rt, "a changed file");
             let judged = (changed.as_slice(), image_base(*vector));
             let case = Case::Listed(name, index);
             assert_table_judged(&rt, rt.alloc(), case, judged, *expected);
@@ -436,8 +437,8 @@ fn malformed_tables_are_refused_by_the_slow_checker_too(rt: HostRuntime) {
 
 #[test]
 fn fields_that_meet_a_slot_are_refused_by_the_slow_checker_too(rt: HostRuntime) {
-    let file = file_of(&rt, rt.alloc(), Vector::Vc);
-    let mut changed = changed(&rt, &file, RELOCATED_IMPORTER);
+    let file = file_of(rt.alloc(), Vector::Vc).expect(&rt, "memory");
+    let mut changed = changed(&file, RELOCATED_IMPORTER).expect(&rt, "a changed file");
     for (index, (entry, expected)) in BESIDE_THE_SLOT.iter().enumerate() {
         changed[0x408] = entry[0];
         changed[0x409] = entry[1];
@@ -685,8 +686,8 @@ fn assert_set_refused(
 #[test]
 fn sets_are_refused_by_the_slow_checker_too(rt: HostRuntime) {
     for (index, (members, policy, expected)) in SETS.iter().enumerate() {
-        let files = files_of(&rt, rt.alloc(), members);
-        let set = set_of(&rt, rt.alloc(), members, &files);
+        let files = files_of(rt.alloc(), members).expect(&rt, "files");
+        let set = set_of(rt.alloc(), members, &files).expect(&rt, "memory");
         let case = Case::Listed("sets", index);
         assert_set_refused(&rt, rt.alloc(), &set, *policy, case, *expected);
     }
@@ -694,12 +695,12 @@ fn sets_are_refused_by_the_slow_checker_too(rt: HostRuntime) {
 
 #[test]
 fn chains_of_forwarders_end_for_the_slow_checker_too(rt: HostRuntime) {
-    let mut importer = file_of(&rt, rt.alloc(), Vector::Vc);
+    let mut importer = file_of(rt.alloc(), Vector::Vc).expect(&rt, "memory");
     put_pieces(
-        &rt,
         &mut importer,
         &[(0x240, b"F"), (0x228, &[0x01, 0x00, 0x00, 0x80])],
-    );
+    )
+    .expect(&rt, "pieces in the file");
     for (forwarders, expected) in [(64, None), (65, Some((50, 1, Place::Rva(0x1030))))] {
         let exporter = vf(rt.alloc(), forwarders).expect(&rt, "memory");
         let set = [
@@ -721,8 +722,8 @@ fn chains_of_forwarders_end_for_the_slow_checker_too(rt: HostRuntime) {
 
 #[test]
 fn long_lists_are_refused_by_the_slow_checker_too(rt: HostRuntime) {
-    let names = names_of(&rt, rt.alloc(), 257);
-    let mut set = repeated(&rt, rt.alloc(), &names, b"");
+    let names = names_of(rt.alloc(), 257).expect(&rt, "memory");
+    let mut set = repeated(rt.alloc(), &names, b"").expect(&rt, "memory");
     let too_many = Some((41, 256, Place::Item(256)));
     let case = Case::Listed("long lists", 0);
     assert_set_refused(&rt, rt.alloc(), &set, Policy::Strict, case, too_many);
@@ -735,16 +736,16 @@ fn long_lists_are_refused_by_the_slow_checker_too(rt: HostRuntime) {
 
 #[test]
 fn a_block_of_2_to_the_30_entries_is_walked_where_the_file_has_bytes(rt: HostRuntime) {
-    let mut file = file_of(&rt, rt.alloc(), Vector::V2);
+    let mut file = file_of(rt.alloc(), Vector::V2).expect(&rt, "memory");
     put_pieces(
-        &rt,
         &mut file,
         &[
             (0x90, &[0x00, 0x00, 0x00, 0x80]),
             (0xe4, &[0x00, 0xe0, 0xff, 0x7f]),
             (0x404, &[0x00, 0xe0, 0xff, 0x7f]),
         ],
-    );
+    )
+    .expect(&rt, "pieces in the file");
     let set = [SetEntry {
         name: b"s.dll",
         file: &file,

@@ -2,22 +2,24 @@
 
 ghost use Rattle.std.specs.Prelude.{◌<◌};
 
-use super::engines::{Devices, Engine, run_over, steps_of};
-use super::files::{Vector, file_of, layout_of};
 use super::images_written::REFUSED;
-use super::members::{A, B, C, files_of, names_of, repeated, set_of};
-use super::o1::{O1, O1_SYMBOLS, fault_of, list, same_object};
+use super::o1::{O1_SYMBOLS, fault_of, list, same_object};
 use super::plans::{V2, plan_of};
-use super::same::{same_imports, same_names, same_ordinals};
-use crate::{StepReader, StepWriter};
 use bumpalo::Bump;
 use coff_object::{Object, ObjectError, Symbol, read_object, write_object};
 use pe_image::read_image;
+use pe_layout::Layout;
 use pe_set::{Module, judge};
 use pe_space::{Command, MapError, MappedSpace, Policy, SetEntry, Space, map, open_space, run};
 use pe_tables::{TableError, ascending, encode_fixups, read_exports, read_fixups, read_imports};
 use pe_tool::{Outcome, ToolError, map_report, read_whole, rebase};
-use pe_view::{Fault, Place};
+use pe_vectors::engines::{Devices, Engine, run_over, steps_of};
+use pe_vectors::files::{Vector, file_of};
+use pe_vectors::members::{A, B, C, files_of, names_of, repeated, set_of};
+use pe_vectors::objects::O1;
+use pe_vectors::same::{same_imports, same_names, same_ordinals};
+use pe_vectors::{StepReader, StepWriter};
+use pe_view::{Fault, Place, View};
 use pe_write::{WriteError, rebase_file, write_image};
 use std::alloc::Global;
 use std::process::Abort;
@@ -63,8 +65,13 @@ enum Call {
     Rebase,
 }
 
+/// The layout of a file that has none of its faults.
+fn layout_of<'a>(rt: &impl Abort, file: &'a [u8]) -> Layout<'a> {
+    Layout::new(View::new(file), 0).expect(rt, "a layout")
+}
+
 fn exports(rt: &impl Abort, alloc: Global, arena: &Bump) -> Answer {
-    let file = file_of(rt, alloc, Vector::Vb);
+    let file = file_of(alloc, Vector::Vb).expect(rt, "memory");
     let layout = layout_of(rt, &file);
     let expected = read_exports(alloc, &layout).expect(rt, "exports");
     match read_exports(arena, &layout) {
@@ -80,7 +87,7 @@ fn exports(rt: &impl Abort, alloc: Global, arena: &Bump) -> Answer {
 }
 
 fn imports(rt: &impl Abort, alloc: Global, arena: &Bump) -> Answer {
-    let file = file_of(rt, alloc, Vector::Vc);
+    let file = file_of(alloc, Vector::Vc).expect(rt, "memory");
     let layout = layout_of(rt, &file);
     let expected = read_imports(alloc, &layout).expect(rt, "imports");
     match read_imports(arena, &layout) {
@@ -91,7 +98,7 @@ fn imports(rt: &impl Abort, alloc: Global, arena: &Bump) -> Answer {
 }
 
 fn fixups(rt: &impl Abort, alloc: Global, arena: &Bump) -> Answer {
-    let file = file_of(rt, alloc, Vector::V2);
+    let file = file_of(alloc, Vector::V2).expect(rt, "memory");
     let layout = layout_of(rt, &file);
     let expected = read_fixups(alloc, &layout, &[]).expect(rt, "fixups");
     match read_fixups(arena, &layout, &[]) {
@@ -103,7 +110,7 @@ fn fixups(rt: &impl Abort, alloc: Global, arena: &Bump) -> Answer {
 
 /// The table of V2's fixups is that of its file, at 0x400.
 fn encoding(rt: &impl Abort, alloc: Global, arena: &Bump) -> Answer {
-    let file = file_of(rt, alloc, Vector::V2);
+    let file = file_of(alloc, Vector::V2).expect(rt, "memory");
     let fixups = read_fixups(alloc, &layout_of(rt, &file), &[]).expect(rt, "fixups");
     assert!(rt; ascending(&fixups));
     match encode_fixups(arena, &fixups) {
@@ -113,7 +120,7 @@ fn encoding(rt: &impl Abort, alloc: Global, arena: &Bump) -> Answer {
 }
 
 fn image(rt: &impl Abort, alloc: Global, arena: &Bump) -> Answer {
-    let file = file_of(rt, alloc, Vector::Vs);
+    let file = file_of(alloc, Vector::Vs).expect(rt, "memory");
     let expected = read_image(alloc, &file, 7).expect(rt, "an image");
     match read_image(arena, &file, 7) {
         Ok(found) => {
@@ -172,8 +179,8 @@ fn same_space<S: Space>(rt: &impl Abort, space: &S, other: &MappedSpace<Global>)
 
 /// What an accepted set binds, and each module's base and imports.
 fn judging(rt: &impl Abort, alloc: Global, arena: &Bump) -> Answer {
-    let files = files_of(rt, alloc, &[A, B, C]);
-    let set = set_of(rt, alloc, &[A, B, C], &files);
+    let files = files_of(alloc, &[A, B, C]).expect(rt, "files");
+    let set = set_of(alloc, &[A, B, C], &files).expect(rt, "memory");
     let expected = judge(alloc, &set, Policy::Strict).expect(rt, "an accepted set");
     match judge(arena, &set, Policy::Strict) {
         Ok(found) => {
@@ -188,8 +195,8 @@ fn judging(rt: &impl Abort, alloc: Global, arena: &Bump) -> Answer {
 }
 
 fn mapping(rt: &impl Abort, alloc: Global, arena: &Bump) -> Answer {
-    let files = files_of(rt, alloc, &[A, B, C]);
-    let set = set_of(rt, alloc, &[A, B, C], &files);
+    let files = files_of(alloc, &[A, B, C]).expect(rt, "files");
+    let set = set_of(alloc, &[A, B, C], &files).expect(rt, "memory");
     let expected = map(alloc, &set, Policy::Strict).expect(rt, "a space");
     match map(arena, &set, Policy::Strict) {
         Ok(space) => right_if(same_space(rt, &space, &expected)),
@@ -199,8 +206,8 @@ fn mapping(rt: &impl Abort, alloc: Global, arena: &Bump) -> Answer {
 }
 
 fn opening(rt: &impl Abort, alloc: Global, arena: &Bump) -> Answer {
-    let files = files_of(rt, alloc, &[A, B, C]);
-    let set = set_of(rt, alloc, &[A, B, C], &files);
+    let files = files_of(alloc, &[A, B, C]).expect(rt, "files");
+    let set = set_of(alloc, &[A, B, C], &files).expect(rt, "memory");
     let expected = map(alloc, &set, Policy::Strict).expect(rt, "a space");
     match open_space(arena, &set, Policy::Strict) {
         Ok(space) => right_if(same_space(rt, &space, &expected)),
@@ -227,8 +234,8 @@ const COMMANDS: &[Command] = &[
 
 /// A run that was stopped leaves the space as the commands that it counts do.
 fn running(rt: &impl Abort, alloc: Global, arena: &Bump) -> Answer {
-    let files = files_of(rt, alloc, &[A, B, C]);
-    let set = set_of(rt, alloc, &[A, B, C], &files);
+    let files = files_of(alloc, &[A, B, C]).expect(rt, "files");
+    let set = set_of(alloc, &[A, B, C], &files).expect(rt, "memory");
     let mut space = open_space(alloc, &set, Policy::Strict).expect(rt, "a space");
     let mut other = map(alloc, &set, Policy::Strict).expect(rt, "a space");
     let (done, answer) = match run(arena, &mut space, COMMANDS) {
@@ -264,7 +271,7 @@ fn writing(rt: &impl Abort, alloc: Global, arena: &Bump) -> Answer {
 }
 
 fn planning(rt: &impl Abort, alloc: Global, arena: &Bump) -> Answer {
-    let file = file_of(rt, alloc, Vector::V2);
+    let file = file_of(alloc, Vector::V2).expect(rt, "memory");
     let plan = plan_of(rt, alloc, &V2, &file);
     match write_image(arena, &plan) {
         Ok(bytes) => right_if(*bytes.as_slice() == *file.as_slice()),
@@ -274,7 +281,7 @@ fn planning(rt: &impl Abort, alloc: Global, arena: &Bump) -> Answer {
 }
 
 fn rebasing(rt: &impl Abort, alloc: Global, arena: &Bump) -> Answer {
-    let file = file_of(rt, alloc, Vector::V2);
+    let file = file_of(alloc, Vector::V2).expect(rt, "memory");
     let expected = rebase_file(alloc, &file, 0x2000_0000).expect(rt, "a file");
     match rebase_file(arena, &file, 0x2000_0000) {
         Ok(bytes) => right_if(*bytes.as_slice() == *expected.as_slice()),
@@ -284,7 +291,7 @@ fn rebasing(rt: &impl Abort, alloc: Global, arena: &Bump) -> Answer {
 }
 
 fn whole(rt: &impl Abort, alloc: Global, arena: &Bump) -> Answer {
-    let file = file_of(rt, alloc, Vector::Vr);
+    let file = file_of(alloc, Vector::Vr).expect(rt, "memory");
     match read_whole(arena, &mut StepReader::new(&file, 64, None)) {
         Ok(bytes) => right_if(*bytes.as_slice() == *file.as_slice()),
         Err(ToolError::Memory) => Answer::Memory,
@@ -305,17 +312,17 @@ fn of_engine(answer: Result<Outcome, ToolError>, taken: &[u8], text: &[u8]) -> A
 fn engine(rt: &impl Abort, alloc: Global, arena: &Bump, engine: Engine) -> Answer {
     let file = match engine {
         Engine::Object => list(rt, alloc, *O1),
-        _ => file_of(rt, alloc, Vector::Vr),
+        _ => file_of(alloc, Vector::Vr).expect(rt, "memory"),
     };
-    let (expected, text) = run_over(rt, alloc, alloc, engine, &file, steps_of(64));
+    let (expected, text) = run_over(alloc, alloc, engine, &file, steps_of(64)).expect(rt, "memory");
     assert!(rt; expected == Ok(Outcome::Done));
-    let (answer, writer) = run_over(rt, alloc, arena, engine, &file, steps_of(64));
+    let (answer, writer) = run_over(alloc, arena, engine, &file, steps_of(64)).expect(rt, "memory");
     of_engine(answer, writer.taken(), text.taken())
 }
 
 fn reporting(rt: &impl Abort, alloc: Global, arena: &Bump) -> Answer {
-    let files = files_of(rt, alloc, &[A, B, C]);
-    let set = set_of(rt, alloc, &[A, B, C], &files);
+    let files = files_of(alloc, &[A, B, C]).expect(rt, "files");
+    let set = set_of(alloc, &[A, B, C], &files).expect(rt, "memory");
     let window = Some((0x40_1030, 4));
     let mut text = StepWriter::new(alloc, 0x800, 64, None).expect(rt, "memory");
     let expected = map_report(alloc, &set, Policy::Strict, window, &mut text);
@@ -327,7 +334,7 @@ fn reporting(rt: &impl Abort, alloc: Global, arena: &Bump) -> Answer {
 
 /// Neither output gets a byte where memory is wanted.
 fn rebase_engine(rt: &impl Abort, alloc: Global, arena: &Bump) -> Answer {
-    let file = file_of(rt, alloc, Vector::V2);
+    let file = file_of(alloc, Vector::V2).expect(rt, "memory");
     let expected = rebase_file(alloc, &file, 0x2000_0000).expect(rt, "a file");
     let mut reader = StepReader::new(&file, 64, None);
     let mut out = StepWriter::new(alloc, 0x800, 64, None).expect(rt, "memory");
@@ -528,7 +535,7 @@ fn a_zero_byte_in_a_name_needs_no_memory(rt: HostRuntime) {
 
 #[test]
 fn a_refused_plan_needs_no_memory(rt: HostRuntime) {
-    let file = file_of(&rt, rt.alloc(), Vector::V2);
+    let file = file_of(rt.alloc(), Vector::V2).expect(&rt, "memory");
     let mut plan = plan_of(&rt, rt.alloc(), &V2, &file);
     plan.file_alignment = 0;
     assert!(&rt; write_image(&no_room(rt.alloc()), &plan).err() == REFUSED);
@@ -559,8 +566,8 @@ fn assert_names(rt: &impl Abort, arena: &Bump, set: &[SetEntry], number: u16, im
 fn faults_of_names_need_no_memory(rt: HostRuntime) {
     let alloc = rt.alloc();
     let arena = no_room(alloc);
-    let names = names_of(&rt, alloc, 257);
-    let mut set = repeated(&rt, alloc, &names, b"");
+    let names = names_of(alloc, 257).expect(&rt, "memory");
+    let mut set = repeated(alloc, &names, b"").expect(&rt, "memory");
     assert_names(&rt, &arena, &set, 41, 256);
     assert!(&rt; set.len() == 257);
     set[9].name = set[4].name;
@@ -580,14 +587,18 @@ fn an_engine_that_was_given_no_byte_wants_no_memory(rt: HostRuntime) {
     let alloc = rt.alloc();
     let arena = no_room(alloc);
     for (engine, line) in EMPTY_FILES {
-        let (answer, writer) = run_over(&rt, alloc, &arena, *engine, b"", steps_of(7));
+        let (answer, writer) = run_over(alloc, &arena, *engine, b"", steps_of(7)).expect(
+            &rt, "memory",
+        );
         assert!(&rt; matches!(answer, Ok(Outcome::Refused(_))));
         assert!(&rt; writer.taken() == line.as_bytes());
         let devices = Devices {
             failing_read: Some(0),
             ..steps_of(7)
         };
-        let (answer, writer) = run_over(&rt, alloc, &arena, *engine, b"MZ", devices);
+        let (answer, writer) = run_over(alloc, &arena, *engine, b"MZ", devices).expect(
+            &rt, "memory",
+        );
         assert!(&rt; answer == Err(ToolError::Read) && writer.taken().is_empty());
     }
 }

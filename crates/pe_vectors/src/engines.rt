@@ -2,14 +2,13 @@
 
 ghost use Rattle.std.specs.Prelude.{◌≡◌, ◌<◌};
 
-use crate::{StepReader, StepWriter};
+use crate::devices::{StepReader, StepWriter};
 use pe_tool::{Outcome, ToolError, check, dump, dump_object};
-use std::alloc::{Allocator, Global};
-use std::process::Abort;
+use std::alloc::{AllocError, Allocator, Global};
 
 /// An engine that reads one file and writes a text.
 #[derive(Clone, Copy)]
-pub(super) enum Engine {
+pub enum Engine {
     Check,
     Dump,
     Object,
@@ -17,14 +16,14 @@ pub(super) enum Engine {
 
 /// How the reader and the writer of a run work: the most bytes a call, and the read and the write that fail.
 #[derive(Clone, Copy)]
-pub(super) struct Devices {
+pub struct Devices {
     pub step: usize,
     pub failing_read: Option<u64>,
     pub failing_write: Option<u64>,
 }
 
 /// Devices of which no call fails.
-pub(super) fn steps_of(step: usize) -> Devices
+pub fn steps_of(step: usize) -> Devices
     ensures { result.step ≡ step }
 {
     Devices {
@@ -34,38 +33,37 @@ pub(super) fn steps_of(step: usize) -> Devices
     }
 }
 
-/// What an engine answered over an allocator's memory, and the writer with what it wrote.
-pub(super) fn run_over<A: Allocator + Copy>(
-    rt: &impl Abort,
+/// What an engine answered, and the writer with what it wrote.
+pub type Answered = (Result<Outcome, ToolError>, StepWriter);
+
+/// Runs an engine over an allocator's memory; the writer's own, of 0x2000 bytes, may be refused.
+pub fn run_over<A: Allocator + Copy>(
     alloc: Global,
     memory: A,
     engine: Engine,
     file: &[u8],
     devices: Devices,
-) -> (Result<Outcome, ToolError>, StepWriter)
+) -> Result<Answered, AllocError>
     requires { 0 < devices.step }
 {
     let mut reader = StepReader::new(file, devices.step, devices.failing_read);
-    let mut writer = StepWriter::new(alloc, 0x2000, devices.step, devices.failing_write).expect(
-        rt, "memory",
-    );
+    let mut writer = StepWriter::new(alloc, 0x2000, devices.step, devices.failing_write)?;
     let answer = match engine {
         Engine::Check => check(memory, &mut reader, &mut writer),
         Engine::Dump => dump(memory, &mut reader, &mut writer),
         Engine::Object => dump_object(memory, &mut reader, &mut writer),
     };
-    (answer, writer)
+    Ok((answer, writer))
 }
 
-/// What an engine answered with ample memory, and the writer with what it wrote.
-pub(super) fn run(
-    rt: &impl Abort,
+/// Runs an engine with ample memory.
+pub fn run(
     alloc: Global,
     engine: Engine,
     file: &[u8],
     devices: Devices,
-) -> (Result<Outcome, ToolError>, StepWriter)
+) -> Result<Answered, AllocError>
     requires { 0 < devices.step }
 {
-    run_over(rt, alloc, alloc, engine, file, devices)
+    run_over(alloc, alloc, engine, file, devices)
 }

@@ -1,11 +1,12 @@
 //! What `coff_object` writes of objects, and that it is read back.
 
-use super::files::{assert_holds, bytes_from};
-use super::o1::{O1, fault_of, list, o1, same_object};
+use super::asserts::{assert_holds, bytes_from};
+use super::o1::{fault_of, list, o1, same_object};
 use coff_object::{
     ObjSection, Object, ObjectError, RawData, Relocation, Symbol, SymbolSection, read_object,
     write_object,
 };
+use pe_vectors::objects::O1;
 use pe_view::{Fault, Place};
 use std::alloc::Global;
 use std::process::Abort;

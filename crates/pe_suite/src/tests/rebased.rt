@@ -1,10 +1,10 @@
 //! Files at other bases: which bytes `pe_write` changes, which files it refuses by which fault, and what the engine writes.
 
-use super::both::opened;
-use super::files::{Piece, Vector, assert_holds, changed, file_of};
-use crate::{StepReader, StepWriter};
-use pe_space::{Policy, SetEntry};
+use super::asserts::assert_holds;
+use pe_space::{Policy, SetEntry, Space, map, open_space};
 use pe_tool::{Outcome, Sink, ToolError, rebase, status};
+use pe_vectors::files::{Piece, Vector, changed, changed_file, file_of};
+use pe_vectors::{StepReader, StepWriter};
 use pe_view::{Fault, Place};
 use pe_write::{WriteError, rebase_file};
 use std::alloc::Global;
@@ -101,12 +101,15 @@ const WRITTEN: &[Written] = &[
 #[test]
 fn the_two_header_fields_and_the_fields_of_fixups_change_alone(rt: HostRuntime) {
     for (index, (vector, pieces, base, differences)) in WRITTEN.iter().enumerate() {
-        let old = changed(&rt, &file_of(&rt, rt.alloc(), *vector), pieces);
+        let old = changed_file(rt.alloc(), *vector, pieces).expect(&rt, "a changed file");
         let new = rebase_file(rt.alloc(), &old, *base).expect(&rt, "a file");
         assert_holds(
             &rt,
             index,
-            new.as_slice() == changed(&rt, &old, differences).as_slice(),
+            new.as_slice()
+                == changed(&old, differences)
+                    .expect(&rt, "a changed file")
+                    .as_slice(),
         );
     }
 }
@@ -117,7 +120,7 @@ fn a_file_that_is_rebased_and_back_is_as_before(rt: HostRuntime) {
         (Vector::V2, 0x1000_0000, 0xfff0_0000),
         (Vector::V3, 0x1_8000_0000, 0xffff_ffff_fff0_0000),
     ] {
-        let old = file_of(&rt, rt.alloc(), vector);
+        let old = file_of(rt.alloc(), vector).expect(&rt, "memory");
         let there = rebase_file(rt.alloc(), &old, base).expect(&rt, "a file");
         let back = rebase_file(rt.alloc(), &there, first).expect(&rt, "a file");
         assert_holds(&rt, 0, *there.as_slice() != *old.as_slice());
@@ -131,7 +134,7 @@ type Case = (Vector, &'static [Piece], u64, Option<(u16, Place)>);
 /// Asserts the fault of each case.
 fn assert_judged(rt: &impl Abort, alloc: Global, cases: &[Case]) {
     for (index, (vector, pieces, base, expected)) in cases.iter().enumerate() {
-        let file = changed(rt, &file_of(rt, alloc, *vector), pieces);
+        let file = changed_file(alloc, *vector, pieces).expect(rt, "a changed file");
         let expected = match *expected {
             Some((number, place)) => Some(WriteError::Fault(Fault {
                 number,
@@ -437,16 +440,19 @@ fn the_first_fault_counts(rt: HostRuntime) {
     assert_eq!(rt; empty, Some(WriteError::Fault(expected)));
 }
 
-/// All bytes of the image of a file at a base, which has 0x3000 of them.
+/// All bytes of the image of a file at a base, which has 0x3000 of them, by both spaces.
 fn mapped_bytes(rt: &impl Abort, alloc: Global, file: &[u8], base: u64) -> [u8; 0x3000] {
     let set = [SetEntry {
         name: b"a.dll",
         file,
         base,
     }];
-    let space = opened(rt, alloc, &set, Policy::Strict).expect(rt, "a space");
-    let mut bytes = [0; 0x3000];
-    assert_eq!(rt; space.window(rt, base, &mut bytes), Ok(()));
+    let mapped = map(alloc, &set, Policy::Strict).expect(rt, "a space");
+    let opened = open_space(alloc, &set, Policy::Strict).expect(rt, "a space over files");
+    let (mut bytes, mut others) = ([0; 0x3000], [0; 0x3000]);
+    assert_eq!(rt; mapped.window(base, &mut bytes), Ok(()));
+    assert_eq!(rt; opened.window(base, &mut others), Ok(()));
+    assert_holds(rt, 0, bytes == others);
     bytes
 }
 
@@ -456,7 +462,7 @@ fn a_rebased_file_maps_to_the_bytes_of_the_old_one(rt: HostRuntime) {
         (Vector::V2, 0x2000_0000, 0x3000_0000, IMAGE_BASE, 4),
         (Vector::V3, 0x1_4000_0000, 0x2_0000_0000, WIDE_IMAGE_BASE, 8),
     ] {
-        let old = file_of(&rt, rt.alloc(), vector);
+        let old = file_of(rt.alloc(), vector).expect(&rt, "memory");
         let new = rebase_file(rt.alloc(), &old, base).expect(&rt, "a file");
         let mut expected = mapped_bytes(&rt, rt.alloc(), &old, at);
         let found = mapped_bytes(&rt, rt.alloc(), &new, at);
@@ -468,7 +474,7 @@ fn a_rebased_file_maps_to_the_bytes_of_the_old_one(rt: HostRuntime) {
 
 #[test]
 fn v2_rebased_holds_at_0x30000000_what_v2_holds_there(rt: HostRuntime) {
-    let old = file_of(&rt, rt.alloc(), Vector::V2);
+    let old = file_of(rt.alloc(), Vector::V2).expect(&rt, "memory");
     let new = rebase_file(rt.alloc(), &old, 0x2000_0000).expect(&rt, "a file");
     let bytes = mapped_bytes(&rt, rt.alloc(), &new, 0x3000_0000);
     assert_holds(
@@ -480,7 +486,7 @@ fn v2_rebased_holds_at_0x30000000_what_v2_holds_there(rt: HostRuntime) {
 
 #[test]
 fn halves_that_were_rebased_are_moved_on_as_those_of_the_old_file(rt: HostRuntime) {
-    let old = changed(&rt, &file_of(&rt, rt.alloc(), Vector::V2), HALVES);
+    let old = changed_file(rt.alloc(), Vector::V2, HALVES).expect(&rt, "a changed file");
     let new = rebase_file(rt.alloc(), &old, 0x2000_0000).expect(&rt, "a file");
     let bytes = mapped_bytes(&rt, rt.alloc(), &new, 0x3000_0000);
     assert_holds(
@@ -524,7 +530,7 @@ fn rebased_over(
     devices: Devices,
 ) -> Run {
     assert!(rt; devices.step > 0);
-    let file = file_of(rt, alloc, vector);
+    let file = file_of(alloc, vector).expect(rt, "memory");
     let mut reader = StepReader::new(&file, devices.step, devices.failing_read);
     let mut out = StepWriter::new(alloc, 0x800, devices.step, devices.failing_out).expect(
         rt, "memory",
@@ -538,7 +544,12 @@ fn rebased_over(
 
 /// V2 at 0x20000000.
 fn rebased_v2(rt: &impl Abort, alloc: Global) -> Vec<u8> {
-    rebase_file(alloc, &file_of(rt, alloc, Vector::V2), 0x2000_0000).expect(rt, "a file")
+    rebase_file(
+        alloc,
+        &file_of(alloc, Vector::V2).expect(rt, "memory"),
+        0x2000_0000,
+    )
+    .expect(rt, "a file")
 }
 
 /// Asserts what both outputs got.

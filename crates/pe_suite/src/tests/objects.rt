@@ -1,8 +1,10 @@
 //! What `coff_object` reads of object files.
 
-use super::files::{Piece, assert_holds, put};
-use super::o1::{O1, changed, fault_of, list, o1, same_object};
+use super::asserts::assert_holds;
+use super::o1::{fault_of, list, o1, same_object};
 use coff_object::{Aux, Object, Symbol, SymbolSection, read_object};
+use pe_vectors::files::{Piece, put};
+use pe_vectors::objects::{O1, changed};
 use pe_view::{Fault, Place};
 use std::alloc::Global;
 use std::process::Abort;
@@ -13,7 +15,7 @@ type Case = (usize, &'static [Piece], Option<(u16, u64)>);
 /// Asserts which fault stands of O1 in each case.
 fn assert_cases(rt: &impl Abort, alloc: Global, cases: &[Case]) {
     for (index, (len, pieces, expected)) in cases.iter().enumerate() {
-        let file = changed(rt, pieces);
+        let file = changed(pieces).expect(rt, "a changed file");
         assert!(rt; *len <= file.len(), "in case {index}");
         let result = read_object(alloc, &file[..*len]);
         assert_holds(rt, index, result.is_ok() == expected.is_none());

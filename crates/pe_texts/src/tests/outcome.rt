@@ -1,6 +1,6 @@
 //! The status and the text of each answer of an engine.
 
-use super::files::assert_holds;
+use super::asserts::assert_holds;
 use pe_tool::{Outcome, ToolError, status};
 use pe_view::{Fault, Place};
 

@@ -1,6 +1,6 @@
 //! Readers and writers of std as devices.
 
-use super::files::{assert_holds, assert_number};
+use super::asserts::{assert_holds, assert_number};
 use pe_tool::{Counted, Failed, Sink, Source};
 
 #[test]

@@ -3,7 +3,7 @@
 use pe_tables::{Import, Key, Target};
 
 /// Whether two keys say the same.
-pub(super) fn same_key(key: &Key, other: &Key) -> bool {
+pub fn same_key(key: &Key, other: &Key) -> bool {
     match (key, other) {
         (Key::Ordinal(ordinal), Key::Ordinal(other)) => *ordinal == *other,
         (Key::Name(name), Key::Name(other)) => **name == **other,
@@ -12,7 +12,7 @@ pub(super) fn same_key(key: &Key, other: &Key) -> bool {
 }
 
 /// Whether two targets say the same.
-pub(super) fn same_target(target: &Target, other: &Target) -> bool {
+pub fn same_target(target: &Target, other: &Target) -> bool {
     match (target, other) {
         (Target::Rva(rva), Target::Rva(other)) => *rva == *other,
         (
@@ -27,14 +27,14 @@ pub(super) fn same_target(target: &Target, other: &Target) -> bool {
 }
 
 /// Whether two imports say the same.
-pub(super) fn same_import(import: &Import, other: &Import) -> bool {
+pub fn same_import(import: &Import, other: &Import) -> bool {
     *import.module == *other.module
         && same_key(&import.key, &other.key)
         && import.slot == other.slot
 }
 
 /// Whether two lists have the same exports by ordinal.
-pub(super) fn same_ordinals(found: &[(u64, Target)], expected: &[(u64, Target)]) -> bool {
+pub fn same_ordinals(found: &[(u64, Target)], expected: &[(u64, Target)]) -> bool {
     if found.len() != expected.len() {
         return false;
     }
@@ -49,7 +49,7 @@ pub(super) fn same_ordinals(found: &[(u64, Target)], expected: &[(u64, Target)])
 }
 
 /// Whether two lists have the same exports by name.
-pub(super) fn same_names(found: &[(&[u8], Target)], expected: &[(&[u8], Target)]) -> bool {
+pub fn same_names(found: &[(&[u8], Target)], expected: &[(&[u8], Target)]) -> bool {
     if found.len() != expected.len() {
         return false;
     }
@@ -64,7 +64,7 @@ pub(super) fn same_names(found: &[(&[u8], Target)], expected: &[(&[u8], Target)]
 }
 
 /// Whether two lists have the same imports.
-pub(super) fn same_imports(found: &[Import], expected: &[Import]) -> bool {
+pub fn same_imports(found: &[Import], expected: &[Import]) -> bool {
     if found.len() != expected.len() {
         return false;
     }

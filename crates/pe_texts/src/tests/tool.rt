@@ -2,14 +2,15 @@
 
 ghost use Rattle.std.specs.Prelude.{◌<◌};
 
+use super::asserts::{assert_holds, assert_number};
 use super::dumps::{dump_text, halves_dump, machine_dump};
-use super::engines::{Devices, Engine, run, steps_of};
-use super::files::{
-    Piece, Vector, assert_holds, assert_number, bytes_from, changed, file_of, put, put_pieces,
-};
-use super::header_fields::{COFF_FIELDS, Field, PE32_FIELDS, PE32_PLUS_FIELDS, distinct_bytes};
-use crate::{StepReader, StepWriter};
 use pe_tool::{Failed, Outcome, Sink, Source, ToolError, check, dump, status};
+use pe_vectors::engines::{Devices, Engine, run, steps_of};
+use pe_vectors::files::{Piece, Vector, changed, changed_file, file_of, put, put_pieces};
+use pe_vectors::header_fields::{
+    COFF_FIELDS, Field, PE32_FIELDS, PE32_PLUS_FIELDS, distinct_bytes,
+};
+use pe_vectors::{StepReader, StepWriter};
 use std::alloc::Global;
 use std::process::Abort;
 
@@ -76,7 +77,7 @@ fn assert_written(
 )
     requires { 0 < step }
 {
-    let (answer, writer) = run(rt, alloc, engine, file, steps_of(step));
+    let (answer, writer) = run(alloc, engine, file, steps_of(step)).expect(rt, "memory");
     assert_holds(rt, step, answer == Ok(Outcome::Done));
     assert_holds(rt, step, status(&answer) == 0);
     assert!(rt;
@@ -106,7 +107,7 @@ const ACCEPTED: &[(Vector, &str, usize)] = &[
 #[test]
 fn check_of_each_vector_prints_its_form_and_its_sections(rt: HostRuntime) {
     for (vector, line, _) in ACCEPTED {
-        let file = file_of(&rt, rt.alloc(), *vector);
+        let file = file_of(rt.alloc(), *vector).expect(&rt, "memory");
         assert_done(&rt, rt.alloc(), Engine::Check, &file, line);
     }
 }
@@ -114,7 +115,7 @@ fn check_of_each_vector_prints_its_form_and_its_sections(rt: HostRuntime) {
 #[test]
 fn dump_of_each_vector_prints_what_it_holds(rt: HostRuntime) {
     for (vector, _, lines) in ACCEPTED {
-        let file = file_of(&rt, rt.alloc(), *vector);
+        let file = file_of(rt.alloc(), *vector).expect(&rt, "memory");
         let text = dump_text(&rt, rt.alloc(), *vector);
         assert_holds(&rt, *lines, text.as_str().lines().count() == *lines);
         assert_done(&rt, rt.alloc(), Engine::Dump, &file, text.as_str());
@@ -134,9 +135,9 @@ const MACHINES: &[(&[u8; 2], &[&str])] = &[
 
 #[test]
 fn each_machine_has_its_name(rt: HostRuntime) {
-    let vector = file_of(&rt, rt.alloc(), Vector::V1);
+    let vector = file_of(rt.alloc(), Vector::V1).expect(&rt, "memory");
     for (field, line) in MACHINES {
-        let mut file = changed(&rt, &vector, &[]);
+        let mut file = changed(&vector, &[]).expect(&rt, "a changed file");
         put(&mut file, 0x44, *field);
         let text = machine_dump(&rt, rt.alloc(), line);
         assert_done(&rt, rt.alloc(), Engine::Dump, &file, text.as_str());
@@ -145,8 +146,11 @@ fn each_machine_has_its_name(rt: HostRuntime) {
 
 #[test]
 fn a_field_of_two_bytes_is_shown_by_the_half_that_is_added(rt: HostRuntime) {
-    let vector = file_of(&rt, rt.alloc(), Vector::V2);
-    let file = changed(&rt, &vector, &[(0x408, &[0x08, 0x20, 0x0a, 0x10])]);
+    let vector = file_of(rt.alloc(), Vector::V2).expect(&rt, "memory");
+    let file = changed(&vector, &[(0x408, &[0x08, 0x20, 0x0a, 0x10])]).expect(
+        &rt,
+        "a changed file",
+    );
     let text = halves_dump(&rt, rt.alloc());
     assert_done(&rt, rt.alloc(), Engine::Dump, &file, text.as_str());
 }
@@ -192,7 +196,7 @@ const REFUSALS: &[Refusal] = &[
 /// Asserts that each engine refuses a file with a line and nothing else.
 fn assert_refusals(rt: &impl Abort, alloc: Global, file: &[u8], line: &str) {
     for engine in [Engine::Check, Engine::Dump] {
-        let (answer, writer) = run(rt, alloc, engine, file, steps_of(4096));
+        let (answer, writer) = run(alloc, engine, file, steps_of(4096)).expect(rt, "memory");
         assert_holds(rt, 0, matches!(answer, Ok(Outcome::Refused(_))));
         assert_holds(rt, 1, status(&answer) == 1);
         assert!(rt; writer.taken() == line.as_bytes(), "{line}");
@@ -201,9 +205,9 @@ fn assert_refusals(rt: &impl Abort, alloc: Global, file: &[u8], line: &str) {
 
 #[test]
 fn a_refused_file_gives_the_line_of_its_fault(rt: HostRuntime) {
-    let vector = file_of(&rt, rt.alloc(), Vector::V1);
+    let vector = file_of(rt.alloc(), Vector::V1).expect(&rt, "memory");
     for (len, pieces, line) in REFUSALS {
-        let file = changed(&rt, &vector, pieces);
+        let file = changed(&vector, pieces).expect(&rt, "a changed file");
         assert!(rt; *len <= 0x400);
         assert_refusals(&rt, rt.alloc(), &file[..*len], line);
     }
@@ -304,7 +308,7 @@ const TABLE_REFUSALS: &[TableRefusal] = &[
 #[test]
 fn a_refused_table_gives_the_line_of_its_fault(rt: HostRuntime) {
     for (vector, pieces, line) in TABLE_REFUSALS {
-        let file = changed(&rt, &file_of(&rt, rt.alloc(), *vector), pieces);
+        let file = changed_file(rt.alloc(), *vector, pieces).expect(&rt, "a changed file");
         assert_refusals(&rt, rt.alloc(), &file, line);
     }
 }
@@ -372,7 +376,7 @@ fn push_fields(
     assert!(rt; names.len() == fields.len());
     for index in 0..names.len() {
         let (offset, width) = fields[index];
-        let rest = bytes_from(rt, header, offset);
+        let rest = header.get(offset..).expect(rt, "a field");
         assert!(rt; width <= rest.len());
         if width > 0 {
             push_field(rt, text, names[index], &rest[..width], "\n");
@@ -384,8 +388,8 @@ fn push_fields(
 fn dump_of(rt: &impl Abort, alloc: Global, file: &[u8], format: &str, fields: &[Field]) -> String {
     let mut text = String::new(alloc);
     text.push_str(format).expect(rt, "memory");
-    let coff = bytes_from(rt, file, 0x44);
-    let optional = bytes_from(rt, file, 0x58);
+    let coff = file.get(0x44..).expect(rt, "a COFF header");
+    let optional = file.get(0x58..).expect(rt, "an optional header");
     assert!(rt; coff.len() >= 2);
     push_field(rt, &mut text, "Machine", &coff[..2], " other\n");
     push_fields(rt, &mut text, COFF_NAMES, coff, &COFF_FIELDS[1..]);
@@ -426,8 +430,8 @@ const FORMS: &[Form] = &[
 fn dump_prints_each_field_under_its_name(rt: HostRuntime) {
     for (pieces, format, fields) in FORMS {
         let mut file = distinct_bytes();
-        put_pieces(&rt, &mut file, NO_SECTIONS);
-        put_pieces(&rt, &mut file, pieces);
+        put_pieces(&mut file, NO_SECTIONS).expect(&rt, "pieces in the file");
+        put_pieces(&mut file, pieces).expect(&rt, "pieces in the file");
         let text = dump_of(&rt, rt.alloc(), &file, format, fields);
         assert_done(&rt, rt.alloc(), Engine::Dump, &file, text.as_str());
     }
@@ -448,7 +452,7 @@ const NAMES: &[(&[u8; 8], &str)] = &[
 
 /// Asserts how the name of V1's section is printed, between these parts of its dump.
 fn assert_name(rt: &impl Abort, alloc: Global, parts: (&str, &str), name: &[u8; 8], printed: &str) {
-    let mut file = changed(rt, &file_of(rt, alloc, Vector::V1), &[]);
+    let mut file = changed_file(alloc, Vector::V1, &[]).expect(rt, "a changed file");
     put(&mut file, 0x138, name);
     let (before, after) = parts;
     let text = format!(in alloc; "{before}{printed}{after}").expect(rt, "memory");
@@ -484,7 +488,7 @@ pub(super) fn assert_any_steps(
 #[test]
 fn any_steps_give_the_same_text(rt: HostRuntime) {
     for (vector, line, _) in ACCEPTED {
-        let file = file_of(&rt, rt.alloc(), *vector);
+        let file = file_of(rt.alloc(), *vector).expect(&rt, "memory");
         let text = dump_text(&rt, rt.alloc(), *vector);
         assert_any_steps(&rt, rt.alloc(), Engine::Check, &file, line);
         assert_any_steps(&rt, rt.alloc(), Engine::Dump, &file, text.as_str());
@@ -500,7 +504,7 @@ fn assert_reads_fail(rt: &impl Abort, alloc: Global, engine: Engine, file: &[u8]
             failing_read: Some(call),
             ..steps_of(step)
         };
-        let (answer, writer) = run(rt, alloc, engine, file, devices);
+        let (answer, writer) = run(alloc, engine, file, devices).expect(rt, "memory");
         if answer == Ok(Outcome::Done) {
             assert_holds(rt, step, call > 1);
             return;
@@ -520,13 +524,13 @@ fn assert_reads_fail(rt: &impl Abort, alloc: Global, engine: Engine, file: &[u8]
 fn assert_writes_fail(rt: &impl Abort, alloc: Global, engine: Engine, file: &[u8], step: usize)
     requires { 0 < step }
 {
-    let (_, whole) = run(rt, alloc, engine, file, steps_of(step));
+    let (_, whole) = run(alloc, engine, file, steps_of(step)).expect(rt, "memory");
     for call in 0..0x1000_u64 {
         let devices = Devices {
             failing_write: Some(call),
             ..steps_of(step)
         };
-        let (answer, writer) = run(rt, alloc, engine, file, devices);
+        let (answer, writer) = run(alloc, engine, file, devices).expect(rt, "memory");
         if answer == Ok(Outcome::Done) {
             assert_holds(rt, step, call > 0);
             return;
@@ -559,17 +563,17 @@ pub(super) fn assert_failures(
 
 #[test]
 fn each_read_and_each_write_that_fails_is_told(rt: HostRuntime) {
-    let file = file_of(&rt, rt.alloc(), Vector::V1);
+    let file = file_of(rt.alloc(), Vector::V1).expect(&rt, "memory");
     assert_failures(&rt, rt.alloc(), Engine::Check, &file, STEPS);
     assert_failures(&rt, rt.alloc(), Engine::Dump, &file, STEPS);
     // a file with exports and imports
-    let file = file_of(&rt, rt.alloc(), Vector::Vs);
+    let file = file_of(rt.alloc(), Vector::Vs).expect(&rt, "memory");
     assert_failures(&rt, rt.alloc(), Engine::Dump, &file, &[64, 4096]);
 }
 
 #[test]
 fn a_writer_without_room_fails_after_a_beginning(rt: HostRuntime) {
-    let file = file_of(&rt, rt.alloc(), Vector::V1);
+    let file = file_of(rt.alloc(), Vector::V1).expect(&rt, "memory");
     let mut reader = StepReader::new(&file, 4096, None);
     let mut writer = StepWriter::new(rt.alloc(), 10, 4096, None).expect(&rt, "memory");
     let answer = check(rt.alloc(), &mut reader, &mut writer);

@@ -1,10 +1,11 @@
 //! What `pe_tool` writes of objects.
 
-use super::engines::{Engine, run, steps_of};
-use super::files::{Piece, assert_holds};
-use super::o1::{O1, changed};
+use super::asserts::assert_holds;
 use super::tool::{STEPS, assert_any_steps, assert_failures};
 use pe_tool::{Outcome, status};
+use pe_vectors::engines::{Engine, run, steps_of};
+use pe_vectors::files::Piece;
+use pe_vectors::objects::{O1, changed};
 use std::alloc::Global;
 use std::process::Abort;
 
@@ -37,12 +38,17 @@ fn each_read_and_each_write_of_an_object_that_fails_is_told(rt: HostRuntime) {
 fn assert_replaced(rt: &impl Abort, alloc: Global, pieces: &[Piece], part: &str, other: &str) {
     let (before, after) = O1_DUMP.split_once(part).expect(rt, "a part of the dump");
     let text = format!(in alloc; "{before}{other}{after}").expect(rt, "memory");
-    assert_done(rt, alloc, &changed(rt, pieces), text.as_str());
+    assert_done(
+        rt,
+        alloc,
+        &changed(pieces).expect(rt, "a changed file"),
+        text.as_str(),
+    );
 }
 
 /// Asserts that an object's file is dumped so.
 fn assert_done(rt: &impl Abort, alloc: Global, file: &[u8], text: &str) {
-    let (answer, writer) = run(rt, alloc, Engine::Object, file, steps_of(4096));
+    let (answer, writer) = run(alloc, Engine::Object, file, steps_of(4096)).expect(rt, "memory");
     assert!(rt; answer == Ok(Outcome::Done), "{text}");
     assert!(rt; writer.taken() == text.as_bytes(), "{text}");
 }
@@ -285,7 +291,7 @@ fn each_auxiliary_record_is_dumped_in_its_shape(rt: HostRuntime) {
     let part = "section debug type 0x0000 class 103 FILE aux 1\naux 1 file \"a.c\"\n";
     let (before, after) = O1_DUMP.split_once(part).expect(&rt, "a shape");
     for (fields, lines) in SHAPES {
-        let file = changed(&rt, &[(88, fields), (94, RECORD)]);
+        let file = changed(&[(88, fields), (94, RECORD)]).expect(&rt, "a changed file");
         let text = format!(in rt.alloc(); "{before}{lines}{after}").expect(&rt, "memory");
         assert_done(&rt, rt.alloc(), &file, text.as_str());
     }
@@ -334,15 +340,14 @@ const REFUSALS: &[(usize, &[Piece], &str)] = &[
 #[test]
 fn a_refused_object_gives_the_line_of_its_fault(rt: HostRuntime) {
     for (len, pieces, line) in REFUSALS {
-        let file = changed(&rt, pieces);
+        let file = changed(pieces).expect(&rt, "a changed file");
         assert!(rt; *len <= file.len());
         let (answer, writer) = run(
-            &rt,
             rt.alloc(),
             Engine::Object,
             &file[..*len],
             steps_of(4096),
-        );
+        ).expect(&rt, "memory");
         assert_holds(&rt, *len, matches!(answer, Ok(Outcome::Refused(_))));
         assert_holds(&rt, *len, status(&answer) == 1);
         assert!(rt; writer.taken() == line.as_bytes(), "{line}");

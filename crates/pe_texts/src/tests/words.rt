@@ -1,6 +1,6 @@
 //! The words of the command line.
 
-use super::files::assert_holds;
+use super::asserts::assert_holds;
 use pe_tool::{Job, MapFile, Policy, WordsError, parse_words};
 use std::alloc::Global;
 use std::process::Abort;

@@ -1,10 +1,11 @@
 //! What `pe_write` writes of plans, and which plans it refuses.
 
-use super::files::{Vector, assert_holds, bytes_from, file_of, number, put, put_pieces};
+use super::asserts::{assert_holds, bytes_from};
 use super::plans::{Heading, V1, V2, V3, VA, VB, VC, VD, VF, VS, bare_plan, plan_of, section};
-use crate::vf;
 use pe_head::{Directory, Magic};
 use pe_layout::Layout;
+use pe_vectors::files::{Vector, file_of, number, put, put_pieces};
+use pe_vectors::vf;
 use pe_view::{Fault, Place, View};
 use pe_write::{Plan, WriteError, write_image};
 use std::alloc::Global;
@@ -30,7 +31,7 @@ fn each_file_is_what_is_written_of_its_plan(rt: HostRuntime) {
         (Vector::Vs, VS),
     ];
     for (index, (vector, heading)) in files.iter().enumerate() {
-        let file = file_of(&rt, rt.alloc(), *vector);
+        let file = file_of(rt.alloc(), *vector).expect(&rt, "memory");
         assert_written(&rt, rt.alloc(), index, heading, &file);
     }
 }
@@ -237,8 +238,8 @@ fn an_image_has_at_most_96_sections(rt: HostRuntime) {
 fn a_plan_of_no_sections_is_written_as_headers(rt: HostRuntime) {
     let plan = bare_plan(rt.alloc(), &V1);
     let file = write_image(rt.alloc(), &plan).expect(&rt, "a file");
-    let mut expected = file_of(&rt, rt.alloc(), Vector::V1);
-    put_pieces(&rt, &mut expected, &[(0x46, &[0]), (0x138, &[0; 40])]);
+    let mut expected = file_of(rt.alloc(), Vector::V1).expect(&rt, "memory");
+    put_pieces(&mut expected, &[(0x46, &[0]), (0x138, &[0; 40])]).expect(&rt, "pieces in the file");
     expected.truncate(0x200);
     assert_holds(&rt, 0, *file.as_slice() == *expected.as_slice());
 }
@@ -249,7 +250,11 @@ type Field = (usize, usize, u64);
 /// Asserts the numbers in a file.
 fn assert_fields(rt: &impl Abort, file: &[u8], fields: &[Field]) {
     for (offset, width, value) in fields {
-        assert_eq!(rt; number(rt, file, *offset, *width), *value, "at {offset:#x}");
+        assert_eq!(rt;
+            number(file, *offset, *width).expect(rt, "a number in the file"),
+            *value,
+            "at {offset:#x}"
+        );
     }
 }
 

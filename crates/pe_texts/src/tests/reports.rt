@@ -2,12 +2,13 @@
 
 ghost use Rattle.std.specs.Prelude.{◌<◌};
 
-use super::files::{Vector, assert_holds};
-use super::members::{
+use super::asserts::assert_holds;
+use pe_tool::{Outcome, Policy, SetEntry, ToolError, map_report, status};
+use pe_vectors::StepWriter;
+use pe_vectors::files::Vector;
+use pe_vectors::members::{
     A, B, C, Member, PLAIN, RELOCATED, WIDE, files_of, names_of, repeated, set_of,
 };
-use crate::StepWriter;
-use pe_tool::{Outcome, Policy, SetEntry, ToolError, map_report, status};
 use std::alloc::Global;
 use std::process::Abort;
 
@@ -37,8 +38,8 @@ type Case = (&'static [Member], Policy, Window, &'static str);
 /// Asserts what each case answers with its text, however many bytes the writer takes a call.
 fn assert_reports(rt: &impl Abort, alloc: Global, cases: &[Case], is_refused: bool) {
     for (index, (members, policy, window, text)) in cases.iter().enumerate() {
-        let files = files_of(rt, alloc, members);
-        let set = set_of(rt, alloc, members, &files);
+        let files = files_of(alloc, members).expect(rt, "files");
+        let set = set_of(alloc, members, &files).expect(rt, "memory");
         for step in [1, 7, 64, 4096] {
             let (answer, writer) = report(rt, alloc, &set, *policy, *window, step, None);
             assert_holds(
@@ -217,8 +218,8 @@ fn a_refused_set_or_window_gives_the_line_of_its_fault(rt: HostRuntime) {
 
 #[test]
 fn a_set_of_too_many_images_is_reported_so(rt: HostRuntime) {
-    let names = names_of(&rt, rt.alloc(), 257);
-    let set = repeated(&rt, rt.alloc(), &names, b"");
+    let names = names_of(rt.alloc(), 257).expect(&rt, "memory");
+    let set = repeated(rt.alloc(), &names, b"").expect(&rt, "memory");
     let (answer, writer) = report(&rt, rt.alloc(), &set, Policy::Strict, None, 64, None);
     assert_holds(&rt, 0, status(&answer) == 1);
     assert!(rt; writer.taken() == "fault 41 image 256 item 256\n".as_bytes());
@@ -249,8 +250,8 @@ fn assert_writes_fail(rt: &impl Abort, alloc: Global, set: &[SetEntry], step: us
 #[test]
 fn each_write_of_a_report_that_fails_is_told(rt: HostRuntime) {
     let members = [A, B, C];
-    let files = files_of(&rt, rt.alloc(), &members);
-    let set = set_of(&rt, rt.alloc(), &members, &files);
+    let files = files_of(rt.alloc(), &members).expect(&rt, "files");
+    let set = set_of(rt.alloc(), &members, &files).expect(&rt, "memory");
     let (_, _, _, text) = REPORTS[1];
     for step in [1, 7, 64, 4096] {
         assert_writes_fail(&rt, rt.alloc(), &set, step, text);

@@ -2,21 +2,13 @@
 //! its own.
 
 /// A field's offset and width.
-pub(super) type Field = (usize, usize);
+pub type Field = (usize, usize);
 
 /// The COFF header, in the format's order.
-pub(super) const COFF_FIELDS: &[Field] = &[
-    (0, 2),
-    (2, 2),
-    (4, 4),
-    (8, 4),
-    (12, 4),
-    (16, 2),
-    (18, 2),
-];
+pub const COFF_FIELDS: &[Field] = &[(0, 2), (2, 2), (4, 4), (8, 4), (12, 4), (16, 2), (18, 2)];
 
 /// The optional header of PE32 behind Magic, in the format's order.
-pub(super) const PE32_FIELDS: &[Field] = &[
+pub const PE32_FIELDS: &[Field] = &[
     (2, 1),
     (3, 1),
     (4, 4),
@@ -49,7 +41,7 @@ pub(super) const PE32_FIELDS: &[Field] = &[
 ];
 
 /// The same of PE32+. BaseOfData, which it does not have, stands as a field of no bytes.
-pub(super) const PE32_PLUS_FIELDS: &[Field] = &[
+pub const PE32_PLUS_FIELDS: &[Field] = &[
     (2, 1),
     (3, 1),
     (4, 4),
@@ -82,7 +74,7 @@ pub(super) const PE32_PLUS_FIELDS: &[Field] = &[
 ];
 
 /// A file in which the bytes near each other differ, so that a field read elsewhere has another value.
-pub(super) fn distinct_bytes() -> [u8; 0x400] {
+pub fn distinct_bytes() -> [u8; 0x400] {
     let mut file = [0; 0x400];
     for (offset, byte) in file.iter_mut().enumerate() {
         *byte = ((offset % 256) * 37 % 256) as u8;

@@ -1,0 +1,9 @@
+mod asserts;
+mod counted;
+mod dumps;
+mod object_dumps;
+mod outcome;
+mod reports;
+mod told;
+mod tool;
+mod words;

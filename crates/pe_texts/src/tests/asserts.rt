@@ -1,0 +1,13 @@
+//! What is asserted in many tests.
+
+use std::process::Abort;
+
+/// Asserts that a number of a case is the one that it is to be.
+pub(super) fn assert_number(rt: &impl Abort, case: usize, found: u64, expected: u64) {
+    assert_eq!(rt; found, expected, "in case {case:#x}");
+}
+
+/// Asserts what holds of a case.
+pub(super) fn assert_holds(rt: &impl Abort, case: usize, holds: bool) {
+    assert!(rt; holds, "in case {case:#x}");
+}
