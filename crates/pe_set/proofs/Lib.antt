@@ -3,9 +3,11 @@ pub mod Bases
 pub mod Bound
 pub mod ClassRows
 pub mod Classes
+pub mod Cycles
 pub mod Defaults
 pub mod Distinct
 pub mod Ending
+pub mod Exporting
 pub mod Faultless
 pub mod Gathered
 pub mod Images
@@ -13,6 +15,8 @@ pub mod Magics
 pub mod ModuleRead
 pub mod Moving
 pub mod NameRows
+pub mod PairNumbers
+pub mod Pigeons
 pub mod PlaceRows
 pub mod Places
 pub mod Searching

@@ -14,3 +14,4 @@ pub mod Set
 pub mod SetFaults
 pub mod SetView
 pub mod Sound
+pub mod StandView

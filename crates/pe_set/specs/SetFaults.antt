@@ -63,7 +63,7 @@ abbrev pub end_tests : Policy → ℕ → ℕ → Resolution → List Test
 end_tests policy i slot (Bound image rva) = []
 end_tests policy i slot Missing = test 48 i (Rva slot) (is_strict policy) ∷ []
 end_tests policy i slot Unknown = test 49 i (Rva slot) true ∷ []
-end_tests policy i slot Endless = test 50 i (Rva slot) true ∷ []
+end_tests policy i slot (Endless length) = test 50 i (Rva slot) true ∷ []
 
 abbrev pub import_tests : Policy → List Module → ℕ → Import → List Test
 import_tests policy s i x = end_tests policy i x.slot (resolve s x.module_name x.key)

@@ -6,6 +6,7 @@ ghost use Rattle.pe_set.specs.SetFaults.{MapAnswers, names_tests, set_tests};
 use crate::binding::{Binding, bind};
 use crate::entry::{Policy, SetEntry};
 use crate::error::MapError;
+use crate::laws::sets_export_little;
 use crate::names::check_names;
 use crate::placing::check_places;
 use crate::reading::{Module, read_modules};
@@ -41,6 +42,7 @@ pub fn judge<'a, A: Allocator + Copy>(
     let modules = read_modules(alloc, set)?;
     check_places(&modules)?;
     let names = Names::new(alloc, &modules)?;
+    sets_export_little();
     let bindings = bind(alloc, &modules, &names, policy)?;
     Ok(Accepted { modules, bindings })
 }

@@ -1,19 +1,19 @@
 //! What the definitions mean, as laws. The contract of each function here is a law, and its body only calls the laws of other
 //! crates on which that rests.
 
-ghost use Rattle.std.specs.Prelude.{◌≡◌, ◌↔◌, ℕ, List, None, Some, slice_set, map};
+ghost use Rattle.std.specs.Prelude.{◌≡◌, ◌≤◌, ◌^◌, ◌↔◌, ℕ, List, None, Some, slice_set, map};
 ghost use Rattle.pe_view.specs.Faults.{first_standing};
 ghost use Rattle.pe_tables.specs.Key.{Key};
 ghost use Rattle.pe_tables.specs.Imports.{Import};
 ghost use Rattle.pe_set.specs.Set.{Entry, Module, modules_of, placement_of, bases_of, at_bases, rebased, AreAlike};
-ghost use Rattle.pe_set.specs.Search.{resolve};
-ghost use Rattle.pe_set.specs.SearchEnds.{EndsAs};
+ghost use Rattle.pe_set.specs.Search.{resolve, pairs_of};
+ghost use Rattle.pe_set.specs.SearchEnds.{EndsAfter, EndsAs, IsEndless};
 ghost use Rattle.pe_set.specs.declared.search.Resolution.{Resolution};
 ghost use Rattle.pe_set.specs.Bindings.{binding_of, bindings_of};
 ghost use Rattle.pe_set.specs.BoundImports.{IsBindingOf};
 ghost use Rattle.pe_set.specs.declared.binding.Binding.{Binding};
 ghost use Rattle.pe_set.specs.Placement.{move_tests};
-ghost use Rattle.pe_set.specs.SetFaults.{set_tests, places_tests};
+ghost use Rattle.pe_set.specs.SetFaults.{set_tests, names_tests, files_tests, places_tests};
 ghost use Rattle.pe_set.specs.Sound.{IsSound};
 ghost use Rattle.pe_set.specs.declared.entry.Policy.{Policy};
 
@@ -22,6 +22,14 @@ ghost use Rattle.pe_set.specs.declared.entry.Policy.{Policy};
 pub fn searches_end_in_one_way()
     ensures ends { (s : List Module) (name : List ℕ) (key : Key) → EndsAs s (name, key) (resolve s name key) }
     ensures one { (s : List Module) (name : List ℕ) (key : Key) (end : Resolution) → EndsAs s (name, key) end → end ≡ resolve s name key }
+{}
+
+/// A search that ends does so after at most as many hops as the exports of the set's images have pairs together, and so does one
+/// that is not endless.
+pub fn searches_end_soon()
+    ensures within { (s : List Module) (start : List ℕ × Key) (hops : ℕ) (end : Resolution) → EndsAfter s start hops end → hops ≤ pairs_of s }
+    ensures ends { (s : List Module) (start : List ℕ × Key) → (IsEndless s start → ⊥)
+        → (hops : ℕ) × (end : Resolution) × (hops ≤ pairs_of s) × EndsAfter s start hops end }
 {}
 
 /// The slot of an import is bound exactly where its search ends at an RVA of an image, and then to that RVA of that image.
@@ -40,6 +48,13 @@ pub fn accepted_sets_are_sound()
     pe_tables::laws::slots_are_apart();
     pe_tables::laws::fields_are_apart();
     pe_tables::laws::targets_are_inside();
+}
+
+/// The exports of the images of a set have at most 2^25 pairs together, where the names and the files of the set have no fault.
+pub fn sets_export_little()
+    ensures { (es : List Entry) → first_standing (names_tests es) ≡ None → first_standing (files_tests es) ≡ None → pairs_of (modules_of es) ≤ 2 ^ 25 }
+{
+    pe_tables::laws::exports_are_few();
 }
 
 /// What slots are bound to depends on the names of the images, on their exports and on their imports, and on nothing else of them.

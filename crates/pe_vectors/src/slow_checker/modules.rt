@@ -9,8 +9,8 @@ use super::ordering::{Class, Faults, rva_row};
 use pe_space::Policy;
 use std::alloc::{AllocError, Global};
 
-/// The hops that a search makes at most.
-const MOST_HOPS: u32 = 64;
+/// A set has no more exports: those of 256 images, each with 65,536 entries and 65,536 names.
+const MOST_EXPORTS: u32 = 256 * 2 * 65_536;
 
 /// How a search ends.
 #[derive(Clone, Copy, PartialEq, Eq)]
@@ -21,8 +21,15 @@ enum End {
     Missing,
     /// At a module that does not export the key.
     Unknown,
-    /// At a forwarder, after all hops.
+    /// Never: it comes to an export at which it stood before.
     Endless,
+}
+
+/// An export at which a search stands: the index of its image, and its key.
+#[derive(Drop)]
+struct Stand {
+    image: usize,
+    wanted: Wanted,
 }
 
 /// Lists the faults of the imports of a set.
@@ -71,24 +78,42 @@ fn search(
         module: import.module(alloc, &importer.image)?,
         wanted: import.wanted(alloc, &importer.image)?,
     };
-    for _ in 0..=MOST_HOPS {
-        let Some(exporter) = module(images, at.module.as_slice()) else {
+    let mut before = Vec::new(alloc);
+    for _ in 0..=MOST_EXPORTS {
+        let Some((image, exporter)) = module(images, at.module.as_slice()) else {
             return Ok(End::Missing);
         };
+        if has_stood(&before, image, &at.wanted) {
+            return Ok(End::Endless);
+        }
         match target_of(alloc, &exporter.image, &at.wanted)? {
             None => return Ok(End::Unknown),
             Some(Target::Rva) => return Ok(End::Bound),
-            Some(Target::Forwarder(next)) => at = next,
+            Some(Target::Forwarder(next)) => {
+                let wanted = at.wanted;
+                before.push(Stand { image, wanted })?;
+                at = next;
+            }
         }
     }
     Ok(End::Endless)
 }
 
-/// The image whose name matches a module's.
-fn module<'s, 'a>(images: &'s [Judged<'a>], name: &[u8]) -> Option<&'s Judged<'a>> {
-    for judged in images {
+/// Whether a search has stood at an export before.
+fn has_stood(before: &[Stand], image: usize, wanted: &Wanted) -> bool {
+    for stand in before {
+        if stand.image == image && stand.wanted == *wanted {
+            return true;
+        }
+    }
+    false
+}
+
+/// The image whose name matches a module's, with its index.
+fn module<'s, 'a>(images: &'s [Judged<'a>], name: &[u8]) -> Option<(usize, &'s Judged<'a>)> {
+    for (index, judged) in images.iter().enumerate() {
         if matches(judged.entry.name, name) {
-            return Some(judged);
+            return Some((index, judged));
         }
     }
     None

@@ -20,7 +20,7 @@ enum End {
     Missing,
     /// At a module that has no such export.
     Unknown,
-    /// Not within 64 hops.
+    /// Never.
     Endless,
 }
 
@@ -587,15 +587,15 @@ type Chain = (u32, u8, &'static [Piece], End);
 const CHAINS: &[Chain] = &[
     (1, 1, &[], FIFTH),
     (64, 1, &[], FIFTH),
-    (65, 1, &[], End::Endless),
+    (65, 1, &[], FIFTH),
     (65, 2, &[], FIFTH),
-    // behind the last of 64 hops: no export; a module that is not there; the first forwarder again
+    // behind 64 hops: no export; a module that is not there; the first forwarder again
     (64, 1, &[(0x348, &[0x00, 0x00])], End::Unknown),
     (64, 1, &[(0x5f8, b"x")], End::Missing),
     (64, 1, &[(0x348, &[0x00, 0x12])], End::Endless),
     // behind one hop more
-    (65, 1, &[(0x600, b"x")], End::Endless),
-    (65, 1, &[(0x34c, &[0x00, 0x00])], End::Endless),
+    (65, 1, &[(0x600, b"x")], End::Missing),
+    (65, 1, &[(0x34c, &[0x00, 0x00])], End::Unknown),
 ];
 
 /// Asserts how the search through a chain of forwarders ends, under both policies.
@@ -635,7 +635,7 @@ fn assert_chain(
 }
 
 #[test]
-fn a_search_follows_64_forwarders_and_no_more(rt: HostRuntime) {
+fn a_search_follows_forwarders_to_their_end(rt: HostRuntime) {
     for (index, chain) in CHAINS.iter().enumerate() {
         assert_chain(&rt, rt.alloc(), index, chain);
     }

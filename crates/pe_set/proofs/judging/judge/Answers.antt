@@ -1,10 +1,11 @@
 -- Each class is asked behind classes without a fault.
-use Rattle.std.proofs.Common.{◌≡◌, ◌∙◌, ◌++◌, List, length, ap, subst, sym, arith, inl, inr, None}
+use Rattle.std.proofs.Common.{◌≡◌, ◌∙◌, ◌++◌, ◌≤◌, ◌^◌, List, length, ap, subst, sym, arith, inl, inr, None}
 use Rattle.std.proofs.lemmas.Result.{err_from_is_err_and}
 use Rattle.pe_view.specs.Faults.{first_standing}
 use Rattle.pe_view.specs.FirstStanding.{first-past}
 use Rattle.pe_set.specs.Bindings.{bindings_of}
 use Rattle.pe_set.specs.NamesView.{AreDistinct}
+use Rattle.pe_set.specs.Search.{pairs_of}
 use Rattle.pe_set.specs.Set.{Module, modules_of}
 use Rattle.pe_set.specs.SetFaults.{Refuses, set_tests, names_tests, files_tests, places_tests, imports_tests}
 use Rattle.pe_set.specs.SetView.{entries_of, modules_view}
@@ -64,6 +65,12 @@ bind-requires-clause-few g c =
     let few = few_images c.args.set.now (few_entries (entries_of c.args.set.now) c.in_ok-check_names.ensures.exact.0) in
     let count = count_modules c.args.set.now c.in_ok-modules.modules.items c.in_ok-modules.ensures.exact.1 in
     rw c.deref-3.ensures.value (omega arith)
+
+pub bind-requires-clause-few_exports : goal.bind-requires-clause-few_exports
+bind-requires-clause-few_exports g c =
+    let es = entries_of c.args.set.now in
+    let is = ap modules_view c.deref-3.ensures.value ∙ c.in_ok-modules.ensures.exact.1 in
+    subst (λ (s : List Module). pairs_of s ≤ 2 ^ 25) (sym is) (c.sets_export_little.ensures es c.in_ok-check_names.ensures.exact.0 c.in_ok-modules.ensures.exact.0)
 
 pub returns-in_err-bindings-clause-exact : goal.returns-in_err-bindings-clause-exact
 unfolding set_tests
