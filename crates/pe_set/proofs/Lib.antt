@@ -1,12 +1,15 @@
 pub mod Asking
+pub mod AskingErrors
 pub mod Bases
 pub mod Bound
 pub mod ClassRows
 pub mod Classes
+pub mod CycleErrors
 pub mod Cycles
 pub mod Defaults
 pub mod Distinct
 pub mod Ending
+pub mod Errors
 pub mod Exporting
 pub mod Faultless
 pub mod Gathered

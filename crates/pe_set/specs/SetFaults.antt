@@ -85,11 +85,22 @@ set_tests policy es =
 abbrev pub Refuses : List Test → MapError → Type 0
 Refuses tests errors.Memory = Unit {0}
 Refuses tests (errors.Fault fault) = first_standing tests ≡ Some fault
+Refuses tests (errors.Cycle fault length) = first_standing tests ≡ Some fault
 
 -- Ok, of a value with the property, only where no test stands; otherwise the first fault that does, or want of memory
 abbrev pub MapAnswers : {X : Type 0} → List Test → (X → Type 0) → Result X MapError → Type 0
 MapAnswers tests P (Ok x) = (first_standing tests ≡ None) × P x
 MapAnswers tests P (Err error) = Refuses tests error
+
+-- the same of names, files or places: there is no cycle among them
+abbrev pub RefusesClass : List Test → MapError → Type 0
+RefusesClass tests errors.Memory = Unit {0}
+RefusesClass tests (errors.Fault fault) = first_standing tests ≡ Some fault
+RefusesClass tests (errors.Cycle fault length) = ⊥
+
+abbrev pub ClassAnswers : {X : Type 0} → List Test → (X → Type 0) → Result X MapError → Type 0
+ClassAnswers tests P (Ok x) = (first_standing tests ≡ None) × P x
+ClassAnswers tests P (Err error) = RefusesClass tests error
 
 abbrev pub map_error : TableError → MapError
 map_error (table_errors.Fault fault) = errors.Fault fault

@@ -5,7 +5,7 @@ ghost use Rattle.pe_set.specs.NamesView.{names_in, lowered};
 ghost use Rattle.pe_set.specs.SetView.{modules_view};
 ghost use Rattle.pe_set.specs.Search.{pairs_of};
 ghost use Rattle.pe_set.specs.Bindings.{bound_to, binding_of, bindings_of};
-ghost use Rattle.pe_set.specs.SetFaults.{MapAnswers, end_tests, import_tests, imports_tests};
+ghost use Rattle.pe_set.specs.SetErrors.{SetAnswers, end_errors, import_errors, imports_errors, first_error};
 ghost use Rattle.std.specs.Prelude.{map};
 
 use crate::entry::Policy;
@@ -13,7 +13,7 @@ use crate::error::{MapError, fault};
 use crate::reading::Module;
 use crate::search::{Names, Resolution, count_exports, resolve};
 use pe_tables::Import;
-use pe_view::Place;
+use pe_view::{Fault, Place};
 use std::alloc::Allocator;
 
 /// A slot of an image that holds the address of an export.
@@ -29,14 +29,15 @@ pub struct Binding {
     pub rva: u32,
 }
 
-/// What a slot is bound to where the search for its import ends in this way, or the fault that this is: 48, 49 or 50.
+/// What a slot is bound to where the search for its import ends in this way, or the fault that this is: 48, 49, or 50 with the
+/// length of the cycle.
 fn bound(
     policy: Policy,
     image: u16,
     slot: u32,
     resolution: Resolution,
 ) -> Result<Option<Binding>, MapError>
-    ensures { MapAnswers (end_tests policy image slot resolution) (λ binding. binding ≡ bound_to image slot resolution) result }
+    ensures { SetAnswers (first_error (end_errors policy image slot resolution)) (λ binding. binding ≡ bound_to image slot resolution) result }
 {
     match resolution {
         Resolution::Bound {
@@ -53,7 +54,14 @@ fn bound(
             Policy::Known => Ok(None),
         },
         Resolution::Unknown => Err(fault(49, image, Place::Rva(slot))),
-        Resolution::Endless { length: _ } => Err(fault(50, image, Place::Rva(slot))),
+        Resolution::Endless { length } => Err(MapError::Cycle {
+            fault: Fault {
+                number: 50,
+                image,
+                place: Place::Rva(slot),
+            },
+            length,
+        }),
     }
 }
 
@@ -73,7 +81,7 @@ fn bind_imports<'a, A: Allocator + Copy>(
     requires named { names_in names.now ≡ lowered (modules_view modules.now) }
     requires counted { exports ≡ pairs_of (modules_view modules.now) }
     requires few_exports { exports ≤ 2 ^ 25 }
-    ensures { MapAnswers (flat_map (import_tests policy (modules_view modules.now) number) (map import_view imports.now))
+    ensures { SetAnswers (first_error (flat_map (import_errors policy (modules_view modules.now) number) (map import_view imports.now)))
         (λ _. bindings.new.items ≡ bindings.old.items ++ filter_map (binding_of (modules_view modules.now) number) (map import_view imports.now)) result }
 {
     for import in imports {
@@ -95,7 +103,7 @@ pub(crate) fn bind<A: Allocator + Copy>(
     requires few { length modules.now ≤ 256 }
     requires named { names_in names.now ≡ lowered (modules_view modules.now) }
     requires few_exports { pairs_of (modules_view modules.now) ≤ 2 ^ 25 }
-    ensures exact { MapAnswers (imports_tests policy (modules_view modules.now)) (λ bindings. bindings.items ≡ bindings_of (modules_view modules.now)) result }
+    ensures exact { SetAnswers (first_error (imports_errors policy (modules_view modules.now))) (λ bindings. bindings.items ≡ bindings_of (modules_view modules.now)) result }
     ensures empty { length modules.now ≡ 0 → IsOk result }
 {
     let mut bindings = Vec::new(alloc);

@@ -1,8 +1,9 @@
 //! What the definitions mean, as laws. The contract of each function here is a law, and its body only calls the laws of other
 //! crates on which that rests.
 
-ghost use Rattle.std.specs.Prelude.{◌≡◌, ◌≤◌, ◌^◌, ◌↔◌, ℕ, List, None, Some, slice_set, map};
+ghost use Rattle.std.specs.Prelude.{◌≡◌, ◌≤◌, ◌^◌, ◌↔◌, ℕ, List, None, Some, slice_set, map, option_and_then};
 ghost use Rattle.pe_view.specs.Faults.{first_standing};
+ghost use Rattle.pe_view.specs.declared.fault.Fault.{Fault};
 ghost use Rattle.pe_tables.specs.Key.{Key};
 ghost use Rattle.pe_tables.specs.Imports.{Import};
 ghost use Rattle.pe_set.specs.Set.{Entry, Module, modules_of, placement_of, bases_of, at_bases, rebased, AreAlike};
@@ -14,6 +15,8 @@ ghost use Rattle.pe_set.specs.BoundImports.{IsBindingOf};
 ghost use Rattle.pe_set.specs.declared.binding.Binding.{Binding};
 ghost use Rattle.pe_set.specs.Placement.{move_tests};
 ghost use Rattle.pe_set.specs.SetFaults.{set_tests, names_tests, files_tests, places_tests};
+ghost use Rattle.pe_set.specs.SetErrors.{set_error, fault_in, IsCycleOf};
+ghost use Rattle.pe_set.specs.declared.error.MapError.TheVariants.{Cycle};
 ghost use Rattle.pe_set.specs.Sound.{IsSound};
 ghost use Rattle.pe_set.specs.declared.entry.Policy.{Policy};
 
@@ -38,6 +41,17 @@ pub fn slots_are_bound_to_their_exports()
 {
     searches_end_in_one_way();
 }
+
+/// The error of a set tells of its first fault, and a set without an error has none.
+pub fn errors_are_faults()
+    ensures { (policy : Policy) (es : List Entry) → option_and_then fault_in (set_error policy es) ≡ first_standing (set_tests policy es) }
+{}
+
+/// The error of a set is a cycle only where the search for one of its imports never ends and runs in a cycle of this length: its
+/// fault is 50, at the slot of that import.
+pub fn cycles_are_of_endless_searches()
+    ensures { (policy : Policy) (es : List Entry) (fault : Fault) (length : ℕ) → set_error policy es ≡ Some (Cycle fault length) → IsCycleOf (modules_of es) fault length }
+{}
 
 /// The fields and bound slots of an accepted set lie in its images and share no byte, the exports to which they are bound lie in
 /// its images, and its images share no address.

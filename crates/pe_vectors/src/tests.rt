@@ -1,6 +1,7 @@
 mod bindings;
 mod both;
 mod counted;
+mod cycles;
 mod dumps;
 mod engines;
 mod exports;

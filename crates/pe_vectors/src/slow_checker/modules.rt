@@ -5,7 +5,7 @@ use super::forwarders::{Forwarder, Wanted};
 use super::images::Judged;
 use super::imports::Import;
 use super::names::matches;
-use super::ordering::{Class, Faults, rva_row};
+use super::ordering::{Class, Faults, Row, rva_row};
 use pe_space::Policy;
 use std::alloc::{AllocError, Global};
 
@@ -21,8 +21,8 @@ enum End {
     Missing,
     /// At a module that does not export the key.
     Unknown,
-    /// Never: it comes to an export at which it stood before.
-    Endless,
+    /// Never: it comes to an export at which it stood so many hops before.
+    Endless(u32),
 }
 
 /// An export at which a search stands: the index of its image, and its key.
@@ -58,10 +58,17 @@ fn list_imports_of(
         let end = search(alloc, images, judged, import)?;
         let slot = import.slot.start;
         let is_missing = end == End::Missing && policy == Policy::Strict;
+        let length = match end {
+            End::Endless(length) => Some(length),
+            _ => None,
+        };
         faults.record(&[
             rva_row(48, is_missing, slot),
             rva_row(49, end == End::Unknown, slot),
-            rva_row(50, end == End::Endless, slot),
+            Row {
+                length,
+                ..rva_row(50, length.is_some(), slot)
+            },
         ])?;
     }
     Ok(())
@@ -83,8 +90,8 @@ fn search(
         let Some((image, exporter)) = module(images, at.module.as_slice()) else {
             return Ok(End::Missing);
         };
-        if has_stood(&before, image, &at.wanted) {
-            return Ok(End::Endless);
+        if let Some(length) = hops_since(&before, image, &at.wanted) {
+            return Ok(End::Endless(length));
         }
         match target_of(alloc, &exporter.image, &at.wanted)? {
             None => return Ok(End::Unknown),
@@ -96,17 +103,18 @@ fn search(
             }
         }
     }
-    Ok(End::Endless)
+    // not for want of exports: by now it would have stood at one of them twice
+    Ok(End::Endless(0))
 }
 
-/// Whether a search has stood at an export before.
-fn has_stood(before: &[Stand], image: usize, wanted: &Wanted) -> bool {
-    for stand in before {
+/// How many hops ago a search stood at an export, if it did: it stood at one more at each hop.
+fn hops_since(before: &[Stand], image: usize, wanted: &Wanted) -> Option<u32> {
+    for (hops, stand) in before.iter().enumerate() {
         if stand.image == image && stand.wanted == *wanted {
-            return true;
+            return u32::try_from(before.len().saturating_sub(hops)).ok();
         }
     }
-    false
+    None
 }
 
 /// The image whose name matches a module's, with its index.
