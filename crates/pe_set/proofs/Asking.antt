@@ -1,13 +1,13 @@
 -- Tests that are asked of the items of a list, one after the other.
 use Rattle.std.proofs.Common.{◌≡◌, ℕ, ◌+◌, ◌<◌, ◌≤◌, List, ◌∷◌, ◌++◌, drop, get_or, length, map, Option, Some, None, refl, sym, ap, ◌∙◌, append_assoc}
-use Rattle.std.specs.List.{flat_map, filter_map, cons_option}
+use Rattle.std.specs.List.{filter_map, cons_option}
 use Rattle.std.specs.Prelude.{option_to_list}
 use Rattle.std.proofs.lemmas.List.{at_drop_more, drop_all}
 use Rattle.pe_view.specs.declared.fault.Fault.{Fault}
 use Rattle.pe_view.specs.Faults.{Test, first_standing}
 use Rattle.pe_view.specs.FirstStanding.{first-past, first-in}
 use Rattle.pe_set.specs.Numbered.{numbered}
-use Rattle.pe_set.specs.SetFaults.{Refuses, map_error}
+use Rattle.pe_set.specs.SetFaults.{RefusesClass, map_error}
 use Rattle.pe_set.specs.declared.error.MapError.{MapError}
 use Rattle.pe_set.specs.declared.error.MapError.TheVariants as errors
 use Rattle.pe_tables.specs.TableFaults.{Refuses as TableRefuses}
@@ -22,11 +22,12 @@ pub next_here : {X : Type 0} (xs : List X) (i : ℕ) (x : X) → x ≡ get_or xs
 next_here xs i x is lt = next_item xs i x lt ∙ ap (λ y. y ∷ drop (i + 1) xs) (sym is)
 
 -- a refusal by the faults of a part is one by the faults of the whole
-pub refuses-whole : (part whole : List Test) → ((y : Fault) → first_standing part ≡ Some y → first_standing whole ≡ Some y) → (error : MapError) → Refuses part error → Refuses whole error
+pub refuses-whole : (part whole : List Test) → ((y : Fault) → first_standing part ≡ Some y → first_standing whole ≡ Some y) → (error : MapError) → RefusesClass part error → RefusesClass whole error
 refuses-whole part whole first errors.Memory refused = tt
 refuses-whole part whole first (errors.Fault y) refused = first y refused
+refuses-whole part whole first (errors.Cycle y length) refused = absurd refused
 
-pub refuses-table : (part whole : List Test) → ((y : Fault) → first_standing part ≡ Some y → first_standing whole ≡ Some y) → (error : TableError) → TableRefuses part error → Refuses whole (map_error error)
+pub refuses-table : (part whole : List Test) → ((y : Fault) → first_standing part ≡ Some y → first_standing whole ≡ Some y) → (error : TableError) → TableRefuses part error → RefusesClass whole (map_error error)
 refuses-table part whole first table_errors.Memory refused = tt
 refuses-table part whole first (table_errors.Fault y) refused = first y refused
 
@@ -47,18 +48,6 @@ module _ {X Y : Type 0} (view : X → Y) (f : ℕ → Y → List Test) (xs : Lis
 pub asked_all : {X Y : Type 0} (view : X → Y) (f : ℕ → Y → List Test) (xs : List X) (i : ℕ) → length xs ≤ i
     → first_standing (numbered f i (map view (drop i xs))) ≡ first_standing (numbered f 0 (map view xs)) → first_standing (numbered f 0 (map view xs)) ≡ None
 asked_all view f xs i le rest = sym rest ∙ ap (λ ys. first_standing (numbered f i (map view ys))) (drop_all i xs le)
-
--- ---- the same without numbers
-module _ {X Y : Type 0} (view : X → Y) (f : Y → List Test) (xs : List X) (i : ℕ) (x : X) (next : drop i xs ≡ x ∷ drop (i + 1) xs)
-    (rest : first_standing (flat_map f (map view (drop i xs))) ≡ first_standing (flat_map f (map view xs))) where
-  flat_from_here : first_standing (flat_map f (map view xs)) ≡ first_standing (f (view x) ++ flat_map f (map view (drop (i + 1) xs)))
-  flat_from_here = sym rest ∙ ap (λ (ys : List X). first_standing (flat_map f (map view ys))) next
-
-  pub flat_past : first_standing (f (view x)) ≡ None → first_standing (flat_map f (map view (drop (i + 1) xs))) ≡ first_standing (flat_map f (map view xs))
-  flat_past none = sym (flat_from_here ∙ first-past (f (view x)) (flat_map f (map view (drop (i + 1) xs))) none)
-
-  pub flat_in : (y : Fault) → first_standing (f (view x)) ≡ Some y → first_standing (flat_map f (map view xs)) ≡ Some y
-  flat_in y some = flat_from_here ∙ first-in (f (view x)) (flat_map f (map view (drop (i + 1) xs))) y some
 
 cons_option-list : {Y : Type 0} (o : Option Y) (ys : List Y) → cons_option o ys ≡ option_to_list o ++ ys
 cons_option-list None ys = refl

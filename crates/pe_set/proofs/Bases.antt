@@ -1,13 +1,13 @@
 -- What slots are bound to depends on names, exports and imports alone; other bases change where images stand and nothing else.
 use Rattle.std.proofs.Common.{◌≡◌, ◌∙◌, ◌+◌, ℕ, zero, suc, Bool, List, [], ◌∷◌, ◌++◌, cond, length, Option, None, Some, refl, ap}
-use Rattle.std.specs.Prelude.{nat_lt, not}
+use Rattle.std.specs.Prelude.{nat_lt, not, option_map, option_and_then}
 use Rattle.std.specs.List.{cons_option, filter_map, prefix_len}
 use Rattle.pe_tables.specs.Key.{Key, Target, Rva, Forward}
 use Rattle.pe_tables.specs.Exports.{Exports, target_at}
 use Rattle.pe_tables.specs.Imports.{Import}
 use Rattle.pe_set.specs.Numbered.{numbered}
 use Rattle.pe_set.specs.Set.{Entry, Module, module_of, modules_from, modules_of, at_bases, rebased, named, same_name, forwarded_name, AreAlike}
-use Rattle.pe_set.specs.Search.{hop_limit, target_in, from_target, from_image, resolve_in, ended, resolve}
+use Rattle.pe_set.specs.Search.{target_in, from_target, from_image, resolve_in, stand_at, onward, step, steps, stands, pairs_of, same_stand, steps_to, cycle_at, cycle_length, ended, resolve}
 use Rattle.pe_set.specs.Bindings.{bound_to, binding_of, bindings_in, bindings_of}
 use Rattle.pe_set.specs.declared.search.Resolution.{Resolution}
 
@@ -53,6 +53,15 @@ target_alike key (m ∷ s) [] i alike = absurd alike
 target_alike key (m ∷ s) (n ∷ t) zero alike = ap (λ (exports : Exports). target_at exports key) alike.1
 target_alike key (m ∷ s) (n ∷ t) (suc i) alike = target_alike key s t i alike.3
 
+-- there are as many pairs of exports
+pairs_alike : (s t : List Module) → AreAlike s t → pairs_of s ≡ pairs_of t
+pairs_alike [] [] alike = refl
+pairs_alike [] (n ∷ t) alike = absurd alike
+pairs_alike (m ∷ s) [] alike = absurd alike
+pairs_alike (m ∷ s) (n ∷ t) alike =
+    ap (λ (exports : Exports). length exports.ordinals + length exports.names + pairs_of s) alike.1
+    ∙ ap (λ k. length n.exports.ordinals + length n.exports.names + k) (pairs_alike s t alike.3)
+
 -- two searches that go on alike
 module _ (next next' : List ℕ → Key → Option Resolution) (same : (name : List ℕ) (key : Key) → next' name key ≡ next name key) where
   target_same : (i : ℕ) (t : Option Target) → from_target next' i t ≡ from_target next i t
@@ -72,10 +81,46 @@ module _ (s t : List Module) (alike : AreAlike s t) where
       ap (from_image s (resolve_in n s) key) (named_alike name s t alike)
       ∙ image_same (resolve_in n t) (resolve_in n s) (resolve_in_alike n) t s key (λ i. target_alike key s t i alike) (named t name)
 
+  -- ---- where it stands, and when it stands there again
+  stand_alike : (name : List ℕ) (key : Key) → stand_at s name key ≡ stand_at t name key
+  stand_alike name key = ap (option_map (λ i. (i, key))) (named_alike name s t alike)
+
+  onward_alike : (o : Option Target) → onward s o ≡ onward t o
+  onward_alike None = refl
+  onward_alike (Some (Rva rva)) = refl
+  onward_alike (Some (Forward name key)) = stand_alike (forwarded_name name) key
+
+  step_alike : (o : Option (ℕ × Key)) → option_and_then (step s) o ≡ option_and_then (step t) o
+  step_alike None = refl
+  step_alike (Some p) = ap (onward s) (target_alike p.1 s t p.0 alike) ∙ onward_alike (target_in t p.1 p.0)
+
+  steps_alike : (n : ℕ) (o : Option (ℕ × Key)) → steps s n o ≡ steps t n o
+  steps_alike zero o = refl
+  steps_alike (suc n) o = steps_alike n (option_and_then (step s) o) ∙ ap (steps t n) (step_alike o)
+
+  steps_to_alike : (n : ℕ) (p : ℕ × Key) (o : Option (ℕ × Key)) → steps_to n s p o ≡ steps_to n t p o
+  steps_to_alike zero p o = refl
+  steps_to_alike (suc n) p o =
+      ap (λ k. suc (cond (same_stand p (option_and_then (step s) o)) 0 k)) (steps_to_alike n p (option_and_then (step s) o))
+      ∙ ap (λ q. suc (cond (same_stand p q) 0 (steps_to n t p q))) (step_alike o)
+
+  cycle_at_alike : (n : ℕ) (o : Option (ℕ × Key)) → cycle_at n s o ≡ cycle_at n t o
+  cycle_at_alike n None = refl
+  cycle_at_alike n (Some p) = steps_to_alike n p (Some p)
+
+  cycle_alike : (name : List ℕ) (key : Key) → cycle_length s name key ≡ cycle_length t name key
+  cycle_alike name key =
+      ap (λ n. cycle_at n s (stands s name key (suc n))) (pairs_alike s t alike)
+      ∙ cycle_at_alike (pairs_of t) (stands s name key (suc (pairs_of t)))
+      ∙ ap (cycle_at (pairs_of t) t) (steps_alike (suc (pairs_of t)) (stand_at s name key) ∙ ap (steps t (suc (pairs_of t))) (stand_alike name key))
+
   -- a search ends alike
   resolve_alike : (name : List ℕ) (key : Key) → resolve s name key ≡ resolve t name key
   unfolding resolve
-  resolve_alike name key = ap ended (resolve_in_alike (suc hop_limit) name key)
+  resolve_alike name key =
+      ap (λ n. ended n (resolve_in (suc (pairs_of s)) s name key)) (cycle_alike name key)
+      ∙ ap (λ n. ended (cycle_length t name key) (resolve_in (suc n) s name key)) (pairs_alike s t alike)
+      ∙ ap (ended (cycle_length t name key)) (resolve_in_alike (suc (pairs_of t)) name key)
 
   bindings_same : (i : ℕ) (xs : List Import) → filter_map (binding_of s i) xs ≡ filter_map (binding_of t i) xs
   bindings_same i [] = refl

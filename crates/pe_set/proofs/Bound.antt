@@ -22,7 +22,7 @@ module _ (s : List Module) (i : ℕ) (x : Import) (b : Binding) where
       }
   given Missing ends is = absurd cc
   given Unknown ends is = absurd cc
-  given Endless ends is = absurd cc
+  given (Endless length) ends is = absurd cc
 
   pub is_bound : EndsAs s (x.module_name, x.key) (resolve s x.module_name x.key) → binding_of s i x ≡ Some b → IsBindingOf s i x b
   is_bound ends is = given (resolve s x.module_name x.key) ends is

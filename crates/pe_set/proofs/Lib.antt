@@ -1,11 +1,16 @@
 pub mod Asking
+pub mod AskingErrors
 pub mod Bases
 pub mod Bound
 pub mod ClassRows
 pub mod Classes
+pub mod CycleErrors
+pub mod Cycles
 pub mod Defaults
 pub mod Distinct
 pub mod Ending
+pub mod Errors
+pub mod Exporting
 pub mod Faultless
 pub mod Gathered
 pub mod Images
@@ -13,6 +18,8 @@ pub mod Magics
 pub mod ModuleRead
 pub mod Moving
 pub mod NameRows
+pub mod PairNumbers
+pub mod Pigeons
 pub mod PlaceRows
 pub mod Places
 pub mod Searching

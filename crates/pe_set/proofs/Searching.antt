@@ -1,16 +1,17 @@
 -- What an image that has been read is, and how a search goes on from it.
-use Rattle.std.proofs.Common.{◌≡◌, ◌∙◌, ◌<◌, ◌+◌, ℕ, suc, List, [], ◌∷◌, Bool, not, cond, length, map, get_or, Option, None, Some, refl, sym, ap}
+use Rattle.std.proofs.Common.{◌≡◌, ◌∙◌, ◌<◌, ◌+◌, ℕ, zero, suc, List, [], ◌∷◌, Bool, true, false, not, cond, length, map, drop, get_or, Option, None, Some, refl, sym, ap}
 use Rattle.std.specs.Prelude.{option_map, nat_lt, position, ◌||◌}
 use Rattle.std.specs.List.{list_any, position_or_len, prefix_len}
 use Rattle.std.specs.Str.{bytes_eq, str_to_ascii_lowercase}
 use Rattle.std.specs.Option.{option_and_then}
 use Rattle.std.proofs.lemmas.Option.{slice_get-map, slice_get_read}
 use Rattle.std.proofs.lemmas.List.{length-map}
+use Rattle.pe_tables.specs.ExportsView.{exports_view}
 use Rattle.pe_tables.specs.ImportView.{import_view}
 use Rattle.pe_tables.specs.Key.{Key, Target, Rva, Forward}
 use Rattle.pe_tables.specs.Exports.{target_at}
 use Rattle.pe_set.specs.Set.{Module, named, forwarded_name}
-use Rattle.pe_set.specs.Search.{target_in, from_target, from_image, resolve_in}
+use Rattle.pe_set.specs.Search.{target_in, from_target, from_image, resolve_in, stand_at, onward, step, steps, steps_to, same_stand, pairs_of}
 use Rattle.pe_set.specs.NamesView.{lowered}
 use Rattle.pe_set.specs.SetView.{module_view, modules_view}
 use Rattle.pe_set.specs.declared.reading.Module as code_module
@@ -57,6 +58,9 @@ module _ (s : List Module) (name : List ℕ) (key : Key) (n : ℕ) where
     pub resolve_hop : (to : List ℕ) (next : Key) → target_in s key i ≡ Some (Forward to next) → resolve_in (suc n) s name key ≡ resolve_in n s (forwarded_name to) next
     resolve_hop to next is = ap (from_image s (resolve_in n s) key) here ∙ ap (from_target (resolve_in n s) i) is
 
+    pub stand_step : (to : List ℕ) (next : Key) → target_in s key i ≡ Some (Forward to next) → steps s (suc n) (stand_at s name key) ≡ steps s n (stand_at s (forwarded_name to) next)
+    stand_step to next is = ap (λ o. steps s n (option_and_then (step s) (option_map (λ i. (i, key)) o))) here ∙ ap (λ t. steps s n (onward s t)) is
+
 -- the number that the names give is that of the image
 pub named_in : {A : Type 0} (ms : List (code_module.Module A)) (names : List (List ℕ)) (buffer name : List ℕ) → names ≡ lowered (modules_view ms) → buffer ≡ str_to_ascii_lowercase name
     → position (λ other. bytes_eq buffer other) names ≡ named (modules_view ms) name
@@ -75,3 +79,36 @@ target_is ms m i key o lt is found =
 -- there are as many names as images
 pub names_count : {A : Type 0} (ms : List (code_module.Module A)) (names : List (List ℕ)) → names ≡ lowered (modules_view ms) → length names ≡ length ms
 names_count ms names is = ap length is ∙ length-map (modules_view ms) (λ (m : Module). str_to_ascii_lowercase m.name) ∙ length-map ms module_view
+
+-- ---- where a search stands
+module _ {A : Type 0} (ms : List (code_module.Module A)) (names : List (List ℕ)) (buffer name : List ℕ) (is : names ≡ lowered (modules_view ms)) (low : buffer ≡ str_to_ascii_lowercase name) where
+  pub standing_is : (key : Key) → option_map (λ i. (i, key)) (position (λ other. bytes_eq buffer other) names) ≡ stand_at (modules_view ms) name key
+  standing_is key = ap (option_map (λ i. (i, key))) (named_in ms names buffer name is low)
+
+pub step_is : (s : List Module) (p : ℕ × Key) (t : Option Target) → target_in s p.1 p.0 ≡ t → step s p ≡ onward s t
+step_is s p t is = ap (onward s) is
+
+pub steps_to_none : (n : ℕ) (s : List Module) (p : ℕ × Key) → steps_to n s p None ≡ n
+steps_to_none zero s p = refl
+steps_to_none (suc n) s p = ap (λ k. suc k) (steps_to_none n s p)
+
+module _ (n : ℕ) (s : List Module) (p q : ℕ × Key) where
+  pub steps_to_lost : step s q ≡ None → steps_to (suc n) s p (Some q) ≡ suc n
+  steps_to_lost is = ap (λ o. suc (cond (same_stand p o) 0 (steps_to n s p o))) is ∙ ap (λ k. suc k) (steps_to_none n s p)
+
+  module _ (r : ℕ × Key) (is : step s q ≡ Some r) where
+    pub steps_to_back : same_stand p (Some r) ≡ true → steps_to (suc n) s p (Some q) ≡ 1
+    steps_to_back same = ap (λ o. suc (cond (same_stand p o) 0 (steps_to n s p o))) is ∙ ap (λ b. suc (cond b 0 (steps_to n s p (Some r)))) same
+
+    pub steps_to_on : same_stand p (Some r) ≡ false → steps_to (suc n) s p (Some q) ≡ suc (steps_to n s p (Some r))
+    steps_to_on same = ap (λ o. suc (cond (same_stand p o) 0 (steps_to n s p o))) is ∙ ap (λ b. suc (cond b 0 (steps_to n s p (Some r)))) same
+
+-- ---- how many exports there are
+pub pairs_past : {A : Type 0} (ms : List (code_module.Module A)) (i : ℕ) (m : code_module.Module A) (a b : ℕ) → drop i ms ≡ m ∷ drop (i + 1) ms
+    → a ≡ length (exports_view m.image.exports).ordinals → b ≡ length (exports_view m.image.exports).names
+    → pairs_of (modules_view (drop i ms)) ≡ a + b + pairs_of (modules_view (drop (i + 1) ms))
+unfolding module_view
+pairs_past ms i m a b next is_a is_b =
+    ap (λ (xs : List (code_module.Module _)). pairs_of (modules_view xs)) next
+    ∙ ap (λ n. n + length (exports_view m.image.exports).names + pairs_of (modules_view (drop (i + 1) ms))) (sym is_a)
+    ∙ ap (λ n. a + n + pairs_of (modules_view (drop (i + 1) ms))) (sym is_b)

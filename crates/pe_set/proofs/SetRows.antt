@@ -111,29 +111,38 @@ forwarded_wrong : resolve (with_tables (codes "a.dll") 0x10000000 (image 0 0 [] 
 unfolding resolve
 forwarded_wrong = refl
 
--- ---- how many hops a search may make
--- `f.dll` forwards each of its numbers below n + 1 to the next, and has an RVA at the last
-abbrev chain : ℕ → Module
-chain n = with_tables (codes "f.dll") 0x20000000 (image 0 0 [] 0x20000000) (map (λ k. (k, Forward (codes "f") (Ordinal (k + 1)))) (range_with_len 1 n) ++ (n + 1, keys.Rva 0x1004) ∷ []) [] []
+-- ---- how far a search goes
+-- `f.dll` forwards each of its numbers below n + 1 to the next, and number n + 1 is this
+abbrev chain : ℕ → Target → Module
+chain n last = with_tables (codes "f.dll") 0x20000000 (image 0 0 [] 0x20000000) (map (λ k. (k, Forward (codes "f") (Ordinal (k + 1)))) (range_with_len 1 n) ++ (n + 1, last) ∷ []) [] []
 
 -- `c.exe` imports its number 1
 abbrev importing_1 : Module
 importing_1 = importing (import (codes "F.DLL") (Ordinal 1) 0x1030 ∷ [])
 
--- 64 hops
-as_many_hops_as_may_be : resolve (chain 64 ∷ []) (codes "F.DLL") (Ordinal 1) ≡ Bound 0 0x1004
+-- to an RVA behind 65 forwarders
+far : resolve (chain 65 (keys.Rva 0x1004) ∷ []) (codes "F.DLL") (Ordinal 1) ≡ Bound 0 0x1004
 unfolding resolve
-as_many_hops_as_may_be = refl
+far = refl
 
--- a 65th
-one_hop_too_many : resolve (chain 65 ∷ []) (codes "F.DLL") (Ordinal 1) ≡ Endless
+-- to a module that is not there, and to an export that is not there
+far_missing : resolve (chain 65 (Forward (codes "g") (Ordinal 1)) ∷ []) (codes "F.DLL") (Ordinal 1) ≡ Missing
 unfolding resolve
-one_hop_too_many = refl
+far_missing = refl
 
--- a search that begins one hop later ends
-one_hop_later : resolve (chain 65 ∷ []) (codes "F.DLL") (Ordinal 2) ≡ Bound 0 0x1004
+far_unknown : resolve (chain 65 (Forward (codes "f") (Ordinal 67)) ∷ []) (codes "F.DLL") (Ordinal 1) ≡ Unknown
 unfolding resolve
-one_hop_later = refl
+far_unknown = refl
+
+-- the last goes back to number 33: 32 hops lead to the cycle, which has 34
+long_cycle : resolve (chain 65 (Forward (codes "f") (Ordinal 33)) ∷ []) (codes "F.DLL") (Ordinal 1) ≡ Endless 34
+unfolding resolve
+long_cycle = refl
+
+-- a cycle of one behind 65
+short_cycle : resolve (chain 65 (Forward (codes "f") (Ordinal 66)) ∷ []) (codes "F.DLL") (Ordinal 1) ≡ Endless 1
+unfolding resolve
+short_cycle = refl
 
 -- ---- bindings
 -- through one forwarder
@@ -141,10 +150,10 @@ bound_through : bindings_of three ≡ record { image = 2; slot = 0x1030; exporte
 unfolding bindings_of resolve
 bound_through = refl
 
--- through 64
-bound_after_64 : bindings_of (chain 64 ∷ importing_1 ∷ []) ≡ record { image = 1; slot = 0x1030; exporter = 0; rva = 0x1004 } ∷ []
+-- through 65
+bound_after_65 : bindings_of (chain 65 (keys.Rva 0x1004) ∷ importing_1 ∷ []) ≡ record { image = 1; slot = 0x1030; exporter = 0; rva = 0x1004 } ∷ []
 unfolding bindings_of resolve
-bound_after_64 = refl
+bound_after_65 = refl
 
 -- a slot whose module is not in the set is not bound, the others are, in the order of the imports
 the_others_are_bound : bindings_of (exporting ∷ importing (import (codes "b.dll") (Ordinal 7) 0x1038 ∷ import (codes "d.dll") (Ordinal 1) 0x1030 ∷ import (codes "B.dll") (Ordinal 5) 0x1034 ∷ []) ∷ [])
@@ -209,25 +218,41 @@ not_exported_known : first_standing (imports_tests Known (exporting ∷ importin
 unfolding imports_tests resolve
 not_exported_known = refl
 
--- 50: one forwarder too many
-too_many_hops : first_standing (imports_tests Strict (chain 65 ∷ importing_1 ∷ [])) ≡ Some (record { number = 50; image = 1; place = Rva 0x1030 })
+-- 49: also behind 65 forwarders
+not_exported_far : first_standing (imports_tests Strict (chain 65 (Forward (codes "f") (Ordinal 67)) ∷ importing_1 ∷ [])) ≡ Some (record { number = 49; image = 1; place = Rva 0x1030 })
 unfolding imports_tests resolve
-too_many_hops = refl
+not_exported_far = refl
 
 -- `a.dll` forwards `f` to itself
 abbrev circling : Module
 circling = with_tables (codes "a.dll") 0x10000000 (image 0 0 [] 0x10000000) [] ((codes "f", Forward (codes "a") (Name (codes "f"))) ∷ []) []
 
--- 50: a circle of one
+-- 50: a cycle of one
 endless : first_standing (imports_tests Known (circling ∷ importing_f ∷ [])) ≡ Some (record { number = 50; image = 1; place = Rva 0x1030 })
 unfolding imports_tests resolve
 endless = refl
 
--- 50: a circle of two, as `b.dll` forwards number 7 back
-endless_by_two : first_standing (imports_tests Strict (forwarding ∷ with_tables (codes "b.dll") 0x20000000 (image 1 0 [] 0x20000000) ((7, Forward (codes "a") (Name (codes "f"))) ∷ []) [] [] ∷ importing_f ∷ []))
-    ≡ Some (record { number = 50; image = 2; place = Rva 0x1030 })
+cycle_of_one : resolve (circling ∷ importing_f ∷ []) (codes "A.DLL") (Name (codes "f")) ≡ Endless 1
+unfolding resolve
+cycle_of_one = refl
+
+-- the same as `a.dll` and `b.dll`, of which number 7 goes back
+abbrev circling_by_two : List Module
+circling_by_two = forwarding ∷ with_tables (codes "b.dll") 0x20000000 (image 1 0 [] 0x20000000) ((7, Forward (codes "a") (Name (codes "f"))) ∷ []) [] [] ∷ importing_f ∷ []
+
+endless_by_two : first_standing (imports_tests Strict circling_by_two) ≡ Some (record { number = 50; image = 2; place = Rva 0x1030 })
 unfolding imports_tests resolve
 endless_by_two = refl
+
+cycle_of_two : resolve circling_by_two (codes "A.DLL") (Name (codes "f")) ≡ Endless 2
+unfolding resolve
+cycle_of_two = refl
+
+-- a module that is met twice by two keys is no cycle
+met_twice : resolve (with_tables (codes "a.dll") 0x10000000 (image 0 0 [] 0x10000000) ((1, Forward (codes "b") (Ordinal 1)) ∷ (2, keys.Rva 0x1004) ∷ []) [] []
+    ∷ with_tables (codes "b.dll") 0x20000000 (image 1 0 [] 0x20000000) ((1, Forward (codes "a") (Ordinal 2)) ∷ []) [] [] ∷ []) (codes "a.dll") (Ordinal 1) ≡ Bound 0 0x1004
+unfolding resolve
+met_twice = refl
 
 -- the first import with a fault decides, whatever its number
 first_import : first_standing (imports_tests Strict (exporting ∷ importing (import (codes "b.dll") (Ordinal 5) 0x1030 ∷ import (codes "b.dll") (Ordinal 6) 0x1034 ∷ import (codes "d.dll") (Ordinal 5) 0x1038 ∷ []) ∷ []))

@@ -36,15 +36,15 @@ bound_parts : (i slot : ℕ) (r : Resolution) (b : Binding) → bound_to i slot 
 bound_parts i slot (Bound j u) b e = (j, u, refl, sym (same_Some (record { image = i; slot = slot; exporter = j; rva = u }) b e))
 bound_parts i slot Missing b e = absurd cc
 bound_parts i slot Unknown b e = absurd cc
-bound_parts i slot Endless b e = absurd cc
+bound_parts i slot (Endless length) b e = absurd cc
 
 -- a search that ends bound ends at an image that exports the RVA
 exporter_of : (s : List Module) (name : List ℕ) (key : Key) (j u : ℕ) → resolve s name key ≡ Bound j u
     → (m : Module) × (by : Key) × (slice_get s j ≡ Some m) × (target_at m.exports by ≡ Some (Rva u))
 exporter_of s name key j u is =
     let end = subst (EndsAs s (name, key)) is (ends s name key) in
-    let by = end.1.1 in
-    option_and_then_some (λ (m : Module). target_at m.exports by) (slice_get s j) (Rva u) end.4.1 (λ m at target. (m, by, at, target))
+    let by = end.1.0.1 in
+    option_and_then_some (λ (m : Module). target_at m.exports by) (slice_get s j) (Rva u) end.1.2.1 (λ m at target. (m, by, at, target))
 
 own_image : (s : List Module) (i : ℕ) (m : Module) → All (λ (b : Binding). b.image ≡ i) (bindings_in s i m)
 own_image s i m =

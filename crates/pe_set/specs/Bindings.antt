@@ -13,7 +13,7 @@ abbrev pub bound_to : ℕ → ℕ → Resolution → Option Binding
 bound_to i slot (Bound exporter rva) = Some (record { image = i; slot = slot; exporter = exporter; rva = rva })
 bound_to i slot Missing = None
 bound_to i slot Unknown = None
-bound_to i slot Endless = None
+bound_to i slot (Endless length) = None
 
 -- what an import of image i is bound to
 abbrev pub binding_of : List Module → ℕ → Import → Option Binding

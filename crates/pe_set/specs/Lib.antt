@@ -11,6 +11,8 @@ pub mod Placement
 pub mod Search
 pub mod SearchEnds
 pub mod Set
+pub mod SetErrors
 pub mod SetFaults
 pub mod SetView
 pub mod Sound
+pub mod StandView

@@ -1,6 +1,7 @@
 -- The search for what a key of a module stands for, through forwarders ("PE Format", Export Address Table).
-use Rattle.std.specs.Prelude.{ℕ, zero, suc, List, Option, Some, None, slice_get, option_and_then}
-use Rattle.pe_tables.specs.Key.{Key, Target, Rva, Forward}
+use Rattle.std.specs.Prelude.{ℕ, zero, suc, ◌+◌, ◌==◌, ◌&&◌, Bool, false, List, [], ◌∷◌, length, Option, Some, None, slice_get, option_map, option_and_then, if◌then◌else◌}
+use Rattle.std.specs.Str.{bytes_eq}
+use Rattle.pe_tables.specs.Key.{Key, Ordinal, Name, Target, Rva, Forward}
 use Rattle.pe_tables.specs.Exports.{target_at}
 use Rattle.pe_set.specs.Set.{Module, named, forwarded_name}
 use Rattle.pe_set.specs.declared.search.Resolution.{Resolution}
@@ -26,15 +27,62 @@ abbrev pub resolve_in : ℕ → List Module → List ℕ → Key → Option Reso
 resolve_in zero s name key = None
 resolve_in (suc n) s name key = from_image s (resolve_in n s) key (named s name)
 
--- how many hops a search may make
-abbrev pub hop_limit : ℕ
-hop_limit = 64
+-- ---- the images and keys at which it stands
+-- where the module is an image of the set
+abbrev pub stand_at : List Module → List ℕ → Key → Option (ℕ × Key)
+stand_at s name key = option_map (λ i. (i, key)) (named s name)
 
--- a search that has not ended is endless
-abbrev pub ended : Option Resolution → Resolution
-ended None = Endless
-ended (Some end) = end
+-- after the hop of a forwarder
+abbrev pub onward : List Module → Option Target → Option (ℕ × Key)
+onward s None = None
+onward s (Some (Rva rva)) = None
+onward s (Some (Forward name key)) = stand_at s (forwarded_name name) key
 
--- where a search ends: it looks in one module more than it hops
+abbrev pub step : List Module → ℕ × Key → Option (ℕ × Key)
+step s p = onward s (target_in s p.1 p.0)
+
+-- after n hops more
+abbrev pub steps : List Module → ℕ → Option (ℕ × Key) → Option (ℕ × Key)
+steps s zero p = p
+steps s (suc n) p = steps s n (option_and_then (step s) p)
+
+-- after n hops from its start
+abbrev pub stands : List Module → List ℕ → Key → ℕ → Option (ℕ × Key)
+stands s name key n = steps s n (stand_at s name key)
+
+-- ---- where it ends
+-- how many pairs the exports of the set's images have together
+abbrev pub pairs_of : List Module → ℕ
+pairs_of [] = 0
+pairs_of (m ∷ s) = length m.exports.ordinals + length m.exports.names + pairs_of s
+
+abbrev pub same_key : Key → Key → Bool
+same_key (Ordinal a) (Ordinal b) = a == b
+same_key (Ordinal a) (Name b) = false
+same_key (Name a) (Ordinal b) = false
+same_key (Name a) (Name b) = bytes_eq a b
+
+abbrev pub same_stand : ℕ × Key → Option (ℕ × Key) → Bool
+same_stand p None = false
+same_stand p (Some q) = p.0 == q.0 && same_key p.1 q.1
+
+-- after how many hops a search that stands at q stands at p, at most n
+abbrev pub steps_to : ℕ → List Module → ℕ × Key → Option (ℕ × Key) → ℕ
+steps_to zero s p q = 0
+steps_to (suc n) s p q = suc (if same_stand p (option_and_then (step s) q) then 0 else steps_to n s p (option_and_then (step s) q))
+
+abbrev pub cycle_at : ℕ → List Module → Option (ℕ × Key) → ℕ
+cycle_at n s None = 0
+cycle_at n s (Some p) = steps_to n s p (Some p)
+
+-- the length of the cycle of a search that does not end: after one hop more than there are pairs it stands on the cycle
+abbrev pub cycle_length : List Module → List ℕ → Key → ℕ
+cycle_length s name key = cycle_at (pairs_of s) s (stands s name key (suc (pairs_of s)))
+
+abbrev pub ended : ℕ → Option Resolution → Resolution
+ended length None = Endless length
+ended length (Some end) = end
+
+-- where a search ends: after at most as many hops as there are pairs, or never
 unfoldable pub resolve : List Module → List ℕ → Key → Resolution
-resolve s name key = ended (resolve_in (suc hop_limit) s name key)
+resolve s name key = ended (cycle_length s name key) (resolve_in (suc (pairs_of s)) s name key)

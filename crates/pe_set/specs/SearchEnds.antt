@@ -1,8 +1,8 @@
 -- How a search ends, by where it stands after each hop.
-use Rattle.std.specs.Prelude.{◌≡◌, ◌≤◌, ℕ, zero, suc, List, Option, Some, None, option_and_then}
+use Rattle.std.specs.Prelude.{◌≡◌, ◌<◌, ◌≤◌, ◌+◌, ℕ, zero, suc, List, Option, Some, None, option_map, option_and_then}
 use Rattle.pe_tables.specs.Key.{Key, Target, Rva, Forward}
 use Rattle.pe_set.specs.Set.{Module, named, forwarded_name}
-use Rattle.pe_set.specs.Search.{target_in, hop_limit}
+use Rattle.pe_set.specs.Search.{target_in}
 use Rattle.pe_set.specs.declared.search.Resolution.{Resolution}
 use Rattle.pe_set.specs.declared.search.Resolution.TheVariants.{Bound, Missing, Unknown, Endless}
 
@@ -24,9 +24,10 @@ abbrev pub after : ℕ → List Module → List ℕ × Key → Option (List ℕ 
 after zero s at = Some at
 after (suc n) s at = option_and_then (hop s) (after n s at)
 
--- the search stands, after so many hops as it may make at most, at a name and a key of which P holds
-abbrev pub StandsWhere : List Module → List ℕ × Key → (List ℕ × Key → Type 0) → Type 0
-StandsWhere s start P = (hops : ℕ) × (at : List ℕ × Key) × (hops ≤ hop_limit) × (after hops s start ≡ Some at) × P at
+-- ---- a search that ends
+-- the search stands, after so many hops, at a name and a key of which P holds
+abbrev pub StandsWhere : List Module → List ℕ × Key → ℕ → (List ℕ × Key → Type 0) → Type 0
+StandsWhere s start hops P = (at : List ℕ × Key) × (after hops s start ≡ Some at) × P at
 
 -- at the name of image i, which exports an RVA by the key
 abbrev pub IsBoundAt : List Module → ℕ → ℕ → List ℕ × Key → Type 0
@@ -40,12 +41,34 @@ IsMissingAt s at = named s at.0 ≡ None
 abbrev pub IsUnknownAt : List Module → List ℕ × Key → Type 0
 IsUnknownAt s at = (i : ℕ) × (named s at.0 ≡ Some i) × (target_in s at.1 i ≡ None)
 
--- after all hops that it may make, a further one is there
-abbrev pub GoesOn : List Module → List ℕ × Key → Type 0
-GoesOn s start = (at : List ℕ × Key) × (next : List ℕ × Key) × (after hop_limit s start ≡ Some at) × (hop s at ≡ Some next)
+-- it ends in this way after so many hops
+abbrev pub EndsAfter : List Module → List ℕ × Key → ℕ → Resolution → Type 0
+EndsAfter s start hops (Bound i rva) = StandsWhere s start hops (IsBoundAt s i rva)
+EndsAfter s start hops Missing = StandsWhere s start hops (IsMissingAt s)
+EndsAfter s start hops Unknown = StandsWhere s start hops (IsUnknownAt s)
+EndsAfter s start hops (Endless length) = ⊥
+
+-- ---- one that does not
+-- it ends in none of these ways, after any number of hops
+abbrev pub IsEndless : List Module → List ℕ × Key → Type 0
+IsEndless s start = (hops : ℕ) (end : Resolution) → EndsAfter s start hops end → ⊥
+
+-- the image and the key at which it stands after so many hops
+abbrev pub image_after : List Module → List ℕ × Key → ℕ → Option (ℕ × Key)
+image_after s start hops = option_and_then (λ (at : List ℕ × Key). option_map (λ i. (i, at.1)) (named s at.0)) (after hops s start)
+
+-- from some hop on it stands, that many hops later, at the same image and key again
+abbrev pub Repeats : (ℕ → Option (ℕ × Key)) → ℕ → Type 0
+Repeats stand length = (from : ℕ) × ((n : ℕ) → from ≤ n → (p : ℕ × Key) × (stand n ≡ Some p) × (stand (n + length) ≡ Some p))
+
+-- the least number above 0 for which it does
+pub record IsCycle (stand : ℕ → Option (ℕ × Key)) (length : ℕ) : Type 0 where
+  pub above : 0 < length
+  pub repeats : Repeats stand length
+  pub least : (n : ℕ) → 0 < n → Repeats stand n → length ≤ n
 
 abbrev pub EndsAs : List Module → List ℕ × Key → Resolution → Type 0
-EndsAs s start (Bound i rva) = StandsWhere s start (IsBoundAt s i rva)
-EndsAs s start Missing = StandsWhere s start (IsMissingAt s)
-EndsAs s start Unknown = StandsWhere s start (IsUnknownAt s)
-EndsAs s start Endless = GoesOn s start
+EndsAs s start (Bound i rva) = (hops : ℕ) × EndsAfter s start hops (Bound i rva)
+EndsAs s start Missing = (hops : ℕ) × EndsAfter s start hops Missing
+EndsAs s start Unknown = (hops : ℕ) × EndsAfter s start hops Unknown
+EndsAs s start (Endless length) = IsEndless s start × IsCycle (image_after s start) length

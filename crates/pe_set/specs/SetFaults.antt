@@ -63,7 +63,7 @@ abbrev pub end_tests : Policy → ℕ → ℕ → Resolution → List Test
 end_tests policy i slot (Bound image rva) = []
 end_tests policy i slot Missing = test 48 i (Rva slot) (is_strict policy) ∷ []
 end_tests policy i slot Unknown = test 49 i (Rva slot) true ∷ []
-end_tests policy i slot Endless = test 50 i (Rva slot) true ∷ []
+end_tests policy i slot (Endless length) = test 50 i (Rva slot) true ∷ []
 
 abbrev pub import_tests : Policy → List Module → ℕ → Import → List Test
 import_tests policy s i x = end_tests policy i x.slot (resolve s x.module_name x.key)
@@ -85,11 +85,22 @@ set_tests policy es =
 abbrev pub Refuses : List Test → MapError → Type 0
 Refuses tests errors.Memory = Unit {0}
 Refuses tests (errors.Fault fault) = first_standing tests ≡ Some fault
+Refuses tests (errors.Cycle fault length) = first_standing tests ≡ Some fault
 
 -- Ok, of a value with the property, only where no test stands; otherwise the first fault that does, or want of memory
 abbrev pub MapAnswers : {X : Type 0} → List Test → (X → Type 0) → Result X MapError → Type 0
 MapAnswers tests P (Ok x) = (first_standing tests ≡ None) × P x
 MapAnswers tests P (Err error) = Refuses tests error
+
+-- the same of names, files or places: there is no cycle among them
+abbrev pub RefusesClass : List Test → MapError → Type 0
+RefusesClass tests errors.Memory = Unit {0}
+RefusesClass tests (errors.Fault fault) = first_standing tests ≡ Some fault
+RefusesClass tests (errors.Cycle fault length) = ⊥
+
+abbrev pub ClassAnswers : {X : Type 0} → List Test → (X → Type 0) → Result X MapError → Type 0
+ClassAnswers tests P (Ok x) = (first_standing tests ≡ None) × P x
+ClassAnswers tests P (Err error) = RefusesClass tests error
 
 abbrev pub map_error : TableError → MapError
 map_error (table_errors.Fault fault) = errors.Fault fault

@@ -1,18 +1,19 @@
-ghost use Rattle.std.specs.Prelude.{◌≡◌, ◌++◌, ◌≤◌, length, IsOk};
+ghost use Rattle.std.specs.Prelude.{◌≡◌, ◌++◌, ◌≤◌, ◌^◌, length, IsOk};
 ghost use Rattle.std.specs.List.{flat_map, filter_map};
 ghost use Rattle.pe_tables.specs.ImportView.{import_view};
 ghost use Rattle.pe_set.specs.NamesView.{names_in, lowered};
 ghost use Rattle.pe_set.specs.SetView.{modules_view};
+ghost use Rattle.pe_set.specs.Search.{pairs_of};
 ghost use Rattle.pe_set.specs.Bindings.{bound_to, binding_of, bindings_of};
-ghost use Rattle.pe_set.specs.SetFaults.{MapAnswers, end_tests, import_tests, imports_tests};
+ghost use Rattle.pe_set.specs.SetErrors.{SetAnswers, end_errors, import_errors, imports_errors, first_error};
 ghost use Rattle.std.specs.Prelude.{map};
 
 use crate::entry::Policy;
 use crate::error::{MapError, fault};
 use crate::reading::Module;
-use crate::search::{Names, Resolution, resolve};
+use crate::search::{Names, Resolution, count_exports, resolve};
 use pe_tables::Import;
-use pe_view::Place;
+use pe_view::{Fault, Place};
 use std::alloc::Allocator;
 
 /// A slot of an image that holds the address of an export.
@@ -28,14 +29,15 @@ pub struct Binding {
     pub rva: u32,
 }
 
-/// What a slot is bound to where the search for its import ends in this way, or the fault that this is: 48, 49 or 50.
+/// What a slot is bound to where the search for its import ends in this way, or the fault that this is: 48, 49, or 50 with the
+/// length of the cycle.
 fn bound(
     policy: Policy,
     image: u16,
     slot: u32,
     resolution: Resolution,
 ) -> Result<Option<Binding>, MapError>
-    ensures { MapAnswers (end_tests policy image slot resolution) (λ binding. binding ≡ bound_to image slot resolution) result }
+    ensures { SetAnswers (first_error (end_errors policy image slot resolution)) (λ binding. binding ≡ bound_to image slot resolution) result }
 {
     match resolution {
         Resolution::Bound {
@@ -52,14 +54,23 @@ fn bound(
             Policy::Known => Ok(None),
         },
         Resolution::Unknown => Err(fault(49, image, Place::Rva(slot))),
-        Resolution::Endless => Err(fault(50, image, Place::Rva(slot))),
+        Resolution::Endless { length } => Err(MapError::Cycle {
+            fault: Fault {
+                number: 50,
+                image,
+                place: Place::Rva(slot),
+            },
+            length,
+        }),
     }
 }
 
-/// Binds the imports of image `number`, or answers the first of their faults 48 to 50. `buffer` has room for names while it runs.
+/// Binds the imports of image `number`, or answers the first of their faults 48 to 50, where the images have so many exports
+/// together. `buffer` has room for names while it runs.
 fn bind_imports<'a, A: Allocator + Copy>(
     modules: &[Module<'a, A>],
     names: &Names<A>,
+    exports: u32,
     policy: Policy,
     number: u16,
     imports: &[Import<'a>],
@@ -68,11 +79,13 @@ fn bind_imports<'a, A: Allocator + Copy>(
 ) -> Result<(), MapError>
     requires few { length modules.now ≤ 256 }
     requires named { names_in names.now ≡ lowered (modules_view modules.now) }
-    ensures { MapAnswers (flat_map (import_tests policy (modules_view modules.now) number) (map import_view imports.now))
+    requires counted { exports ≡ pairs_of (modules_view modules.now) }
+    requires few_exports { exports ≤ 2 ^ 25 }
+    ensures { SetAnswers (first_error (flat_map (import_errors policy (modules_view modules.now) number) (map import_view imports.now)))
         (λ _. bindings.new.items ≡ bindings.old.items ++ filter_map (binding_of (modules_view modules.now) number) (map import_view imports.now)) result }
 {
     for import in imports {
-        let resolution = resolve(modules, names, import, buffer)?;
+        let resolution = resolve(modules, names, exports, import, buffer)?;
         if let Some(binding) = bound(policy, number, import.slot, resolution)? {
             bindings.push(binding)?;
         }
@@ -89,15 +102,18 @@ pub(crate) fn bind<A: Allocator + Copy>(
 ) -> Result<Vec<Binding, A>, MapError>
     requires few { length modules.now ≤ 256 }
     requires named { names_in names.now ≡ lowered (modules_view modules.now) }
-    ensures exact { MapAnswers (imports_tests policy (modules_view modules.now)) (λ bindings. bindings.items ≡ bindings_of (modules_view modules.now)) result }
+    requires few_exports { pairs_of (modules_view modules.now) ≤ 2 ^ 25 }
+    ensures exact { SetAnswers (first_error (imports_errors policy (modules_view modules.now))) (λ bindings. bindings.items ≡ bindings_of (modules_view modules.now)) result }
     ensures empty { length modules.now ≡ 0 → IsOk result }
 {
     let mut bindings = Vec::new(alloc);
     let mut buffer = Vec::new(alloc);
+    let exports = count_exports(modules);
     for (index, module) in modules.iter().enumerate() {
         bind_imports(
             modules,
             names,
+            exports,
             policy,
             index as u16,
             module.image.imports.as_slice(),

@@ -7,8 +7,16 @@ use std::alloc::{AllocError, AllocFailed};
 /// Why a set of images is not accepted, or not mapped.
 #[derive(Clone, Copy, Debug, PartialEq, Eq)]
 pub enum MapError {
-    /// The set breaks a rule: this is its first fault.
+    /// The set breaks a rule: this is its first fault, which is not 50.
     Fault(Fault),
+    /// The first fault of the set is 50: the search for an import runs in a cycle of forwarders.
+    Cycle {
+        /// The fault, at the slot of the import.
+        fault: Fault,
+        /// How long the cycle is: the least number of hops, above 0, after which the search stands at the same key of the same
+        /// image again.
+        length: u32,
+    },
     /// A growth of memory was refused.
     Memory,
 }
@@ -46,7 +54,7 @@ impl From<TableError> for MapError {
     }
 }
 
-/// A fault of image `image` at a place.
+/// The error of a fault of image `image` at a place.
 pub(crate) fn fault(number: u16, image: u16, place: Place) -> MapError
     ensures { result ≡ MapError.Fault (record { number = number; image = image; place = place }) }
 {

@@ -2,10 +2,12 @@ ghost use Rattle.std.specs.Prelude.{◌≡◌, ◌≢◌, ◌<◌, ◌⊎◌, Er
 ghost use Rattle.pe_view.specs.Faults.{first_standing};
 ghost use Rattle.pe_set.specs.SetView.{entries_of, IsAcceptedFrom};
 ghost use Rattle.pe_set.specs.SetFaults.{MapAnswers, names_tests, set_tests};
+ghost use Rattle.pe_set.specs.SetErrors.{SetAnswers, set_error};
 
 use crate::binding::{Binding, bind};
 use crate::entry::{Policy, SetEntry};
 use crate::error::MapError;
+use crate::laws::sets_export_little;
 use crate::names::check_names;
 use crate::placing::check_places;
 use crate::reading::{Module, read_modules};
@@ -25,15 +27,17 @@ pub struct Accepted<'a, A: Allocator> {
 ///
 /// Faults are looked for class by class, and in a class only where those before it have none: the names of the entries (41, 42);
 /// each file on its own (1 to 38), image by image; where the images stand (43 to 47), image by image; their imports (48 to 50),
-/// image by image, and in each image in the order of its imports. An error is [`MapError::Fault`] with the first fault, or
-/// [`MapError::Memory`] where a growth of memory was refused. It is never the latter where a name has a fault, and so not for
-/// more than 256 entries, nor for a set of no entries. On an error all memory that was taken has been given back.
+/// image by image, and in each image in the order of its imports. An error is [`MapError::Fault`] with the first fault, or, where
+/// that is 50, [`MapError::Cycle`] with the fault and the length of the cycle, or [`MapError::Memory`] where a growth of memory was
+/// refused. It is never the latter where a name has a fault, and so not for more than 256 entries, nor for a set of no entries. On
+/// an error all memory that was taken has been given back.
 pub fn judge<'a, A: Allocator + Copy>(
     alloc: A,
     set: &[SetEntry<'a>],
     policy: Policy,
 ) -> Result<Accepted<'a, A>, MapError>
     ensures exact { MapAnswers (set_tests policy (entries_of set.now)) (IsAcceptedFrom (entries_of set.now)) result }
+    ensures error { SetAnswers (set_error policy (entries_of set.now)) (λ _. Unit {0}) result }
     ensures no_memory { (length set.now ≡ 0) ⊎ (256 < length set.now) → result ≢ Err MapError.Memory }
     ensures named { IsErrOf result MapError.Memory → first_standing (names_tests (entries_of set.now)) ≡ None }
 {
@@ -41,6 +45,7 @@ pub fn judge<'a, A: Allocator + Copy>(
     let modules = read_modules(alloc, set)?;
     check_places(&modules)?;
     let names = Names::new(alloc, &modules)?;
+    sets_export_little();
     let bindings = bind(alloc, &modules, &names, policy)?;
     Ok(Accepted { modules, bindings })
 }

@@ -1,19 +1,22 @@
 //! What the definitions mean, as laws. The contract of each function here is a law, and its body only calls the laws of other
 //! crates on which that rests.
 
-ghost use Rattle.std.specs.Prelude.{◌≡◌, ◌↔◌, ℕ, List, None, Some, slice_set, map};
+ghost use Rattle.std.specs.Prelude.{◌≡◌, ◌≤◌, ◌^◌, ◌↔◌, ℕ, List, None, Some, slice_set, map, option_and_then};
 ghost use Rattle.pe_view.specs.Faults.{first_standing};
+ghost use Rattle.pe_view.specs.declared.fault.Fault.{Fault};
 ghost use Rattle.pe_tables.specs.Key.{Key};
 ghost use Rattle.pe_tables.specs.Imports.{Import};
 ghost use Rattle.pe_set.specs.Set.{Entry, Module, modules_of, placement_of, bases_of, at_bases, rebased, AreAlike};
-ghost use Rattle.pe_set.specs.Search.{resolve};
-ghost use Rattle.pe_set.specs.SearchEnds.{EndsAs};
+ghost use Rattle.pe_set.specs.Search.{resolve, pairs_of};
+ghost use Rattle.pe_set.specs.SearchEnds.{EndsAfter, EndsAs, IsEndless};
 ghost use Rattle.pe_set.specs.declared.search.Resolution.{Resolution};
 ghost use Rattle.pe_set.specs.Bindings.{binding_of, bindings_of};
 ghost use Rattle.pe_set.specs.BoundImports.{IsBindingOf};
 ghost use Rattle.pe_set.specs.declared.binding.Binding.{Binding};
 ghost use Rattle.pe_set.specs.Placement.{move_tests};
-ghost use Rattle.pe_set.specs.SetFaults.{set_tests, places_tests};
+ghost use Rattle.pe_set.specs.SetFaults.{set_tests, names_tests, files_tests, places_tests};
+ghost use Rattle.pe_set.specs.SetErrors.{set_error, fault_in, IsCycleOf};
+ghost use Rattle.pe_set.specs.declared.error.MapError.TheVariants.{Cycle};
 ghost use Rattle.pe_set.specs.Sound.{IsSound};
 ghost use Rattle.pe_set.specs.declared.entry.Policy.{Policy};
 
@@ -24,12 +27,31 @@ pub fn searches_end_in_one_way()
     ensures one { (s : List Module) (name : List ℕ) (key : Key) (end : Resolution) → EndsAs s (name, key) end → end ≡ resolve s name key }
 {}
 
+/// A search that ends does so after at most as many hops as the exports of the set's images have pairs together, and so does one
+/// that is not endless.
+pub fn searches_end_soon()
+    ensures within { (s : List Module) (start : List ℕ × Key) (hops : ℕ) (end : Resolution) → EndsAfter s start hops end → hops ≤ pairs_of s }
+    ensures ends { (s : List Module) (start : List ℕ × Key) → (IsEndless s start → ⊥)
+        → (hops : ℕ) × (end : Resolution) × (hops ≤ pairs_of s) × EndsAfter s start hops end }
+{}
+
 /// The slot of an import is bound exactly where its search ends at an RVA of an image, and then to that RVA of that image.
 pub fn slots_are_bound_to_their_exports()
     ensures { (s : List Module) (i : ℕ) (x : Import) (b : Binding) → (binding_of s i x ≡ Some b) ↔ IsBindingOf s i x b }
 {
     searches_end_in_one_way();
 }
+
+/// The error of a set tells of its first fault, and a set without an error has none.
+pub fn errors_are_faults()
+    ensures { (policy : Policy) (es : List Entry) → option_and_then fault_in (set_error policy es) ≡ first_standing (set_tests policy es) }
+{}
+
+/// The error of a set is a cycle only where the search for one of its imports never ends and runs in a cycle of this length: its
+/// fault is 50, at the slot of that import.
+pub fn cycles_are_of_endless_searches()
+    ensures { (policy : Policy) (es : List Entry) (fault : Fault) (length : ℕ) → set_error policy es ≡ Some (Cycle fault length) → IsCycleOf (modules_of es) fault length }
+{}
 
 /// The fields and bound slots of an accepted set lie in its images and share no byte, the exports to which they are bound lie in
 /// its images, and its images share no address.
@@ -40,6 +62,13 @@ pub fn accepted_sets_are_sound()
     pe_tables::laws::slots_are_apart();
     pe_tables::laws::fields_are_apart();
     pe_tables::laws::targets_are_inside();
+}
+
+/// The exports of the images of a set have at most 2^25 pairs together, where the names and the files of the set have no fault.
+pub fn sets_export_little()
+    ensures { (es : List Entry) → first_standing (names_tests es) ≡ None → first_standing (files_tests es) ≡ None → pairs_of (modules_of es) ≤ 2 ^ 25 }
+{
+    pe_tables::laws::exports_are_few();
 }
 
 /// What slots are bound to depends on the names of the images, on their exports and on their imports, and on nothing else of them.

@@ -2,7 +2,7 @@ ghost use Rattle.std.specs.Prelude.{◌≡◌, ◌≢◌, Err};
 ghost use Rattle.std.specs.List.{list_any};
 ghost use Rattle.pe_set.specs.Set.{same_name};
 ghost use Rattle.pe_set.specs.SetView.{entries_of};
-ghost use Rattle.pe_set.specs.SetFaults.{MapAnswers, names_tests};
+ghost use Rattle.pe_set.specs.SetFaults.{ClassAnswers, names_tests};
 
 use crate::entry::SetEntry;
 use crate::error::{MapError, fault};
@@ -33,7 +33,7 @@ fn has_name(entries: &[SetEntry], name: &[u8]) -> bool
 /// Looks for faults 41 and 42: an entry too many, and an entry whose name matches that of an earlier one. At most 256 names are
 /// compared with one another, and no memory is taken.
 pub(crate) fn check_names(set: &[SetEntry]) -> Result<(), MapError>
-    ensures exact { MapAnswers (names_tests (entries_of set.now)) (λ _. Unit {0}) result }
+    ensures exact { ClassAnswers (names_tests (entries_of set.now)) (λ _. Unit {0}) result }
     ensures no_memory { result ≢ Err MapError.Memory }
 {
     for (index, entry) in set.iter().enumerate() {

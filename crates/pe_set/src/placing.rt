@@ -1,6 +1,6 @@
 ghost use Rattle.std.specs.Prelude.{◌≡◌, ◌≤◌, ◌≢◌, Err, length};
 ghost use Rattle.pe_set.specs.SetView.{modules_view};
-ghost use Rattle.pe_set.specs.SetFaults.{MapAnswers, places_tests};
+ghost use Rattle.pe_set.specs.SetFaults.{ClassAnswers, places_tests};
 
 use crate::error::{MapError, fault};
 use crate::placement::{Placed, base_fault};
@@ -12,7 +12,7 @@ use std::alloc::Allocator;
 /// of the images before it (47). There are at most 256 images.
 pub(crate) fn check_places<A: Allocator + Copy>(modules: &[Module<A>]) -> Result<(), MapError>
     requires few { length modules.now ≤ 256 }
-    ensures exact { MapAnswers (places_tests (modules_view modules.now)) (λ _. Unit {0}) result }
+    ensures exact { ClassAnswers (places_tests (modules_view modules.now)) (λ _. Unit {0}) result }
     ensures no_memory { result ≢ Err MapError.Memory }
 {
     for (index, module) in modules.iter().enumerate() {

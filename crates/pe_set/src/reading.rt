@@ -1,7 +1,7 @@
 ghost use Rattle.std.specs.Prelude.{◌≡◌, ◌≤◌, length, map, IsOk};
 ghost use Rattle.pe_set.specs.Set.{modules_of};
 ghost use Rattle.pe_set.specs.SetView.{entries_of, module_view};
-ghost use Rattle.pe_set.specs.SetFaults.{MapAnswers, files_tests};
+ghost use Rattle.pe_set.specs.SetFaults.{ClassAnswers, files_tests};
 
 use crate::entry::SetEntry;
 use crate::error::MapError;
@@ -59,7 +59,7 @@ pub(crate) fn read_modules<'a, A: Allocator + Copy>(
     set: &[SetEntry<'a>],
 ) -> Result<Vec<Module<'a, A>, A>, MapError>
     requires { length set.now ≤ 256 }
-    ensures exact { MapAnswers (files_tests (entries_of set.now)) (λ modules. map module_view modules.items ≡ modules_of (entries_of set.now)) result }
+    ensures exact { ClassAnswers (files_tests (entries_of set.now)) (λ modules. map module_view modules.items ≡ modules_of (entries_of set.now)) result }
     ensures empty { length set.now ≡ 0 → IsOk result }
 {
     let mut modules = Vec::with_capacity(alloc, set.len())?;

@@ -26,11 +26,10 @@ use self::images::{Judged, list_image};
 use self::modules::list_searches;
 use self::names::list_names;
 use self::ordering::{Class, Faults};
-use pe_space::{Policy, SetEntry};
-use pe_view::Fault;
+use pe_space::{MapError, Policy, SetEntry};
 use std::alloc::{AllocError, Global};
 
-/// The first fault of a set, or `None` where none stands.
+/// The first fault of a set, with the length of its cycle where it is 50, or `None` where none stands.
 ///
 /// The classes of faults are asked in their order, and one counts only where no class before it has a fault: names of entries,
 /// images one by one, their bases, the searches of their imports. Want of memory is an error.
@@ -38,7 +37,7 @@ pub fn slow_first(
     alloc: Global,
     set: &[SetEntry],
     policy: Policy,
-) -> Result<Option<Fault>, AllocError> {
+) -> Result<Option<MapError>, AllocError> {
     let mut faults = Faults::new(alloc);
     list_names(set, &mut faults)?;
     if !faults.is_empty() {

@@ -3,6 +3,7 @@ ghost use Rattle.pe_view.specs.Faults.{first_standing};
 ghost use Rattle.pe_set.specs.Set.{modules_of, at_bases};
 ghost use Rattle.pe_set.specs.SetView.{entries_of, module_view};
 ghost use Rattle.pe_set.specs.SetFaults.{MapAnswers, names_tests, set_tests};
+ghost use Rattle.pe_set.specs.SetErrors.{SetAnswers, set_error};
 ghost use Rattle.pe_space.specs.Bare.{set_at};
 ghost use Rattle.pe_space.specs.Content.{byte_at};
 ghost use Rattle.pe_space.specs.SetContent.{content_of, defined_byte};
@@ -37,9 +38,9 @@ fn place<A: Allocator + Copy>(alloc: A, own: Module<A>) -> Result<MappedImage<A>
 /// The files are judged as they are handed in, each under the number of its entry. Faults are asked class by class, each class
 /// where the ones before have none: the names of the entries (41, 42); each file on its own (1 to 38), image by image; where the
 /// images stand (43 to 47); their imports (48 to 50), image by image and in the order of each one's imports. The answer is
-/// [`MapError::Fault`] with the first fault that stands, or [`MapError::Memory`] where a growth was refused: never where a name
-/// has a fault, and so never of over 256 entries, and never of no entry. An error leaves nothing: all memory that was taken is
-/// given back.
+/// [`MapError::Fault`] with the first fault that stands, or, where that is 50, [`MapError::Cycle`] with the fault and the length of
+/// the cycle of forwarders, or [`MapError::Memory`] where a growth was refused: never where a name has a fault, and so never of over
+/// 256 entries, and never of no entry. An error leaves nothing: all memory that was taken is given back.
 ///
 /// Under [`Policy::Known`] an import whose search comes to a module that is not in the set leaves its slot as its file lays it
 /// out.
@@ -53,6 +54,7 @@ pub fn map<A: Allocator + Copy>(
     ensures exact { MapAnswers (set_tests policy (entries_of set.now)) (λ space. space ≡ content_of (modules_of (entries_of set.now))) result }
     ensures bytes { IfOk result (λ space. (bases : List ℕ) (a : ℕ) → first_standing (set_tests policy (at_bases bases (entries_of set.now))) ≡ None
         → byte_at (set_at bases space) a ≡ defined_byte (modules_of (at_bases bases (entries_of set.now))) a) }
+    ensures error { SetAnswers (set_error policy (entries_of set.now)) (λ _. Unit {0}) result }
     ensures no_memory { (length set.now ≡ 0) ⊎ (256 < length set.now) → result ≢ Err MapError.Memory }
     ensures named { IsErrOf result MapError.Memory → first_standing (names_tests (entries_of set.now)) ≡ None }
 {

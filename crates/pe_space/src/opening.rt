@@ -3,6 +3,7 @@ ghost use Rattle.pe_view.specs.Faults.{first_standing};
 ghost use Rattle.pe_set.specs.Set.{modules_of, at_bases};
 ghost use Rattle.pe_set.specs.SetView.{entries_of};
 ghost use Rattle.pe_set.specs.SetFaults.{MapAnswers, names_tests, set_tests};
+ghost use Rattle.pe_set.specs.SetErrors.{SetAnswers, set_error};
 ghost use Rattle.pe_space.specs.Bare.{set_at};
 ghost use Rattle.pe_space.specs.Content.{byte_at};
 ghost use Rattle.pe_space.specs.SetContent.{content_of, defined_byte};
@@ -15,7 +16,7 @@ use std::alloc::Allocator;
 /// Opens a set of images as a space that keeps their bytes in their files, which it borrows: each image at its base, with its
 /// fields relocated and its imports bound.
 ///
-/// The files are judged like those of [`map`], and the answer is a space of the same content, the same first fault, or
+/// The files are judged like those of [`map`], and the answer is a space of the same content, the same first fault or cycle, or
 /// [`MapError::Memory`] in the same cases. What takes memory is a record of each fixup and two of each bound slot, beside what
 /// judging takes for a while.
 pub fn open_space<'a, A: Allocator + Copy>(
@@ -26,6 +27,7 @@ pub fn open_space<'a, A: Allocator + Copy>(
     ensures exact { MapAnswers (set_tests policy (entries_of set.now)) (λ space. space ≡ content_of (modules_of (entries_of set.now))) result }
     ensures bytes { IfOk result (λ space. (bases : List ℕ) (a : ℕ) → first_standing (set_tests policy (at_bases bases (entries_of set.now))) ≡ None
         → byte_at (set_at bases space) a ≡ defined_byte (modules_of (at_bases bases (entries_of set.now))) a) }
+    ensures error { SetAnswers (set_error policy (entries_of set.now)) (λ _. Unit {0}) result }
     ensures no_memory { (length set.now ≡ 0) ⊎ (256 < length set.now) → result ≢ Err MapError.Memory }
     ensures named { IsErrOf result MapError.Memory → first_standing (names_tests (entries_of set.now)) ≡ None }
 {

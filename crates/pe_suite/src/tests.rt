@@ -1,4 +1,5 @@
 mod asserts;
+mod cycles;
 mod images_written;
 mod o1;
 mod objects;

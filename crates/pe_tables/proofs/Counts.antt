@@ -18,7 +18,7 @@ length_some : {X : Type 0} (o : Option X) → length (option_to_list o) ≤ 1
 length_some None = omega arith
 length_some (Some x) = omega arith
 
-length-filter_map : {X Y : Type 0} (f : X → Option Y) (xs : List X) → length (filter_map f xs) ≤ length xs
+pub length-filter_map : {X Y : Type 0} (f : X → Option Y) (xs : List X) → length (filter_map f xs) ≤ length xs
 length-filter_map f [] = omega arith
 length-filter_map f (x ∷ xs) =
     let more = length-filter_map f xs in

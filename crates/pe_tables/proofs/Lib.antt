@@ -10,6 +10,7 @@ pub mod EncodedFaults
 pub mod Entries
 pub mod ExportPlaces
 pub mod ExportRows
+pub mod FewExports
 pub mod Fields
 pub mod FixupPlaces
 pub mod Forwarding

@@ -115,6 +115,12 @@ pub fn targets_are_inside()
         → target_at (exports_of i) key ≡ Some (Rva rva) → rva < i.size }
 {}
 
+/// An image without a fault of its export table exports at most 65,536 ordinals and at most 65,536 names.
+pub fn exports_are_few()
+    ensures ordinals { (i : Image) → first_standing (export_tests i) ≡ None → length (exports_of i).ordinals ≤ 65536 }
+    ensures names { (i : Image) → first_standing (export_tests i) ≡ None → length (exports_of i).names ≤ 65536 }
+{}
+
 /// A field that is moved on by one difference of bases and then by another is moved on by their sum, modulo what it holds: a
 /// HIGH field where the second is a multiple of 65,536, as that of two chosen bases is, and every other field in any case.
 pub fn shifts_compose()

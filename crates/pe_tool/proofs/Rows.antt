@@ -6,23 +6,28 @@ use Rattle.pe_head.specs.declared.section.SectionHeader.{SectionHeader}
 use Rattle.pe_tables.specs.Key.{Ordinal, Name, Forward, Rva as ExportedRva}
 use Rattle.pe_tables.specs.declared.fixups.FixupKind.TheVariants.{Bits32, Bits64, High, Low}
 use Rattle.pe_tool.specs.Dump.{directory_line, machine_line, section_line}
-use Rattle.pe_tool.specs.FaultLine.{place_text, fault_line}
+use Rattle.pe_tool.specs.FaultLine.{place_text, fault_words, fault_line, cycle_line}
 use Rattle.pe_tool.specs.HeaderFields.{field, field_line}
 use Rattle.pe_tool.specs.MapReport.{image_line, bind_line, bytes_line, window_lines}
 use Rattle.pe_tool.specs.TableLines.{key_text, target_text, ordinal_line, name_line, export_lines, import_line, kind_text, fixup_line}
 use Rattle.pe_tool.specs.Text.{hex, width_from, escaped, quoted}
 
 no_bytes : fault_line (record { number = 2; image = 0; place = File 0 }) ≡ codes "fault 2 image 0 file 0x00000000\n"
-unfolding fault_line place_text hex width_from digits
+unfolding fault_line fault_words place_text hex width_from digits
 no_bytes = refl
 
 too_long : fault_line (record { number = 1; image = 0; place = File 0x100000000 }) ≡ codes "fault 1 image 0 file 0x100000000\n"
-unfolding fault_line place_text hex width_from digits
+unfolding fault_line fault_words place_text hex width_from digits
 too_long = refl
 
 at_rva : fault_line (record { number = 36; image = 12; place = Rva 0x2ffc }) ≡ codes "fault 36 image 12 rva 0x00002ffc\n"
-unfolding fault_line place_text hex width_from digits
+unfolding fault_line fault_words place_text hex width_from digits
 at_rva = refl
+
+-- a cycle of two forwarders
+cycle_of_two : cycle_line (record { number = 50; image = 2; place = Rva 0x1030 }) 2 ≡ codes "fault 50 image 2 rva 0x00001030 cycle 2\n"
+unfolding cycle_line fault_words place_text hex width_from digits
+cycle_of_two = refl
 
 at_address : place_text (Address 0x180000000) ≡ codes "address 0x0000000180000000"
 unfolding place_text hex

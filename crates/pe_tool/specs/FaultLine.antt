@@ -12,6 +12,14 @@ place_text (Rva rva) = codes "rva 0x" ++ hex 8 rva
 place_text (Address address) = codes "address 0x" ++ hex 16 address
 place_text (Item item) = codes "item " ++ decimal item
 
+-- its number, its image and its place
+unfoldable pub fault_words : Fault → List ℕ
+fault_words fault = codes "fault " ++ decimal fault.number ++ codes " image " ++ decimal fault.image ++ codes " " ++ place_text fault.place
+
 -- the whole line
 unfoldable pub fault_line : Fault → List ℕ
-fault_line fault = codes "fault " ++ decimal fault.number ++ codes " image " ++ decimal fault.image ++ codes " " ++ place_text fault.place ++ codes "\n"
+fault_line fault = fault_words fault ++ codes "\n"
+
+-- that of a cycle of forwarders, with its length
+unfoldable pub cycle_line : Fault → ℕ → List ℕ
+cycle_line fault length = fault_words fault ++ codes " cycle " ++ decimal length ++ codes "\n"

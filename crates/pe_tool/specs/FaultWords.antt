@@ -62,7 +62,7 @@ rules =
     ∷ (47, (codes "base", codes "the image has an address in common with another one"))
     ∷ (48, (codes "import address table slot", codes "the import leads to a module that is not in the set"))
     ∷ (49, (codes "import address table slot", codes "the import leads to a module that does not export it"))
-    ∷ (50, (codes "import address table slot", codes "the import leads through over 64 forwarders"))
+    ∷ (50, (codes "import address table slot", codes "the import leads into a cycle of forwarders"))
     ∷ (51, (codes "field of a base relocation", codes "the field is not wholly in the raw data of one section"))
     ∷ (52, (codes "section header", codes "the section's raw data begins in the headers, or has a byte in common with that of an earlier section"))
     ∷ (53, (codes "image", codes "its plan does not fit the format"))

@@ -7,13 +7,16 @@ use Rattle.pe_set.specs.Bindings.{bindings_of}
 use Rattle.pe_set.specs.Placement.{Placement}
 use Rattle.pe_set.specs.Set.{Entry, Module, modules_of, placement_of}
 use Rattle.pe_set.specs.SetFaults.{set_tests}
+use Rattle.pe_set.specs.SetErrors.{set_error}
 use Rattle.pe_set.specs.declared.binding.Binding.{Binding}
+use Rattle.pe_set.specs.declared.error.MapError.{MapError}
+use Rattle.pe_set.specs.declared.error.MapError.TheVariants as errors
 use Rattle.pe_set.specs.declared.entry.Policy.{Policy}
 use Rattle.pe_space.specs.Content.{Image, image_of, window_at, base_in, size_in}
 use Rattle.pe_space.specs.SetContent.{content_of, defined_byte}
 use Rattle.pe_tool.specs.declared.outcome.Outcome.{Outcome}
 use Rattle.pe_tool.specs.declared.outcome.Outcome.TheVariants.{Done, Refused}
-use Rattle.pe_tool.specs.FaultLine.{fault_line}
+use Rattle.pe_tool.specs.FaultLine.{fault_line, cycle_line}
 use Rattle.pe_tool.specs.Part.{joined}
 use Rattle.pe_tool.specs.Text.{hex, quoted, numbered}
 
@@ -86,7 +89,14 @@ fault_or (Some fault) other = Some fault
 abbrev pub map_fault : Policy → List Entry → Option (ℕ × ℕ) → Option Fault
 map_fault policy es window = fault_or (first_standing (set_tests policy es)) (window_fault (modules_of es) window)
 
+-- the line of a refusal: where the error of the set is a cycle, with its length
+abbrev pub refusal_line : Option MapError → Fault → List ℕ
+refusal_line None fault = fault_line fault
+refusal_line (Some errors.Memory) fault = fault_line fault
+refusal_line (Some (errors.Fault own)) fault = fault_line fault
+refusal_line (Some (errors.Cycle own length)) fault = cycle_line fault length
+
 -- what `map_report` writes
 abbrev pub IsMapText : Policy → List Entry → Option (ℕ × ℕ) → Outcome → List ℕ → Type 0
 IsMapText policy es window Done text = (map_fault policy es window ≡ None) × (text ≡ map_text (modules_of es) window)
-IsMapText policy es window (Refused fault) text = (map_fault policy es window ≡ Some fault) × (text ≡ fault_line fault)
+IsMapText policy es window (Refused fault) text = (map_fault policy es window ≡ Some fault) × (text ≡ refusal_line (set_error policy es) fault)

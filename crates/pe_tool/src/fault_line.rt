@@ -1,7 +1,7 @@
 //! The line that tells of a fault.
 
 ghost use Rattle.pe_tool.specs.TextWriter.{IsReady, Adds};
-ghost use Rattle.pe_tool.specs.FaultLine.{place_text, fault_line};
+ghost use Rattle.pe_tool.specs.FaultLine.{place_text, fault_words, fault_line, cycle_line};
 
 use crate::device::Sink;
 use crate::text_writer::TextWriter;
@@ -33,11 +33,11 @@ fn write_place<W: Sink>(line: &mut TextWriter<W>, place: &Place)
     }
 }
 
-/// Adds the line `fault N image I PLACE`.
-#[tactic(auto, unfolding(crate::specs::FaultLine::fault_line))]
-pub(crate) fn write_fault_line<W: Sink>(line: &mut TextWriter<W>, fault: &Fault)
+/// Adds `fault N image I PLACE`.
+#[tactic(auto, unfolding(crate::specs::FaultLine::fault_words))]
+fn write_fault<W: Sink>(line: &mut TextWriter<W>, fault: &Fault)
     requires { IsReady W.failures line.old }
-    ensures { Adds W.taken W.failures line.old line.new (fault_line fault.now) }
+    ensures { Adds W.taken W.failures line.old line.new (fault_words fault.now) }
 {
     line.text(b"fault ");
     line.decimal(fault.number as u64);
@@ -45,5 +45,26 @@ pub(crate) fn write_fault_line<W: Sink>(line: &mut TextWriter<W>, fault: &Fault)
     line.decimal(fault.image as u64);
     line.text(b" ");
     write_place(line, &fault.place);
+}
+
+/// Adds the line `fault N image I PLACE`.
+#[tactic(auto, unfolding(crate::specs::FaultLine::fault_line))]
+pub(crate) fn write_fault_line<W: Sink>(line: &mut TextWriter<W>, fault: &Fault)
+    requires { IsReady W.failures line.old }
+    ensures { Adds W.taken W.failures line.old line.new (fault_line fault.now) }
+{
+    write_fault(line, fault);
+    line.text(b"\n");
+}
+
+/// Adds the line `fault N image I PLACE cycle LENGTH`.
+#[tactic(auto, unfolding(crate::specs::FaultLine::cycle_line))]
+pub(crate) fn write_cycle_line<W: Sink>(line: &mut TextWriter<W>, fault: &Fault, length: u32)
+    requires { IsReady W.failures line.old }
+    ensures { Adds W.taken W.failures line.old line.new (cycle_line fault.now length) }
+{
+    write_fault(line, fault);
+    line.text(b" cycle ");
+    line.decimal(length as u64);
     line.text(b"\n");
 }

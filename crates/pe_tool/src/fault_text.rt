@@ -177,7 +177,7 @@ pub fn fault_words(number: u16) -> Option<FaultWords>
         ),
         50 => words!(
             "import address table slot",
-            "the import leads through over 64 forwarders"
+            "the import leads into a cycle of forwarders"
         ),
         51 => words!(
             "field of a base relocation",

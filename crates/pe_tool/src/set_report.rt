@@ -9,16 +9,20 @@ ghost use Rattle.pe_set.specs.Sound.{IsSound};
 ghost use Rattle.pe_space.specs.SetContent.{content_of, defined_byte};
 ghost use Rattle.pe_space.specs.Content.{byte_at};
 ghost use Rattle.pe_tool.specs.Engine.{Puts};
+ghost use Rattle.pe_tool.specs.FaultLine.{cycle_line};
 ghost use Rattle.pe_tool.specs.TextWriter.{IsReady, Adds};
+ghost use Rattle.pe_tool.specs.declared.outcome.Outcome.{Outcome};
 ghost use Rattle.pe_tool.specs.MapReport.{map_text, window_fault, IsMapText};
 
 use crate::device::Sink;
+use crate::fault_line::write_cycle_line;
 use crate::map_lines::{write_bindings, write_images, write_window};
 use crate::outcome::{Outcome, ToolError};
 use crate::report::refuse;
 use crate::text_writer::TextWriter;
 use crate::window::window_fault;
 use pe_space::{MapError, Policy, SetEntry, Space, open_space};
+use pe_view::Fault;
 use std::alloc::{AllocError, Allocator};
 
 /// Adds the report of a space that was mapped from a set.
@@ -44,6 +48,16 @@ fn write_space<S: Space, W: Sink>(
     text.text(b"end\n");
 }
 
+/// Adds the line of a fault that is a cycle of forwarders.
+fn refuse_cycle<W: Sink>(text: &mut TextWriter<W>, fault: Fault, length: u32) -> Outcome
+    requires { IsReady W.failures text.old }
+    ensures adds { Adds W.taken W.failures text.old text.new (cycle_line fault length) }
+    ensures outcome { result ≡ Outcome.Refused fault }
+{
+    write_cycle_line(text, &fault, length);
+    Outcome::Refused(fault)
+}
+
 /// Judges a set and a window, and only then adds the text. Where memory is refused it adds nothing.
 fn write_map<A: Allocator + Copy, W: Sink>(
     alloc: A,
@@ -64,6 +78,7 @@ fn write_map<A: Allocator + Copy, W: Sink>(
     let space = match open_space(alloc, set, policy) {
         Ok(space) => space,
         Err(MapError::Fault(fault)) => return Ok(refuse(text, fault)),
+        Err(MapError::Cycle { fault, length }) => return Ok(refuse_cycle(text, fault, length)),
         Err(MapError::Memory) => return Err(AllocError),
     };
     if let Some((address, count)) = window
@@ -81,7 +96,7 @@ fn write_map<A: Allocator + Copy, W: Sink>(
 /// line.
 ///
 /// All faults are asked first: those of the set, as `pe_space::map` asks them, and then, where the window does not lie in one
-/// image, 54. A refused report is the line of the first fault. After `Write` a beginning of the text was written, after `Memory`
+/// image, 54. A refused report is the line of the first fault; of 50 it ends with ` cycle ` and the length of the cycle. After `Write` a beginning of the text was written, after `Memory`
 /// nothing; `Memory` comes only where a growth was refused, and never where the names of the set have a fault, nor of no entry.
 /// There is no `Read`. Condition: fewer than 2^64 - 1 failures are counted on the writer so far.
 pub fn map_report<A: Allocator + Copy, W: Sink>(

@@ -3,7 +3,7 @@
 use std::alloc::{AllocError, Global};
 
 /// By what an export is looked up.
-#[derive(Drop)]
+#[derive(Drop, PartialEq, Eq)]
 pub(super) enum Wanted {
     Ordinal(u16),
     Name(Vec<u8>),

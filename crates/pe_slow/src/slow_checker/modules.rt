@@ -5,12 +5,12 @@ use super::forwarders::{Forwarder, Wanted};
 use super::images::Judged;
 use super::imports::Import;
 use super::names::matches;
-use super::ordering::{Class, Faults, rva_row};
+use super::ordering::{Class, Faults, Row, rva_row};
 use pe_space::Policy;
 use std::alloc::{AllocError, Global};
 
-/// The hops that a search makes at most.
-const MOST_HOPS: u32 = 64;
+/// A set has no more exports: those of 256 images, each with 65,536 entries and 65,536 names.
+const MOST_EXPORTS: u32 = 256 * 2 * 65_536;
 
 /// How a search ends.
 #[derive(Clone, Copy, PartialEq, Eq)]
@@ -21,8 +21,15 @@ enum End {
     Missing,
     /// At a module that does not export the key.
     Unknown,
-    /// At a forwarder, after all hops.
-    Endless,
+    /// Never: it comes to an export at which it stood so many hops before.
+    Endless(u32),
+}
+
+/// An export at which a search stands: the index of its image, and its key.
+#[derive(Drop)]
+struct Stand {
+    image: usize,
+    wanted: Wanted,
 }
 
 /// Lists the faults of the imports of a set.
@@ -51,10 +58,17 @@ fn list_imports_of(
         let end = search(alloc, images, judged, import)?;
         let slot = import.slot.start;
         let is_missing = end == End::Missing && policy == Policy::Strict;
+        let length = match end {
+            End::Endless(length) => Some(length),
+            _ => None,
+        };
         faults.record(&[
             rva_row(48, is_missing, slot),
             rva_row(49, end == End::Unknown, slot),
-            rva_row(50, end == End::Endless, slot),
+            Row {
+                length,
+                ..rva_row(50, length.is_some(), slot)
+            },
         ])?;
     }
     Ok(())
@@ -71,24 +85,43 @@ fn search(
         module: import.module(alloc, &importer.image)?,
         wanted: import.wanted(alloc, &importer.image)?,
     };
-    for _ in 0..=MOST_HOPS {
-        let Some(exporter) = module(images, at.module.as_slice()) else {
+    let mut before = Vec::new(alloc);
+    for _ in 0..=MOST_EXPORTS {
+        let Some((image, exporter)) = module(images, at.module.as_slice()) else {
             return Ok(End::Missing);
         };
+        if let Some(length) = hops_since(&before, image, &at.wanted) {
+            return Ok(End::Endless(length));
+        }
         match target_of(alloc, &exporter.image, &at.wanted)? {
             None => return Ok(End::Unknown),
             Some(Target::Rva) => return Ok(End::Bound),
-            Some(Target::Forwarder(next)) => at = next,
+            Some(Target::Forwarder(next)) => {
+                let wanted = at.wanted;
+                before.push(Stand { image, wanted })?;
+                at = next;
+            }
         }
     }
-    Ok(End::Endless)
+    // not for want of exports: by now it would have stood at one of them twice
+    Ok(End::Endless(0))
 }
 
-/// The image whose name matches a module's.
-fn module<'s, 'a>(images: &'s [Judged<'a>], name: &[u8]) -> Option<&'s Judged<'a>> {
-    for judged in images {
+/// How many hops ago a search stood at an export, if it did: it stood at one more at each hop.
+fn hops_since(before: &[Stand], image: usize, wanted: &Wanted) -> Option<u32> {
+    for (hops, stand) in before.iter().enumerate() {
+        if stand.image == image && stand.wanted == *wanted {
+            return u32::try_from(before.len().saturating_sub(hops)).ok();
+        }
+    }
+    None
+}
+
+/// The image whose name matches a module's, with its index.
+fn module<'s, 'a>(images: &'s [Judged<'a>], name: &[u8]) -> Option<(usize, &'s Judged<'a>)> {
+    for (index, judged) in images.iter().enumerate() {
         if matches(judged.entry.name, name) {
-            return Some(judged);
+            return Some((index, judged));
         }
     }
     None

@@ -1,5 +1,6 @@
 //! The order of a set's faults: their keys, and the list of those that stand.
 
+use pe_space::MapError;
 use pe_view::{Fault, Place};
 use std::alloc::{AllocError, Global};
 
@@ -46,6 +47,8 @@ pub(super) struct Row {
     /// Whether its condition holds.
     pub stands: bool,
     pub place: Place,
+    /// Of 50, how long the cycle is.
+    pub length: Option<u32>,
 }
 
 impl Row {
@@ -55,6 +58,7 @@ impl Row {
             number,
             stands,
             place,
+            length: None,
         }
     }
 }
@@ -70,10 +74,10 @@ pub(super) fn rva_row(number: u16, stands: bool, rva: u64) -> Row {
     Row::new(number, stands, Place::Rva(rva))
 }
 
-/// The faults that stand, each under its key, and the record that is asked next.
+/// The faults that stand, each as an error under its key, and the record that is asked next.
 #[derive(Drop)]
 pub(super) struct Faults {
-    listed: Vec<(Key, Fault)>,
+    listed: Vec<(Key, MapError)>,
     class: Class,
     entry: usize,
     phase: Phase,
@@ -137,13 +141,17 @@ impl Faults {
             image: u16::try_from(self.entry).unwrap_or(u16::MAX),
             place: row.place,
         };
-        self.listed.push((key, fault))?;
+        let error = match row.length {
+            None => MapError::Fault(fault),
+            Some(length) => MapError::Cycle { fault, length },
+        };
+        self.listed.push((key, error))?;
         Ok(())
     }
 
-    /// The fault of the least key.
-    pub fn least(&self) -> Option<Fault> {
-        let mut least: Option<(Key, Fault)> = None;
+    /// The error of the least key.
+    pub fn least(&self) -> Option<MapError> {
+        let mut least: Option<(Key, MapError)> = None;
         for keyed in &self.listed {
             let is_less = match least {
                 None => true,

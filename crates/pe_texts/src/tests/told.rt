@@ -199,7 +199,7 @@ const WORDS: &[(u16, &str, &str)] = &[
     (
         50,
         "import address table slot",
-        "the import leads through over 64 forwarders",
+        "the import leads into a cycle of forwarders",
     ),
     (
         51,

@@ -2,9 +2,9 @@
 
 use super::both::{Both, opened};
 use super::files::assert_holds;
-use super::members::{assert_bytes, assert_refusal, spaces_of};
+use super::members::{assert_bytes, spaces_of};
 use crate::files::{Piece, Vector, file_of, put_pieces};
-use crate::members::{A, B, C, Member, PLAIN, files_of, set_of};
+use crate::members::{A, B, C, Member, PLAIN, fault_of, files_of, set_of};
 use crate::vf;
 use pe_space::{Binding, MapError, Policy, SetEntry};
 use pe_view::Place;
@@ -20,8 +20,8 @@ enum End {
     Missing,
     /// At a module that has no such export.
     Unknown,
-    /// Not within 64 hops.
-    Endless,
+    /// Never: it runs in a cycle of this length.
+    Endless(u32),
 }
 
 /// The end at ordinal 5 of `b.dll`, at 0x20001004, and at its ordinal 7, at 0x20001010.
@@ -38,24 +38,30 @@ fn assert_end(
     importer: u16,
     end: End,
 ) {
-    let (bytes, fault) = match (end, policy) {
+    let slot = Place::Rva(0x1030);
+    let (bytes, error) = match (end, policy) {
         (End::Bound(bytes), _) => (bytes, None),
         // as the file lays it out
         (End::Missing, Policy::Known) => ([0x38, 0x10, 0x00, 0x00], None),
-        (End::Missing, Policy::Strict) => ([0; 4], Some(48)),
-        (End::Unknown, _) => ([0; 4], Some(49)),
-        (End::Endless, _) => ([0; 4], Some(50)),
-    };
-    match fault {
-        Some(number) => {
-            let refusal = (number, importer, Place::Rva(0x1030));
-            assert_refusal(rt, case, found.err(), Some(refusal));
+        (End::Missing, Policy::Strict) => ([0; 4], fault_at(48, importer, slot)),
+        (End::Unknown, _) => ([0; 4], fault_at(49, importer, slot)),
+        (End::Endless(length), _) => {
+            let fault = fault_of((50, importer, slot));
+            ([0; 4], Some(MapError::Cycle { fault, length }))
         }
+    };
+    match error {
+        Some(_) => assert_holds(rt, case, found.err() == error),
         None => {
             let space = found.expect(rt, "a space");
             assert_bytes(rt, case, &space, 0x40_1030, &bytes);
         }
     }
+}
+
+/// The error of a fault that is no cycle.
+fn fault_at(number: u16, image: u16, place: Place) -> Option<MapError> {
+    Some(MapError::Fault(fault_of((number, image, place))))
 }
 
 /// A set whose last image is VC at 0x400000, and how the search for its import ends.
@@ -540,7 +546,7 @@ const CIRCLES: &[Case] = &[
             },
             C,
         ],
-        End::Endless,
+        End::Endless(1),
     ),
     (
         &[
@@ -550,7 +556,7 @@ const CIRCLES: &[Case] = &[
             },
             C,
         ],
-        End::Endless,
+        End::Endless(1),
     ),
     (
         &[
@@ -558,7 +564,7 @@ const CIRCLES: &[Case] = &[
             Member { pieces: BACK, ..B },
             C,
         ],
-        End::Endless,
+        End::Endless(2),
     ),
     // an export beside the circle is found
     (
@@ -587,15 +593,15 @@ type Chain = (u32, u8, &'static [Piece], End);
 const CHAINS: &[Chain] = &[
     (1, 1, &[], FIFTH),
     (64, 1, &[], FIFTH),
-    (65, 1, &[], End::Endless),
+    (65, 1, &[], FIFTH),
     (65, 2, &[], FIFTH),
-    // behind the last of 64 hops: no export; a module that is not there; the first forwarder again
+    // behind 64 hops: no export; a module that is not there; the first forwarder again
     (64, 1, &[(0x348, &[0x00, 0x00])], End::Unknown),
     (64, 1, &[(0x5f8, b"x")], End::Missing),
-    (64, 1, &[(0x348, &[0x00, 0x12])], End::Endless),
+    (64, 1, &[(0x348, &[0x00, 0x12])], End::Endless(64)),
     // behind one hop more
-    (65, 1, &[(0x600, b"x")], End::Endless),
-    (65, 1, &[(0x34c, &[0x00, 0x00])], End::Endless),
+    (65, 1, &[(0x600, b"x")], End::Missing),
+    (65, 1, &[(0x34c, &[0x00, 0x00])], End::Unknown),
 ];
 
 /// Asserts how the search through a chain of forwarders ends, under both policies.
@@ -635,7 +641,7 @@ fn assert_chain(
 }
 
 #[test]
-fn a_search_follows_64_forwarders_and_no_more(rt: HostRuntime) {
+fn a_search_follows_forwarders_to_their_end(rt: HostRuntime) {
     for (index, chain) in CHAINS.iter().enumerate() {
         assert_chain(&rt, rt.alloc(), index, chain);
     }

@@ -1,16 +1,15 @@
 use Rattle.std.proofs.Common.{◌≡◌, ◌++◌, drop, map}
 use Rattle.std.specs.List.{flat_map, filter_map}
-use Rattle.pe_view.specs.Faults.{first_standing}
 use Rattle.pe_tables.specs.ImportView.{import_view}
-use Rattle.pe_set.specs.SetFaults.{import_tests}
+use Rattle.pe_set.specs.SetErrors.{import_errors, first_error}
 use Rattle.pe_set.specs.Bindings.{binding_of}
 use Rattle.pe_set.specs.SetView.{modules_view}
 use Rattle.pe_set.proofs.binding.bind_imports.Given as goal
 
 abbrev pub invariant-loop-import : goal.invariant-loop-import
 invariant-loop-import g l = record {
-  rest : first_standing (flat_map (import_tests l.policy (modules_view l.modules) l.number) (map import_view (drop l.import-index l.imports)))
-      ≡ first_standing (flat_map (import_tests l.policy (modules_view l.modules) l.number) (map import_view l.imports));
+  rest : first_error (flat_map (import_errors l.policy (modules_view l.modules) l.number) (map import_view (drop l.import-index l.imports)))
+      ≡ first_error (flat_map (import_errors l.policy (modules_view l.modules) l.number) (map import_view l.imports));
   bound : l.bindings.items ++ filter_map (binding_of (modules_view l.modules) l.number) (map import_view (drop l.import-index l.imports))
       ≡ l.fn.bindings.items ++ filter_map (binding_of (modules_view l.modules) l.number) (map import_view l.imports);
 }

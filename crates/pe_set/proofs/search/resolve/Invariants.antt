@@ -1,7 +1,7 @@
-use Rattle.std.proofs.Common.{◌≡◌, ◌-◌, ◌≤◌, ℕ, List}
+use Rattle.std.proofs.Common.{◌≡◌, ◌-◌, ◌≤◌, ◌+◌, ℕ, suc, List}
 use Rattle.std.specs.Str.{str_to_ascii_lowercase}
 use Rattle.pe_tables.specs.Key.{key_view}
-use Rattle.pe_set.specs.Search.{ended, resolve, resolve_in}
+use Rattle.pe_set.specs.Search.{resolve_in, steps, stand_at, stands}
 use Rattle.pe_set.specs.SetView.{modules_view}
 use Rattle.pe_set.proofs.search.resolve.Given as goal
 
@@ -9,7 +9,8 @@ use Rattle.pe_set.proofs.search.resolve.Given as goal
 abbrev pub invariant-loop-hops : goal.invariant-loop-hops
 invariant-loop-hops g l = record {
   name : List ℕ;
-  few : l.hops ≤ 65;
+  few : l.hops ≤ l.exports + 1;
   lower : l.buffer.items ≡ str_to_ascii_lowercase name;
-  rest : ended (resolve_in (65 - l.hops) (modules_view l.modules) name (key_view l.key)) ≡ resolve (modules_view l.modules) l.import.«module».now (key_view l.import.key);
+  rest : resolve_in (l.exports + 1 - l.hops) (modules_view l.modules) name (key_view l.key) ≡ resolve_in (suc l.exports) (modules_view l.modules) l.import.«module».now (key_view l.import.key);
+  at : steps (modules_view l.modules) (l.exports + 1 - l.hops) (stand_at (modules_view l.modules) name (key_view l.key)) ≡ stands (modules_view l.modules) l.import.«module».now (key_view l.import.key) (suc l.exports);
 }

@@ -126,3 +126,6 @@ returns-in_err-place-clause-named g c = λ _. names_fine c.args.policy (entries_
 
 pub returns-in_err-push-clause-named : goal.returns-in_err-push-clause-named
 returns-in_err-push-clause-named g c = λ _. names_fine c.args.policy (entries_of c.args.set.now) c.in_ok-modules.ensures.exact.0
+
+pub returns-clause-error : goal.returns-clause-error
+returns-clause-error g c = (c.in_ok-modules.ensures.error.0, tt)

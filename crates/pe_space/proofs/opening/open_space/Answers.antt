@@ -139,3 +139,6 @@ returns-in_err-push-clause-named g c = λ _. names_fine c.args.policy (entries_o
 
 pub returns-in_err-new-clause-named : goal.returns-in_err-new-clause-named
 returns-in_err-new-clause-named g c = λ _. names_fine c.args.policy (entries_of c.args.set.now) c.in_ok-modules.ensures.exact.0
+
+pub returns-clause-error : goal.returns-clause-error
+returns-clause-error g c = (c.in_ok-modules.ensures.error.0, tt)

@@ -4,4 +4,4 @@ use Rattle.pe_tool.proofs.fault_line.write_fault_line.Goals as goal
 
 pub returns : goal.returns
 unfolding fault_line
-returns g c = c.text.ensures then c.decimal.ensures then c.text-2.ensures then c.decimal-2.ensures then c.text-3.ensures then c.write_place.ensures then c.text-4.ensures
+returns g c = c.write_fault.ensures then c.text.ensures
