@@ -108,7 +108,7 @@ fn cycle(image: u16, slot: u32, length: u32) -> MapError {
 }
 
 /// Asserts that both spaces and the slow checker refuse a set by an error, under both policies.
-fn assert_cycle(rt: &impl Abort, alloc: Global, set: &[SetEntry], error: MapError) {
+fn assert_cycle<'a>(rt: &impl Abort, alloc: Global, set: &'a [SetEntry<'a>], error: MapError) {
     for policy in [Policy::Strict, Policy::Known] {
         let found = opened(rt, alloc, set, policy).err();
         assert_eq!(rt; found, Some(error));
@@ -165,7 +165,7 @@ fn the_last_forwarder_of_a_chain_may_lead_back(rt: HostRuntime) {
 }
 
 /// The bytes of the program's slot, of an accepted set.
-fn slot_of(rt: &impl Abort, alloc: Global, set: &[SetEntry], policy: Policy) -> [u8; 4] {
+fn slot_of<'a>(rt: &impl Abort, alloc: Global, set: &'a [SetEntry<'a>], policy: Policy) -> [u8; 4] {
     let space = opened(rt, alloc, set, policy).expect(rt, "a space");
     let mut slot = [0; 4];
     assert!(rt; space.window(rt, 0x40_1030, &mut slot).is_ok());
