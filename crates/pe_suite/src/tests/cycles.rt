@@ -115,7 +115,7 @@ fn cycle(image: u16, slot: u32, length: u32) -> MapError {
 }
 
 /// Asserts that both spaces and the slow checker refuse a set by an error, under both policies.
-fn assert_cycle(rt: &impl Abort, alloc: Global, set: &[SetEntry], error: MapError) {
+fn assert_cycle<'a>(rt: &impl Abort, alloc: Global, set: &'a [SetEntry<'a>], error: MapError) {
     for policy in [Policy::Strict, Policy::Known] {
         assert_eq!(rt; map(alloc, set, policy).err(), Some(error));
         assert_eq!(rt; open_space(alloc, set, policy).err(), Some(error));
@@ -171,7 +171,7 @@ fn the_last_forwarder_of_a_chain_may_lead_back(rt: HostRuntime) {
 }
 
 /// The bytes of the program's slot, of an accepted set: in both spaces the same.
-fn slot_of(rt: &impl Abort, alloc: Global, set: &[SetEntry], policy: Policy) -> [u8; 4] {
+fn slot_of<'a>(rt: &impl Abort, alloc: Global, set: &'a [SetEntry<'a>], policy: Policy) -> [u8; 4] {
     let mapped = map(alloc, set, policy).expect(rt, "a space");
     let opened = open_space(alloc, set, policy).expect(rt, "a space over files");
     let (mut slot, mut other) = ([0; 4], [0xee; 4]);
