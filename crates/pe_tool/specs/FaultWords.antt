@@ -58,7 +58,7 @@ rules =
     ∷ (43, (codes "file", codes "its Magic is not that of file 0"))
     ∷ (44, (codes "base", codes "the base is no multiple of 65,536"))
     ∷ (45, (codes "base", codes "the image passes the end of the address space"))
-    ∷ (46, (codes "base", codes "the image has no base relocations, and the base is not its ImageBase"))
+    ∷ (46, (codes "base", codes "its base relocations were stripped, and the base is not its ImageBase"))
     ∷ (47, (codes "base", codes "the image has an address in common with another one"))
     ∷ (48, (codes "import address table slot", codes "the import leads to a module that is not in the set"))
     ∷ (49, (codes "import address table slot", codes "the import leads to a module that does not export it"))

@@ -161,7 +161,7 @@ pub fn fault_words(number: u16) -> Option<FaultWords>
         45 => words!("base", "the image passes the end of the address space"),
         46 => words!(
             "base",
-            "the image has no base relocations, and the base is not its ImageBase"
+            "its base relocations were stripped, and the base is not its ImageBase"
         ),
         47 => words!(
             "base",

@@ -179,7 +179,7 @@ const WORDS: &[(u16, &str, &str)] = &[
     (
         46,
         "base",
-        "the image has no base relocations, and the base is not its ImageBase",
+        "its base relocations were stripped, and the base is not its ImageBase",
     ),
     (
         47,
