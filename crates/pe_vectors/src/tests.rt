@@ -1,5 +1,3 @@
-mod bindings;
-mod both;
 mod exports;
 mod files;
 mod fixups;
@@ -7,9 +5,4 @@ mod head;
 mod images;
 mod imports;
 mod layout;
-mod members;
-mod moves;
-mod sets;
-mod spaces;
 mod whole;
-mod windows;

@@ -1,14 +1,14 @@
 //! Moves of images of a space, and runs of commands.
 
+use super::asserts::assert_holds;
 use super::both::Both;
-use super::files::assert_holds;
 use super::members::{assert_bytes, spaces_of};
-use crate::files::{Piece, Vector, put_pieces};
-use crate::members::{
+use pe_space::{Command, Moved, Policy, Reply, SetEntry, Space, map, open_space, run};
+use pe_vectors::files::{Piece, Vector, put_pieces};
+use pe_vectors::members::{
     A, B, C, Member, PLAIN, RELOCATED, Refusal, WIDE, fault_of, files_of, set_of,
 };
-use crate::{vc, vf};
-use pe_space::{Command, Moved, Policy, Reply, SetEntry, Space, map, open_space, run};
+use pe_vectors::{vc, vf};
 use pe_view::Place;
 use std::alloc::Global;
 use std::process::Abort;

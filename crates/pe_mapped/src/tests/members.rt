@@ -1,9 +1,9 @@
 //! What tests of sets and spaces share: faults of sets, and bytes of spaces.
 
+use super::asserts::assert_holds;
 use super::both::{Both, opened};
-use super::files::assert_holds;
-use crate::members::{Member, Refusal, fault_of, files_of, set_of};
 use pe_space::{MapError, Policy, SetEntry};
+use pe_vectors::members::{Member, Refusal, fault_of, files_of, set_of};
 use std::alloc::Global;
 use std::process::Abort;
 

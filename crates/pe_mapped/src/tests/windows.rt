@@ -2,8 +2,8 @@
 
 use super::both::Both;
 use super::members::spaces_of;
-use crate::members::{A, B, C, Member, RELOCATED, files_of, set_of};
 use pe_space::Policy;
+use pe_vectors::members::{A, B, C, Member, RELOCATED, files_of, set_of};
 use std::process::Abort;
 
 /// Asserts that both spaces give the same windows of up to 12 bytes from each of 16 addresses on.

@@ -1,13 +1,13 @@
 //! Which bytes `pe_space` has at which addresses.
 
+use super::asserts::assert_holds;
 use super::both::Both;
-use super::files::assert_holds;
 use super::members::{assert_bytes, spaces_of};
-use crate::files::{Piece, Vector, file_of};
-use crate::members::{
+use pe_space::Policy;
+use pe_vectors::files::{Piece, Vector, file_of};
+use pe_vectors::members::{
     A, B, C, Member, PLAIN, RELOCATED, WIDE, fault_of, files_of, names_of, repeated, set_of,
 };
-use pe_space::Policy;
 use pe_view::Place;
 use std::alloc::Global;
 use std::process::Abort;

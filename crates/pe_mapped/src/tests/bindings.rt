@@ -1,12 +1,12 @@
 //! What `pe_space` binds imports to: which module and which export is found, through forwarders too.
 
+use super::asserts::assert_holds;
 use super::both::{Both, opened};
-use super::files::assert_holds;
 use super::members::{assert_bytes, spaces_of};
-use crate::files::{Piece, Vector, file_of, put_pieces};
-use crate::members::{A, B, C, Member, PLAIN, fault_of, files_of, set_of};
-use crate::vf;
 use pe_space::{Binding, MapError, Policy, SetEntry};
+use pe_vectors::files::{Piece, Vector, file_of, put_pieces};
+use pe_vectors::members::{A, B, C, Member, PLAIN, fault_of, files_of, set_of};
+use pe_vectors::vf;
 use pe_view::Place;
 use std::alloc::Global;
 use std::process::Abort;

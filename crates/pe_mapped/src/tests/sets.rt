@@ -2,9 +2,9 @@
 
 use super::both::opened;
 use super::members::{assert_refusal, error_of};
-use crate::files::Piece;
-use crate::members::{A, B, C, Member, PLAIN, RELOCATED, Refusal, WIDE, names_of, repeated};
 use pe_space::Policy;
+use pe_vectors::files::Piece;
+use pe_vectors::members::{A, B, C, Member, PLAIN, RELOCATED, Refusal, WIDE, names_of, repeated};
 use pe_view::Place;
 use std::alloc::Global;
 use std::process::Abort;
