@@ -1,7 +1,7 @@
 ghost use Rattle.std.specs.Prelude.{◌≡◌, ℕ, ◌+◌, ◌≤◌, ◌*◌, ◌^◌, ◌<◌, if◌then◌else◌, map};
 ghost use Rattle.std.specs.List.{range_with_len};
 ghost use Rattle.pe_view.specs.View.{bytes_of, size_of};
-ghost use Rattle.pe_view.specs.Number.{num, byte_of};
+ghost use Rattle.pe_view.specs.Number.{num, byte_of, part};
 ghost use Rattle.pe_head.specs.Head.{head_of, directory_count, pe_offset, optional_start, coff_field, field, either_field, magic_of, is_pe32, fixed_size, directory_at, section_at, section_start};
 
 use crate::directory::Directory;
@@ -47,6 +47,16 @@ fn u64_in(view: View, offset: u64) -> u64
     view.u64_at(offset).unwrap()
 }
 
+/// The 8 bytes of a section's name that the file holds.
+fn name_in(view: View, offset: u64) -> [u8; 8]
+    requires { offset + 8 ≤ size_of view }
+    ensures { result ≡ part (bytes_of view.entry) offset 8 }
+{
+    let mut name = [0; 8];
+    name.copy_from_slice(view.slice(offset, 8).unwrap());
+    name
+}
+
 impl<'a> Fields<'a> {
     pub fn new(view: View<'a>, offset: u32, magic: Magic) -> Self
         requires starts { offset ≡ pe_offset (bytes_of view) }
@@ -59,6 +69,13 @@ impl<'a> Fields<'a> {
             offset,
             magic,
         }
+    }
+
+    /// The file offset of the signature.
+    pub fn pe_offset(&self) -> u32
+        ensures { result ≡ pe_offset (bytes_of self.now.view) }
+    {
+        self.offset
     }
 
     /// A field of 2 bytes of the COFF header.
@@ -133,6 +150,20 @@ impl<'a> Fields<'a> {
         }
     }
 
+    /// The bytes of the laid-out image.
+    pub fn size_of_image(&self) -> u32
+        ensures { result ≡ field (bytes_of self.now.view) 56 4 }
+    {
+        self.u32_at(56)
+    }
+
+    /// The bytes of the headers, as a piece of the laid-out image.
+    pub fn size_of_headers(&self) -> u32
+        ensures { result ≡ field (bytes_of self.now.view) 60 4 }
+    {
+        self.u32_at(60)
+    }
+
     /// BaseOfData, which PE32+ lacks.
     pub fn base_of_data(&self) -> Option<u32>
         ensures { result ≡ (if is_pe32 (bytes_of self.now.view) then Some (field (bytes_of self.now.view) 24 4) else None) }
@@ -163,10 +194,8 @@ impl<'a> Fields<'a> {
         ensures { result ≡ section_at (bytes_of self.now.view) index }
     {
         let start = self.optional(u64::from(self.coff_u16(16)) + 40 * index);
-        let mut name = [0; 8];
-        name.copy_from_slice(self.view.slice(start, 8).unwrap());
         SectionHeader {
-            name,
+            name: name_in(self.view, start),
             virtual_size: u32_in(self.view, start + 8),
             virtual_address: u32_in(self.view, start + 12),
             size_of_raw_data: u32_in(self.view, start + 16),
@@ -242,8 +271,8 @@ impl<'a> Fields<'a> {
             major_subsystem_version: self.u16_at(48),
             minor_subsystem_version: self.u16_at(50),
             win32_version_value: self.u32_at(52),
-            size_of_image: self.u32_at(56),
-            size_of_headers: self.u32_at(60),
+            size_of_image: self.size_of_image(),
+            size_of_headers: self.size_of_headers(),
             check_sum: self.u32_at(64),
             subsystem: self.u16_at(68),
             dll_characteristics: self.u16_at(70),

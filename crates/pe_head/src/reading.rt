@@ -113,17 +113,17 @@ fn table_end(view: View, image: u16, offset: u32) -> Result<u64, Fault>
 
 /// That neither of faults 11 and 12 stands.
 #[tactic(auto, unfolding(crate::specs::HeaderFaults::head_tests))]
-fn check_sizes(view: View, image: u16, headers: &Headers, table_end: u64) -> Result<(), Fault>
+fn check_sizes(view: View, image: u16, fields: &Fields, table_end: u64) -> Result<(), Fault>
+    requires same { fields.now.view ≡ view }
     requires end { table_end ≡ section_start (bytes_of view) (coff_field (bytes_of view) 2 2) }
-    requires head { headers.now ≡ head_of (bytes_of view) }
     ensures { Answers (drop 10 (head_tests image (bytes_of view.entry))) (λ _. ⊤) result }
 {
-    let offset = u64::from(headers.pe_offset);
-    let size = headers.size_of_image;
+    let offset = u64::from(fields.pe_offset());
+    let size = fields.size_of_image();
     if size == 0 || size > IMAGE_LIMIT {
         return Err(file_fault(11, image, offset + 80));
     }
-    let header_bytes = headers.size_of_headers;
+    let header_bytes = fields.size_of_headers();
     if u64::from(header_bytes) < table_end
         || u64::from(header_bytes) > view.len()
         || header_bytes > size
@@ -143,7 +143,8 @@ pub fn read_headers(view: View, image: u16) -> Result<Headers, Fault>
     let offset = signature(view, image)?;
     let magic = form(view, image, offset)?;
     let table_end = table_end(view, image, offset)?;
-    let headers = Fields::new(view, offset, magic).headers();
-    check_sizes(view, image, &headers, table_end)?;
-    Ok(headers)
+    let fields = Fields::new(view, offset, magic);
+    check_sizes(view, image, &fields, table_end)?;
+    // the headers are made once no fault is left, so that no answer drops them
+    Ok(fields.headers())
 }

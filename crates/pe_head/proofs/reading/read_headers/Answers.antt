@@ -14,7 +14,7 @@ returns c =
           ∙ first-step tests 5 8 (lit≤ tt) c.in_ok-magic.ensures.exact.0
           ∙ first-step tests 8 10 (lit≤ tt) c.in_ok-table_end.ensures.exact.0
           ∙ c.in_ok-check_sizes.ensures.0,
-      c.headers-headers.ensures ∙ ap (λ v. head_of (bytes_of v)) c.new.ensures,
+      c.headers.ensures ∙ ap (λ v. head_of (bytes_of v)) c.new-fields.ensures,
     )
 
 pub returns-in_err-offset : goal.returns-in_err-offset
