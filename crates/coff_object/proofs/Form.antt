@@ -1,5 +1,5 @@
 -- An object that no test refuses has a written form.
-use Rattle.std.proofs.Common.{◌≡◌, ℕ, ◌+◌, ◌*◌, ◌%◌, ◌^◌, ◌<◌, false, List, [], ◌∷◌, ◌++◌, length, None, refl, sym, ap, ◌∙◌, arith, inl, inr}
+use Rattle.std.proofs.Common.{◌≡◌, ℕ, ◌+◌, ◌*◌, ◌%◌, ◌^◌, ◌<◌, false, List, [], ◌∷◌, ◌++◌, length, None, refl, sym, ap, ◌∙◌, arith, append_assoc, inl, inr}
 use Rattle.std.proofs.lemmas.List.{length-map}
 use Rattle.coff_object.specs.ObjectView.{section_view}
 use Rattle.coff_object.specs.declared.section.ObjSection.{ObjSection}
@@ -12,7 +12,6 @@ use Rattle.coff_object.specs.Strings.{string_bytes}
 use Rattle.coff_object.specs.Writable.{IsWritable}
 use Rattle.coff_object.specs.WriteFaults.{is_bad_number, is_bad_symbol, write_tests}
 use Rattle.coff_object.specs.Written.{strings_of, section_body, section_table, symbol_bytes, aux_records, bodies_start, has_strings, coff_header, string_table, canon}
-use Rattle.coff_object.proofs.Appends.{and_then}
 use Rattle.coff_object.proofs.Writable.{Accepted, accepted}
 use Rattle.coff_object.proofs.WrittenSize.{canon_size, table_len, records-le}
 
@@ -54,24 +53,23 @@ writable o none =
       strings = strings;
     }
 
+six_parts : (a b c d e f : List ℕ) → a ++ b ++ c ++ d ++ e ++ f ≡ a ++ (b ++ (c ++ (d ++ (e ++ f))))
+six_parts a b c d e f =
+    append_assoc (a ++ b ++ c ++ d) e f
+    ∙ append_assoc (a ++ b ++ c) d (e ++ f)
+    ∙ append_assoc (a ++ b) c (d ++ (e ++ f))
+    ∙ append_assoc a b (c ++ (d ++ (e ++ f)))
+
 -- the parts, one behind the other
-pub parts_are : (o : Object) (strings : List (List ℕ)) (a b c d e f : List ℕ) → strings ≡ strings_of o → a ≡ [] ++ coff_header o → b ≡ a ++ o.optional → c ≡ b ++ section_table strings (bodies_start o) o.sections
-    → d ≡ c ++ flat_map section_body o.sections → e ≡ d ++ flat_map (symbol_bytes strings) o.symbols → f ≡ e ++ string_table o → f ≡ canon o
+pub parts_are : (o : Object) (strings : List (List ℕ)) (start head all : List ℕ) → strings ≡ strings_of o → start ≡ []
+    → head ≡ start ++ coff_header o ++ o.optional ++ section_table strings (bodies_start o) o.sections
+    → all ≡ head ++ flat_map section_body o.sections ++ flat_map (symbol_bytes strings) o.symbols ++ string_table o → all ≡ canon o
 unfolding canon
-parts_are o strings a b c d e f is ha hb hc hd he hf =
+parts_are o strings start head all is none front whole =
     let table : List ℕ = section_table strings (bodies_start o) o.sections in
     let bodies : List ℕ = flat_map section_body o.sections in
     let symbols : List ℕ = flat_map (symbol_bytes strings) o.symbols in
-    let two = and_then d e f symbols (string_table o) he hf in
-    let three = and_then c d f bodies (symbols ++ string_table o) hd two in
-    let four = and_then b c f table (bodies ++ (symbols ++ string_table o)) hc three in
-    let five = and_then a b f o.optional (table ++ (bodies ++ (symbols ++ string_table o))) hb four in
-    let six = and_then [] a f (coff_header o) (o.optional ++ (table ++ (bodies ++ (symbols ++ string_table o)))) ha five in
-    six ∙ ap (λ (ts : List (List ℕ)). coff_header o ++ (o.optional ++ (section_table ts (bodies_start o) o.sections ++ (bodies ++ (flat_map (symbol_bytes ts) o.symbols ++ string_table o))))) is
-
--- the section table as the writer's loop tells it
-pub table_same : {A : Type 0} (strings : List (List ℕ)) (optional : ℕ) (slice items : List (ObjSection A)) → slice ≡ items
-    → section_table strings (20 + optional + 40 * length slice) (map section_view slice) ≡ section_table strings (20 + optional + 40 * length (map section_view items)) (map section_view items)
-table_same strings optional slice items same =
-    ap (λ (ss : List (ObjSection _)). section_table strings (20 + optional + 40 * length ss) (map section_view ss)) same
-    ∙ ap (λ (n : ℕ). section_table strings (20 + optional + 40 * n) (map section_view items)) (sym (length-map items section_view))
+    whole
+    ∙ ap (λ (bs : List ℕ). bs ++ bodies ++ symbols ++ string_table o) (front ∙ ap (λ (bs : List ℕ). bs ++ coff_header o ++ o.optional ++ table) none)
+    ∙ six_parts (coff_header o) o.optional table bodies symbols (string_table o)
+    ∙ ap (λ (ts : List (List ℕ)). coff_header o ++ (o.optional ++ (section_table ts (bodies_start o) o.sections ++ (bodies ++ (flat_map (symbol_bytes ts) o.symbols ++ string_table o))))) is

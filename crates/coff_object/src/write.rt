@@ -9,7 +9,7 @@ ghost use Rattle.pe_view.specs.declared.fault.Fault as code_fault;
 ghost use Rattle.coff_object.specs.StringTableView.{counted};
 ghost use Rattle.coff_object.specs.StringTableWords.{texts_in};
 ghost use Rattle.coff_object.specs.Strings.{string_bytes};
-ghost use Rattle.coff_object.specs.Written.{has_strings, symbols_start, header_end, coff_header, string_table, canon, strings_of, section_body, section_table, symbol_bytes, aux_records, records_of};
+ghost use Rattle.coff_object.specs.Written.{bodies_start, has_strings, symbols_start, header_end, coff_header, string_table, canon, strings_of, section_body, section_table, symbol_bytes, aux_records, records_of};
 ghost use Rattle.coff_object.specs.NamePlaces.{section_places, symbol_places, ArePlacesOf};
 ghost use Rattle.coff_object.specs.Writable.{IsWritable};
 ghost use Rattle.coff_object.specs.WriteFaults.{name_tests, section_tests, form_tests, write_tests, is_far, has_many_relocations, is_bad_symbol, is_bad_object};
@@ -267,6 +267,45 @@ fn check_form<A: Allocator + Copy>(
     Ok(size as usize)
 }
 
+/// Adds the COFF header, the optional bytes and the section table of an object that no fault refuses.
+fn push_headers<A: Allocator + Copy>(
+    bytes: &mut Vec<u8, A>,
+    object: &Object<A>,
+    places: &NamePlaces<A>,
+) -> Result<(), AllocError>
+    requires places { ArePlacesOf (object_view object.now) places.now }
+    requires form { IsWritable (object_view object.now) }
+    ensures fits { OnOk result (HeaderFits (object_view object.now) × AllByRecursion SectionFits (object_view object.now).sections) }
+    ensures bytes { OnOk result (bytes.new.items ≡ bytes.old.items ++ coff_header (object_view object.now) ++ (object_view object.now).optional
+        ++ section_table (texts_in places.now.strings) (bodies_start (object_view object.now)) (object_view object.now).sections) }
+{
+    let sections = object.sections.as_slice();
+    let start = 20 + object.optional.len() as u32 + 40 * sections.len() as u32;
+    let end = start + bodies_size(sections) as u32;
+    push_coff_header(bytes, object, symbols_pointer(object, &places.strings, end))?;
+    bytes.extend_from_slice(object.optional)?;
+    push_table(bytes, places, start, sections)?;
+    Ok(())
+}
+
+/// Adds the bodies of sections, the symbols and the string table of an object that no fault refuses.
+fn push_contents<A: Allocator + Copy>(
+    bytes: &mut Vec<u8, A>,
+    object: &Object<A>,
+    places: &NamePlaces<A>,
+) -> Result<(), AllocError>
+    requires places { ArePlacesOf (object_view object.now) places.now }
+    requires form { IsWritable (object_view object.now) }
+    ensures fits { OnOk result (AllByRecursion RelocationsFit (object_view object.now).sections × AllByRecursion SymbolFits (object_view object.now).symbols) }
+    ensures bytes { OnOk result (bytes.new.items ≡ bytes.old.items ++ flat_map section_body (object_view object.now).sections
+        ++ flat_map (symbol_bytes (texts_in places.now.strings)) (object_view object.now).symbols ++ string_table (object_view object.now)) }
+{
+    push_bodies(bytes, object.sections.as_slice())?;
+    push_symbols(bytes, places, object.symbols.as_slice())?;
+    push_strings(bytes, object, &places.strings)?;
+    Ok(())
+}
+
 /// The bytes of an object that no fault refuses, with room for so many from the start.
 fn write_parts<A: Allocator + Copy>(
     alloc: A,
@@ -279,18 +318,9 @@ fn write_parts<A: Allocator + Copy>(
     ensures fits { OnOk result (Fits (object_view object.now)) }
     ensures bytes { IfOk result (λ bytes. bytes.items ≡ canon (object_view object.now)) }
 {
-    let strings = &places.strings;
-    let sections = object.sections.as_slice();
-    let symbols = object.symbols.as_slice();
-    let start = 20 + object.optional.len() as u32 + 40 * sections.len() as u32;
-    let end = start + bodies_size(sections) as u32;
     let mut bytes = Vec::with_capacity(alloc, size)?;
-    push_coff_header(&mut bytes, object, symbols_pointer(object, strings, end))?;
-    bytes.extend_from_slice(object.optional)?;
-    push_table(&mut bytes, places, start, sections)?;
-    push_bodies(&mut bytes, sections)?;
-    push_symbols(&mut bytes, places, symbols)?;
-    push_strings(&mut bytes, object, strings)?;
+    push_headers(&mut bytes, object, places)?;
+    push_contents(&mut bytes, object, places)?;
     Ok(bytes)
 }
 
