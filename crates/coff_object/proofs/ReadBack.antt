@@ -7,7 +7,7 @@ use Rattle.pe_view.specs.FirstStanding.{first-past}
 use Rattle.pe_view.specs.Faults.{Test, first_standing}
 use Rattle.coff_object.specs.Field.{field, number_bytes}
 use Rattle.coff_object.specs.ObjectFaults.{is_other_file, is_cut_table, header_tests, symbol_table_tests, section_tests, symbol_tests, relocation_tests, record_tests, object_tests, IsObjectOf}
-use Rattle.coff_object.specs.Reading.{section_at, section_start, section_starts, symbol_at, record_start, symbols_from, symbol_indexes}
+use Rattle.coff_object.specs.Reading.{section_in, section_start, section_starts, symbol_at, record_start, symbols_from, symbol_indexes}
 use Rattle.coff_object.specs.Records.{Section, Symbol, Object, Fits}
 use Rattle.coff_object.specs.Strings.{is_among, symbol_pointer, record_count, strings_start, strings_size, string_bytes}
 use Rattle.coff_object.specs.WriteFaults.{write_tests}
@@ -181,7 +181,7 @@ laid_read file o l fits a small other =
           first-past (header_tests file) r1 headers ∙ first-past (symbol_table_tests file) r2 t.accepted ∙ first-past (flat_map (section_tests file) (section_starts file)) r3 sections_none
           ∙ first-past (flat_map (symbol_tests file) (symbol_indexes file)) r4 symbols_none ∙ relocations_none;
       holds = same_object _ _ _ _ _ _ _ _ _ _ _ _ h.machine h.time_stamp h.characteristics (has-part file 20 (field file 0 16 2) o.optional l.optional h.optional)
-          (ap (map (section_at file)) starts ∙ ss.are)
+          (ap (map (section_in file)) starts ∙ ss.are)
           (ap (map (λ k. symbol_at file (record_start file k))) indexes ∙ us.are);
     }
 

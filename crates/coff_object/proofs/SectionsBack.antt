@@ -10,7 +10,7 @@ use Rattle.pe_view.specs.FirstStanding.{first-past}
 use Rattle.coff_object.specs.Field.{field, number_bytes}
 use Rattle.coff_object.specs.Names.{section_name, section_text, name_offset, decimal_digits, padded, is_long, begins_with_slash, is_long_section_name}
 use Rattle.coff_object.specs.ObjectFaults.{section_tests, relocation_tests, relocation_test}
-use Rattle.coff_object.specs.Reading.{relocation_at, relocation_start, raw_at, is_absent, section_at}
+use Rattle.coff_object.specs.Reading.{relocation_at, relocation_start, raw_at, is_absent, section_in}
 use Rattle.coff_object.specs.Records.{Raw, Bytes, Absent, RawFits, Section, SectionFits, RelocationsFit, RelocationFits}
 use Rattle.coff_object.specs.Strings.{is_among, record_count, offset_of}
 use Rattle.coff_object.specs.WriteFaults.{has_zero, is_far, has_many_relocations, is_bad_raw, is_bad_section}
@@ -171,7 +171,7 @@ relocations_inside file at (r ∷ rs) has =
 
 -- a section, read back
 pub record IsSectionAt (file : List ℕ) (h : ℕ) (s : Section) : Type 0 where
-  pub is : section_at file h ≡ s
+  pub is : section_in file h ≡ s
   pub accepted : first_standing (section_tests file h) ≡ None
   pub relocations : first_standing (relocation_tests file h) ≡ None
 
@@ -242,7 +242,7 @@ length-table strings at (s ∷ ss) near =
 
 -- the sections from index i on, read back
 pub record AreSectionsFrom (file : List ℕ) (base i : ℕ) (ss : List Section) : Type 0 where
-  pub are : map (section_at file) (map (λ k. base + 40 * k) (range_with_len i (length ss))) ≡ ss
+  pub are : map (section_in file) (map (λ k. base + 40 * k) (range_with_len i (length ss))) ≡ ss
   pub accepted : first_standing (flat_map (section_tests file) (map (λ k. base + 40 * k) (range_with_len i (length ss)))) ≡ None
   pub relocations : first_standing (flat_map (relocation_tests file) (map (λ k. base + 40 * k) (range_with_len i (length ss)))) ≡ None
 
@@ -265,7 +265,7 @@ sections_read file strings count base i at (s ∷ ss) w records some headers bod
     let later = sections_read file strings count base (i + 1) next ss w.1 records (omega arith) headers_left bodies_left (omega arith) table in
     let starts : List ℕ = map (λ k. base + 40 * k) (range_with_len (i + 1) (length ss)) in
     record {
-      are = ap (λ (x : Section). x ∷ map (section_at file) starts) here.is ∙ ap (λ (xs : List Section). s ∷ xs) later.are;
+      are = ap (λ (x : Section). x ∷ map (section_in file) starts) here.is ∙ ap (λ (xs : List Section). s ∷ xs) later.are;
       accepted = first-past (section_tests file h) (flat_map (section_tests file) starts) here.accepted ∙ later.accepted;
       relocations = first-past (relocation_tests file h) (flat_map (relocation_tests file) starts) here.relocations ∙ later.relocations;
     }

@@ -31,8 +31,8 @@ abbrev pub raw_at : List ℕ → ℕ → ℕ → ℕ → Raw
 raw_at file pointer size flags = if is_absent pointer size flags then Absent size else Bytes (part file pointer size)
 
 -- the section whose header stands at a place
-abbrev pub section_at : List ℕ → ℕ → Section
-section_at file h = record {
+abbrev pub section_in : List ℕ → ℕ → Section
+section_in file h = record {
   name = unwrap_or (section_name file h) [];
   virtual_size = field file h 8 4;
   virtual_address = field file h 12 4;
@@ -88,6 +88,6 @@ object_of file = record {
   time_stamp = field file 0 4 4;
   characteristics = field file 0 18 2;
   optional = part file 20 (field file 0 16 2);
-  sections = map (section_at file) (section_starts file);
+  sections = map (section_in file) (section_starts file);
   symbols = map (λ k. symbol_at file (record_start file k)) (symbol_indexes file);
 }

@@ -1,7 +1,7 @@
 -- All that may be wrong with the file of an image.
 use Rattle.std.specs.Prelude.{ℕ, List, ◌++◌, map}
 use Rattle.pe_view.specs.Faults.{Test}
-use Rattle.pe_layout.specs.Image.{Image, image_of_file}
+use Rattle.pe_layout.specs.Image.{LaidOut, image_of_file}
 use Rattle.pe_layout.specs.SectionFaults.{layout_tests}
 use Rattle.pe_tables.specs.ExportFaults.{export_tests}
 use Rattle.pe_tables.specs.Imports.{imports_of}
@@ -9,7 +9,7 @@ use Rattle.pe_tables.specs.ImportFaults.{import_tests}
 use Rattle.pe_tables.specs.FixupFaults.{fixup_tests}
 
 -- the tests of an image's tables, phase by phase; base relocations are asked with the slots of the image's own imports
-unfoldable pub table_tests : Image → List Test
+unfoldable pub table_tests : LaidOut → List Test
 table_tests i = export_tests i ++ (import_tests i ++ fixup_tests i (map (λ m. m.slot) (imports_of i)))
 
 -- the tests of the file of an image that has a number, in the order in which its faults count: 1 to 38

@@ -12,7 +12,7 @@ use Rattle.pe_head.specs.Head.{head_of}
 use Rattle.pe_layout.specs.Plain.{plain}
 use Rattle.pe_layout.specs.PieceText.{text}
 
-pub record Image : Type 0 where
+pub record LaidOut : Type 0 where
   pub number : ℕ  -- the number that its faults bear
   pub size : ℕ  -- SizeOfImage
   pub byte : ℕ → ℕ  -- the laid-out byte at each RVA below the size
@@ -32,7 +32,7 @@ slot_width_of Pe32 = 4
 slot_width_of Pe32Plus = 8
 
 -- the image that headers and a file lay out, under a number
-abbrev pub image_from : ℕ → Headers → List ℕ → Image
+abbrev pub image_from : ℕ → Headers → List ℕ → LaidOut
 image_from number h file = record {
   number = number;
   size = h.size_of_image;
@@ -45,21 +45,21 @@ image_from number h file = record {
 }
 
 -- the image of a file
-abbrev pub image_of_file : ℕ → List ℕ → Image
+abbrev pub image_of_file : ℕ → List ℕ → LaidOut
 image_of_file number file = image_from number (head_of file) file
 
 -- the `len` bytes from an RVA on
-abbrev pub bytes_at : Image → ℕ → ℕ → List ℕ
+abbrev pub bytes_at : LaidOut → ℕ → ℕ → List ℕ
 bytes_at i rva len = map i.byte (range_with_len rva len)
 
 -- the number in the `width` bytes at an RVA
-abbrev pub number_at : ℕ → Image → ℕ → ℕ
+abbrev pub number_at : ℕ → LaidOut → ℕ → ℕ
 number_at width i rva = num i.byte rva width
 
 -- `len` bytes at an RVA are in the image
-abbrev pub is_inside : Image → ℕ → ℕ → Bool
+abbrev pub is_inside : LaidOut → ℕ → ℕ → Bool
 is_inside i rva len = nat_le (rva + len) i.size
 
 -- a fault of the image at an RVA
-abbrev pub fault_at : ℕ → Image → ℕ → Fault
+abbrev pub fault_at : ℕ → LaidOut → ℕ → Fault
 fault_at number i rva = record { number = number; image = i.number; place = Rva rva }

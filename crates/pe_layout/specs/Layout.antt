@@ -3,7 +3,7 @@ use Rattle.std.specs.Prelude.{◌≡◌, ◌≤◌, ◌^◌, ℕ, List}
 use Rattle.pe_view.specs.View.{bytes_of}
 use Rattle.pe_head.specs.Head.{head_of}
 use Rattle.pe_head.specs.declared.headers.Headers.{Headers}
-use Rattle.pe_layout.specs.Image.{Image, image_from, image_of_file}
+use Rattle.pe_layout.specs.Image.{LaidOut, image_from, image_of_file}
 use Rattle.pe_layout.specs.declared.layout.Layout.{Layout}
 
 -- its headers
@@ -15,7 +15,7 @@ abbrev pub file_of : Layout → List ℕ
 file_of l = bytes_of l.view
 
 -- its image, which is all that tables need; what it is made of stays hidden from the layers above
-unfoldable pub image_of : Layout → Image
+unfoldable pub image_of : Layout → LaidOut
 image_of l = image_from l.image (headers_of l) (file_of l)
 
 -- it has at most 2^31 bytes

@@ -2,7 +2,7 @@
 use Rattle.std.proofs.Common.{◌≡◌, ◌+◌, ◌*◌, ◌≤◌, ◌^◌, ℕ, List, [], ◌∷◌, ◌++◌, length, map, None, arith}
 use Rattle.pe_view.specs.Faults.{first_standing}
 use Rattle.pe_view.specs.FirstStanding.{none-append}
-use Rattle.pe_layout.specs.Image.{Image, image_of_file}
+use Rattle.pe_layout.specs.Image.{LaidOut, image_of_file}
 use Rattle.pe_layout.specs.SectionFaults.{layout_tests}
 use Rattle.pe_tables.specs.ExportFaults.{export_tests}
 use Rattle.pe_tables.specs.Exports.{exports_of}
@@ -18,8 +18,8 @@ use Rattle.pe_set.proofs.Distinct.{few_entries}
 
 -- the laws
 pub record FewExports : Type 0 where
-  pub ordinals : (i : Image) → first_standing (export_tests i) ≡ None → length (exports_of i).ordinals ≤ 65536
-  pub names : (i : Image) → first_standing (export_tests i) ≡ None → length (exports_of i).names ≤ 65536
+  pub ordinals : (i : LaidOut) → first_standing (export_tests i) ≡ None → length (exports_of i).ordinals ≤ 65536
+  pub names : (i : LaidOut) → first_standing (export_tests i) ≡ None → length (exports_of i).names ≤ 65536
 
 module _ (few : FewExports) where
   -- those of a file without a fault
@@ -27,7 +27,7 @@ module _ (few : FewExports) where
       → length (exports_of (image_of_file n file)).ordinals + length (exports_of (image_of_file n file)).names ≤ 131072
   unfolding image_tests table_tests
   of_file n file none =
-      let i : Image = image_of_file n file in
+      let i : LaidOut = image_of_file n file in
       let slots = map (λ (x : Import). x.slot) (imports_of i) in
       let a = none-append (layout_tests n file) (export_tests i ++ (import_tests i ++ fixup_tests i slots)) none in
       let b = none-append (export_tests i) (import_tests i ++ fixup_tests i slots) a.1 in

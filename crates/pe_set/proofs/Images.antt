@@ -4,7 +4,7 @@ use Rattle.std.specs.Prelude.{slice_get, option_map, All, AllPairs}
 use Rattle.std.proofs.lemmas.Option.{slice_get-map}
 use Rattle.pe_view.specs.Faults.{first_standing}
 use Rattle.pe_view.specs.FirstStanding.{none-append}
-use Rattle.pe_layout.specs.Image.{Image, image_of_file, slot_width_of}
+use Rattle.pe_layout.specs.Image.{LaidOut, image_of_file, slot_width_of}
 use Rattle.pe_layout.specs.SectionFaults.{layout_tests}
 use Rattle.pe_tables.specs.ExportFaults.{export_tests}
 use Rattle.pe_tables.specs.Exports.{exports_of, target_at}
@@ -26,15 +26,15 @@ use Rattle.pe_set.proofs.Gathered.{all_got, got_all}
 -- the laws
 pub record Laws : Type 0 where
   pub images_small : (image : ℕ) (file : List ℕ) → first_standing (layout_tests image file) ≡ None → (image_of_file image file).size ≤ 2 ^ 31
-  pub slots_inside : (i : Image) → first_standing (import_tests i) ≡ None → All (λ (import : Import). import.slot + i.slot_width ≤ i.size) (imports_of i)
-  pub slots_apart : (i : Image) → first_standing (import_tests i) ≡ None → AllPairs (IsApart i.slot_width) (imports_of i)
-  pub slots_few : (i : Image) → first_standing (import_tests i) ≡ None → length (imports_of i) ≤ 1048576
-  pub fields_inside : (i : Image) (slots : List ℕ) → first_standing (fixup_tests i slots) ≡ None → All (λ (f : Fixup). f.field + width_of f.kind ≤ i.size) (fixups_of i)
-  pub fields_apart : (i : Image) (slots : List ℕ) → first_standing (fixup_tests i slots) ≡ None → AllPairs (λ (f g : Fixup). AreApart (range_of f) (range_of g)) (fixups_of i)
-  pub fields_off : (i : Image) (slots : List ℕ) → first_standing (fixup_tests i slots) ≡ None
+  pub slots_inside : (i : LaidOut) → first_standing (import_tests i) ≡ None → All (λ (import : Import). import.slot + i.slot_width ≤ i.size) (imports_of i)
+  pub slots_apart : (i : LaidOut) → first_standing (import_tests i) ≡ None → AllPairs (IsApart i.slot_width) (imports_of i)
+  pub slots_few : (i : LaidOut) → first_standing (import_tests i) ≡ None → length (imports_of i) ≤ 1048576
+  pub fields_inside : (i : LaidOut) (slots : List ℕ) → first_standing (fixup_tests i slots) ≡ None → All (λ (f : Fixup). f.field + width_of f.kind ≤ i.size) (fixups_of i)
+  pub fields_apart : (i : LaidOut) (slots : List ℕ) → first_standing (fixup_tests i slots) ≡ None → AllPairs (λ (f g : Fixup). AreApart (range_of f) (range_of g)) (fixups_of i)
+  pub fields_off : (i : LaidOut) (slots : List ℕ) → first_standing (fixup_tests i slots) ≡ None
       → All (λ (f : Fixup). All (λ (slot : ℕ × ℕ). AreApart slot (range_of f)) (map (slot_range i.slot_width) slots)) (fixups_of i)
-  pub fields_few : (i : Image) (slots : List ℕ) → i.size ≤ 2 ^ 31 → first_standing (fixup_tests i slots) ≡ None → length (fixups_of i) < 2 ^ 31
-  pub targets : (i : Image) (key : Key) (rva : ℕ) → first_standing (export_tests i) ≡ None → target_at (exports_of i) key ≡ Some (Rva rva) → rva < i.size
+  pub fields_few : (i : LaidOut) (slots : List ℕ) → i.size ≤ 2 ^ 31 → first_standing (fixup_tests i slots) ≡ None → length (fixups_of i) < 2 ^ 31
+  pub targets : (i : LaidOut) (key : Key) (rva : ℕ) → first_standing (export_tests i) ≡ None → target_at (exports_of i) key ≡ Some (Rva rva) → rva < i.size
 
 -- the bytes of an import's slot
 abbrev pub bytes_of : Module → Import → ℕ × ℕ
@@ -69,7 +69,7 @@ module _ (laws : Laws) where
   of_file : (n : ℕ) (e : Entry) → first_standing (image_tests n e.file) ≡ None → IsKnown (module_of n e)
   unfolding image_tests table_tests
   of_file n e none =
-      let i : Image = image_of_file n e.file in
+      let i : LaidOut = image_of_file n e.file in
       let m = module_of n e in
       let slots = map (λ (x : Import). x.slot) (imports_of i) in
       let a = none-append (layout_tests n e.file) (export_tests i ++ (import_tests i ++ fixup_tests i slots)) none in

@@ -2,7 +2,7 @@
 use Rattle.std.proofs.Common.{◌≡◌, ℕ, List, ap, refl}
 use Rattle.pe_head.specs.declared.headers.Headers.{Headers}
 use Rattle.pe_head.specs.declared.optional.Magic.{Magic}
-use Rattle.pe_layout.specs.Image.{Image}
+use Rattle.pe_layout.specs.Image.{LaidOut}
 use Rattle.pe_tables.specs.Exports.{Exports}
 use Rattle.pe_tables.specs.Imports.{Import}
 use Rattle.pe_tables.specs.declared.fixups.Fixup.{Fixup}
@@ -14,8 +14,8 @@ use Rattle.pe_set.specs.declared.entry.SetEntry.{SetEntry}
 use Rattle.pe_set.specs.declared.reading.Module as code_module
 
 -- images of a set that are the same in each part are the same
-same_module : (name : List ℕ) (base : ℕ) (m m' : Magic) (i i' : Image) (e e' : Exports) (s s' : List Import) (f f' : List Fixup) → m ≡ m' → i ≡ i' → e ≡ e' → s ≡ s' → f ≡ f'
-    → (let whole : Magic → Image → Exports → List Import → List Fixup → Module = (λ m i e s f. record { name = name; base = base; magic = m; image = i; exports = e; imports = s; fixups = f }) in whole m i e s f ≡ whole m' i' e' s' f')
+same_module : (name : List ℕ) (base : ℕ) (m m' : Magic) (i i' : LaidOut) (e e' : Exports) (s s' : List Import) (f f' : List Fixup) → m ≡ m' → i ≡ i' → e ≡ e' → s ≡ s' → f ≡ f'
+    → (let whole : Magic → LaidOut → Exports → List Import → List Fixup → Module = (λ m i e s f. record { name = name; base = base; magic = m; image = i; exports = e; imports = s; fixups = f }) in whole m i e s f ≡ whole m' i' e' s' f')
 same_module name base m m' i i' e e' s s' f f' p q r t u = rw (p, q, r, t, u) refl
 
 pub module_read : {A : Type 0} (e : SetEntry) (n : ℕ) (image : code_image.Image A) → IsImageOf n (entry_view e).file image

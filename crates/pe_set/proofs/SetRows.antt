@@ -4,7 +4,7 @@ use Rattle.std.specs.List.{range_with_len}
 use Rattle.pe_view.specs.declared.fault.Place.TheVariants.{Rva, Address, Item}
 use Rattle.pe_view.specs.Faults.{first_standing}
 use Rattle.pe_head.specs.declared.optional.Magic.TheVariants.{Pe32, Pe32Plus}
-use Rattle.pe_layout.specs.Image.{Image}
+use Rattle.pe_layout.specs.Image.{LaidOut}
 use Rattle.pe_tables.specs.Key.{Key, Ordinal, Name, Target, Forward}
 use Rattle.pe_tables.specs.Key as keys
 use Rattle.pe_tables.specs.Imports.{Import}
@@ -17,7 +17,7 @@ use Rattle.pe_set.specs.declared.entry.Policy.TheVariants.{Strict, Known}
 use Rattle.pe_set.specs.declared.search.Resolution.TheVariants.{Bound, Missing, Unknown, Endless}
 
 -- an image of 0x3000 bytes, of which those from an RVA on are these
-abbrev image : ℕ → ℕ → List ℕ → ℕ → Image
+abbrev image : ℕ → ℕ → List ℕ → ℕ → LaidOut
 image number at bytes image_base = record {
   number = number;
   size = 0x3000;
@@ -30,7 +30,7 @@ image number at bytes image_base = record {
 }
 
 -- a PE32 image with tables, at a base
-abbrev with_tables : List ℕ → ℕ → Image → List (ℕ × Target) → List (List ℕ × Target) → List Import → Module
+abbrev with_tables : List ℕ → ℕ → LaidOut → List (ℕ × Target) → List (List ℕ × Target) → List Import → Module
 with_tables name base image ordinals names imports =
     record { name = name; base = base; magic = Pe32; image = image; exports = record { ordinals = ordinals; names = names }; imports = imports; fixups = [] }
 

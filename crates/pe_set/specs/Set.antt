@@ -4,7 +4,7 @@ use Rattle.std.specs.List.{list_any}
 use Rattle.std.specs.Str.{str_eq_ignore_ascii_case}
 use Rattle.pe_head.specs.declared.optional.Magic.{Magic}
 use Rattle.pe_head.specs.Head.{head_of}
-use Rattle.pe_layout.specs.Image.{Image, image_of_file}
+use Rattle.pe_layout.specs.Image.{LaidOut, image_of_file}
 use Rattle.pe_tables.specs.Exports.{Exports, exports_of}
 use Rattle.pe_tables.specs.Imports.{Import, imports_of}
 use Rattle.pe_tables.specs.Fixups.{fixups_of}
@@ -22,13 +22,13 @@ pub record Module : Type 0 where
   pub name : List ℕ
   pub base : ℕ
   pub magic : Magic
-  pub image : Image
+  pub image : LaidOut
   pub exports : Exports
   pub imports : List Import
   pub fixups : List Fixup
 
 -- an image with the tables that its bytes hold
-abbrev pub module_from : List ℕ → ℕ → Magic → Image → Module
+abbrev pub module_from : List ℕ → ℕ → Magic → LaidOut → Module
 module_from name base magic image = record {
   name = name;
   base = base;

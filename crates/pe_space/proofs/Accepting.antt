@@ -13,7 +13,7 @@ use Rattle.pe_set.specs.Set.{Module}
 use Rattle.pe_set.specs.Sound as set
 use Rattle.pe_set.specs.Sound.{IsSound, IsSoundImage, IsSoundBinding}
 use Rattle.pe_set.specs.declared.binding.Binding.{Binding}
-use Rattle.pe_space.specs.Content.{Image, image_of, slot_width}
+use Rattle.pe_space.specs.Content.{SpaceImage, nth_image, slot_width}
 use Rattle.pe_space.specs.SetContent.{image_content, laid_out}
 use Rattle.pe_space.specs.Fresh.{fresh_of, IsFit}
 use Rattle.pe_space.specs.Memory.{shifted_all, memory_of}
@@ -29,10 +29,10 @@ flip a n b m (inl before) = inr before
 flip a n b m (inr after) = inl after
 
 module _ (s : List Module) (sound : IsSound s) where
-  abbrev images : List Image
+  abbrev images : List SpaceImage
   images = map image_content s
 
-  image_at : (j : ℕ) → IsImage (image_of images j)
+  image_at : (j : ℕ) → IsImage (nth_image images j)
   image_at j = elim (cases_lt j (length s)) [
     | inl lt ↦
         (let got = module_got s j lt in
@@ -52,11 +52,11 @@ module _ (s : List Module) (sound : IsSound s) where
       let here = image_got s b.image fine.importer fine.imports in
       record {
         image = omega (arith, count, importer);
-        inside = subst (λ (g : Image). b.slot + slot_width g.magic ≤ g.size) (sym here) fine.inside;
-        off_fields = subst (λ (g : Image). Each (λ (f : Fixup). Apart b.slot (slot_width g.magic) f.field (width_of f.kind)) g.fixups) (sym here)
+        inside = subst (λ (g : SpaceImage). b.slot + slot_width g.magic ≤ g.size) (sym here) fine.inside;
+        off_fields = subst (λ (g : SpaceImage). Each (λ (f : Fixup). Apart b.slot (slot_width g.magic) f.field (width_of f.kind)) g.fixups) (sym here)
             (each_of_all (λ (f : Fixup). AreApart (set.slot_of fine.importer b) (range_of f)) fine.importer.fixups fine.off_fields);
         exporter = omega (arith, count, exporter);
-        target = subst (λ (g : Image). b.rva < g.size) (sym (image_got s b.exporter fine.exporter fine.exports)) fine.target;
+        target = subst (λ (g : SpaceImage). b.rva < g.size) (sym (image_got s b.exporter fine.exporter fine.exports)) fine.target;
       }
 
   slots_apart : AllPairs (SlotsApart images) (bindings_of s)
@@ -64,7 +64,7 @@ module _ (s : List Module) (sound : IsSound s) where
       let b : Binding = slice_index_or (bindings_of s) i d in
       let e : Binding = slice_index_or (bindings_of s) j d in
       let fine = sound.slots i d (omega arith) in
-      subst (λ (g : Image). Apart b.slot (slot_width g.magic) e.slot (slot_width g.magic)) (sym (image_got s b.image fine.importer fine.imports))
+      subst (λ (g : SpaceImage). Apart b.slot (slot_width g.magic) e.slot (slot_width g.magic)) (sym (image_got s b.image fine.importer fine.imports))
       (sound.slots_apart i j d lt below fine.importer fine.imports same)
 
   pub tied : IsTied (laid_out s)
@@ -75,23 +75,23 @@ module _ (s : List Module) (sound : IsSound s) where
     apart = pairs_of_all (SlotsApart images) (bindings_of s) slots_apart;
   }
 
-  aligned_at : (j : ℕ) → (image_of images j).base % 65536 ≡ 0
+  aligned_at : (j : ℕ) → (nth_image images j).base % 65536 ≡ 0
   aligned_at j = elim (cases_lt j (length s)) [
     | inl lt ↦
         (let got = module_got s j lt in
-        subst (λ (g : Image). g.base % 65536 ≡ 0) (sym got.2) (all_got (λ (m : Module). m.base % 65536 ≡ 0) s j got.0 sound.aligned got.1))
-    | inr past ↦ subst (λ (g : Image). g.base % 65536 ≡ 0) (sym (past_end s j past)) refl
+        subst (λ (g : SpaceImage). g.base % 65536 ≡ 0) (sym got.2) (all_got (λ (m : Module). m.base % 65536 ≡ 0) s j got.0 sound.aligned got.1))
+    | inr past ↦ subst (λ (g : SpaceImage). g.base % 65536 ≡ 0) (sym (past_end s j past)) refl
   ]
 
-  room_at : (j : ℕ) → (image_of images j).base + (image_of images j).size ≤ address_limit (image_of images j).magic
+  room_at : (j : ℕ) → (nth_image images j).base + (nth_image images j).size ≤ address_limit (nth_image images j).magic
   room_at j = elim (cases_lt j (length s)) [
     | inl lt ↦
         (let got = module_got s j lt in
-        subst (λ (g : Image). g.base + g.size ≤ address_limit g.magic) (sym got.2) (all_got (λ (m : Module). m.base + m.image.size ≤ address_limit m.magic) s j got.0 sound.room got.1))
-    | inr past ↦ subst (λ (g : Image). g.base + g.size ≤ address_limit g.magic) (sym (past_end s j past)) (omega arith)
+        subst (λ (g : SpaceImage). g.base + g.size ≤ address_limit g.magic) (sym got.2) (all_got (λ (m : Module). m.base + m.image.size ≤ address_limit m.magic) s j got.0 sound.room got.1))
+    | inr past ↦ subst (λ (g : SpaceImage). g.base + g.size ≤ address_limit g.magic) (sym (past_end s j past)) (omega arith)
   ]
 
-  apart_at : (i j : ℕ) → i < length s → j < length s → (i ≡ j → ⊥) → Apart (image_of images i).base (image_of images i).size (image_of images j).base (image_of images j).size
+  apart_at : (i j : ℕ) → i < length s → j < length s → (i ≡ j → ⊥) → Apart (nth_image images i).base (nth_image images i).size (nth_image images j).base (nth_image images j).size
   apart_at i j lt_i lt_j ne =
       let n = module_got s i lt_i in
       let m = module_got s j lt_j in
@@ -100,7 +100,7 @@ module _ (s : List Module) (sound : IsSound s) where
         | inl before ↦ pair_got Stands s i j n.0 m.0 sound.apart before n.1 m.1
         | inr not_before ↦ flip m.0.base m.0.image.size n.0.base n.0.image.size (pair_got Stands s j i m.0 n.0 sound.apart (omega (arith, ne)) m.1 n.1)
       ] in
-      subst (λ (x : Image). Apart x.base x.size (image_of images j).base (image_of images j).size) (sym n.2) (subst (λ (x : Image). Apart n.0.base n.0.image.size x.base x.size) (sym m.2) goes)
+      subst (λ (x : SpaceImage). Apart x.base x.size (nth_image images j).base (nth_image images j).size) (sym n.2) (subst (λ (x : SpaceImage). Apart n.0.base n.0.image.size x.base x.size) (sym m.2) goes)
 
   pub placed : IsPlaced (laid_out s)
   unfolding laid_out
@@ -116,16 +116,16 @@ module _ (s : List Module) (sound : IsSound s) where
         apart = λ i j lt_i lt_j ne. apart_at i j (omega (arith, count, lt_i)) (omega (arith, count, lt_j)) ne;
       }
 
-  small_from : (j : ℕ) → (image_of images j).size ≤ 2 ^ 31
+  small_from : (j : ℕ) → (nth_image images j).size ≤ 2 ^ 31
   small_from j = elim (cases_lt j (length s)) [
     | inl lt ↦
         (let got = module_got s j lt in
-        subst (λ (g : Image). g.size ≤ 2 ^ 31) (sym got.2) (all_got IsSoundImage s j got.0 sound.images got.1).small)
-    | inr past ↦ subst (λ (g : Image). g.size ≤ 2 ^ 31) (sym (past_end s j past)) (omega arith)
+        subst (λ (g : SpaceImage). g.size ≤ 2 ^ 31) (sym got.2) (all_got IsSoundImage s j got.0 sound.images got.1).small)
+    | inr past ↦ subst (λ (g : SpaceImage). g.size ≤ 2 ^ 31) (sym (past_end s j past)) (omega arith)
   ]
 
   -- each image is small
-  pub small : (j : ℕ) → (image_of (laid_out s).images j).size ≤ 2 ^ 31
+  pub small : (j : ℕ) → (nth_image (laid_out s).images j).size ≤ 2 ^ 31
   unfolding laid_out
   small = small_from
 
@@ -148,18 +148,18 @@ image_fresh m = ap (λ (n : ℕ). record (image_content m) { size = n }) (length
 
 pub images_fresh : (s : List Module) → images_of (map fresh_of s) ≡ map image_content s
 images_fresh [] = refl
-images_fresh (m ∷ s) = ap (λ (i : Image). i ∷ images_of (map fresh_of s)) (image_fresh m) ∙ ap (λ (is : List Image). image_content m ∷ is) (images_fresh s)
+images_fresh (m ∷ s) = ap (λ (i : SpaceImage). i ∷ images_of (map fresh_of s)) (image_fresh m) ∙ ap (λ (is : List SpaceImage). image_content m ∷ is) (images_fresh s)
 
 pub content_fresh : (s : List Module) → kept_content (map fresh_of s) (bindings_of s) ≡ laid_out s
 unfolding laid_out
-content_fresh s = ap (λ (is : List Image). record { images = is; bindings = bindings_of s }) (images_fresh s)
+content_fresh s = ap (λ (is : List SpaceImage). record { images = is; bindings = bindings_of s }) (images_fresh s)
 
-fresh_whole : (s : List Module) (j : ℕ) → length (image_of (images_of (map fresh_of s)) j).plain ≡ (image_of (images_of (map fresh_of s)) j).size
+fresh_whole : (s : List Module) (j : ℕ) → length (nth_image (images_of (map fresh_of s)) j).plain ≡ (nth_image (images_of (map fresh_of s)) j).size
 fresh_whole [] j = refl
 fresh_whole (m ∷ s) zero = refl
 fresh_whole (m ∷ s) (suc j) = fresh_whole s j
 
-fresh_fields : (s : List Module) (j : ℕ) → (let i : Image = image_of (images_of (map fresh_of s)) j in memory_of (memories_of (map fresh_of s)) j ≡ shifted_all (pos i.base -ℤ pos i.image_base) i.fixups i.plain)
+fresh_fields : (s : List Module) (j : ℕ) → (let i : SpaceImage = nth_image (images_of (map fresh_of s)) j in memory_of (memories_of (map fresh_of s)) j ≡ shifted_all (pos i.base -ℤ pos i.image_base) i.fixups i.plain)
 fresh_fields [] j = refl
 fresh_fields (m ∷ s) zero = refl
 fresh_fields (m ∷ s) (suc j) = fresh_fields s j

@@ -7,7 +7,7 @@ use Rattle.std.proofs.lemmas.Simd.{map-map}
 use Rattle.pe_view.specs.declared.fault.Fault.{Fault}
 use Rattle.pe_set.specs.declared.binding.Binding.{Binding}
 use Rattle.pe_set.specs.Placement.{Placement, placement_at}
-use Rattle.pe_space.specs.Content.{Image, Content, placement_of, image_of, is_in, placed_from, holder_from, byte_at, byte_of, byte_in, bytes_from, window_fault, window_image_by, window_image}
+use Rattle.pe_space.specs.Content.{SpaceImage, Content, placement_of, nth_image, is_in, placed_from, holder_from, byte_at, byte_held, byte_in, bytes_from, window_fault, window_image_by, window_image}
 use Rattle.pe_space.specs.Memory.{memory_of}
 use Rattle.pe_space.specs.Held.{Held, images_of, memories_of}
 use Rattle.pe_space.specs.Placing.{IsPlaced}
@@ -16,23 +16,23 @@ use Rattle.pe_space.proofs.SlotsAndFields.{is_in-true, true-is_in}
 use Rattle.pe_space.proofs.Holding.{image_read, memory_read}
 
 -- image k of these holds the address
-abbrev pub Holds : List Image → ℕ → ℕ → Type 0
-Holds images a k = (k < length images) × (is_in (image_of images k).base (image_of images k).size a ≡ true)
+abbrev pub Holds : List SpaceImage → ℕ → ℕ → Type 0
+Holds images a k = (k < length images) × (is_in (nth_image images k).base (nth_image images k).size a ≡ true)
 
-inside_step : (n : ℕ) (image : Image) (images : List Image) (a j : ℕ) → (holder_from (n + 1) images a ≡ Some j → (k : ℕ) × (j ≡ n + 1 + k) × Holds images a k)
+inside_step : (n : ℕ) (image : SpaceImage) (images : List SpaceImage) (a j : ℕ) → (holder_from (n + 1) images a ≡ Some j → (k : ℕ) × (j ≡ n + 1 + k) × Holds images a k)
     → (t : Bool) → is_in image.base image.size a ≡ t → cond t (Some n) (holder_from (n + 1) images a) ≡ Some j → (k : ℕ) × (j ≡ n + k) × Holds (image ∷ images) a k
 inside_step n image images a j more true is h = (0, (let e : n ≡ j = cc in omega arith), (omega arith, is))
 inside_step n image images a j more false is h = let m = more h in (suc m.0, (let e = m.1 in omega arith), (let lt = m.2.0 in omega arith, m.2.1))
 
-pub holder_inside : (n : ℕ) (images : List Image) (a j : ℕ) → holder_from n images a ≡ Some j → (k : ℕ) × (j ≡ n + k) × Holds images a k
+pub holder_inside : (n : ℕ) (images : List SpaceImage) (a j : ℕ) → holder_from n images a ≡ Some j → (k : ℕ) × (j ≡ n + k) × Holds images a k
 holder_inside n [] a j h = cc
 holder_inside n (image ∷ images) a j h = inside_step n image images a j (holder_inside (n + 1) images a j) (is_in image.base image.size a) refl h
 
-some_step : (n : ℕ) (images : List Image) (a : ℕ) (t : Bool) → ((t ≡ false) → (j : ℕ) × (holder_from (n + 1) images a ≡ Some j)) → (j : ℕ) × (cond t (Some n) (holder_from (n + 1) images a) ≡ Some j)
+some_step : (n : ℕ) (images : List SpaceImage) (a : ℕ) (t : Bool) → ((t ≡ false) → (j : ℕ) × (holder_from (n + 1) images a ≡ Some j)) → (j : ℕ) × (cond t (Some n) (holder_from (n + 1) images a) ≡ Some j)
 some_step n images a true more = (n, refl)
 some_step n images a false more = more refl
 
-holder_some : (n : ℕ) (images : List Image) (a k : ℕ) → Holds images a k → (j : ℕ) × (holder_from n images a ≡ Some j)
+holder_some : (n : ℕ) (images : List SpaceImage) (a k : ℕ) → Holds images a k → (j : ℕ) × (holder_from n images a ≡ Some j)
 holder_some n [] a k h = absurd (let lt = h.0 in omega arith)
 holder_some n (image ∷ images) a zero h = some_step n images a (is_in image.base image.size a) (λ no_hit. let is = h.1 in cc)
 holder_some n (image ∷ images) a (suc k) h = some_step n images a (is_in image.base image.size a) (λ _. holder_some (n + 1) images a k (let lt = h.0 in omega arith, h.1))
@@ -64,7 +64,7 @@ pub record Found (hs : List Held) (bs : List Binding) (a j : ℕ) (h : Held) : T
   pub low : h.image.base ≤ a
   pub high : a < h.image.base + h.image.size
   pub place : j < length hs
-  pub image : h.image ≡ image_of (images_of hs) j
+  pub image : h.image ≡ nth_image (images_of hs) j
   pub memory : h.memory ≡ memory_of (memories_of hs) j
 
 pub found_at : (hs : List Held) (bs : List Binding) (a j : ℕ) (h : Held) → holder_from 0 (images_of hs) a ≡ Some j → h ≡ get_or hs j h → Found hs bs a j h
@@ -76,8 +76,8 @@ found_at hs bs a j h found is =
     let image = image_read hs j h lt is in
     let range = is_in-true _ _ a holds.1 in
     record {
-      low = subst (λ (m : Image). m.base ≤ a) (sym image) range.0;
-      high = subst (λ (m : Image). a < m.base + m.size) (sym image) range.1;
+      low = subst (λ (m : SpaceImage). m.base ≤ a) (sym image) range.0;
+      high = subst (λ (m : SpaceImage). a < m.base + m.size) (sym image) range.1;
       place = lt;
       image = image;
       memory = memory_read hs j h lt is;
@@ -90,11 +90,11 @@ byte_here hs bs a j h kept found b low high =
     let c = kept_content hs bs in
     let count = length-map hs (λ (x : Held). x.image) in
     let place = found.place in
-    let holds : Holds c.images b j = (omega arith, subst (λ (m : Image). is_in m.base m.size b ≡ true) found.image (true-is_in _ _ b low high)) in
+    let holds : Holds c.images b j = (omega arith, subst (λ (m : SpaceImage). is_in m.base m.size b ≡ true) found.image (true-is_in _ _ b low high)) in
     let small : b - h.image.base < h.image.size = omega arith in
-    ap (byte_of c b) (holder_is c b j kept.placed holds)
-    ∙ ap (λ (m : Image). Some (byte_in c j (b - m.base))) (sym found.image)
-    ∙ ap (λ (n : ℕ). Some n) (sym (ap (λ (m : List ℕ). get_or m (b - h.image.base) 0) found.memory ∙ kept.laid.each j (b - h.image.base) (subst (λ (m : Image). b - h.image.base < m.size) found.image small)))
+    ap (byte_held c b) (holder_is c b j kept.placed holds)
+    ∙ ap (λ (m : SpaceImage). Some (byte_in c j (b - m.base))) (sym found.image)
+    ∙ ap (λ (n : ℕ). Some n) (sym (ap (λ (m : List ℕ). get_or m (b - h.image.base) 0) found.memory ∙ kept.laid.each j (b - h.image.base) (subst (λ (m : SpaceImage). b - h.image.base < m.size) found.image small)))
 
 pub bytes_here : (hs : List Held) (bs : List Binding) (a j : ℕ) (h : Held) → IsKept hs bs → Found hs bs a j h → (n b r : ℕ) → b ≡ h.image.base + r → r + n ≤ h.image.size → h.image.size ≡ length h.memory
     → bytes_from (kept_content hs bs) b n ≡ take n (drop r h.memory)
@@ -106,10 +106,10 @@ bytes_here hs bs a j h kept found (suc n) b r e fits len =
     rw (first, more, drop_more h.memory r 0 (omega arith)) refl
 
 pub size_here : (hs : List Held) (bs : List Binding) (a j : ℕ) (h : Held) → IsKept hs bs → Found hs bs a j h → h.image.size ≡ length h.memory
-size_here hs bs a j h kept found = ap (λ (m : Image). m.size) found.image ∙ sym (kept.laid.lengths j) ∙ ap length (sym found.memory)
+size_here hs bs a j h kept found = ap (λ (m : SpaceImage). m.size) found.image ∙ sym (kept.laid.lengths j) ∙ ap length (sym found.memory)
 
 -- where an image of a content stands
-pub placed_at : (images : List Image) (k : ℕ) → placement_at (map placement_of images) k ≡ placement_of (image_of images k)
+pub placed_at : (images : List SpaceImage) (k : ℕ) → placement_at (map placement_of images) k ≡ placement_of (nth_image images k)
 placed_at [] k = refl
 placed_at (m ∷ images) zero = refl
 placed_at (m ∷ images) (suc k) = placed_at images k
@@ -126,7 +126,7 @@ lies_by ps a n j (Some k) h =
     let both = lies_step ps a n j k (nat_le (a + n) ((placement_at ps k).base + (placement_at ps k).size)) refl h in
     (ap (λ (i : ℕ). Some i) both.0, subst (λ (i : ℕ). a + n ≤ (placement_at ps i).base + (placement_at ps i).size) both.0 both.1)
 
-pub window_lies : (images : List Image) (a n j : ℕ) → window_image (map placement_of images) a n ≡ Ok j → (holder_from 0 images a ≡ Some j) × (a + n ≤ (image_of images j).base + (image_of images j).size)
+pub window_lies : (images : List SpaceImage) (a n j : ℕ) → window_image (map placement_of images) a n ≡ Ok j → (holder_from 0 images a ≡ Some j) × (a + n ≤ (nth_image images j).base + (nth_image images j).size)
 window_lies images a n j h =
     let both = lies_by (map placement_of images) a n j (holder_from 0 images a) h in
     (both.0, subst (λ (p : Placement). a + n ≤ p.base + p.size) (placed_at images j) both.1)
@@ -142,7 +142,7 @@ found_window hs bs a n j h lies is =
     let both = window_lies (images_of hs) a n j lies in
     let found = found_at hs bs a j h both.0 is in
     let low = found.low in
-    let fits : a + n ≤ h.image.base + h.image.size = subst (λ (m : Image). a + n ≤ m.base + m.size) (sym found.image) both.1 in
+    let fits : a + n ≤ h.image.base + h.image.size = subst (λ (m : SpaceImage). a + n ≤ m.base + m.size) (sym found.image) both.1 in
     (found, omega arith)
 
 -- the bytes of a window, in that image

@@ -5,35 +5,35 @@ use Rattle.pe_set.specs.Bindings.{bindings_of}
 use Rattle.pe_set.specs.Set.{Module, rebased}
 use Rattle.pe_set.specs.Sound.{IsSound}
 use Rattle.pe_set.specs.declared.binding.Binding.{Binding}
-use Rattle.pe_space.specs.Bare.{bare, at_bases, set_at}
-use Rattle.pe_space.specs.Content.{Image, Content, image_of, byte_at}
+use Rattle.pe_space.specs.Bare.{bare, images_at, set_at}
+use Rattle.pe_space.specs.Content.{SpaceImage, Content, nth_image, byte_at}
 use Rattle.pe_space.specs.SetContent.{image_content, laid_out, content_of, defined_byte}
 use Rattle.pe_space.proofs.Accepting.{tied, fields_inside}
 use Rattle.pe_space.proofs.Baring.{content_at_bases}
 use Rattle.pe_space.proofs.Defining.{address_same, laid_defined}
 
-images_rebased : (bases : List ℕ) (s : List Module) → map image_content (rebased bases s) ≡ at_bases bases (map image_content s)
+images_rebased : (bases : List ℕ) (s : List Module) → map image_content (rebased bases s) ≡ images_at bases (map image_content s)
 images_rebased [] s = refl
 images_rebased (base ∷ bases) [] = refl
-images_rebased (base ∷ bases) (m ∷ s) = ap (λ (is : List Image). record (image_content m) { base = base } ∷ is) (images_rebased bases s)
+images_rebased (base ∷ bases) (m ∷ s) = ap (λ (is : List SpaceImage). record (image_content m) { base = base } ∷ is) (images_rebased bases s)
 
 -- the same images at other bases, bound to the same exports
 laid_at : (bases : List ℕ) (s t : List Module) → t ≡ rebased bases s → bindings_of t ≡ bindings_of s → set_at bases (laid_out s) ≡ laid_out t
 unfolding laid_out
 laid_at bases s t images bound =
-    ap (λ (is : List Image). record { images = is; bindings = bindings_of s }) (sym (images_rebased bases s) ∙ ap (map image_content) (sym images))
+    ap (λ (is : List SpaceImage). record { images = is; bindings = bindings_of s }) (sym (images_rebased bases s) ∙ ap (map image_content) (sym images))
     ∙ ap (λ (bs : List Binding). record { images = map image_content t; bindings = bs }) (sym bound)
 
 pub content_at : (bases : List ℕ) (s t : List Module) → t ≡ rebased bases s → bindings_of t ≡ bindings_of s → set_at bases (content_of s) ≡ content_of t
 unfolding content_of
 content_at bases s t images bound = content_at_bases bases (laid_out s) ∙ ap bare (laid_at bases s t images bound)
 
-whole_from : (s : List Module) (j : ℕ) → length (image_of (map image_content s) j).plain ≡ (image_of (map image_content s) j).size
+whole_from : (s : List Module) (j : ℕ) → length (nth_image (map image_content s) j).plain ≡ (nth_image (map image_content s) j).size
 whole_from [] j = refl
 whole_from (m ∷ s) zero = length-map-range_with_len m.image.byte 0 m.image.size
 whole_from (m ∷ s) (suc j) = whole_from s j
 
-pub whole_at : (s : List Module) (j : ℕ) → length (image_of (laid_out s).images j).plain ≡ (image_of (laid_out s).images j).size
+pub whole_at : (s : List Module) (j : ℕ) → length (nth_image (laid_out s).images j).plain ≡ (nth_image (laid_out s).images j).size
 unfolding laid_out
 whole_at s j = whole_from s j
 

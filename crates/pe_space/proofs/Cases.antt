@@ -12,8 +12,8 @@ use Rattle.pe_set.specs.Set.{Module}
 use Rattle.pe_set.specs.Sound.{IsSound}
 use Rattle.pe_set.specs.declared.binding.Binding.{Binding}
 use Rattle.pe_space.specs.ByteCases.{HasByte, InBoundSlot, InFixup, IsOutside}
-use Rattle.pe_space.specs.Content.{Image, Content, image_of, is_in, in_field, in_slot, fixed_byte, byte_by, byte_of, byte_in}
-use Rattle.pe_space.specs.Number.{digit, number_at, shift}
+use Rattle.pe_space.specs.Content.{SpaceImage, Content, nth_image, is_in, in_field, in_slot, fixed_byte, byte_by, byte_held, byte_in}
+use Rattle.pe_space.specs.Number.{digit, number_in, shift}
 use Rattle.pe_space.specs.SetContent.{image_content, laid_out, byte_in_image, defined_from, defined_byte}
 use Rattle.pe_space.specs.Tied.{Each}
 use Rattle.pe_space.proofs.Accepting.{tied, placed, fields_inside}
@@ -46,41 +46,41 @@ module _ (s : List Module) (sound : IsSound s) where
       let lt : i < length c.images = omega (arith, below, count) in
       let low : m.base ≤ m.base + r = omega arith in
       let high : m.base + r < m.base + m.image.size = (let inside = has.inside in omega (arith, inside)) in
-      let holds : is_in (image_of c.images i).base (image_of c.images i).size (m.base + r) ≡ true =
-      subst (λ (g : Image). is_in g.base g.size (m.base + r) ≡ true) (sym image) (true-is_in m.base m.image.size (m.base + r) low high) in
+      let holds : is_in (nth_image c.images i).base (nth_image c.images i).size (m.base + r) ≡ true =
+      subst (λ (g : SpaceImage). is_in g.base g.size (m.base + r) ≡ true) (sym image) (true-is_in m.base m.image.size (m.base + r) low high) in
       let back : m.base + r - m.base ≡ r = omega arith in
       sym (laid_defined s (fields_inside s sound) (m.base + r))
-      ∙ ap (byte_of c (m.base + r)) (holder_is c (m.base + r) i (placed s sound) (lt, holds))
-      ∙ ap (λ (g : Image). Some (byte_in c i (m.base + r - g.base))) image
+      ∙ ap (byte_held c (m.base + r)) (holder_is c (m.base + r) i (placed s sound) (lt, holds))
+      ∙ ap (λ (g : SpaceImage). Some (byte_in c i (m.base + r - g.base))) image
       ∙ ap (λ (k : ℕ). Some (byte_in c i k)) back
 
   pub in_slots : (i r k : ℕ) (m exporter : Module) (b : Binding) → HasByte s i m r → InBoundSlot s i m r b k → slice_get s b.exporter ≡ Some exporter
       → defined_byte s (m.base + r) ≡ Some (digit (exporter.base + b.rva) k)
   unfolding laid_out
   in_slots i r k m exporter b has at exports =
-      let stands = each_contains (λ (b : Binding). (r : ℕ) → b.slot ≤ r → r < b.slot + width_in c.images b → byte_in c b.image r ≡ digit ((image_of c.images b.exporter).base + b.rva) (r - b.slot))
+      let stands = each_contains (λ (b : Binding). (r : ℕ) → b.slot ≤ r → r < b.slot + width_in c.images b → byte_in c b.image r ≡ digit ((nth_image c.images b.exporter).base + b.rva) (r - b.slot))
       (bindings_of s) b (slot_byte c (tied s sound)) at.bound in
       let place = at.place in
       let small = at.small in
-      let width : width_in c.images b ≡ slot_width_of m.magic = ap (λ (j : ℕ). slot_width_of (image_of c.images j).magic) at.image ∙ ap (λ (g : Image). slot_width_of g.magic) (image_got s i m has.image) in
+      let width : width_in c.images b ≡ slot_width_of m.magic = ap (λ (j : ℕ). slot_width_of (nth_image c.images j).magic) at.image ∙ ap (λ (g : SpaceImage). slot_width_of g.magic) (image_got s i m has.image) in
       let back : r - b.slot ≡ k = omega (arith, place) in
       here i r m has
       ∙ ap (λ (v : ℕ). Some v) (ap (λ (j : ℕ). byte_in c j r) (sym at.image) ∙ stands r (omega (arith, place)) (omega (arith, place, small, width)))
-      ∙ ap (λ (g : Image). Some (digit (g.base + b.rva) (r - b.slot))) (image_got s b.exporter exporter exports)
+      ∙ ap (λ (g : SpaceImage). Some (digit (g.base + b.rva) (r - b.slot))) (image_got s b.exporter exporter exports)
       ∙ ap (λ (j : ℕ). Some (digit (exporter.base + b.rva) j)) back
 
   pub in_fixups : (i r k : ℕ) (m : Module) (f : Fixup) → HasByte s i m r → InFixup m r f k → defined_byte s (m.base + r) ≡ Some (digit (shifted m.image m.base f) k)
   unfolding laid_out
   in_fixups i r k m f has at =
       let image = image_got s i m has.image in
-      let listed : Contains (image_of c.images i).fixups f = subst (λ (g : Image). Contains g.fixups f) (sym image) at.fixup in
+      let listed : Contains (nth_image c.images i).fixups f = subst (λ (g : SpaceImage). Contains g.fixups f) (sym image) at.fixup in
       let place = at.place in
       let small = at.small in
       let back : r - f.field ≡ k = omega (arith, place) in
-      let stands = each_contains _ (image_of c.images i).fixups f (field_byte c i (tied s sound)) listed r (omega (arith, place)) (omega (arith, place, small)) in
+      let stands = each_contains _ (nth_image c.images i).fixups f (field_byte c i (tied s sound)) listed r (omega (arith, place)) (omega (arith, place, small)) in
       let inside = each_contains (λ (f : Fixup). f.field + width_of f.kind ≤ m.image.size) m.fixups f (fields_inside s sound i m has.image) at.fixup in
       here i r m has ∙ ap (λ (v : ℕ). Some v) stands
-      ∙ ap (λ (g : Image). Some (digit (shift f.kind (number_at g.plain f.field (width_of f.kind)) (pos g.base -ℤ pos g.image_base)) (r - f.field))) image
+      ∙ ap (λ (g : SpaceImage). Some (digit (shift f.kind (number_in g.plain f.field (width_of f.kind)) (pos g.base -ℤ pos g.image_base)) (r - f.field))) image
       ∙ ap (λ (v : ℕ). Some (digit (shift f.kind v (pos m.base -ℤ pos m.image.image_base)) (r - f.field))) (number_plain m.image f.field (width_of f.kind) inside)
       ∙ ap (λ (j : ℕ). Some (digit (shifted m.image m.base f) j)) back
 
@@ -100,9 +100,9 @@ module _ (s : List Module) (sound : IsSound s) where
       let high = at.1 in
       no_field f (r - f.field) (record { fixup = listed; small = omega (arith, low, high); place = omega (arith, low) }))) in
       here i r m has
-      ∙ ap (λ (g : Image). Some (byte_by c i r (find (in_slot i g.magic r) (bindings_of s)))) image
+      ∙ ap (λ (g : SpaceImage). Some (byte_by c i r (find (in_slot i g.magic r) (bindings_of s)))) image
       ∙ ap (λ (o : Option Binding). Some (byte_by c i r o)) off_slots
-      ∙ ap (λ (g : Image). Some (fixed_byte g r (find (in_field r) g.fixups))) image
+      ∙ ap (λ (g : SpaceImage). Some (fixed_byte g r (find (in_field r) g.fixups))) image
       ∙ ap (λ (o : Option Fixup). Some (fixed_byte (image_content m) r o)) off_fields
       ∙ ap (λ (v : ℕ). Some v) (plain_at m.image r has.inside)
 

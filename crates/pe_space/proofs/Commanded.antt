@@ -12,7 +12,7 @@ use Rattle.pe_set.specs.SetFaults.{set_tests}
 use Rattle.pe_set.specs.declared.entry.Policy.{Policy}
 use Rattle.pe_space.specs.Bare as kept
 use Rattle.pe_space.specs.Commands.{after, after_all, moved_unless}
-use Rattle.pe_space.specs.Content.{Image, Content, image_of, placement_of}
+use Rattle.pe_space.specs.Content.{SpaceImage, Content, nth_image, placement_of}
 use Rattle.pe_space.specs.Moves.{move_fault, moved}
 use Rattle.pe_space.specs.SetContent.{image_content, laid_out, content_of}
 use Rattle.pe_space.specs.declared.reply.Command.{Command}
@@ -64,17 +64,17 @@ content_bases es =
     ∙ bases_from 0 es
 
 -- ---- a move puts one base
-own_images : (images : List Image) → kept.at_bases (map (λ (m : Image). m.base) images) images ≡ images
+own_images : (images : List SpaceImage) → kept.images_at (map (λ (m : SpaceImage). m.base) images) images ≡ images
 own_images [] = refl
-own_images (m ∷ images) = ap (λ (rest : List Image). m ∷ rest) (own_images images)
+own_images (m ∷ images) = ap (λ (rest : List SpaceImage). m ∷ rest) (own_images images)
 
-one_base : (images : List Image) (i base : ℕ) → slice_set images i (record (image_of images i) { base = base }) ≡ kept.at_bases (slice_set (map (λ (m : Image). m.base) images) i base) images
+one_base : (images : List SpaceImage) (i base : ℕ) → slice_set images i (record (nth_image images i) { base = base }) ≡ kept.images_at (slice_set (map (λ (m : SpaceImage). m.base) images) i base) images
 one_base [] i base = refl
-one_base (m ∷ images) zero base = ap (λ (rest : List Image). record m { base = base } ∷ rest) (sym (own_images images))
-one_base (m ∷ images) (suc i) base = ap (λ (rest : List Image). m ∷ rest) (one_base images i base)
+one_base (m ∷ images) zero base = ap (λ (rest : List SpaceImage). record m { base = base } ∷ rest) (sym (own_images images))
+one_base (m ∷ images) (suc i) base = ap (λ (rest : List SpaceImage). m ∷ rest) (one_base images i base)
 
 moved_is : (c : Content) (i base : ℕ) → moved c i base ≡ kept.set_at (slice_set (kept.bases_of c) i base) c
-moved_is c i base = ap (λ (images : List Image). record c { images = images }) (one_base c.images i base)
+moved_is c i base = ap (λ (images : List SpaceImage). record c { images = images }) (one_base c.images i base)
 
 -- an accepted set whose space has this content, of the same files
 pub record Serves (policy : Policy) (es : List Entry) (c : Content) : Type 0 where

@@ -11,7 +11,7 @@ use Rattle.pe_tables.specs.declared.fixups.FixupKind.TheVariants.{Bits32, Bits64
 use Rattle.pe_set.specs.declared.binding.Binding.{Binding}
 use Rattle.pe_space.specs.Bare.{bare}
 use Rattle.pe_space.specs.Number.{digit}
-use Rattle.pe_space.specs.Content.{Image, Content, image_of, width_of, slot_width, is_in, in_field, in_slot, fixed_byte, byte_by, byte_in}
+use Rattle.pe_space.specs.Content.{SpaceImage, Content, nth_image, width_of, slot_width, is_in, in_field, in_slot, fixed_byte, byte_by, byte_in}
 use Rattle.pe_space.specs.Tied.{Each, FieldsApart, IsImage, IsTied}
 use Rattle.pe_space.specs.Windows.{fixed_at, fixed_bytes}
 use Rattle.pe_space.proofs.Defining.{plain_at, byte_same}
@@ -59,14 +59,14 @@ clash f g r low high apart passes =
     elim apart [ inl before ↦ absurd (omega arith) | inr after ↦ absurd (omega arith) ]
 
 -- the byte of a field
-pub field_at : (image : Image) (f : Fixup) (r : ℕ) → IsImage image → Contains image.fixups f → f.field ≤ r → r < f.field + width_of f.kind
+pub field_at : (image : SpaceImage) (f : Fixup) (r : ℕ) → IsImage image → Contains image.fixups f → f.field ≤ r → r < f.field + width_of f.kind
     → fixed_at image r ≡ digit (value_of image f) (r - f.field)
 field_at image f r sound c low high =
     ap (fixed_byte image r) (each_contains _ image.fixups f (finds_each FieldsApart image.fixups sound.apart) c (in_field r) (true-is_in f.field (width_of f.kind) r low high)
     (λ g apart passes. clash f g r low high apart passes))
 
 -- before any field is laid on
-pub fields_still : (image : Image) (i : layout.Image) (fields : List Fixup) (start n : ℕ) (window : List ℕ) → window ≡ layout.bytes_at i start n
+pub fields_still : (image : SpaceImage) (i : layout.LaidOut) (fields : List Fixup) (start n : ℕ) (window : List ℕ) → window ≡ layout.bytes_at i start n
     → image.plain ≡ layout.bytes_at i 0 i.size → start + n ≤ i.size
     → ((f : Fixup) → Contains image.fixups f → start < f.field + 8 → f.field < start + n → Contains fields f)
     → Still (fixed_at image) in_field start fields window
@@ -96,35 +96,35 @@ slot_width_small Pe32Plus = omega arith
 abbrev pub in_slot_of : ℕ → ℕ → Binding → Bool
 in_slot_of width r b = is_in b.slot width r
 
-module _ (c : Content) (tied : IsTied c) (whole : (j : ℕ) → length (image_of c.images j).plain ≡ (image_of c.images j).size) (j : ℕ) (here : j < length c.images) where
+module _ (c : Content) (tied : IsTied c) (whole : (j : ℕ) → length (nth_image c.images j).plain ≡ (nth_image c.images j).size) (j : ℕ) (here : j < length c.images) where
   -- before any slot is laid on
-  pub slots_still : (width : ℕ) (slots : List Binding) (start n : ℕ) (window : List ℕ) → width ≡ slot_width (image_of c.images j).magic
-      → window ≡ fixed_bytes (image_of c.images j) start n
+  pub slots_still : (width : ℕ) (slots : List Binding) (start n : ℕ) (window : List ℕ) → width ≡ slot_width (nth_image c.images j).magic
+      → window ≡ fixed_bytes (nth_image c.images j) start n
       → ((b : Binding) → Contains c.bindings b → b.image ≡ j → start < b.slot + 8 → b.slot < start + n → Contains slots b)
       → Still (byte_in (bare c) j) (in_slot_of width) start slots window
   unfolding fixed_bytes
   slots_still width slots start n window wide filled all k lt =
-      let len : length window ≡ n = ap length filled ∙ length-map-range_with_len (fixed_at (image_of c.images j)) start n in
-      by_found len (find (in_slot j (image_of c.images j).magic (start + k)) c.bindings) refl
+      let len : length window ≡ n = ap length filled ∙ length-map-range_with_len (fixed_at (nth_image c.images j)) start n in
+      by_found len (find (in_slot j (nth_image c.images j).magic (start + k)) c.bindings) refl
     where
-      by_found : length window ≡ n → (o : Option Binding) → find (in_slot j (image_of c.images j).magic (start + k)) c.bindings ≡ o
+      by_found : length window ≡ n → (o : Option Binding) → find (in_slot j (nth_image c.images j).magic (start + k)) c.bindings ≡ o
           → (get_or window k 0 ≡ byte_in (bare c) j (start + k)) ⊎ AnyOf (in_slot_of width (start + k)) slots
       by_found len None is =
-          inl (ap (λ (l : List ℕ). get_or l k 0) filled ∙ get_or-map-range_with_len (fixed_at (image_of c.images j)) start n k (start + k) 0 (omega (arith, lt, len)) refl
+          inl (ap (λ (l : List ℕ). get_or l k 0) filled ∙ get_or-map-range_with_len (fixed_at (nth_image c.images j)) start n k (start + k) 0 (omega (arith, lt, len)) refl
           ∙ sym (byte_same c tied whole j here (start + k) ∙ ap (byte_by c j (start + k)) is))
       by_found len (Some b) is =
-          let both = find_in (in_slot j (image_of c.images j).magic (start + k)) c.bindings b is in
-          let range = in_slot-true j (image_of c.images j).magic (start + k) b both.1 in
+          let both = find_in (in_slot j (nth_image c.images j).magic (start + k)) c.bindings b is in
+          let range = in_slot-true j (nth_image c.images j).magic (start + k) b both.1 in
           let low = range.1 in
           let high = range.2 in
-          let small = slot_width_small (image_of c.images j).magic in
+          let small = slot_width_small (nth_image c.images j).magic in
           inr (any_contains (in_slot_of width (start + k)) slots b (all b both.0 range.0 (omega (arith, high, small)) (omega (arith, low, lt, len)))
           (true-is_in b.slot width (start + k) low (omega (arith, high, wide))))
 
   -- the byte of a slot
-  pub slot_at : (b : Binding) (r : ℕ) → Contains c.bindings b → b.image ≡ j → b.slot ≤ r → r < b.slot + slot_width (image_of c.images j).magic
-      → byte_in (bare c) j r ≡ digit ((image_of c.images b.exporter).base + b.rva) (r - b.slot)
+  pub slot_at : (b : Binding) (r : ℕ) → Contains c.bindings b → b.image ≡ j → b.slot ≤ r → r < b.slot + slot_width (nth_image c.images j).magic
+      → byte_in (bare c) j r ≡ digit ((nth_image c.images b.exporter).base + b.rva) (r - b.slot)
   slot_at b r held there low high =
       byte_same c tied whole j here r
-      ∙ subst (λ (i : ℕ). r < b.slot + slot_width (image_of c.images i).magic → byte_in c i r ≡ digit ((image_of c.images b.exporter).base + b.rva) (r - b.slot)) there
+      ∙ subst (λ (i : ℕ). r < b.slot + slot_width (nth_image c.images i).magic → byte_in c i r ≡ digit ((nth_image c.images b.exporter).base + b.rva) (r - b.slot)) there
       (each_contains _ c.bindings b (slot_byte c tied) held r low) high

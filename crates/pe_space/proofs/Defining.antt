@@ -17,8 +17,8 @@ use Rattle.pe_tables.specs.Fixups.{width_of}
 use Rattle.pe_tables.specs.Relocated.{relocated_by}
 use Rattle.pe_tables.specs.declared.fixups.Fixup.{Fixup}
 use Rattle.pe_set.specs.declared.binding.Binding.{Binding}
-use Rattle.pe_space.specs.Number.{digit, number_at, shift}
-use Rattle.pe_space.specs.Content.{Image, Content, placement_of, placed_from, image_of, slot_width, is_in, in_slot, in_field, fixed_byte, byte_by, byte_in, holder_from, byte_of, byte_at, bytes_from, window_image, window_in, window_at}
+use Rattle.pe_space.specs.Number.{digit, number_in, shift}
+use Rattle.pe_space.specs.Content.{SpaceImage, Content, placement_of, placed_from, nth_image, slot_width, is_in, in_slot, in_field, fixed_byte, byte_by, byte_in, holder_from, byte_held, byte_at, bytes_from, window_image, window_in, window_at}
 use Rattle.pe_space.specs.Bare.{without_slots, bared, bare}
 use Rattle.pe_space.specs.Tied.{Each, Apart, IsSlot, IsTied}
 use Rattle.pe_space.proofs.Lists.{each_map, each_both}
@@ -46,28 +46,28 @@ each_missed p [] is = tt
 each_missed p (x ∷ xs) is = let both = missed_step p x (find p xs) (p x) refl is in (both.0, each_missed p xs both.1)
 
 -- ---- the content with 0 in bound slots
-pub placements_bared : (k : ℕ) (bs : List Binding) (images : List Image) → map placement_of (bared k bs images) ≡ map placement_of images
+pub placements_bared : (k : ℕ) (bs : List Binding) (images : List SpaceImage) → map placement_of (bared k bs images) ≡ map placement_of images
 placements_bared k bs [] = refl
 placements_bared k bs (image ∷ images) = ap (λ (ps : List Placement). placement_of image ∷ ps) (placements_bared (k + 1) bs images)
 
-holder_bared : (bs : List Binding) (images : List Image) (a : ℕ) → holder_from 0 (bared 0 bs images) a ≡ holder_from 0 images a
+holder_bared : (bs : List Binding) (images : List SpaceImage) (a : ℕ) → holder_from 0 (bared 0 bs images) a ≡ holder_from 0 images a
 holder_bared bs images a = ap (λ (ps : List Placement). placed_from 0 ps a) (placements_bared 0 bs images)
 
-module _ (c : Content) (tied : IsTied c) (whole : (j : ℕ) → length (image_of c.images j).plain ≡ (image_of c.images j).size) (i : ℕ) (lt : i < length c.images) where
-  abbrev own : Image
-  own = image_of c.images i
+module _ (c : Content) (tied : IsTied c) (whole : (j : ℕ) → length (nth_image c.images j).plain ≡ (nth_image c.images j).size) (i : ℕ) (lt : i < length c.images) where
+  abbrev own : SpaceImage
+  own = nth_image c.images i
 
   abbrev bare_plain : List ℕ
-  bare_plain = without_slots (0 + i) (slot_width (image_of c.images i).magic) c.bindings (image_of c.images i).plain
+  bare_plain = without_slots (0 + i) (slot_width (nth_image c.images i).magic) c.bindings (nth_image c.images i).plain
 
-  bare_is : image_of (bare c).images i ≡ record (image_of c.images i) { plain = bare_plain }
+  bare_is : nth_image (bare c).images i ≡ record (nth_image c.images i) { plain = bare_plain }
   bare_is = image_bared 0 c.bindings c.images i lt
 
   free : (q : ℕ) → Each (λ (b : Binding). b.image ≡ i → Apart b.slot (width_in c.images b) q 1) c.bindings → get_or bare_plain q 0 ≡ get_or own.plain q 0
   free q apart = bare_same (0 + i) (slot_width own.magic) q c.bindings own.plain
       (each_map _ _ c.bindings (λ b both same. (let here : b.image ≡ i = omega arith in
-      let w : width_in c.images b ≡ slot_width own.magic = ap (λ (j : ℕ). slot_width (image_of c.images j).magic) here in (
-        (let inside = both.1.inside in let size : (image_of c.images b.image).size ≡ own.size = ap (λ (j : ℕ). (image_of c.images j).size) here in let all = whole i in omega arith),
+      let w : width_in c.images b ≡ slot_width own.magic = ap (λ (j : ℕ). slot_width (nth_image c.images j).magic) here in (
+        (let inside = both.1.inside in let size : (nth_image c.images b.image).size ≡ own.size = ap (λ (j : ℕ). (nth_image c.images j).size) here in let all = whole i in omega arith),
         elim (both.0 here) [ inl before ↦ inr (omega arith) | inr after ↦ inl (omega arith) ],
       )))
       (each_both (λ (b : Binding). b.image ≡ i → Apart b.slot (width_in c.images b) q 1) (IsSlot c.images) c.bindings apart tied.slots))
@@ -76,7 +76,7 @@ module _ (c : Content) (tied : IsTied c) (whole : (j : ℕ) → length (image_of
   off_slots : (r : ℕ) → find (in_slot i own.magic r) c.bindings ≡ None → Each (λ (b : Binding). b.image ≡ i → Apart b.slot (width_in c.images b) r 1) c.bindings
   off_slots r none = each_map _ _ c.bindings (λ b missed same. elim (cases_in b.slot (width_in c.images b) r) [
     | inl inside ↦
-        (let w : width_in c.images b ≡ slot_width own.magic = ap (λ (j : ℕ). slot_width (image_of c.images j).magic) same in
+        (let w : width_in c.images b ≡ slot_width own.magic = ap (λ (j : ℕ). slot_width (nth_image c.images j).magic) same in
         let low = inside.0 in
         let high = inside.1 in
         let hit = true-in_slot own.magic r b low (omega (arith, high, w)) in
@@ -95,33 +95,33 @@ module _ (c : Content) (tied : IsTied c) (whole : (j : ℕ) → length (image_of
       let apart : Each (λ (b : Binding). b.image ≡ i → Apart b.slot (width_in c.images b) f.field (width_of f.kind)) c.bindings =
       each_map (IsSlot c.images) (λ (b : Binding). b.image ≡ i → Apart b.slot (width_in c.images b) f.field (width_of f.kind)) c.bindings
       (λ b slot same. (each_found (λ (f : Fixup). Apart b.slot (width_in c.images b) f.field (width_of f.kind)) (in_field r) own.fixups f
-      (subst (λ (j : ℕ). Each (λ (f : Fixup). Apart b.slot (width_in c.images b) f.field (width_of f.kind)) (image_of c.images j).fixups) same slot.off_fields) is).0)
+      (subst (λ (j : ℕ). Each (λ (f : Fixup). Apart b.slot (width_in c.images b) f.field (width_of f.kind)) (nth_image c.images j).fixups) same slot.off_fields) is).0)
       tied.slots in
       ap (λ (v : ℕ). digit (shift f.kind v (pos own.base -ℤ pos own.image_base)) (r - f.field))
       (same_number bare_plain own.plain f.field f.field (width_of f.kind) (λ q small. off_field f q apart small))
 
   slot_same : (r : ℕ) (o : Option Binding) → find (in_slot i own.magic r) c.bindings ≡ o → byte_by (bare c) i r o ≡ byte_by c i r o
   slot_same r None is =
-      ap (λ (m : Image). fixed_byte m r (find (in_field r) m.fixups)) bare_is
+      ap (λ (m : SpaceImage). fixed_byte m r (find (in_field r) m.fixups)) bare_is
       ∙ field_same r (find (in_field r) own.fixups) refl is
   slot_same r (Some b) is =
       let slot : IsSlot c.images b = (each_found (IsSlot c.images) (in_slot i own.magic r) c.bindings b tied.slots is).0 in
-      ap (λ (m : Image). digit (m.base + b.rva) (r - b.slot)) (image_bared 0 c.bindings c.images b.exporter slot.exporter)
+      ap (λ (m : SpaceImage). digit (m.base + b.rva) (r - b.slot)) (image_bared 0 c.bindings c.images b.exporter slot.exporter)
 
   pub byte_same : (r : ℕ) → byte_in (bare c) i r ≡ byte_in c i r
   byte_same r =
-      ap (λ (m : Image). byte_by (bare c) i r (find (in_slot i m.magic r) c.bindings)) bare_is
+      ap (λ (m : SpaceImage). byte_by (bare c) i r (find (in_slot i m.magic r) c.bindings)) bare_is
       ∙ slot_same r (find (in_slot i own.magic r) c.bindings) refl
 
-  pub base_same : (image_of (bare c).images i).base ≡ own.base
-  base_same = ap (λ (m : Image). m.base) bare_is
+  pub base_same : (nth_image (bare c).images i).base ≡ own.base
+  base_same = ap (λ (m : SpaceImage). m.base) bare_is
 
 -- the same byte stands at each address
-pub address_same : (c : Content) (a : ℕ) → IsTied c → ((j : ℕ) → length (image_of c.images j).plain ≡ (image_of c.images j).size) → byte_at (bare c) a ≡ byte_at c a
+pub address_same : (c : Content) (a : ℕ) → IsTied c → ((j : ℕ) → length (nth_image c.images j).plain ≡ (nth_image c.images j).size) → byte_at (bare c) a ≡ byte_at c a
 address_same c a tied whole =
-    ap (byte_of (bare c) a) (holder_bared c.bindings c.images a) ∙ by_holder (holder_from 0 c.images a) refl
+    ap (byte_held (bare c) a) (holder_bared c.bindings c.images a) ∙ by_holder (holder_from 0 c.images a) refl
   where
-    by_holder : (o : Option ℕ) → holder_from 0 c.images a ≡ o → byte_of (bare c) a o ≡ byte_of c a o
+    by_holder : (o : Option ℕ) → holder_from 0 c.images a ≡ o → byte_held (bare c) a o ≡ byte_held c a o
     by_holder None is = refl
     by_holder (Some j) is =
         let inside = holder_inside 0 c.images a j is in
@@ -129,10 +129,10 @@ address_same c a tied whole =
         let below = inside.2.0 in
         let lt : j < length c.images = omega (arith, same, below) in
         ap (λ (b : ℕ). Some (byte_in (bare c) j (a - b))) (base_same c tied whole j lt)
-        ∙ ap (λ (n : ℕ). Some n) (byte_same c tied whole j lt (a - (image_of c.images j).base))
+        ∙ ap (λ (n : ℕ). Some n) (byte_same c tied whole j lt (a - (nth_image c.images j).base))
 
 -- the same bytes stand in each window
-pub bytes_same : (c : Content) (n a : ℕ) → IsTied c → ((j : ℕ) → length (image_of c.images j).plain ≡ (image_of c.images j).size) → bytes_from (bare c) a n ≡ bytes_from c a n
+pub bytes_same : (c : Content) (n a : ℕ) → IsTied c → ((j : ℕ) → length (nth_image c.images j).plain ≡ (nth_image c.images j).size) → bytes_from (bare c) a n ≡ bytes_from c a n
 bytes_same c zero a tied whole = refl
 bytes_same c (suc n) a tied whole =
     ap (λ (o : Option ℕ). unwrap_or o 0 ∷ bytes_from (bare c) (a + 1) n) (address_same c a tied whole)
@@ -140,7 +140,7 @@ bytes_same c (suc n) a tied whole =
 
 -- where no image stands
 pub byte_nowhere : (c : Content) (a : ℕ) → holder_from 0 c.images a ≡ None → byte_at (bare c) a ≡ None
-byte_nowhere c a none = ap (byte_of (bare c) a) (holder_bared c.bindings c.images a ∙ none)
+byte_nowhere c a none = ap (byte_held (bare c) a) (holder_bared c.bindings c.images a ∙ none)
 
 -- what a window holds, by where it lies
 pub window_told : (c : Content) (a n : ℕ) (o : Result ℕ Fault) → (n == 0) ≡ false → window_image (map placement_of c.images) a n ≡ o → window_at (bare c) a n ≡ window_in (bare c) a n o
@@ -149,16 +149,16 @@ window_told c a n o some is =
     ∙ ap (window_in (bare c) a n) (ap (λ (ps : List Placement). window_image ps a n) (placements_bared 0 c.bindings c.images) ∙ is)
 
 -- ---- the files as they are laid out
-pub plain_at : (i : layout.Image) (r : ℕ) → r < i.size → get_or (layout.bytes_at i 0 i.size) r 0 ≡ i.byte r
+pub plain_at : (i : layout.LaidOut) (r : ℕ) → r < i.size → get_or (layout.bytes_at i 0 i.size) r 0 ≡ i.byte r
 plain_at i r lt = get_or-map-range_with_len i.byte 0 i.size r r 0 lt (omega arith)
 
-pub number_plain : (i : layout.Image) (place w : ℕ) → place + w ≤ i.size → number_at (layout.bytes_at i 0 i.size) place w ≡ num i.byte place w
+pub number_plain : (i : layout.LaidOut) (place w : ℕ) → place + w ≤ i.size → number_in (layout.bytes_at i 0 i.size) place w ≡ num i.byte place w
 number_plain i place zero le = refl
 number_plain i place (suc w) le =
-    ap (λ (n : ℕ). n + 256 * number_at (layout.bytes_at i 0 i.size) (place + 1) w) (plain_at i place (omega arith))
+    ap (λ (n : ℕ). n + 256 * number_in (layout.bytes_at i 0 i.size) (place + 1) w) (plain_at i place (omega arith))
     ∙ ap (λ (n : ℕ). i.byte place + 256 * n) (number_plain i (place + 1) w (omega arith))
 
-base_got : (s : List Module) (j : ℕ) → (image_of (map image_content s) j).base ≡ option_map_or (λ (m : Module). m.base) (slice_get s j) 0
+base_got : (s : List Module) (j : ℕ) → (nth_image (map image_content s) j).base ≡ option_map_or (λ (m : Module). m.base) (slice_get s j) 0
 base_got [] j = refl
 base_got (m ∷ s) zero = refl
 base_got (m ∷ s) (suc j) = base_got s j
@@ -178,26 +178,26 @@ module _ (s : List Module) (inside : (j : ℕ) (m : Module) → slice_get s j �
 
   by_slot : (n : ℕ) (m : Module) (r : ℕ) (o : Option Binding) → slice_get s n ≡ Some m → r < m.image.size → byte_by c n r o ≡ byte_of_image s m r o
   by_slot n m r None at lt =
-      ap (λ (g : Image). fixed_byte g r (find (in_field r) g.fixups)) (image_got s n m at)
+      ap (λ (g : SpaceImage). fixed_byte g r (find (in_field r) g.fixups)) (image_got s n m at)
       ∙ unbound m r (find (in_field r) m.fixups) (inside n m at) refl lt
   by_slot n m r (Some b) at lt = ap (λ (v : ℕ). digit (v + b.rva) (r - b.slot)) (base_got s b.exporter)
 
   in_image : (n : ℕ) (m : Module) (r : ℕ) → slice_get s n ≡ Some m → r < m.image.size → byte_in c n r ≡ byte_in_image s n r m
   in_image n m r at lt =
-      ap (λ (g : Image). byte_by c n r (find (in_slot n g.magic r) (bindings_of s))) (image_got s n m at)
+      ap (λ (g : SpaceImage). byte_by c n r (find (in_slot n g.magic r) (bindings_of s))) (image_got s n m at)
       ∙ by_slot n m r (find (in_slot n m.magic r) (bindings_of s)) at lt
 
-  at_step : (n : ℕ) (m : Module) (a : ℕ) (o p : Option ℕ) (b : Bool) → slice_get s n ≡ Some m → is_in m.base m.image.size a ≡ b → byte_of c a o ≡ p
-      → byte_of c a (cond b (Some n) o) ≡ cond b (Some (byte_in_image s n (a - m.base) m)) p
+  at_step : (n : ℕ) (m : Module) (a : ℕ) (o p : Option ℕ) (b : Bool) → slice_get s n ≡ Some m → is_in m.base m.image.size a ≡ b → byte_held c a o ≡ p
+      → byte_held c a (cond b (Some n) o) ≡ cond b (Some (byte_in_image s n (a - m.base) m)) p
   at_step n m a o p true at is later =
       let both = is_in-true m.base m.image.size a is in
       let low = both.0 in
       let high = both.1 in
-      ap (λ (g : Image). Some (byte_in c n (a - g.base))) (image_got s n m at)
+      ap (λ (g : SpaceImage). Some (byte_in c n (a - g.base))) (image_got s n m at)
       ∙ ap (λ (v : ℕ). Some v) (in_image n m (a - m.base) at (omega (arith, low, high)))
   at_step n m a o p false at is later = later
 
-  at_from : (n : ℕ) (t : List Module) (a : ℕ) → ((i : ℕ) (m : Module) → slice_get t i ≡ Some m → slice_get s (n + i) ≡ Some m) → byte_of c a (holder_from n (map image_content t) a) ≡ defined_from s n t a
+  at_from : (n : ℕ) (t : List Module) (a : ℕ) → ((i : ℕ) (m : Module) → slice_get t i ≡ Some m → slice_get s (n + i) ≡ Some m) → byte_held c a (holder_from n (map image_content t) a) ≡ defined_from s n t a
   at_from n [] a tail = refl
   at_from n (m ∷ t) a tail =
       let here : n + zero ≡ n = omega arith in

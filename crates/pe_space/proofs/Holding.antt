@@ -3,7 +3,7 @@ use Rattle.std.proofs.Common.{◌≡◌, ℕ, zero, suc, ◌+◌, ◌-◌, ◌<�
 use Rattle.std.specs.Prelude.{slice_set, Some, None}
 use Rattle.std.proofs.lemmas.List.{map-set, set-get_or, get_or-map, at_drop_more, at_drop_all, length-map}
 use Rattle.pe_set.specs.declared.binding.Binding.{Binding}
-use Rattle.pe_space.specs.Content.{Image, image_of, no_image, slot_width, is_in, holder_from, byte_at, byte_of, byte_in}
+use Rattle.pe_space.specs.Content.{SpaceImage, nth_image, no_image, slot_width, is_in, holder_from, byte_at, byte_held, byte_in}
 use Rattle.pe_space.specs.Memory.{patch, bytes, memory_of, put_slot, rebound}
 use Rattle.pe_space.specs.Held.{Held, images_of, memories_of}
 use Rattle.pe_space.specs.Tied.{Each, IsSlot}
@@ -11,7 +11,7 @@ use Rattle.pe_space.specs.Kept.{kept_content, IsKept}
 use Rattle.pe_space.proofs.SlotsAndFields.{is_in-true}
 
 -- what is read at a place
-pub image_read : (hs : List Held) (i : ℕ) (h : Held) → i < length hs → h ≡ get_or hs i h → h.image ≡ image_of (images_of hs) i
+pub image_read : (hs : List Held) (i : ℕ) (h : Held) → i < length hs → h ≡ get_or hs i h → h.image ≡ nth_image (images_of hs) i
 image_read hs i h lt is = ap (λ (x : Held). x.image) is ∙ sym (get_or-map (λ (x : Held). x.image) hs i h no_image lt)
 
 pub memory_read : (hs : List Held) (i : ℕ) (h : Held) → i < length hs → h ≡ get_or hs i h → h.memory ≡ memory_of (memories_of hs) i
@@ -31,7 +31,7 @@ put_step hs b v h new lt is made = (
   map-set (λ (x : Held). x.memory) hs b.image new
       ∙ ap (slice_set (memories_of hs) b.image) (ap (λ (x : Held). x.memory) made
       ∙ ap (λ (m : List ℕ). patch m b.slot (bytes (slot_width h.image.magic) v)) (memory_read hs b.image h lt is)
-      ∙ ap (λ (m : Image). patch (memory_of (memories_of hs) b.image) b.slot (bytes (slot_width m.magic) v)) (image_read hs b.image h lt is)),
+      ∙ ap (λ (m : SpaceImage). patch (memory_of (memories_of hs) b.image) b.slot (bytes (slot_width m.magic) v)) (image_read hs b.image h lt is)),
 )
 
 pub each_at : {X : Type 0} (P : X → Type 0) (xs : List X) (i : ℕ) (d : X) → Each P xs → i < length xs → P (get_or xs i d)
@@ -40,21 +40,21 @@ each_at P (x ∷ xs) zero d e lt = e.0
 each_at P (x ∷ xs) (suc i) d e lt = each_at P xs i d e.1 (omega arith)
 
 -- one binding further on
-pub rebound_hit : (images : List Image) (p : Binding → Bool) (address : Binding → ℕ) (k : ℕ) (bs : List Binding) (d : Binding) (ms end : List (List ℕ)) → k < length bs → p (get_or bs k d) ≡ true
+pub rebound_hit : (images : List SpaceImage) (p : Binding → Bool) (address : Binding → ℕ) (k : ℕ) (bs : List Binding) (d : Binding) (ms end : List (List ℕ)) → k < length bs → p (get_or bs k d) ≡ true
     → rebound images p address (drop k bs) ms ≡ end → rebound images p address (drop (k + 1) bs) (put_slot images (get_or bs k d) (address (get_or bs k d)) ms) ≡ end
 rebound_hit images p address k bs d ms end lt on h =
     let b = get_or bs k d in
     let next : rebound images p address (drop k bs) ms ≡ rebound images p address (drop (k + 1) bs) (cond (p b) (put_slot images b (address b) ms) ms) = at_drop_more (λ (ys : List Binding). rebound images p address ys ms) bs k d lt in
     sym (next ∙ ap (λ (t : Bool). rebound images p address (drop (k + 1) bs) (cond t (put_slot images b (address b) ms) ms)) on) ∙ h
 
-pub rebound_miss : (images : List Image) (p : Binding → Bool) (address : Binding → ℕ) (k : ℕ) (bs : List Binding) (d : Binding) (ms end : List (List ℕ)) → k < length bs → p (get_or bs k d) ≡ false
+pub rebound_miss : (images : List SpaceImage) (p : Binding → Bool) (address : Binding → ℕ) (k : ℕ) (bs : List Binding) (d : Binding) (ms end : List (List ℕ)) → k < length bs → p (get_or bs k d) ≡ false
     → rebound images p address (drop k bs) ms ≡ end → rebound images p address (drop (k + 1) bs) ms ≡ end
 rebound_miss images p address k bs d ms end lt off h =
     let b = get_or bs k d in
     let next : rebound images p address (drop k bs) ms ≡ rebound images p address (drop (k + 1) bs) (cond (p b) (put_slot images b (address b) ms) ms) = at_drop_more (λ (ys : List Binding). rebound images p address ys ms) bs k d lt in
     sym (next ∙ ap (λ (t : Bool). rebound images p address (drop (k + 1) bs) (cond t (put_slot images b (address b) ms) ms)) off) ∙ h
 
-pub in_list : (first hs : List Held) (images : List Image) (j : ℕ) → images ≡ images_of first → images_of hs ≡ images → j < length images → j < length hs
+pub in_list : (first hs : List Held) (images : List SpaceImage) (j : ℕ) → images ≡ images_of first → images_of hs ≡ images → j < length images → j < length hs
 in_list first hs images j e same lt = let n = ap length same in let m = length-map hs (λ (x : Held). x.image) in omega arith
 
 -- a loop over the bindings, where the slot is written
@@ -74,7 +74,7 @@ rebind_hit first hs after p address k bs d r new v end lt slots same on is at ma
     let both = put_step hs b (address b) r new here is from_r in (
       ap images_of set_is ∙ both.0 ∙ same,
       ap (λ (x : List Held). rebound (images_of first) p address (drop (k + 1) bs) (memories_of x)) set_is
-          ∙ ap (rebound (images_of first) p address (drop (k + 1) bs)) (both.1 ∙ ap (λ (x : List Image). put_slot x b (address b) (memories_of hs)) same)
+          ∙ ap (rebound (images_of first) p address (drop (k + 1) bs)) (both.1 ∙ ap (λ (x : List SpaceImage). put_slot x b (address b) (memories_of hs)) same)
           ∙ rebound_hit (images_of first) p address k bs d (memories_of hs) end lt on h,
     )
 
@@ -84,7 +84,7 @@ held_in hs bs k a h kept lt is inside =
     let range = is_in-true h.image.base h.image.size a inside in
     let low = range.0 in
     let high = range.1 in
-    let size : length h.memory ≡ h.image.size = ap length (memory_read hs k h lt is) ∙ kept.laid.lengths k ∙ ap (λ (m : Image). m.size) (sym (image_read hs k h lt is)) in
+    let size : length h.memory ≡ h.image.size = ap length (memory_read hs k h lt is) ∙ kept.laid.lengths k ∙ ap (λ (m : SpaceImage). m.size) (sym (image_read hs k h lt is)) in
     omega arith
 
 -- the first of what is left
@@ -103,10 +103,10 @@ held_byte hs bs k a h kept lt is inside so_far =
     let image = image_read hs k h lt is in
     let small : a - h.image.base < h.image.size = omega arith in
     ap (λ (m : List ℕ). Some (get_or m (a - h.image.base) 0)) (memory_read hs k h lt is)
-    ∙ ap (λ (n : ℕ). Some n) (kept.laid.each k (a - h.image.base) (subst (λ (m : Image). a - h.image.base < m.size) image small))
-    ∙ ap (λ (m : Image). Some (byte_in (kept_content hs bs) k (a - m.base))) image
-    ∙ sym (ap (byte_of (kept_content hs bs) a) it)
+    ∙ ap (λ (n : ℕ). Some n) (kept.laid.each k (a - h.image.base) (subst (λ (m : SpaceImage). a - h.image.base < m.size) image small))
+    ∙ ap (λ (m : SpaceImage). Some (byte_in (kept_content hs bs) k (a - m.base))) image
+    ∙ sym (ap (byte_held (kept_content hs bs) a) it)
 
 pub held_nowhere : (hs : List Held) (bs : List Binding) (k a : ℕ) → length hs ≤ k → holder_from k (images_of (drop k hs)) a ≡ holder_from 0 (images_of hs) a → None ≡ byte_at (kept_content hs bs) a
 held_nowhere hs bs k a le so_far =
-    sym (ap (byte_of (kept_content hs bs) a) (sym so_far ∙ at_drop_all (λ (ys : List Held). holder_from k (images_of ys) a) hs k le))
+    sym (ap (byte_held (kept_content hs bs) a) (sym so_far ∙ at_drop_all (λ (ys : List Held). holder_from k (images_of ys) a) hs k le))

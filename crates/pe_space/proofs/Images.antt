@@ -3,21 +3,21 @@ use Rattle.std.proofs.Common.{◌≡◌, ◌<◌, ◌≤◌, ◌+◌, ℕ, zero,
 use Rattle.std.specs.Prelude.{slice_get, All, AllPairs}
 use Rattle.std.proofs.lemmas.Option.{same_Some}
 use Rattle.pe_set.specs.Set.{Entry, Module, modules_from, modules_of}
-use Rattle.pe_space.specs.Content.{image_of, no_image}
+use Rattle.pe_space.specs.Content.{nth_image, no_image}
 use Rattle.pe_space.specs.SetContent.{image_content}
 use Rattle.pe_space.specs.Tied.{Each, EachPair}
 
-pub module_got : (s : List Module) (j : ℕ) → j < length s → (m : Module) × (slice_get s j ≡ Some m) × (image_of (map image_content s) j ≡ image_content m)
+pub module_got : (s : List Module) (j : ℕ) → j < length s → (m : Module) × (slice_get s j ≡ Some m) × (nth_image (map image_content s) j ≡ image_content m)
 module_got [] j lt = absurd (omega arith)
 module_got (m ∷ s) zero lt = (m, refl, refl)
 module_got (m ∷ s) (suc j) lt = module_got s j (omega arith)
 
-pub past_end : (s : List Module) (j : ℕ) → length s ≤ j → image_of (map image_content s) j ≡ no_image
+pub past_end : (s : List Module) (j : ℕ) → length s ≤ j → nth_image (map image_content s) j ≡ no_image
 past_end [] j le = refl
 past_end (m ∷ s) zero le = absurd (omega arith)
 past_end (m ∷ s) (suc j) le = past_end s j (omega arith)
 
-pub image_got : (s : List Module) (j : ℕ) (m : Module) → slice_get s j ≡ Some m → image_of (map image_content s) j ≡ image_content m
+pub image_got : (s : List Module) (j : ℕ) (m : Module) → slice_get s j ≡ Some m → nth_image (map image_content s) j ≡ image_content m
 image_got [] j m at = absurd cc
 image_got (x ∷ s) zero m at = ap image_content (same_Some x m at)
 image_got (x ∷ s) (suc j) m at = image_got s j m at

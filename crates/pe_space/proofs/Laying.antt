@@ -4,10 +4,10 @@ use Rattle.std.proofs.lemmas.Bool.{cases_lt, cases_eq}
 use Rattle.std.proofs.lemmas.List.{length-set, get_or-set_same, get_or-set_other}
 use Rattle.pe_tables.specs.declared.fixups.Fixup.{Fixup}
 use Rattle.pe_set.specs.declared.binding.Binding.{Binding}
-use Rattle.pe_space.specs.Number.{digit, number_at, shift}
-use Rattle.pe_space.specs.Content.{Image, image_of, width_of, slot_width}
+use Rattle.pe_space.specs.Number.{digit, number_in, shift}
+use Rattle.pe_space.specs.Content.{SpaceImage, nth_image, width_of, slot_width}
 use Rattle.pe_tables.specs.Patch.{shifted_at}
-use Rattle.pe_space.specs.Memory.{patch, bytes, shifted, shifted_all, memory_of, put_slot, rebound}
+use Rattle.pe_space.specs.Memory.{patch, bytes, with_shifted, shifted_all, memory_of, put_slot, rebound}
 use Rattle.pe_space.specs.Tied.{Each, EachPair, FieldsApart}
 use Rattle.pe_tables.specs.Patched.{length-patch, length-bytes_from, written_in, written_out}
 use Rattle.pe_space.proofs.Numbers.{same_number}
@@ -25,25 +25,25 @@ abbrev pub InField : ℕ → List Fixup → Type 0
 InField r [] = ⊥
 InField r (f ∷ fs) = ((f.field ≤ r) × (r < f.field + width_of f.kind)) ⊎ InField r fs
 
-pub length-shifted : (d : ℤ) (f : Fixup) (xs : List ℕ) → f.field + width_of f.kind ≤ length xs → length (shifted d f xs) ≡ length xs
+pub length-with_shifted : (d : ℤ) (f : Fixup) (xs : List ℕ) → f.field + width_of f.kind ≤ length xs → length (with_shifted d f xs) ≡ length xs
 unfolding shifted_at
-length-shifted d f xs h = let len = length-bytes_from 0 (width_of f.kind) (shift f.kind (number_at xs f.field (width_of f.kind)) d) in length-patch xs f.field _ (omega arith)
+length-with_shifted d f xs h = let len = length-bytes_from 0 (width_of f.kind) (shift f.kind (number_in xs f.field (width_of f.kind)) d) in length-patch xs f.field _ (omega arith)
 
 pub shifted_in : (d : ℤ) (f : Fixup) (xs : List ℕ) (r : ℕ) → f.field + width_of f.kind ≤ length xs → f.field ≤ r → r < f.field + width_of f.kind
-    → get_or (shifted d f xs) r 0 ≡ digit (shift f.kind (number_at xs f.field (width_of f.kind)) d) (r - f.field)
+    → get_or (with_shifted d f xs) r 0 ≡ digit (shift f.kind (number_in xs f.field (width_of f.kind)) d) (r - f.field)
 unfolding shifted_at
 shifted_in d f xs r fits low high = written_in xs f.field (width_of f.kind) _ r fits low high
 
 pub shifted_out : (d : ℤ) (f : Fixup) (xs : List ℕ) (r : ℕ) → f.field + width_of f.kind ≤ length xs → (r < f.field) ⊎ (f.field + width_of f.kind ≤ r)
-    → get_or (shifted d f xs) r 0 ≡ get_or xs r 0
+    → get_or (with_shifted d f xs) r 0 ≡ get_or xs r 0
 unfolding shifted_at
 shifted_out d f xs r fits out = written_out xs f.field (width_of f.kind) _ r fits out
 
 -- a field apart from it keeps its number
 pub shifted_other : (d : ℤ) (f g : Fixup) (xs : List ℕ) → f.field + width_of f.kind ≤ length xs → FieldsApart f g
-    → number_at (shifted d f xs) g.field (width_of g.kind) ≡ number_at xs g.field (width_of g.kind)
+    → number_in (with_shifted d f xs) g.field (width_of g.kind) ≡ number_in xs g.field (width_of g.kind)
 shifted_other d f g xs fits apart =
-    same_number (shifted d f xs) xs g.field g.field (width_of g.kind) (λ k lt. shifted_out d f xs (g.field + k) fits (out apart k lt))
+    same_number (with_shifted d f xs) xs g.field g.field (width_of g.kind) (λ k lt. shifted_out d f xs (g.field + k) fits (out apart k lt))
   where
     out : FieldsApart f g → (k : ℕ) → k < width_of g.kind → (g.field + k < f.field) ⊎ (f.field + width_of f.kind ≤ g.field + k)
     out (inl before) k lt = inr (omega arith)
@@ -52,8 +52,8 @@ shifted_other d f g xs fits apart =
 pub length-shifted_all : (d : ℤ) (fs : List Fixup) (xs : List ℕ) → Each (λ (f : Fixup). f.field + width_of f.kind ≤ length xs) fs → length (shifted_all d fs xs) ≡ length xs
 length-shifted_all d [] xs fit = refl
 length-shifted_all d (f ∷ fs) xs fit =
-    let same = length-shifted d f xs fit.0 in
-    length-shifted_all d fs (shifted d f xs) (each_map (λ (g : Fixup). g.field + width_of g.kind ≤ length xs) (λ (g : Fixup). g.field + width_of g.kind ≤ length (shifted d f xs)) fs (λ g h. omega arith) fit.1)
+    let same = length-with_shifted d f xs fit.0 in
+    length-shifted_all d fs (with_shifted d f xs) (each_map (λ (g : Fixup). g.field + width_of g.kind ≤ length xs) (λ (g : Fixup). g.field + width_of g.kind ≤ length (with_shifted d f xs)) fs (λ g h. omega arith) fit.1)
     ∙ same
 
 -- what is wrong so far lies in a field that is still to come, or in Q
@@ -62,8 +62,8 @@ StillFields T Q size fs xs = (r : ℕ) → r < size → (get_or xs r 0 ≡ T r) 
 
 field_done : (d : ℤ) (size : ℕ) (T : ℕ → ℕ) (Q : ℕ → Type 0) (f : Fixup) (fs : List Fixup) (xs : List ℕ)
     → f.field + width_of f.kind ≤ length xs
-    → ((r : ℕ) → f.field ≤ r → r < f.field + width_of f.kind → T r ≡ digit (shift f.kind (number_at xs f.field (width_of f.kind)) d) (r - f.field))
-    → StillFields T Q size (f ∷ fs) xs → StillFields T Q size fs (shifted d f xs)
+    → ((r : ℕ) → f.field ≤ r → r < f.field + width_of f.kind → T r ≡ digit (shift f.kind (number_in xs f.field (width_of f.kind)) d) (r - f.field))
+    → StillFields T Q size (f ∷ fs) xs → StillFields T Q size fs (with_shifted d f xs)
 field_done d size T Q f fs xs fits wanted still r lt = elim (cases_in f.field (width_of f.kind) r) [
   | inl inside ↦ inl (shifted_in d f xs r fits inside.0 inside.1 ∙ sym (wanted r inside.0 inside.1))
   | inr out ↦ elim (still r lt) [
@@ -78,7 +78,7 @@ field_done d size T Q f fs xs fits wanted still r lt = elim (cases_in f.field (w
 pub laid_fields : (d : ℤ) (size : ℕ) (T : ℕ → ℕ) (Q : ℕ → Type 0) (old : Fixup → ℕ) (fs : List Fixup) (xs : List ℕ)
     → Each (λ (f : Fixup). f.field + width_of f.kind ≤ length xs) fs
     → EachPair FieldsApart fs
-    → Each (λ (f : Fixup). number_at xs f.field (width_of f.kind) ≡ old f) fs
+    → Each (λ (f : Fixup). number_in xs f.field (width_of f.kind) ≡ old f) fs
     → Each (λ (f : Fixup). (r : ℕ) → f.field ≤ r → r < f.field + width_of f.kind → T r ≡ digit (shift f.kind (old f) d) (r - f.field)) fs
     → StillFields T Q size fs xs
     → (r : ℕ) → r < size → (get_or (shifted_all d fs xs) r 0 ≡ T r) ⊎ Q r
@@ -88,53 +88,53 @@ laid_fields d size T Q old [] xs fit apart held wanted still = λ r lt. elim (st
   | inr (inr q) ↦ inr q
 ]
 laid_fields d size T Q old (f ∷ fs) xs fit apart held wanted still =
-    let same = length-shifted d f xs fit.0 in
-    laid_fields d size T Q old fs (shifted d f xs)
-    (each_map (λ (g : Fixup). g.field + width_of g.kind ≤ length xs) (λ (g : Fixup). g.field + width_of g.kind ≤ length (shifted d f xs)) fs (λ g h. omega arith) fit.1)
+    let same = length-with_shifted d f xs fit.0 in
+    laid_fields d size T Q old fs (with_shifted d f xs)
+    (each_map (λ (g : Fixup). g.field + width_of g.kind ≤ length xs) (λ (g : Fixup). g.field + width_of g.kind ≤ length (with_shifted d f xs)) fs (λ g h. omega arith) fit.1)
     apart.1
-    (each_map (λ (g : Fixup). FieldsApart f g × (number_at xs g.field (width_of g.kind) ≡ old g)) (λ (g : Fixup). number_at (shifted d f xs) g.field (width_of g.kind) ≡ old g) fs (λ g h. shifted_other d f g xs fit.0 h.0 ∙ h.1)
-    (each_both (FieldsApart f) (λ (g : Fixup). number_at xs g.field (width_of g.kind) ≡ old g) fs apart.0 held.1))
+    (each_map (λ (g : Fixup). FieldsApart f g × (number_in xs g.field (width_of g.kind) ≡ old g)) (λ (g : Fixup). number_in (with_shifted d f xs) g.field (width_of g.kind) ≡ old g) fs (λ g h. shifted_other d f g xs fit.0 h.0 ∙ h.1)
+    (each_both (FieldsApart f) (λ (g : Fixup). number_in xs g.field (width_of g.kind) ≡ old g) fs apart.0 held.1))
     wanted.1
     (field_done d size T Q f fs xs fit.0 (λ r low high. rw held.0 (wanted.0 r low high)) still)
 
 -- ---- slots
-abbrev pub width_in : List Image → Binding → ℕ
-width_in images b = slot_width (image_of images b.image).magic
+abbrev pub width_in : List SpaceImage → Binding → ℕ
+width_in images b = slot_width (nth_image images b.image).magic
 
 cases_bool : (t : Bool) → (t ≡ true) ⊎ (t ≡ false)
 cases_bool true = inl refl
 cases_bool false = inr refl
 
 -- the place of image j lies in one of these slots, which passes the test
-abbrev pub InSlot : List Image → (Binding → Bool) → ℕ → ℕ → List Binding → Type 0
+abbrev pub InSlot : List SpaceImage → (Binding → Bool) → ℕ → ℕ → List Binding → Type 0
 InSlot images p j r [] = ⊥
 InSlot images p j r (b ∷ bs) = ((p b ≡ true) × (b.image ≡ j) × (b.slot ≤ r) × (r < b.slot + width_in images b)) ⊎ InSlot images p j r bs
 
 -- the slot lies in a memory
-pub record Fits (images : List Image) (ms : List (List ℕ)) (b : Binding) : Type 0 where
+pub record Fits (images : List SpaceImage) (ms : List (List ℕ)) (b : Binding) : Type 0 where
   pub image : b.image < length ms
   pub inside : b.slot + width_in images b ≤ length (memory_of ms b.image)
 
-pub put_in : (images : List Image) (b : Binding) (v : ℕ) (ms : List (List ℕ)) (r : ℕ) → Fits images ms b → b.slot ≤ r → r < b.slot + width_in images b
+pub put_in : (images : List SpaceImage) (b : Binding) (v : ℕ) (ms : List (List ℕ)) (r : ℕ) → Fits images ms b → b.slot ≤ r → r < b.slot + width_in images b
     → get_or (memory_of (put_slot images b v ms) b.image) r 0 ≡ digit v (r - b.slot)
 unfolding put_slot
 put_in images b v ms r fits low high =
     let here : b.image < length ms = fits.image in
     rw (get_or-set_same ms b.image (patch (memory_of ms b.image) b.slot (bytes (width_in images b) v)) [] here) (written_in (memory_of ms b.image) b.slot (width_in images b) v r fits.inside low high)
 
-pub put_out : (images : List Image) (b : Binding) (v : ℕ) (ms : List (List ℕ)) (r : ℕ) → Fits images ms b → (r < b.slot) ⊎ (b.slot + width_in images b ≤ r)
+pub put_out : (images : List SpaceImage) (b : Binding) (v : ℕ) (ms : List (List ℕ)) (r : ℕ) → Fits images ms b → (r < b.slot) ⊎ (b.slot + width_in images b ≤ r)
     → get_or (memory_of (put_slot images b v ms) b.image) r 0 ≡ get_or (memory_of ms b.image) r 0
 unfolding put_slot
 put_out images b v ms r fits out =
     let here : b.image < length ms = fits.image in
     rw (get_or-set_same ms b.image (patch (memory_of ms b.image) b.slot (bytes (width_in images b) v)) [] here) (written_out (memory_of ms b.image) b.slot (width_in images b) v r fits.inside out)
 
-pub put_other : (images : List Image) (b : Binding) (v : ℕ) (ms : List (List ℕ)) (j : ℕ) → (j ≡ b.image → ⊥)
+pub put_other : (images : List SpaceImage) (b : Binding) (v : ℕ) (ms : List (List ℕ)) (j : ℕ) → (j ≡ b.image → ⊥)
     → memory_of (put_slot images b v ms) j ≡ memory_of ms j
 unfolding put_slot
 put_other images b v ms j ne = get_or-set_other ms b.image j _ [] ne
 
-pub put_length : (images : List Image) (b : Binding) (v : ℕ) (ms : List (List ℕ)) → Fits images ms b → (j : ℕ)
+pub put_length : (images : List SpaceImage) (b : Binding) (v : ℕ) (ms : List (List ℕ)) → Fits images ms b → (j : ℕ)
     → length (memory_of (put_slot images b v ms) j) ≡ length (memory_of ms j)
 unfolding put_slot
 put_length images b v ms fits j = elim (cases_eq j b.image) [
@@ -147,11 +147,11 @@ put_length images b v ms fits j = elim (cases_eq j b.image) [
   | inr ne ↦ ap length (get_or-set_other ms b.image j _ [] ne)
 ]
 
-pub put_count : (images : List Image) (b : Binding) (v : ℕ) (ms : List (List ℕ)) → length (put_slot images b v ms) ≡ length ms
+pub put_count : (images : List SpaceImage) (b : Binding) (v : ℕ) (ms : List (List ℕ)) → length (put_slot images b v ms) ≡ length ms
 unfolding put_slot
 put_count images b v ms = length-set ms b.image _
 
-put_fits : (images : List Image) (b e : Binding) (v : ℕ) (ms : List (List ℕ)) → Fits images ms b → Fits images ms e → Fits images (put_slot images b v ms) e
+put_fits : (images : List SpaceImage) (b e : Binding) (v : ℕ) (ms : List (List ℕ)) → Fits images ms b → Fits images ms e → Fits images (put_slot images b v ms) e
 put_fits images b e v ms fits h =
     let n = put_count images b v ms in
     let m = put_length images b v ms fits e.image in
@@ -160,10 +160,10 @@ put_fits images b e v ms fits h =
     record { image = omega arith; inside = omega arith }
 
 -- what is wrong so far lies in a slot that is still to come
-abbrev pub StillSlots : List Image → (Binding → Bool) → (ℕ → ℕ → ℕ) → (ℕ → ℕ) → List Binding → List (List ℕ) → Type 0
+abbrev pub StillSlots : List SpaceImage → (Binding → Bool) → (ℕ → ℕ → ℕ) → (ℕ → ℕ) → List Binding → List (List ℕ) → Type 0
 StillSlots images p T size bs ms = (j r : ℕ) → r < size j → (get_or (memory_of ms j) r 0 ≡ T j r) ⊎ InSlot images p j r bs
 
-slot_done : (images : List Image) (p : Binding → Bool) (v : ℕ) (T : ℕ → ℕ → ℕ) (size : ℕ → ℕ) (b : Binding) (bs : List Binding) (ms : List (List ℕ))
+slot_done : (images : List SpaceImage) (p : Binding → Bool) (v : ℕ) (T : ℕ → ℕ → ℕ) (size : ℕ → ℕ) (b : Binding) (bs : List Binding) (ms : List (List ℕ))
     → Fits images ms b
     → ((r : ℕ) → b.slot ≤ r → r < b.slot + width_in images b → T b.image r ≡ digit v (r - b.slot))
     → StillSlots images p T size (b ∷ bs) ms → StillSlots images p T size bs (put_slot images b v ms)
@@ -183,7 +183,7 @@ slot_done images p v T size b bs ms fits wanted still j r lt = elim (cases_eq j 
   ]
 ]
 
-slot_skipped : (images : List Image) (p : Binding → Bool) (T : ℕ → ℕ → ℕ) (size : ℕ → ℕ) (b : Binding) (bs : List Binding) (ms : List (List ℕ))
+slot_skipped : (images : List SpaceImage) (p : Binding → Bool) (T : ℕ → ℕ → ℕ) (size : ℕ → ℕ) (b : Binding) (bs : List Binding) (ms : List (List ℕ))
     → (p b ≡ false) → StillSlots images p T size (b ∷ bs) ms → StillSlots images p T size bs ms
 slot_skipped images p T size b bs ms off still j r lt = elim (still j r lt) [
   | inl right ↦ inl right
@@ -192,7 +192,7 @@ slot_skipped images p T size b bs ms off still j r lt = elim (still j r lt) [
 ]
 
 -- slots that are written one by one hold what is wanted
-pub laid_slots : (images : List Image) (p : Binding → Bool) (address : Binding → ℕ) (T : ℕ → ℕ → ℕ) (size : ℕ → ℕ) (bs : List Binding) (ms : List (List ℕ))
+pub laid_slots : (images : List SpaceImage) (p : Binding → Bool) (address : Binding → ℕ) (T : ℕ → ℕ → ℕ) (size : ℕ → ℕ) (bs : List Binding) (ms : List (List ℕ))
     → Each (Fits images ms) bs
     → Each (λ (b : Binding). p b ≡ true → (r : ℕ) → b.slot ≤ r → r < b.slot + width_in images b → T b.image r ≡ digit (address b) (r - b.slot)) bs
     → StillSlots images p T size bs ms
@@ -206,7 +206,7 @@ laid_slots images p address T size (b ∷ bs) ms fits wanted still = elim (cases
   | inr off ↦ rw off (laid_slots images p address T size bs ms fits.1 wanted.1 (slot_skipped images p T size b bs ms off still))
 ]
 
-pub rebound_lengths : (images : List Image) (p : Binding → Bool) (address : Binding → ℕ) (bs : List Binding) (ms : List (List ℕ)) → Each (Fits images ms) bs
+pub rebound_lengths : (images : List SpaceImage) (p : Binding → Bool) (address : Binding → ℕ) (bs : List Binding) (ms : List (List ℕ)) → Each (Fits images ms) bs
     → (length (rebound images p address bs ms) ≡ length ms) × ((j : ℕ) → length (memory_of (rebound images p address bs ms) j) ≡ length (memory_of ms j))
 rebound_lengths images p address [] ms fits = (refl, λ j. refl)
 rebound_lengths images p address (b ∷ bs) ms fits = elim (cases_bool (p b)) [

@@ -7,8 +7,8 @@ use Rattle.std.proofs.lemmas.List.{length-set, get_or-set_same, get_or-set_other
 use Rattle.pe_tables.specs.declared.fixups.Fixup.{Fixup}
 use Rattle.pe_set.specs.declared.binding.Binding.{Binding}
 use Rattle.pe_head.specs.declared.optional.Magic.{Magic}
-use Rattle.pe_space.specs.Number.{digit, number_at, shift}
-use Rattle.pe_space.specs.Content.{Image, Content, image_of, no_image, width_of, slot_width, in_field, in_slot, fixed_byte, byte_by, byte_in}
+use Rattle.pe_space.specs.Number.{digit, number_in, shift}
+use Rattle.pe_space.specs.Content.{SpaceImage, Content, nth_image, no_image, width_of, slot_width, in_field, in_slot, fixed_byte, byte_by, byte_in}
 use Rattle.pe_space.specs.Moves.{moved}
 use Rattle.pe_space.specs.Memory.{shifted_all, memory_of, rebound, ends_in, from_base}
 use Rattle.pe_space.specs.Tied.{Each, SlotsApart, IsImage, IsSlot, IsTied, IsLaid}
@@ -19,16 +19,16 @@ use Rattle.pe_space.proofs.SlotsAndFields.{slot_byte, field_byte, value_of, in_s
 use Rattle.pe_space.proofs.Laying.{InField, InSlot, width_in, Fits, StillFields, StillSlots, laid_fields, laid_slots, rebound_lengths, length-shifted_all}
 
 -- ---- the content after a move
-pub image_moved : (c : Content) (i base : ℕ) → i < length c.images → image_of (moved c i base).images i ≡ record (image_of c.images i) { base = base }
-image_moved c i base lt = get_or-set_same c.images i (record (image_of c.images i) { base = base }) no_image lt
+pub image_moved : (c : Content) (i base : ℕ) → i < length c.images → nth_image (moved c i base).images i ≡ record (nth_image c.images i) { base = base }
+image_moved c i base lt = get_or-set_same c.images i (record (nth_image c.images i) { base = base }) no_image lt
 
-pub image_kept : (c : Content) (i base j : ℕ) → (j ≡ i → ⊥) → image_of (moved c i base).images j ≡ image_of c.images j
-image_kept c i base j ne = get_or-set_other c.images i j (record (image_of c.images i) { base = base }) no_image ne
+pub image_kept : (c : Content) (i base j : ℕ) → (j ≡ i → ⊥) → nth_image (moved c i base).images j ≡ nth_image c.images j
+image_kept c i base j ne = get_or-set_other c.images i j (record (nth_image c.images i) { base = base }) no_image ne
 
 -- what does not read the base stays
-pub part_kept : {A : Type 0} (part : Image → A) (c : Content) (i base j : ℕ) → i < length c.images → ((image : Image) → part (record image { base = base }) ≡ part image) → part (image_of (moved c i base).images j) ≡ part (image_of c.images j)
+pub part_kept : {A : Type 0} (part : SpaceImage → A) (c : Content) (i base j : ℕ) → i < length c.images → ((image : SpaceImage) → part (record image { base = base }) ≡ part image) → part (nth_image (moved c i base).images j) ≡ part (nth_image c.images j)
 part_kept part c i base j lt same = elim (cases_eq j i) [
-  | inl here ↦ rw here (ap part (image_moved c i base lt) ∙ same (image_of c.images i))
+  | inl here ↦ rw here (ap part (image_moved c i base lt) ∙ same (nth_image c.images i))
   | inr ne ↦ ap part (image_kept c i base j ne)
 ]
 
@@ -39,19 +39,19 @@ tied_moved c i base lt tied = record {
   apart = pair_map (SlotsApart c.images) (SlotsApart (moved c i base).images) c.bindings (λ b e apart same. rw (width b.image) (apart same)) tied.apart;
 }
   where
-    size : (j : ℕ) → (image_of (moved c i base).images j).size ≡ (image_of c.images j).size
-    size j = part_kept (λ (m : Image). m.size) c i base j lt (λ m. refl)
+    size : (j : ℕ) → (nth_image (moved c i base).images j).size ≡ (nth_image c.images j).size
+    size j = part_kept (λ (m : SpaceImage). m.size) c i base j lt (λ m. refl)
 
-    width : (j : ℕ) → slot_width (image_of (moved c i base).images j).magic ≡ slot_width (image_of c.images j).magic
-    width j = part_kept (λ (m : Image). slot_width m.magic) c i base j lt (λ m. refl)
+    width : (j : ℕ) → slot_width (nth_image (moved c i base).images j).magic ≡ slot_width (nth_image c.images j).magic
+    width j = part_kept (λ (m : SpaceImage). slot_width m.magic) c i base j lt (λ m. refl)
 
-    fixups : (j : ℕ) → (image_of (moved c i base).images j).fixups ≡ (image_of c.images j).fixups
-    fixups j = part_kept (λ (m : Image). m.fixups) c i base j lt (λ m. refl)
+    fixups : (j : ℕ) → (nth_image (moved c i base).images j).fixups ≡ (nth_image c.images j).fixups
+    fixups j = part_kept (λ (m : SpaceImage). m.fixups) c i base j lt (λ m. refl)
 
     count : length (moved c i base).images ≡ length c.images
     count = length-set c.images i _
 
-    image : (j : ℕ) → IsImage (image_of (moved c i base).images j)
+    image : (j : ℕ) → IsImage (nth_image (moved c i base).images j)
     image j = record { inside = rw (size j, fixups j) (tied.images j).inside; apart = rw (fixups j) (tied.images j).apart }
 
     slot : (b : Binding) → IsSlot c.images b → IsSlot (moved c i base).images b
@@ -65,56 +65,56 @@ tied_moved c i base lt tied = record {
 
 -- a move changes a byte only in a field of the image and in a slot that ends in it
 pub changes : (c : Content) (i base : ℕ) → i < length c.images → (j r : ℕ)
-    → (byte_in c j r ≡ byte_in (moved c i base) j r) ⊎ (((j ≡ i) × InField r (image_of c.images i).fixups) ⊎ InSlot c.images (ends_in i) j r c.bindings)
-changes c i base lt j r = by_slot (find (in_slot j (image_of c.images j).magic r) c.bindings) refl
+    → (byte_in c j r ≡ byte_in (moved c i base) j r) ⊎ (((j ≡ i) × InField r (nth_image c.images i).fixups) ⊎ InSlot c.images (ends_in i) j r c.bindings)
+changes c i base lt j r = by_slot (find (in_slot j (nth_image c.images j).magic r) c.bindings) refl
   where
-    magic : (image_of (moved c i base).images j).magic ≡ (image_of c.images j).magic
-    magic = part_kept (λ (m : Image). m.magic) c i base j lt (λ m. refl)
+    magic : (nth_image (moved c i base).images j).magic ≡ (nth_image c.images j).magic
+    magic = part_kept (λ (m : SpaceImage). m.magic) c i base j lt (λ m. refl)
 
-    now : byte_in (moved c i base) j r ≡ byte_by (moved c i base) j r (find (in_slot j (image_of c.images j).magic r) c.bindings)
+    now : byte_in (moved c i base) j r ≡ byte_by (moved c i base) j r (find (in_slot j (nth_image c.images j).magic r) c.bindings)
     now = ap (λ (m : Magic). byte_by (moved c i base) j r (find (in_slot j m r) c.bindings)) magic
 
-    outside : Image → ℕ
+    outside : SpaceImage → ℕ
     outside m = fixed_byte m r (find (in_field r) m.fixups)
 
-    by_field : (j ≡ i) → (o : Option Fixup) → find (in_field r) (image_of c.images i).fixups ≡ o
-        → (fixed_byte (image_of c.images i) r o ≡ fixed_byte (record (image_of c.images i) { base = base }) r o) ⊎ InField r (image_of c.images i).fixups
+    by_field : (j ≡ i) → (o : Option Fixup) → find (in_field r) (nth_image c.images i).fixups ≡ o
+        → (fixed_byte (nth_image c.images i) r o ≡ fixed_byte (record (nth_image c.images i) { base = base }) r o) ⊎ InField r (nth_image c.images i).fixups
     by_field here None h = inl refl
-    by_field here (Some f) h = inr (in_fields r (image_of c.images i).fixups f h)
+    by_field here (Some f) h = inr (in_fields r (nth_image c.images i).fixups f h)
 
-    by_slot : (o : Option Binding) → find (in_slot j (image_of c.images j).magic r) c.bindings ≡ o
-        → (byte_in c j r ≡ byte_in (moved c i base) j r) ⊎ (((j ≡ i) × InField r (image_of c.images i).fixups) ⊎ InSlot c.images (ends_in i) j r c.bindings)
+    by_slot : (o : Option Binding) → find (in_slot j (nth_image c.images j).magic r) c.bindings ≡ o
+        → (byte_in c j r ≡ byte_in (moved c i base) j r) ⊎ (((j ≡ i) × InField r (nth_image c.images i).fixups) ⊎ InSlot c.images (ends_in i) j r c.bindings)
     by_slot None h = elim (cases_eq j i) [
-      | inl here ↦ elim (by_field here (find (in_field r) (image_of c.images i).fixups) refl) [
-        | inl same ↦ inl (ap (byte_by c j r) h ∙ (ap (λ (k : ℕ). outside (image_of c.images k)) here ∙ same ∙ sym (ap outside (ap (λ (k : ℕ). image_of (moved c i base).images k) here ∙ image_moved c i base lt))) ∙ sym (now ∙ ap (byte_by (moved c i base) j r) h))
+      | inl here ↦ elim (by_field here (find (in_field r) (nth_image c.images i).fixups) refl) [
+        | inl same ↦ inl (ap (byte_by c j r) h ∙ (ap (λ (k : ℕ). outside (nth_image c.images k)) here ∙ same ∙ sym (ap outside (ap (λ (k : ℕ). nth_image (moved c i base).images k) here ∙ image_moved c i base lt))) ∙ sym (now ∙ ap (byte_by (moved c i base) j r) h))
         | inr in_f ↦ inr (inl (here, in_f))
       ]
-      | inr ne ↦ inl (ap (byte_by c j r) h ∙ ap (λ (m : Image). fixed_byte m r (find (in_field r) m.fixups)) (sym (image_kept c i base j ne)) ∙ sym (now ∙ ap (byte_by (moved c i base) j r) h))
+      | inr ne ↦ inl (ap (byte_by c j r) h ∙ ap (λ (m : SpaceImage). fixed_byte m r (find (in_field r) m.fixups)) (sym (image_kept c i base j ne)) ∙ sym (now ∙ ap (byte_by (moved c i base) j r) h))
     ]
     by_slot (Some b) h = elim (cases_eq b.exporter i) [
-      | inl ends ↦ inr (inr (in_slots c.images (ends_in i) j r (image_of c.images j).magic c.bindings b (λ e same. ap (λ (k : ℕ). slot_width (image_of c.images k).magic) (sym same)) h (eq-eqb b.exporter i ends)))
-      | inr ne ↦ inl (ap (byte_by c j r) h ∙ ap (λ (m : Image). digit (m.base + b.rva) (r - b.slot)) (sym (image_kept c i base b.exporter ne)) ∙ sym (now ∙ ap (byte_by (moved c i base) j r) h))
+      | inl ends ↦ inr (inr (in_slots c.images (ends_in i) j r (nth_image c.images j).magic c.bindings b (λ e same. ap (λ (k : ℕ). slot_width (nth_image c.images k).magic) (sym same)) h (eq-eqb b.exporter i ends)))
+      | inr ne ↦ inl (ap (byte_by c j r) h ∙ ap (λ (m : SpaceImage). digit (m.base + b.rva) (r - b.slot)) (sym (image_kept c i base b.exporter ne)) ∙ sym (now ∙ ap (byte_by (moved c i base) j r) h))
     ]
 
 -- the memories after a move
 abbrev pub moved_memory : Content → ℕ → ℕ → List (List ℕ) → List (List ℕ)
 moved_memory c i base ms =
     rebound c.images (ends_in i) (from_base base) c.bindings
-    (slice_set ms i (shifted_all (pos base -ℤ pos (image_of c.images i).base) (image_of c.images i).fixups (memory_of ms i)))
+    (slice_set ms i (shifted_all (pos base -ℤ pos (nth_image c.images i).base) (nth_image c.images i).fixups (memory_of ms i)))
 
 -- the memories after a move are those of the content after the move
-pub laid_moved : (c : Content) (i base : ℕ) (ms : List (List ℕ)) → i < length c.images → base % 65536 ≡ 0 → (image_of c.images i).base % 65536 ≡ 0 → IsTied c → IsLaid c ms → IsLaid (moved c i base) (moved_memory c i base ms)
+pub laid_moved : (c : Content) (i base : ℕ) (ms : List (List ℕ)) → i < length c.images → base % 65536 ≡ 0 → (nth_image c.images i).base % 65536 ≡ 0 → IsTied c → IsLaid c ms → IsLaid (moved c i base) (moved_memory c i base ms)
 laid_moved c i base ms lt aligned was_aligned tied laid = record {
   count = ends.0 ∙ length-set ms i _ ∙ laid.count ∙ sym (length-set c.images i _);
   lengths = λ j. ends.1 j ∙ size_first j ∙ sym (size j);
   each = λ j r small. bytes j r (rw (← size j) small);
 }
   where
-    image : Image
-    image = image_of c.images i
+    image : SpaceImage
+    image = nth_image c.images i
 
-    size : (j : ℕ) → (image_of (moved c i base).images j).size ≡ (image_of c.images j).size
-    size j = part_kept (λ (m : Image). m.size) c i base j lt (λ m. refl)
+    size : (j : ℕ) → (nth_image (moved c i base).images j).size ≡ (nth_image c.images j).size
+    size j = part_kept (λ (m : SpaceImage). m.size) c i base j lt (λ m. refl)
 
     tied_after : IsTied (moved c i base)
     tied_after = tied_moved c i base lt tied
@@ -134,7 +134,7 @@ laid_moved c i base ms lt aligned was_aligned tied laid = record {
     here : i < length ms
     here = rw laid.count lt
 
-    size_first : (j : ℕ) → length (memory_of next j) ≡ (image_of c.images j).size
+    size_first : (j : ℕ) → length (memory_of next j) ≡ (nth_image c.images j).size
     size_first j = elim (cases_eq j i) [
       | inl same ↦ rw same (ap length (get_or-set_same ms i first [] here) ∙ length-shifted_all (pos base -ℤ pos image.base) image.fixups old in_old ∙ laid.lengths i)
       | inr ne ↦ ap length (get_or-set_other ms i j first [] ne) ∙ laid.lengths j
@@ -146,7 +146,7 @@ laid_moved c i base ms lt aligned was_aligned tied laid = record {
     ends : (length (rebound c.images (ends_in i) (from_base base) c.bindings next) ≡ length next) × ((j : ℕ) → length (memory_of (rebound c.images (ends_in i) (from_base base) c.bindings next) j) ≡ length (memory_of next j))
     ends = rebound_lengths c.images (ends_in i) (from_base base) c.bindings next fits
 
-    held : Each (λ (f : Fixup). number_at old f.field (width_of f.kind) ≡ value_of image f) image.fixups
+    held : Each (λ (f : Fixup). number_in old f.field (width_of f.kind) ≡ value_of image f) image.fixups
     held = each_map _ _ image.fixups
         (λ f both. number_of_own_digits old f.field (width_of f.kind) (value_of image f) (shift_lt _ f.kind _)
         (λ k small. (let inside = both.0 in let back : f.field + k - f.field ≡ k = omega arith in
@@ -155,8 +155,8 @@ laid_moved c i base ms lt aligned was_aligned tied laid = record {
 
     wanted_fields : Each (λ (f : Fixup). (r : ℕ) → f.field ≤ r → r < f.field + width_of f.kind → byte_in (moved c i base) i r ≡ digit (shift f.kind (value_of image f) (pos base -ℤ pos image.base)) (r - f.field)) image.fixups
     wanted_fields = each_map (λ (f : Fixup). (r : ℕ) → f.field ≤ r → r < f.field + width_of f.kind → byte_in (moved c i base) i r ≡ digit (value_of (record image { base = base }) f) (r - f.field)) _ image.fixups
-        (λ f is r low high. is r low high ∙ ap (λ (v : ℕ). digit v (r - f.field)) (sym (shift-shift (number_at image.plain f.field (width_of f.kind)) f.kind image.image_base image.base base was_aligned aligned)))
-        (subst (λ (m : Image). Each (λ (f : Fixup). (r : ℕ) → f.field ≤ r → r < f.field + width_of f.kind → byte_in (moved c i base) i r ≡ digit (value_of m f) (r - f.field)) m.fixups) (image_moved c i base lt) (field_byte (moved c i base) i tied_after))
+        (λ f is r low high. is r low high ∙ ap (λ (v : ℕ). digit v (r - f.field)) (sym (shift-shift (number_in image.plain f.field (width_of f.kind)) f.kind image.image_base image.base base was_aligned aligned)))
+        (subst (λ (m : SpaceImage). Each (λ (f : Fixup). (r : ℕ) → f.field ≤ r → r < f.field + width_of f.kind → byte_in (moved c i base) i r ≡ digit (value_of m f) (r - f.field)) m.fixups) (image_moved c i base lt) (field_byte (moved c i base) i tied_after))
 
     still_fields : StillFields (byte_in (moved c i base) i) (λ r. InSlot c.images (ends_in i) i r c.bindings) image.size image.fixups old
     still_fields r small = elim (changes c i base lt i r) [
@@ -168,9 +168,9 @@ laid_moved c i base ms lt aligned was_aligned tied laid = record {
     fields : (r : ℕ) → r < image.size → (get_or first r 0 ≡ byte_in (moved c i base) i r) ⊎ InSlot c.images (ends_in i) i r c.bindings
     fields = laid_fields (pos base -ℤ pos image.base) image.size (byte_in (moved c i base) i) (λ r. InSlot c.images (ends_in i) i r c.bindings) (value_of image) image.fixups old in_old (tied.images i).apart held wanted_fields still_fields
 
-    still_slots : StillSlots c.images (ends_in i) (byte_in (moved c i base)) (λ j. (image_of c.images j).size) c.bindings next
+    still_slots : StillSlots c.images (ends_in i) (byte_in (moved c i base)) (λ j. (nth_image c.images j).size) c.bindings next
     still_slots j r small = elim (cases_eq j i) [
-      | inl same ↦ subst (λ (k : ℕ). (r : ℕ) → r < (image_of c.images k).size → (get_or (memory_of next k) r 0 ≡ byte_in (moved c i base) k r) ⊎ InSlot c.images (ends_in i) k r c.bindings) (sym same)
+      | inl same ↦ subst (λ (k : ℕ). (r : ℕ) → r < (nth_image c.images k).size → (get_or (memory_of next k) r 0 ≡ byte_in (moved c i base) k r) ⊎ InSlot c.images (ends_in i) k r c.bindings) (sym same)
           (λ r small. rw (get_or-set_same ms i first [] here) (fields r small)) r small
       | inr ne ↦ elim (changes c i base lt j r) [
         | inl kept ↦ inl (ap (λ (m : List ℕ). get_or m r 0) (get_or-set_other ms i j first [] ne) ∙ laid.each j r small ∙ kept)
@@ -181,9 +181,9 @@ laid_moved c i base ms lt aligned was_aligned tied laid = record {
 
     wanted_slots : Each (λ (b : Binding). ends_in i b ≡ true → (r : ℕ) → b.slot ≤ r → r < b.slot + width_in c.images b → byte_in (moved c i base) b.image r ≡ digit (base + b.rva) (r - b.slot)) c.bindings
     wanted_slots = each_map _ _ c.bindings
-        (λ b is ends r low high. is r low (rw (part_kept (λ (m : Image). slot_width m.magic) c i base b.image lt (λ m. refl)) high)
-        ∙ ap (λ (v : ℕ). digit (v + b.rva) (r - b.slot)) (ap (λ (k : ℕ). (image_of (moved c i base).images k).base) (eqb-true b.exporter i ends) ∙ ap (λ (m : Image). m.base) (image_moved c i base lt)))
+        (λ b is ends r low high. is r low (rw (part_kept (λ (m : SpaceImage). slot_width m.magic) c i base b.image lt (λ m. refl)) high)
+        ∙ ap (λ (v : ℕ). digit (v + b.rva) (r - b.slot)) (ap (λ (k : ℕ). (nth_image (moved c i base).images k).base) (eqb-true b.exporter i ends) ∙ ap (λ (m : SpaceImage). m.base) (image_moved c i base lt)))
         (slot_byte (moved c i base) tied_after)
 
-    bytes : (j r : ℕ) → r < (image_of c.images j).size → get_or (memory_of (rebound c.images (ends_in i) (from_base base) c.bindings next) j) r 0 ≡ byte_in (moved c i base) j r
-    bytes = laid_slots c.images (ends_in i) (from_base base) (byte_in (moved c i base)) (λ j. (image_of c.images j).size) c.bindings next fits wanted_slots still_slots
+    bytes : (j r : ℕ) → r < (nth_image c.images j).size → get_or (memory_of (rebound c.images (ends_in i) (from_base base) c.bindings next) j) r 0 ≡ byte_in (moved c i base) j r
+    bytes = laid_slots c.images (ends_in i) (from_base base) (byte_in (moved c i base)) (λ j. (nth_image c.images j).size) c.bindings next fits wanted_slots still_slots

@@ -7,8 +7,8 @@ use borrow.Author.Tests.{ltb-true, lt-ltb}
 use Rattle.pe_tables.specs.declared.fixups.Fixup.{Fixup}
 use Rattle.pe_set.specs.declared.binding.Binding.{Binding}
 use Rattle.pe_head.specs.declared.optional.Magic.{Magic}
-use Rattle.pe_space.specs.Number.{digit, number_at, shift}
-use Rattle.pe_space.specs.Content.{Image, Content, image_of, width_of, slot_width, is_in, in_field, in_slot, fixed_byte, byte_by, byte_in}
+use Rattle.pe_space.specs.Number.{digit, number_in, shift}
+use Rattle.pe_space.specs.Content.{SpaceImage, Content, nth_image, width_of, slot_width, is_in, in_field, in_slot, fixed_byte, byte_by, byte_in}
 use Rattle.pe_space.specs.Tied.{Each, Apart, FieldsApart, SlotsApart, IsSlot, IsTied}
 use Rattle.pe_space.proofs.Lists.{each_map, each_both, each_all, each_swap, none_found, Finds, finds_each}
 use Rattle.pe_space.proofs.Laying.{InField, InSlot, width_in}
@@ -31,53 +31,53 @@ pub true-in_slot : (magic : Magic) (r : ℕ) (b : Binding) → b.slot ≤ r → 
 true-in_slot magic r b low high = rw (eq-eqb b.image b.image refl, true-is_in b.slot (slot_width magic) r low high) refl
 
 -- ---- the byte of a slot and of a field
-pub slot_byte : (c : Content) → IsTied c → Each (λ (b : Binding). (r : ℕ) → b.slot ≤ r → r < b.slot + width_in c.images b → byte_in c b.image r ≡ digit ((image_of c.images b.exporter).base + b.rva) (r - b.slot)) c.bindings
+pub slot_byte : (c : Content) → IsTied c → Each (λ (b : Binding). (r : ℕ) → b.slot ≤ r → r < b.slot + width_in c.images b → byte_in c b.image r ≡ digit ((nth_image c.images b.exporter).base + b.rva) (r - b.slot)) c.bindings
 slot_byte c tied =
     each_map (Finds (SlotsApart c.images) c.bindings)
-    (λ (b : Binding). (r : ℕ) → b.slot ≤ r → r < b.slot + width_in c.images b → byte_in c b.image r ≡ digit ((image_of c.images b.exporter).base + b.rva) (r - b.slot)) c.bindings
-    (λ b finds r low high. ap (byte_by c b.image r) (finds (in_slot b.image (image_of c.images b.image).magic r) (true-in_slot _ r b low high) (λ e apart passes. clash b e r low high apart passes)))
+    (λ (b : Binding). (r : ℕ) → b.slot ≤ r → r < b.slot + width_in c.images b → byte_in c b.image r ≡ digit ((nth_image c.images b.exporter).base + b.rva) (r - b.slot)) c.bindings
+    (λ b finds r low high. ap (byte_by c b.image r) (finds (in_slot b.image (nth_image c.images b.image).magic r) (true-in_slot _ r b low high) (λ e apart passes. clash b e r low high apart passes)))
     (finds_each (SlotsApart c.images) c.bindings tied.apart)
   where
-    clash : (b e : Binding) (r : ℕ) → b.slot ≤ r → r < b.slot + width_in c.images b → SlotsApart c.images e b → in_slot b.image (image_of c.images b.image).magic r e ≡ true → ⊥
+    clash : (b e : Binding) (r : ℕ) → b.slot ≤ r → r < b.slot + width_in c.images b → SlotsApart c.images e b → in_slot b.image (nth_image c.images b.image).magic r e ≡ true → ⊥
     clash b e r low high apart passes =
-        let in_e = in_slot-true b.image (image_of c.images b.image).magic r e passes in
-        let same : slot_width (image_of c.images e.image).magic ≡ slot_width (image_of c.images b.image).magic = ap (λ (j : ℕ). slot_width (image_of c.images j).magic) in_e.0 in
+        let in_e = in_slot-true b.image (nth_image c.images b.image).magic r e passes in
+        let same : slot_width (nth_image c.images e.image).magic ≡ slot_width (nth_image c.images b.image).magic = ap (λ (j : ℕ). slot_width (nth_image c.images j).magic) in_e.0 in
         let a = in_e.1 in
         let d = in_e.2 in
         elim (apart in_e.0) [ inl before ↦ absurd (omega arith) | inr after ↦ absurd (omega arith) ]
 
-pub no_slot : (c : Content) (j : ℕ) → IsTied c → Each (λ (f : Fixup). Each (λ (b : Binding). b.image ≡ j → Apart b.slot (width_in c.images b) f.field (width_of f.kind)) c.bindings) (image_of c.images j).fixups
+pub no_slot : (c : Content) (j : ℕ) → IsTied c → Each (λ (f : Fixup). Each (λ (b : Binding). b.image ≡ j → Apart b.slot (width_in c.images b) f.field (width_of f.kind)) c.bindings) (nth_image c.images j).fixups
 no_slot c j tied =
-    each_swap (λ (b : Binding) (f : Fixup). b.image ≡ j → Apart b.slot (width_in c.images b) f.field (width_of f.kind)) c.bindings (image_of c.images j).fixups
-    (each_map (IsSlot c.images) (λ (b : Binding). Each (λ (f : Fixup). b.image ≡ j → Apart b.slot (width_in c.images b) f.field (width_of f.kind)) (image_of c.images j).fixups) c.bindings (λ b slot. off b slot) tied.slots)
+    each_swap (λ (b : Binding) (f : Fixup). b.image ≡ j → Apart b.slot (width_in c.images b) f.field (width_of f.kind)) c.bindings (nth_image c.images j).fixups
+    (each_map (IsSlot c.images) (λ (b : Binding). Each (λ (f : Fixup). b.image ≡ j → Apart b.slot (width_in c.images b) f.field (width_of f.kind)) (nth_image c.images j).fixups) c.bindings (λ b slot. off b slot) tied.slots)
   where
-    off : (b : Binding) → IsSlot c.images b → Each (λ (f : Fixup). b.image ≡ j → Apart b.slot (width_in c.images b) f.field (width_of f.kind)) (image_of c.images j).fixups
+    off : (b : Binding) → IsSlot c.images b → Each (λ (f : Fixup). b.image ≡ j → Apart b.slot (width_in c.images b) f.field (width_of f.kind)) (nth_image c.images j).fixups
     off b slot = elim (cases_eq b.image j) [
-      | inl same ↦ subst (λ (k : ℕ). Each (λ (f : Fixup). b.image ≡ j → Apart b.slot (width_in c.images b) f.field (width_of f.kind)) (image_of c.images k).fixups) same
-          (each_map (λ (f : Fixup). Apart b.slot (width_in c.images b) f.field (width_of f.kind)) (λ (f : Fixup). b.image ≡ j → Apart b.slot (width_in c.images b) f.field (width_of f.kind)) (image_of c.images b.image).fixups (λ f apart _. apart) slot.off_fields)
-      | inr ne ↦ each_all _ (image_of c.images j).fixups (λ f same. absurd (ne same))
+      | inl same ↦ subst (λ (k : ℕ). Each (λ (f : Fixup). b.image ≡ j → Apart b.slot (width_in c.images b) f.field (width_of f.kind)) (nth_image c.images k).fixups) same
+          (each_map (λ (f : Fixup). Apart b.slot (width_in c.images b) f.field (width_of f.kind)) (λ (f : Fixup). b.image ≡ j → Apart b.slot (width_in c.images b) f.field (width_of f.kind)) (nth_image c.images b.image).fixups (λ f apart _. apart) slot.off_fields)
+      | inr ne ↦ each_all _ (nth_image c.images j).fixups (λ f same. absurd (ne same))
     ]
 
 -- the number that a field holds
-abbrev pub value_of : Image → Fixup → ℕ
-value_of image f = shift f.kind (number_at image.plain f.field (width_of f.kind)) (pos image.base -ℤ pos image.image_base)
+abbrev pub value_of : SpaceImage → Fixup → ℕ
+value_of image f = shift f.kind (number_in image.plain f.field (width_of f.kind)) (pos image.base -ℤ pos image.image_base)
 
-pub field_byte : (c : Content) (j : ℕ) → IsTied c → Each (λ (f : Fixup). (r : ℕ) → f.field ≤ r → r < f.field + width_of f.kind → byte_in c j r ≡ digit (value_of (image_of c.images j) f) (r - f.field)) (image_of c.images j).fixups
+pub field_byte : (c : Content) (j : ℕ) → IsTied c → Each (λ (f : Fixup). (r : ℕ) → f.field ≤ r → r < f.field + width_of f.kind → byte_in c j r ≡ digit (value_of (nth_image c.images j) f) (r - f.field)) (nth_image c.images j).fixups
 field_byte c j tied =
     each_map (λ (f : Fixup). Finds FieldsApart fs f × Each (λ (b : Binding). b.image ≡ j → Apart b.slot (width_in c.images b) f.field (width_of f.kind)) c.bindings)
-    (λ (f : Fixup). (r : ℕ) → f.field ≤ r → r < f.field + width_of f.kind → byte_in c j r ≡ digit (value_of (image_of c.images j) f) (r - f.field)) fs
+    (λ (f : Fixup). (r : ℕ) → f.field ≤ r → r < f.field + width_of f.kind → byte_in c j r ≡ digit (value_of (nth_image c.images j) f) (r - f.field)) fs
     (λ f both r low high.
-    ap (byte_by c j r) (none_found (in_slot j (image_of c.images j).magic r) c.bindings (each_map _ _ c.bindings (λ b apart passes. off f b r low high apart passes) both.1))
-    ∙ ap (fixed_byte (image_of c.images j) r) (both.0 (in_field r) (true-is_in f.field (width_of f.kind) r low high) (λ g apart passes. clash f g r low high apart passes)))
+    ap (byte_by c j r) (none_found (in_slot j (nth_image c.images j).magic r) c.bindings (each_map _ _ c.bindings (λ b apart passes. off f b r low high apart passes) both.1))
+    ∙ ap (fixed_byte (nth_image c.images j) r) (both.0 (in_field r) (true-is_in f.field (width_of f.kind) r low high) (λ g apart passes. clash f g r low high apart passes)))
     (each_both _ _ fs (finds_each FieldsApart fs (tied.images j).apart) (no_slot c j tied))
   where
     fs : List Fixup
-    fs = (image_of c.images j).fixups
+    fs = (nth_image c.images j).fixups
 
-    off : (f : Fixup) (b : Binding) (r : ℕ) → f.field ≤ r → r < f.field + width_of f.kind → (b.image ≡ j → Apart b.slot (width_in c.images b) f.field (width_of f.kind)) → in_slot j (image_of c.images j).magic r b ≡ true → ⊥
+    off : (f : Fixup) (b : Binding) (r : ℕ) → f.field ≤ r → r < f.field + width_of f.kind → (b.image ≡ j → Apart b.slot (width_in c.images b) f.field (width_of f.kind)) → in_slot j (nth_image c.images j).magic r b ≡ true → ⊥
     off f b r low high apart passes =
-        let in_b = in_slot-true j (image_of c.images j).magic r b passes in
-        let same : slot_width (image_of c.images b.image).magic ≡ slot_width (image_of c.images j).magic = ap (λ (k : ℕ). slot_width (image_of c.images k).magic) in_b.0 in
+        let in_b = in_slot-true j (nth_image c.images j).magic r b passes in
+        let same : slot_width (nth_image c.images b.image).magic ≡ slot_width (nth_image c.images j).magic = ap (λ (k : ℕ). slot_width (nth_image c.images k).magic) in_b.0 in
         let a = in_b.1 in
         let d = in_b.2 in
         elim (apart in_b.0) [ inl before ↦ absurd (omega arith) | inr after ↦ absurd (omega arith) ]
@@ -89,7 +89,7 @@ field_byte c j tied =
         let d = in_g.1 in
         elim apart [ inl before ↦ absurd (omega arith) | inr after ↦ absurd (omega arith) ]
 
-pub in_slots : (images : List Image) (p : Binding → Bool) (j r : ℕ) (magic : Magic) (bs : List Binding) (b : Binding) → ((e : Binding) → e.image ≡ j → slot_width magic ≡ width_in images e) → find (in_slot j magic r) bs ≡ Some b → p b ≡ true → InSlot images p j r bs
+pub in_slots : (images : List SpaceImage) (p : Binding → Bool) (j r : ℕ) (magic : Magic) (bs : List Binding) (b : Binding) → ((e : Binding) → e.image ≡ j → slot_width magic ≡ width_in images e) → find (in_slot j magic r) bs ≡ Some b → p b ≡ true → InSlot images p j r bs
 in_slots images p j r magic [] b same h on = cc
 in_slots images p j r magic (e ∷ bs) b same h on = step (λ k. in_slots images p j r magic bs b same k on) (in_slot j magic r e) refl h
   where

@@ -4,7 +4,7 @@ use Rattle.std.specs.Prelude.{Ok, Err}
 use Rattle.pe_view.specs.declared.fault.Place.TheVariants.{Address}
 use Rattle.pe_head.specs.declared.optional.Magic.{Magic}
 use Rattle.pe_head.specs.declared.optional.Magic.TheVariants.{Pe32, Pe32Plus}
-use Rattle.pe_layout.specs.Image.{Image}
+use Rattle.pe_layout.specs.Image.{LaidOut}
 use Rattle.pe_tables.specs.Key.{Ordinal, Name, Target, Forward}
 use Rattle.pe_tables.specs.Key as keys
 use Rattle.pe_tables.specs.Imports.{Import}
@@ -15,13 +15,13 @@ use Rattle.pe_set.specs.Search.{resolve}
 use Rattle.pe_set.specs.Bindings.{bindings_of}
 use Rattle.pe_space.specs.Number.{shift}
 use Rattle.pe_space.specs.Content as content
-use Rattle.pe_space.specs.Content.{Content, image_of, byte_at, window_at, base_at, size_at}
+use Rattle.pe_space.specs.Content.{Content, nth_image, byte_at, window_at, base_at, size_at}
 use Rattle.pe_space.specs.Ordered.{slot_of}
 use Rattle.pe_space.specs.SetContent.{defined_byte}
 use Rattle.pe_space.specs.Windows.{laid_on, fixed_bytes, bytes_in}
 
 -- an image of 0x3000 bytes, of which those from an RVA on are these
-abbrev image : ℕ → List ℕ → ℕ → Image
+abbrev image : ℕ → List ℕ → ℕ → LaidOut
 image at bytes image_base = record {
   number = 0;
   size = 0x3000;
@@ -33,7 +33,7 @@ image at bytes image_base = record {
   is_stripped = false;
 }
 
-abbrev with_tables : List ℕ → ℕ → Magic → Image → List (List ℕ × Target) → List Import → List Fixup → Module
+abbrev with_tables : List ℕ → ℕ → Magic → LaidOut → List (List ℕ × Target) → List Import → List Fixup → Module
 with_tables name base magic image names imports fixups =
     record { name = name; base = base; magic = magic; image = image; exports = record { ordinals = []; names = names }; imports = imports; fixups = fixups }
 
@@ -199,12 +199,12 @@ unfolding bytes_in
 last_three = refl
 
 -- its plain bytes stand where no slot is bound
-plain_in : fixed_bytes (image_of four.images 0) 1 2 ≡ 2 ∷ 3 ∷ []
+plain_in : fixed_bytes (nth_image four.images 0) 1 2 ≡ 2 ∷ 3 ∷ []
 unfolding fixed_bytes
 plain_in = refl
 
 -- an image with a field at its first byte, 0x10000000 above its ImageBase
-abbrev with_first_field : content.Image
+abbrev with_first_field : content.SpaceImage
 with_first_field = record {
   base = 0x20000000;
   size = 5;

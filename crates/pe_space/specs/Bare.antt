@@ -1,7 +1,7 @@
 -- A content with 0 in the bytes of its bound slots: two contents that hold the same addresses for ever are then one.
 use Rattle.std.specs.Prelude.{ℕ, ◌+◌, ◌==◌, if◌then◌else◌, List, [], ◌∷◌, map}
 use Rattle.pe_set.specs.declared.binding.Binding.{Binding}
-use Rattle.pe_space.specs.Content.{Image, Content, slot_width}
+use Rattle.pe_space.specs.Content.{SpaceImage, Content, slot_width}
 use Rattle.pe_space.specs.Memory.{patch, bytes}
 
 -- the bytes with 0 in the slots of image j
@@ -9,7 +9,7 @@ abbrev pub without_slots : ℕ → ℕ → List Binding → List ℕ → List �
 without_slots j width [] xs = xs
 without_slots j width (b ∷ bs) xs = without_slots j width bs (if b.image == j then patch xs b.slot (bytes width 0) else xs)
 
-abbrev pub bared : ℕ → List Binding → List Image → List Image
+abbrev pub bared : ℕ → List Binding → List SpaceImage → List SpaceImage
 bared j bs [] = []
 bared j bs (image ∷ images) = record image { plain = without_slots j (slot_width image.magic) bs image.plain } ∷ bared (j + 1) bs images
 
@@ -18,14 +18,14 @@ abbrev pub bare : Content → Content
 bare s = record s { images = bared 0 s.bindings s.images }
 
 -- the same files at other bases
-abbrev pub at_bases : List ℕ → List Image → List Image
-at_bases [] images = images
-at_bases (base ∷ bases) [] = []
-at_bases (base ∷ bases) (image ∷ images) = record image { base = base } ∷ at_bases bases images
+abbrev pub images_at : List ℕ → List SpaceImage → List SpaceImage
+images_at [] images = images
+images_at (base ∷ bases) [] = []
+images_at (base ∷ bases) (image ∷ images) = record image { base = base } ∷ images_at bases images
 
 abbrev pub set_at : List ℕ → Content → Content
-set_at bases s = record s { images = at_bases bases s.images }
+set_at bases s = record s { images = images_at bases s.images }
 
 -- where the images of a content stand
 abbrev pub bases_of : Content → List ℕ
-bases_of c = map (λ (image : Image). image.base) c.images
+bases_of c = map (λ (image : SpaceImage). image.base) c.images

@@ -13,10 +13,10 @@ pub use Rattle.pe_tables.specs.Fixups.{width_of}
 pub use Rattle.pe_tables.specs.Relocated.{in_field}
 use Rattle.pe_set.specs.Placement.{Placement, placement_at}
 use Rattle.pe_set.specs.declared.binding.Binding.{Binding}
-use Rattle.pe_space.specs.Number.{digit, number_at, shift}
+use Rattle.pe_space.specs.Number.{digit, number_in, shift}
 
 -- one image: where it stands, what its headers say, its bytes before any fixup, and its fixups
-pub record Image : Type 0 where
+pub record SpaceImage : Type 0 where
   pub base : ℕ
   pub size : ℕ
   pub magic : Magic
@@ -27,10 +27,10 @@ pub record Image : Type 0 where
 
 -- the images, and the slots that are bound, by image and then in import order
 pub record Content : Type 0 where
-  pub images : List Image
+  pub images : List SpaceImage
   pub bindings : List Binding
 
-abbrev pub placement_of : Image → Placement
+abbrev pub placement_of : SpaceImage → Placement
 placement_of i = record { base = i.base; size = i.size; magic = i.magic; image_base = i.image_base; is_stripped = i.is_stripped }
 
 -- an RVA of image j, which has this Magic, is one of a bound slot
@@ -38,24 +38,24 @@ abbrev pub in_slot : ℕ → Magic → ℕ → Binding → Bool
 in_slot j magic r b = (b.image == j) && is_in b.slot (slot_width magic) r
 
 -- no image
-abbrev pub no_image : Image
+abbrev pub no_image : SpaceImage
 no_image = record { base = 0; size = 0; magic = Pe32; image_base = 0; is_stripped = false; plain = []; fixups = [] }
 
-abbrev pub image_of : List Image → ℕ → Image
-image_of images j = slice_index_or images j no_image
+abbrev pub nth_image : List SpaceImage → ℕ → SpaceImage
+nth_image images j = slice_index_or images j no_image
 
 -- the byte of an image at an RVA outside its bound slots: of the relocated field in which it is, else the plain one
-abbrev pub fixed_byte : Image → ℕ → Option Fixup → ℕ
+abbrev pub fixed_byte : SpaceImage → ℕ → Option Fixup → ℕ
 fixed_byte image r None = slice_index image.plain r
-fixed_byte image r (Some f) = digit (shift f.kind (number_at image.plain f.field (width_of f.kind)) (pos image.base -ℤ pos image.image_base)) (r - f.field)
+fixed_byte image r (Some f) = digit (shift f.kind (number_in image.plain f.field (width_of f.kind)) (pos image.base -ℤ pos image.image_base)) (r - f.field)
 
 abbrev pub byte_by : Content → ℕ → ℕ → Option Binding → ℕ
-byte_by c j r None = fixed_byte (image_of c.images j) r (find (in_field r) (image_of c.images j).fixups)
-byte_by c j r (Some b) = digit ((image_of c.images b.exporter).base + b.rva) (r - b.slot)
+byte_by c j r None = fixed_byte (nth_image c.images j) r (find (in_field r) (nth_image c.images j).fixups)
+byte_by c j r (Some b) = digit ((nth_image c.images b.exporter).base + b.rva) (r - b.slot)
 
 -- the byte of image j at an RVA: of the address in the bound slot in which it is, else as above
 abbrev pub byte_in : Content → ℕ → ℕ → ℕ
-byte_in c j r = byte_by c j r (find (in_slot j (image_of c.images j).magic r) c.bindings)
+byte_in c j r = byte_by c j r (find (in_slot j (nth_image c.images j).magic r) c.bindings)
 
 -- the number of the image that holds an address, of images whose numbers begin at n
 abbrev pub placed_from : ℕ → List Placement → ℕ → Option ℕ
@@ -69,16 +69,16 @@ base_in ps i = option_map (λ (p : Placement). p.base) (slice_get ps i)
 abbrev pub size_in : List Placement → ℕ → Option ℕ
 size_in ps i = option_map (λ (p : Placement). p.size) (slice_get ps i)
 
-abbrev pub holder_from : ℕ → List Image → ℕ → Option ℕ
+abbrev pub holder_from : ℕ → List SpaceImage → ℕ → Option ℕ
 holder_from n images a = placed_from n (map placement_of images) a
 
-abbrev pub byte_of : Content → ℕ → Option ℕ → Option ℕ
-byte_of c a None = None
-byte_of c a (Some j) = Some (byte_in c j (a - (image_of c.images j).base))
+abbrev pub byte_held : Content → ℕ → Option ℕ → Option ℕ
+byte_held c a None = None
+byte_held c a (Some j) = Some (byte_in c j (a - (nth_image c.images j).base))
 
 -- the byte at an address, where an image stands
 abbrev pub byte_at : Content → ℕ → Option ℕ
-byte_at c a = byte_of c a (holder_from 0 c.images a)
+byte_at c a = byte_held c a (holder_from 0 c.images a)
 
 abbrev pub base_at : Content → ℕ → Option ℕ
 base_at c i = base_in (map placement_of c.images) i

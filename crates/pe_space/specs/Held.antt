@@ -2,18 +2,18 @@
 use Rattle.std.specs.Prelude.{ℕ, pos, ◌-ℤ◌, List, map, Bool, length}
 use Rattle.pe_head.specs.declared.optional.Magic.{Magic}
 use Rattle.pe_tables.specs.declared.fixups.Fixup.{Fixup}
-use Rattle.pe_space.specs.Content.{Image}
+use Rattle.pe_space.specs.Content.{SpaceImage}
 use Rattle.pe_space.specs.Memory.{shifted_all}
 
 pub record Held : Type 0 where
-  pub image : Image
+  pub image : SpaceImage
   pub memory : List ℕ
 
 -- with each field moved on to the new base
 abbrev pub rebased_held : ℕ → Held → Held
 rebased_held base h = record { image = record h.image { base = base }; memory = shifted_all (pos base -ℤ pos h.image.base) h.image.fixups h.memory }
 
-abbrev pub images_of : List Held → List Image
+abbrev pub images_of : List Held → List SpaceImage
 images_of hs = map (λ h. h.image) hs
 
 abbrev pub memories_of : List Held → List (List ℕ)

@@ -1,7 +1,7 @@
 -- What the fields of a mapped space keep.
 use Rattle.std.specs.Prelude.{ℕ, List, ◌≡◌, ◌+◌, Bool, true, length, pos, ◌-ℤ◌}
 use Rattle.pe_set.specs.declared.binding.Binding.{Binding}
-use Rattle.pe_space.specs.Content.{Content, Image, image_of}
+use Rattle.pe_space.specs.Content.{Content, SpaceImage, nth_image}
 use Rattle.pe_space.specs.Memory.{memory_of, shifted_all}
 use Rattle.pe_space.specs.Held.{Held, images_of, memories_of}
 use Rattle.pe_space.specs.Placing.{IsPlaced}
@@ -14,11 +14,11 @@ pub record IsKept (hs : List Held) (bs : List Binding) : Type 0 where
   pub tied : IsTied (kept_content hs bs)
   pub placed : IsPlaced (kept_content hs bs)
   pub laid : IsLaid (kept_content hs bs) (memories_of hs)
-  pub whole : (j : ℕ) → length (image_of (images_of hs) j).plain ≡ (image_of (images_of hs) j).size
+  pub whole : (j : ℕ) → length (nth_image (images_of hs) j).plain ≡ (nth_image (images_of hs) j).size
 
 -- where the export of a binding stands
-abbrev pub address_of : List Image → Binding → ℕ
-address_of images b = (image_of images b.exporter).base + b.rva
+abbrev pub address_of : List SpaceImage → Binding → ℕ
+address_of images b = (nth_image images b.exporter).base + b.rva
 
 abbrev pub any_slot : Binding → Bool
 any_slot b = true
@@ -26,5 +26,5 @@ any_slot b = true
 -- the memories hold the plain bytes with each field moved on from ImageBase, and no slot is bound
 pub record IsFresh (c : Content) (ms : List (List ℕ)) : Type 0 where
   pub count : length ms ≡ length c.images
-  pub whole : (j : ℕ) → length (image_of c.images j).plain ≡ (image_of c.images j).size
-  pub fields : (j : ℕ) → memory_of ms j ≡ shifted_all (pos (image_of c.images j).base -ℤ pos (image_of c.images j).image_base) (image_of c.images j).fixups (image_of c.images j).plain
+  pub whole : (j : ℕ) → length (nth_image c.images j).plain ≡ (nth_image c.images j).size
+  pub fields : (j : ℕ) → memory_of ms j ≡ shifted_all (pos (nth_image c.images j).base -ℤ pos (nth_image c.images j).image_base) (nth_image c.images j).fixups (nth_image c.images j).plain

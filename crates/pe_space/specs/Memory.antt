@@ -5,26 +5,26 @@ pub use Rattle.pe_tables.specs.Patch.{bytes}
 unfoldable pub use Rattle.pe_tables.specs.Patch.{patch}
 use Rattle.pe_tables.specs.declared.fixups.Fixup.{Fixup}
 use Rattle.pe_set.specs.declared.binding.Binding.{Binding}
-use Rattle.pe_space.specs.Content.{Image, image_of, slot_width}
+use Rattle.pe_space.specs.Content.{SpaceImage, nth_image, slot_width}
 
 -- the memory with one field shifted
-abbrev pub shifted : ℤ → Fixup → List ℕ → List ℕ
-shifted d f xs = shifted_at d f.kind f.field xs
+abbrev pub with_shifted : ℤ → Fixup → List ℕ → List ℕ
+with_shifted d f xs = shifted_at d f.kind f.field xs
 
 abbrev pub shifted_all : ℤ → List Fixup → List ℕ → List ℕ
 shifted_all d [] xs = xs
-shifted_all d (f ∷ fs) xs = shifted_all d fs (shifted d f xs)
+shifted_all d (f ∷ fs) xs = shifted_all d fs (with_shifted d f xs)
 
 -- the memory of image j
 abbrev pub memory_of : List (List ℕ) → ℕ → List ℕ
 memory_of ms j = slice_index_or ms j []
 
 -- the memories with one slot holding an address
-unfoldable pub put_slot : List Image → Binding → ℕ → List (List ℕ) → List (List ℕ)
-put_slot images b address ms = slice_set ms b.image (patch (memory_of ms b.image) b.slot (bytes (slot_width (image_of images b.image).magic) address))
+unfoldable pub put_slot : List SpaceImage → Binding → ℕ → List (List ℕ) → List (List ℕ)
+put_slot images b address ms = slice_set ms b.image (patch (memory_of ms b.image) b.slot (bytes (slot_width (nth_image images b.image).magic) address))
 
 -- the memories once each slot that passes the test holds its address
-abbrev pub rebound : List Image → (Binding → Bool) → (Binding → ℕ) → List Binding → List (List ℕ) → List (List ℕ)
+abbrev pub rebound : List SpaceImage → (Binding → Bool) → (Binding → ℕ) → List Binding → List (List ℕ) → List (List ℕ)
 rebound images p address [] ms = ms
 rebound images p address (b ∷ bs) ms = rebound images p address bs (if p b then put_slot images b (address b) ms else ms)
 

@@ -5,5 +5,5 @@ pub use Rattle.pe_view.specs.Number.{digit}
 unfoldable pub use Rattle.pe_tables.specs.Relocated.{shift}
 
 -- the number in the bytes from a place on
-abbrev pub number_at : List ℕ → ℕ → ℕ → ℕ
-number_at bytes place width = num (byte_of bytes) place width
+abbrev pub number_in : List ℕ → ℕ → ℕ → ℕ
+number_in bytes place width = num (byte_of bytes) place width

@@ -1,13 +1,13 @@
 -- The images of a space share no address.
 use Rattle.std.specs.Prelude.{ℕ, ◌+◌, ◌%◌, ◌^◌, ◌≡◌, ◌<◌, ◌≤◌, length}
 use Rattle.pe_set.specs.Placement.{address_limit}
-use Rattle.pe_space.specs.Content.{Content, image_of}
+use Rattle.pe_space.specs.Content.{Content, nth_image}
 use Rattle.pe_space.specs.Tied.{Apart}
 
 -- the images stand where they may
 pub record IsPlaced (c : Content) : Type 0 where
   pub few : length c.images ≤ 256
   pub few_slots : length c.bindings < 2 ^ 32
-  pub aligned : (j : ℕ) → (image_of c.images j).base % 65536 ≡ 0
-  pub room : (j : ℕ) → (image_of c.images j).base + (image_of c.images j).size ≤ address_limit (image_of c.images j).magic
-  pub apart : (j k : ℕ) → j < length c.images → k < length c.images → (j ≡ k → ⊥) → Apart (image_of c.images j).base (image_of c.images j).size (image_of c.images k).base (image_of c.images k).size
+  pub aligned : (j : ℕ) → (nth_image c.images j).base % 65536 ≡ 0
+  pub room : (j : ℕ) → (nth_image c.images j).base + (nth_image c.images j).size ≤ address_limit (nth_image c.images j).magic
+  pub apart : (j k : ℕ) → j < length c.images → k < length c.images → (j ≡ k → ⊥) → Apart (nth_image c.images j).base (nth_image c.images j).size (nth_image c.images k).base (nth_image c.images k).size

@@ -8,11 +8,11 @@ use Rattle.pe_set.specs.declared.binding.Binding.{Binding}
 use Rattle.pe_space.specs.Number.{digit}
 use Rattle.pe_set.specs.Set.{Module}
 use Rattle.pe_set.specs.Bindings.{bindings_of}
-use Rattle.pe_space.specs.Content.{Image, Content, is_in, in_field, in_slot}
+use Rattle.pe_space.specs.Content.{SpaceImage, Content, is_in, in_field, in_slot}
 use Rattle.pe_space.specs.Bare.{bare}
 
 -- an image as its file lays it out
-abbrev pub image_content : Module → Image
+abbrev pub image_content : Module → SpaceImage
 image_content m = record {
   base = m.base;
   size = m.image.size;

@@ -2,7 +2,7 @@
 use Rattle.std.specs.Prelude.{ℕ, ◌+◌, ◌≡◌, ◌<◌, ◌≤◌, ◌⊎◌, List, [], ◌∷◌, length, slice_index}
 use Rattle.pe_tables.specs.declared.fixups.Fixup.{Fixup}
 use Rattle.pe_set.specs.declared.binding.Binding.{Binding}
-use Rattle.pe_space.specs.Content.{Image, Content, image_of, width_of, slot_width, byte_in}
+use Rattle.pe_space.specs.Content.{SpaceImage, Content, nth_image, width_of, slot_width, byte_in}
 use Rattle.pe_space.specs.Memory.{memory_of}
 
 -- two ranges have no number in common
@@ -22,29 +22,29 @@ abbrev pub FieldsApart : Fixup → Fixup → Type 0
 FieldsApart f g = Apart f.field (width_of f.kind) g.field (width_of g.kind)
 
 -- the fields lie in the image, and no two of them meet
-pub record IsImage (image : Image) : Type 0 where
+pub record IsImage (image : SpaceImage) : Type 0 where
   pub inside : Each (λ f. f.field + width_of f.kind ≤ image.size) image.fixups
   pub apart : EachPair FieldsApart image.fixups
 
 -- the slot lies in its image and meets no field, and its export lies in an image
-pub record IsSlot (images : List Image) (b : Binding) : Type 0 where
+pub record IsSlot (images : List SpaceImage) (b : Binding) : Type 0 where
   pub image : b.image < length images
-  pub inside : b.slot + slot_width (image_of images b.image).magic ≤ (image_of images b.image).size
-  pub off_fields : Each (λ f. Apart b.slot (slot_width (image_of images b.image).magic) f.field (width_of f.kind)) (image_of images b.image).fixups
+  pub inside : b.slot + slot_width (nth_image images b.image).magic ≤ (nth_image images b.image).size
+  pub off_fields : Each (λ f. Apart b.slot (slot_width (nth_image images b.image).magic) f.field (width_of f.kind)) (nth_image images b.image).fixups
   pub exporter : b.exporter < length images
-  pub target : b.rva < (image_of images b.exporter).size
+  pub target : b.rva < (nth_image images b.exporter).size
 
-abbrev pub SlotsApart : List Image → Binding → Binding → Type 0
-SlotsApart images b e = b.image ≡ e.image → Apart b.slot (slot_width (image_of images b.image).magic) e.slot (slot_width (image_of images b.image).magic)
+abbrev pub SlotsApart : List SpaceImage → Binding → Binding → Type 0
+SlotsApart images b e = b.image ≡ e.image → Apart b.slot (slot_width (nth_image images b.image).magic) e.slot (slot_width (nth_image images b.image).magic)
 
 -- fields and slots are in order, wherever the images stand
 pub record IsTied (c : Content) : Type 0 where
-  pub images : (j : ℕ) → IsImage (image_of c.images j)
+  pub images : (j : ℕ) → IsImage (nth_image c.images j)
   pub slots : Each (IsSlot c.images) c.bindings
   pub apart : EachPair (SlotsApart c.images) c.bindings
 
 -- the memories hold what the content says
 pub record IsLaid (c : Content) (ms : List (List ℕ)) : Type 0 where
   pub count : length ms ≡ length c.images
-  pub lengths : (j : ℕ) → length (memory_of ms j) ≡ (image_of c.images j).size
-  pub each : (j r : ℕ) → r < (image_of c.images j).size → slice_index (memory_of ms j) r ≡ byte_in c j r
+  pub lengths : (j : ℕ) → length (memory_of ms j) ≡ (nth_image c.images j).size
+  pub each : (j r : ℕ) → r < (nth_image c.images j).size → slice_index (memory_of ms j) r ≡ byte_in c j r

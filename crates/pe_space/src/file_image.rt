@@ -3,7 +3,7 @@ ghost use Rattle.pe_set.specs.SetView.{module_view};
 ghost use Rattle.pe_tables.specs.Fixups.{width_of};
 ghost use Rattle.pe_tables.specs.declared.fixups.Fixup.{Fixup};
 ghost use Rattle.pe_space.specs.Fresh.{IsFit};
-ghost use Rattle.pe_space.specs.Number.{number_at, shift};
+ghost use Rattle.pe_space.specs.Number.{number_in, shift};
 ghost use Rattle.pe_space.specs.SetContent.{image_content};
 ghost use Rattle.pe_space.specs.Tied.{IsImage};
 ghost use Rattle.pe_space.specs.Windows.{fixed_bytes};
@@ -29,9 +29,9 @@ pub(crate) struct FileImage<'a, A: Allocator> {
 }
 
 impl<'a, A: Allocator> Model for FileImage<'a, A> {
-    ghost use Rattle.pe_space.specs.Content.{Image};
+    ghost use Rattle.pe_space.specs.Content.{SpaceImage};
 
-    ghost Value = { Image };
+    ghost Value = { SpaceImage };
 
     ghost use Rattle.std.specs.Prelude.{length, ◌<◌, ◌^◌};
     ghost use Rattle.pe_layout.specs.Image.{bytes_at};
@@ -109,7 +109,7 @@ impl<'a, A: Allocator + Copy> FileImage<'a, A> {
     /// The number in a field: that of the file, moved on from ImageBase to the base.
     fn relocated(&self, fixup: Fixup) -> u64
         requires { fixup.field + width_of fixup.kind ≤ self.now.size }
-        ensures { result ≡ shift fixup.kind (number_at self.now.plain fixup.field (width_of fixup.kind)) (pos self.now.base -ℤ pos self.now.image_base) }
+        ensures { result ≡ shift fixup.kind (number_in self.now.plain fixup.field (width_of fixup.kind)) (pos self.now.base -ℤ pos self.now.image_base) }
     {
         let (from, to) = (self.layout.image_base(), self.base);
         match fixup.kind {

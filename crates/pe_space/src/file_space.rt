@@ -1,7 +1,7 @@
 ghost use Rattle.std.specs.Prelude.{◌≡◌, ◌+◌, ◌≤◌, ◌<◌, ◌^◌, ℕ, Contains, length, count_by, IsOk, IfOk};
 ghost use Rattle.pe_set.specs.declared.binding.Binding.{Binding};
 ghost use Rattle.pe_space.specs.Bare.{bare};
-ghost use Rattle.pe_space.specs.Content.{image_of};
+ghost use Rattle.pe_space.specs.Content.{nth_image};
 ghost use Rattle.pe_space.specs.Filed.{filed_content, IsFiled};
 ghost use Rattle.pe_space.specs.Memory.{ends_in};
 ghost use Rattle.pe_space.specs.Placing.{IsPlaced};
@@ -63,8 +63,8 @@ impl<'a, A: Allocator + Copy> FileSpace<'a, A> {
     ) -> Result<FileSpace<'a, A>, AllocError>
         requires tied { IsTied (filed_content images.items bindings.items) }
         requires placed { IsPlaced (filed_content images.items bindings.items) }
-        requires whole { (j : ℕ) → length (image_of images.items j).plain ≡ (image_of images.items j).size }
-        requires small { (j : ℕ) → (image_of images.items j).size ≤ 2 ^ 31 }
+        requires whole { (j : ℕ) → length (nth_image images.items j).plain ≡ (nth_image images.items j).size }
+        requires small { (j : ℕ) → (nth_image images.items j).size ≤ 2 ^ 31 }
         ensures content { IfOk result (λ space. space ≡ bare (filed_content images.entry.items bindings.items)) }
         ensures empty { length bindings.items ≡ 0 → IsOk result }
     {
@@ -94,7 +94,7 @@ impl<'a, A: Allocator + Copy> FileSpace<'a, A> {
     /// stand there before slots are bound.
     fn read(&self, number: u16, start: u32, window: &mut [u8])
         requires number { number < length self.now.images }
-        requires inside { start + length window.old ≤ (image_of self.now.images number).size }
+        requires inside { start + length window.old ≤ (nth_image self.now.images number).size }
         ensures { window.new ≡ bytes_in self.now number start (length window.old) }
     {
         let image = &self.images[number as usize];

@@ -1,6 +1,6 @@
 ghost use Rattle.std.specs.Prelude.{◌≡◌, ◌+◌, ◌<◌, ◌≤◌, ◌^◌, ℕ, length, count_by};
 ghost use Rattle.pe_space.specs.Bare.{bare};
-ghost use Rattle.pe_space.specs.Content.{image_of};
+ghost use Rattle.pe_space.specs.Content.{nth_image};
 ghost use Rattle.pe_space.specs.Memory.{rebound, ends_in, from_base};
 ghost use Rattle.pe_space.specs.Held.{images_of, memories_of};
 ghost use Rattle.pe_space.specs.Tied.{Each, IsSlot, IsTied};
@@ -38,7 +38,7 @@ impl<A: Allocator> Model for MappedSpace<A> {
 /// Writes the address of its export into each slot.
 fn bind<A: Allocator + Copy>(images: &mut [MappedImage<A>], bindings: &[Binding])
     requires slots { Each (IsSlot (images_of images.old)) bindings.now }
-    requires room { (j : ℕ) → (image_of (images_of images.old) j).base + (image_of (images_of images.old) j).size ≤ 2 ^ 64 }
+    requires room { (j : ℕ) → (nth_image (images_of images.old) j).base + (nth_image (images_of images.old) j).size ≤ 2 ^ 64 }
     ensures images { images_of images.new ≡ images_of images.old }
     ensures memories { memories_of images.new ≡ rebound (images_of images.old) any_slot (address_of (images_of images.old)) bindings.now (memories_of images.old) }
 {
@@ -57,7 +57,7 @@ fn rebind<A: Allocator + Copy>(
 ) -> u32
     requires slots { Each (IsSlot (images_of images.old)) bindings.now }
     requires few { length bindings.now < 2 ^ 32 }
-    requires room { base + (image_of (images_of images.old) exporter).size ≤ 2 ^ 64 }
+    requires room { base + (nth_image (images_of images.old) exporter).size ≤ 2 ^ 64 }
     ensures images { images_of images.new ≡ images_of images.old }
     ensures memories { memories_of images.new ≡ rebound (images_of images.old) (ends_in exporter) (from_base base) bindings.now (memories_of images.old) }
     ensures count { result ≡ count_by (ends_in exporter) bindings.now }

@@ -8,7 +8,7 @@ use Rattle.pe_view.specs.declared.fault.Fault.{Fault}
 use Rattle.pe_view.specs.Faults.{Test, first_standing}
 use Rattle.pe_view.specs.FirstStanding.{first-past, first-in}
 use Rattle.pe_head.specs.declared.directory.Directory.{Directory}
-use Rattle.pe_layout.specs.Image.{Image, is_inside, fault_at}
+use Rattle.pe_layout.specs.Image.{LaidOut, is_inside, fault_at}
 use Rattle.pe_tables.specs.Ranges.{SameRanges, meets}
 use Rattle.pe_tables.specs.Fixups.{Block, Entry, block_at, blocks_from, blocks_of, ends_table, entries_of, fixup_of, fixups_in, width_of}
 use Rattle.pe_tables.specs.FixupFaults.{field_tests, entries_tests, blocks_tests, is_bad_size, size_test, fixup_tests_at}
@@ -16,27 +16,27 @@ use Rattle.pe_tables.specs.TableFaults.{goes_past}
 use Rattle.pe_tables.specs.declared.fixups.Fixup.{Fixup}
 
 -- no block stands where the table ends
-pub blocks-end : (i : Image) (end rva n : ℕ) → ends_table i end rva ≡ true → blocks_from n i end rva ≡ []
+pub blocks-end : (i : LaidOut) (end rva n : ℕ) → ends_table i end rva ≡ true → blocks_from n i end rva ≡ []
 blocks-end i end rva zero ends = refl
 blocks-end i end rva (suc n) ends = rw ends refl
 
 -- a block stands where it goes on
-blocks-more : (i : Image) (end rva n : ℕ) → ends_table i end rva ≡ false → blocks_from (suc n) i end rva ≡ block_at i rva ∷ blocks_from n i end (rva + (block_at i rva).size)
+blocks-more : (i : LaidOut) (end rva n : ℕ) → ends_table i end rva ≡ false → blocks_from (suc n) i end rva ≡ block_at i rva ∷ blocks_from n i end (rva + (block_at i rva).size)
 blocks-more i end rva n goes = rw goes refl
 
 not_zero : (n : ℕ) → (n == 0) ≡ false → 0 < n
 not_zero n e = grind (arith, nat_tests)
 
-some_size : (i : Image) (end rva : ℕ) → ends_table i end rva ≡ false → 0 < (block_at i rva).size
+some_size : (i : LaidOut) (end rva : ℕ) → ends_table i end rva ≡ false → 0 < (block_at i rva).size
 some_size i end rva goes =
     let p = or_parts _ _ goes in
     not_zero (block_at i rva).size p.1
 
-past_end : (i : Image) (end rva : ℕ) → end ≤ rva → ends_table i end rva ≡ true
+past_end : (i : LaidOut) (end rva : ℕ) → end ≤ rva → ends_table i end rva ≡ true
 past_end i end rva le = let e : nat_lt end (rva + 8) ≡ true = lt-ltb _ _ (omega arith) in rw e refl
 
 -- more blocks than a table has room for are all of them
-enough : (i : Image) (end n m rva : ℕ) → end ≤ rva + n → end ≤ rva + m → blocks_from n i end rva ≡ blocks_from m i end rva
+enough : (i : LaidOut) (end n m rva : ℕ) → end ≤ rva + n → end ≤ rva + m → blocks_from n i end rva ≡ blocks_from m i end rva
 enough i end zero m rva le le' = sym (blocks-end i end rva m (past_end i end rva (omega arith)))
 enough i end (suc n) zero rva le le' = blocks-end i end rva (suc n) (past_end i end rva (omega arith))
 enough i end (suc n) (suc m) rva le le' = elim (cases_Bool (ends_table i end rva)) [
@@ -49,7 +49,7 @@ enough i end (suc n) (suc m) rva le le' = elim (cases_Bool (ends_table i end rva
 ]
 
 -- the blocks from an RVA on, where one stands there
-pub blocks-step : (i : Image) (end rva : ℕ) → ends_table i end rva ≡ false
+pub blocks-step : (i : LaidOut) (end rva : ℕ) → ends_table i end rva ≡ false
     → blocks_from (end - rva) i end rva ≡ block_at i rva ∷ blocks_from (end - (rva + (block_at i rva).size)) i end (rva + (block_at i rva).size)
 blocks-step i end rva goes =
     let room : rva + 8 ≤ end = ltb-false end (rva + 8) (or_parts _ _ goes).0 in
@@ -65,7 +65,7 @@ first-later t ts passes = rw passes refl
 first-here : (t : Test) (ts : List Test) → t.stands ≡ true → first_standing (t ∷ ts) ≡ Some t.fault
 first-here t ts stands = rw stands refl
 
-module _ (i : Image) (slots : List (ℕ × ℕ)) (end rva : ℕ) (before : List Fixup) (goes : ends_table i end rva ≡ false) where
+module _ (i : LaidOut) (slots : List (ℕ × ℕ)) (end rva : ℕ) (before : List Fixup) (goes : ends_table i end rva ≡ false) where
   -- a block without a fault
   pub blocks-past : (size_test i end (block_at i rva)).stands ≡ false → first_standing (entries_tests i slots before (entries_of i (block_at i rva))) ≡ None
       → first_standing (blocks_tests i slots end before (blocks_from (end - rva) i end rva))
@@ -105,21 +105,21 @@ module _ (i : Image) (slots : List (ℕ × ℕ)) (end rva : ℕ) (before : List 
       ∙ sym (append_assoc before (fixups_in i (block_at i rva)) (flat_map (fixups_in i) (blocks_from (end - (rva + (block_at i rva).size)) i end (rva + (block_at i rva).size))))
 
 -- no blocks have no fault
-pub blocks-none : (i : Image) (slots : List (ℕ × ℕ)) (end : ℕ) (before : List Fixup) → first_standing (blocks_tests i slots end before []) ≡ None
+pub blocks-none : (i : LaidOut) (slots : List (ℕ × ℕ)) (end : ℕ) (before : List Fixup) → first_standing (blocks_tests i slots end before []) ≡ None
 unfolding blocks_tests
 blocks-none i slots end before = refl
 
-same_field : (i : Image) (slots others : List (ℕ × ℕ)) → SameRanges slots others → (before : List Fixup) (f : Option Fixup) → field_tests i slots before f ≡ field_tests i others before f
+same_field : (i : LaidOut) (slots others : List (ℕ × ℕ)) → SameRanges slots others → (before : List Fixup) (f : Option Fixup) → field_tests i slots before f ≡ field_tests i others before f
 same_field i slots others same before None = refl
 same_field i slots others same before (Some f) = rw (same (λ range. meets f.field (width_of f.kind) range.0 range.1)) refl
 
-same_entries : (i : Image) (slots others : List (ℕ × ℕ)) → SameRanges slots others → (before : List Fixup) (es : List Entry) → entries_tests i slots before es ≡ entries_tests i others before es
+same_entries : (i : LaidOut) (slots others : List (ℕ × ℕ)) → SameRanges slots others → (before : List Fixup) (es : List Entry) → entries_tests i slots before es ≡ entries_tests i others before es
 unfolding entries_tests
 same_entries i slots others same before [] = refl
 same_entries i slots others same before (e ∷ es) = rw (same_field i slots others same before (fixup_of e), same_entries i slots others same (before ++ option_to_list (fixup_of e)) es) refl
 
 -- slots that no test tells apart have the same tests
-pub same_blocks : (i : Image) (slots others : List (ℕ × ℕ)) → SameRanges slots others → (end : ℕ) (before : List Fixup) (bs : List Block) → blocks_tests i slots end before bs ≡ blocks_tests i others end before bs
+pub same_blocks : (i : LaidOut) (slots others : List (ℕ × ℕ)) → SameRanges slots others → (end : ℕ) (before : List Fixup) (bs : List Block) → blocks_tests i slots end before bs ≡ blocks_tests i others end before bs
 unfolding blocks_tests
 same_blocks i slots others same end before [] = refl
 same_blocks i slots others same end before (b ∷ bs) = rw (same_entries i slots others same before (entries_of i b), same_blocks i slots others same end (before ++ fixups_in i b) bs) refl
@@ -128,7 +128,7 @@ inside_test : (rva size limit : ℕ) → rva + size ≤ limit → not (nat_le (r
 inside_test rva size limit le = let e : nat_le (rva + size) limit ≡ true = le-leb _ _ le in rw e refl
 
 -- a table that lies in the image has the faults of its blocks
-pub table-past : (i : Image) (slots others : List (ℕ × ℕ)) (d : Directory) → SameRanges slots others → d.rva + d.size ≤ i.size
+pub table-past : (i : LaidOut) (slots others : List (ℕ × ℕ)) (d : Directory) → SameRanges slots others → d.rva + d.size ≤ i.size
     → first_standing (fixup_tests_at i others (Some d)) ≡ first_standing (blocks_tests i slots (d.rva + d.size) [] (blocks_of i d))
 table-past i slots others d same le =
     first-later (record { stands = not (is_inside i d.rva d.size); fault = fault_at 34 i d.rva }) (blocks_tests i others (d.rva + d.size) [] (blocks_of i d)) (inside_test d.rva d.size i.size le)
@@ -137,7 +137,7 @@ table-past i slots others d same le =
 pub not_equal_zero : (n : ℕ) → 0 < n → (n == 0) ≡ false
 not_equal_zero n some = grind (arith, nat_tests)
 
-module _ (i : Image) (others : List (ℕ × ℕ)) (d : Directory) (inside : d.rva + d.size ≤ i.size) where
+module _ (i : LaidOut) (others : List (ℕ × ℕ)) (d : Directory) (inside : d.rva + d.size ≤ i.size) where
   all_blocks : blocks_of i d ≡ blocks_from (d.rva + d.size - d.rva) i (d.rva + d.size) d.rva
   all_blocks = let fuel : d.size ≡ d.rva + d.size - d.rva = omega arith in ap (λ (n : ℕ). blocks_from n i (d.rva + d.size) d.rva) fuel
 

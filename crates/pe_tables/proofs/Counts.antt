@@ -7,7 +7,7 @@ use Rattle.std.proofs.lemmas.List.FromFn.{length-map-range_with_len}
 use Rattle.pe_view.specs.Faults.{Test, first_standing}
 use Rattle.pe_view.specs.FirstStanding.{none-append, none_stands}
 use Rattle.pe_head.specs.declared.directory.Directory.{Directory}
-use Rattle.pe_layout.specs.Image.{Image, is_inside, fault_at}
+use Rattle.pe_layout.specs.Image.{LaidOut, is_inside, fault_at}
 use Rattle.pe_tables.specs.Fixups.{Block, block_at, blocks_from, blocks_of, ends_table, entry_at, entries_of, fixup_of, fixups_in, fixups_at, fixups_of, slot_range}
 use Rattle.pe_tables.specs.FixupFaults.{is_bad_size, size_test, entries_tests, blocks_tests, fixup_tests_at, fixup_tests}
 use Rattle.pe_tables.proofs.Entries.{filter_map-cons}
@@ -27,7 +27,7 @@ length-filter_map f (x ∷ xs) =
     omega (arith, more, one, parts)
 
 -- each fixup of a block takes two of its bytes
-own_few : (i : Image) (b : Block) → 2 * length (fixups_in i b) ≤ b.size
+own_few : (i : LaidOut) (b : Block) → 2 * length (fixups_in i b) ≤ b.size
 own_few i b =
     let some = length-filter_map fixup_of (entries_of i b) in
     let all = length-map-range_with_len (entry_at i b) 0 ((b.size - 8) / 2) in
@@ -37,7 +37,7 @@ own_few i b =
 within : (end rva size : ℕ) → is_bad_size end rva size ≡ false → rva + size ≤ end
 within end rva size good = ltb-false _ _ (or_parts _ _ (or_parts _ _ good).1).1
 
-blocks_few : (i : Image) (slots : List (ℕ × ℕ)) (end n rva : ℕ) (before : List Fixup) → rva ≤ end → first_standing (blocks_tests i slots end before (blocks_from n i end rva)) ≡ None
+blocks_few : (i : LaidOut) (slots : List (ℕ × ℕ)) (end n rva : ℕ) (before : List Fixup) → rva ≤ end → first_standing (blocks_tests i slots end before (blocks_from n i end rva)) ≡ None
     → 2 * length (flat_map (fixups_in i) (blocks_from n i end rva)) + rva ≤ end
 unfolding blocks_tests
 blocks_few i slots end zero rva before le none = omega arith
@@ -55,7 +55,7 @@ blocks_few i slots end (suc n) rva before le none = elim (cases_Bool (ends_table
       rw goes (omega (arith, later, own, parts)))
 ]
 
-table_few : (i : Image) (slots : List (ℕ × ℕ)) (d : Option Directory) → first_standing (fixup_tests_at i slots d) ≡ None → 2 * length (fixups_at i d) ≤ i.size
+table_few : (i : LaidOut) (slots : List (ℕ × ℕ)) (d : Option Directory) → first_standing (fixup_tests_at i slots d) ≡ None → 2 * length (fixups_at i d) ≤ i.size
 table_few i slots None none = omega arith
 table_few i slots (Some d) none =
     let first : Test = record { stands = not (is_inside i d.rva d.size); fault = fault_at 34 i d.rva } in
@@ -65,5 +65,5 @@ table_few i slots (Some d) none =
     omega (arith, inside, few)
 
 -- an image of at most 2^31 bytes has fewer fixups than that
-pub fixups_few : (i : Image) (slots : List ℕ) → i.size ≤ 2 ^ 31 → first_standing (fixup_tests i slots) ≡ None → length (fixups_of i) < 2 ^ 31
+pub fixups_few : (i : LaidOut) (slots : List ℕ) → i.size ≤ 2 ^ 31 → first_standing (fixup_tests i slots) ≡ None → length (fixups_of i) < 2 ^ 31
 fixups_few i slots small none = let few = table_few i (map (slot_range i.slot_width) slots) (i.directory 5) none in omega (arith, few)

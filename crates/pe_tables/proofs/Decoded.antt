@@ -8,7 +8,7 @@ use Rattle.std.proofs.Math.ListN.{get_or-append}
 use Rattle.pe_tables.proofs.Blocks.{blocks-end, blocks-step, not_equal_zero}
 use Rattle.pe_tables.proofs.FixupPlaces.{type_kind}
 use Rattle.std.proofs.Math.Seq.{get_or-append_right}
-use Rattle.pe_layout.specs.Image.{Image, number_at}
+use Rattle.pe_layout.specs.Image.{LaidOut, number_at}
 use Rattle.pe_tables.specs.Fixups.{Block, Entry, block_at, blocks_from, ends_table, entry_of, fixup_of, fixup_by, fixups_at, fixups_in, kind_of}
 use Rattle.pe_head.specs.declared.directory.Directory.{Directory}
 use Rattle.pe_view.specs.Number.{little}
@@ -18,26 +18,26 @@ use Rattle.pe_tables.specs.declared.fixups.Fixup.{Fixup}
 use Rattle.pe_tables.specs.declared.fixups.FixupKind.{FixupKind}
 use Rattle.pe_tables.specs.declared.fixups.FixupKind.TheVariants.{Bits32, Bits64, High, Low}
 
-pub stands-front : (i : Image) (rva : ℕ) (xs ys : List ℕ) → StandsAt i rva (xs ++ ys) → StandsAt i rva xs
+pub stands-front : (i : LaidOut) (rva : ℕ) (xs ys : List ℕ) → StandsAt i rva (xs ++ ys) → StandsAt i rva xs
 stands-front i rva xs ys stands = λ k lt. stands k (omega (arith, length-append xs ys)) ∙ get_or-append xs ys 0 k lt
 
-pub stands-back : (i : Image) (rva : ℕ) (xs ys : List ℕ) → StandsAt i rva (xs ++ ys) → StandsAt i (rva + length xs) ys
+pub stands-back : (i : LaidOut) (rva : ℕ) (xs ys : List ℕ) → StandsAt i rva (xs ++ ys) → StandsAt i (rva + length xs) ys
 stands-back i rva xs ys stands = λ k lt.
     let at : rva + (length xs + k) ≡ rva + length xs + k = omega arith in
     let past : length xs + k - length xs ≡ k = omega arith in
     ap i.byte (sym at) ∙ stands (length xs + k) (omega (arith, length-append xs ys)) ∙ get_or-append_right xs ys (length xs + k) 0 (omega arith) ∙ ap (λ (n : ℕ). get_or ys n 0) past
 
-pub byte_at : (i : Image) (rva at k : ℕ) (bytes : List ℕ) → StandsAt i rva bytes → k < length bytes → at ≡ rva + k → i.byte at ≡ get_or bytes k 0
+pub byte_at : (i : LaidOut) (rva at k : ℕ) (bytes : List ℕ) → StandsAt i rva bytes → k < length bytes → at ≡ rva + k → i.byte at ≡ get_or bytes k 0
 byte_at i rva at k bytes stands lt e = ap i.byte e ∙ stands k lt
 
 -- a number of 2 or of 4 bytes, read back
-pub reads_2 : (i : Image) (rva v : ℕ) → v < 65536 → StandsAt i rva (little 2 v) → number_at 2 i rva ≡ v
+pub reads_2 : (i : LaidOut) (rva v : ℕ) → v < 65536 → StandsAt i rva (little 2 v) → number_at 2 i rva ≡ v
 reads_2 i rva v lt stands =
     let b0 : i.byte rva ≡ v / 1 % 256 = byte_at i rva rva 0 (little 2 v) stands (omega arith) (omega arith) in
     let b1 : i.byte (rva + 1) ≡ v / 256 % 256 = byte_at i rva (rva + 1) 1 (little 2 v) stands (omega arith) (omega arith) in
     rw (b0, b1) (omega arith)
 
-pub reads_4 : (i : Image) (rva v : ℕ) → v < 2 ^ 32 → StandsAt i rva (little 4 v) → number_at 4 i rva ≡ v
+pub reads_4 : (i : LaidOut) (rva v : ℕ) → v < 2 ^ 32 → StandsAt i rva (little 4 v) → number_at 4 i rva ≡ v
 reads_4 i rva v lt stands =
     let b0 : i.byte rva ≡ v / 1 % 256 = byte_at i rva rva 0 (little 4 v) stands (omega arith) (omega arith) in
     let b1 : i.byte (rva + 1) ≡ v / 256 % 256 = byte_at i rva (rva + 1) 1 (little 4 v) stands (omega arith) (omega arith) in
@@ -57,7 +57,7 @@ type_small Bits32 = lit< tt
 type_small Bits64 = lit< tt
 
 -- an entry, read back
-entry_read : (i : Image) (page rva : ℕ) (f : Fixup) → page_of f ≡ page → StandsAt i rva (entry_bytes f)
+entry_read : (i : LaidOut) (page rva : ℕ) (f : Fixup) → page_of f ≡ page → StandsAt i rva (entry_bytes f)
     → fixup_of (entry_of i (4096 * page) rva) ≡ Some (record { entry = rva; field = f.field; kind = f.kind })
 entry_read i page rva f same stands =
     let small = type_small f.kind in
@@ -69,7 +69,7 @@ entry_read i page rva f same stands =
     ∙ ap (λ (n : ℕ). Some (record { entry = rva; field = n; kind = f.kind })) field
 
 -- the entry that fills a block up
-padding_read : (i : Image) (page rva : ℕ) → StandsAt i rva (0 ∷ 0 ∷ []) → fixup_of (entry_of i page rva) ≡ None
+padding_read : (i : LaidOut) (page rva : ℕ) → StandsAt i rva (0 ∷ 0 ∷ []) → fixup_of (entry_of i page rva) ≡ None
 padding_read i page rva stands =
     let b0 : i.byte rva ≡ 0 = byte_at i rva rva 0 (0 ∷ 0 ∷ []) stands (omega arith) (omega arith) in
     let b1 : i.byte (rva + 1) ≡ 0 = byte_at i rva (rva + 1) 1 (0 ∷ 0 ∷ []) stands (omega arith) (omega arith) in
@@ -85,7 +85,7 @@ views-none : (e : Entry) (es : List Entry) → fixup_of e ≡ None → views (e 
 views-none e es is = ap (λ (o : Option Fixup). map view (cons_option o (filter_map fixup_of es))) is
 
 -- the entries of a page from index k on, and at most one that fills the block up
-entries_read : (i : Image) (rva page k m : ℕ) (fs : List Fixup) → AllOfPage page fs → m < 2 → StandsAt i (rva + 2 * k) (flat_map entry_bytes fs ++ replicate (2 * m) 0)
+entries_read : (i : LaidOut) (rva page k m : ℕ) (fs : List Fixup) → AllOfPage page fs → m < 2 → StandsAt i (rva + 2 * k) (flat_map entry_bytes fs ++ replicate (2 * m) 0)
     → views (map (λ j. entry_of i (4096 * page) (rva + 2 * j)) (range_with_len k (length fs + m))) ≡ map view fs
 entries_read i rva page k zero [] all lt stands = refl
 entries_read i rva page k (suc zero) [] all lt stands = views-none (entry_of i (4096 * page) (rva + 2 * k)) [] (padding_read i (4096 * page) (rva + 2 * k) stands)
@@ -103,11 +103,11 @@ entries_read i rva page k m (f ∷ fs) all lt stands =
     ∙ ap (λ (vs : List (ℕ × FixupKind)). view f ∷ vs) (entries_read i rva page (k + 1) m fs all.1 lt later)
 
 -- a block, read back
-pub record IsBlockOf (i : Image) (rva : ℕ) (p : Page) : Type 0 where
+pub record IsBlockOf (i : LaidOut) (rva : ℕ) (p : Page) : Type 0 where
   pub size_is : (block_at i rva).size ≡ block_size (length p.fixups)
   pub fixups_are : map view (fixups_in i (block_at i rva)) ≡ map view p.fixups
 
-pub block_read : (i : Image) (rva : ℕ) (p : Page) → StandsAt i rva (block_bytes p) → p.page < 2 ^ 20 → block_size (length p.fixups) < 2 ^ 32 → AllOfPage p.page p.fixups → IsBlockOf i rva p
+pub block_read : (i : LaidOut) (rva : ℕ) (p : Page) → StandsAt i rva (block_bytes p) → p.page < 2 ^ 20 → block_size (length p.fixups) < 2 ^ 32 → AllOfPage p.page p.fixups → IsBlockOf i rva p
 block_read i rva p stands low small all =
     let n : ℕ = length p.fixups in
     let entries : List ℕ = flat_map entry_bytes p.fixups ++ replicate (2 * (n % 2)) 0 in
@@ -154,14 +154,14 @@ map-append : {X Y : Type 0} (f : X → Y) (xs ys : List X) → map f (xs ++ ys) 
 map-append f [] ys = refl
 map-append f (x ∷ xs) ys = ap (λ (zs : List _). f x ∷ zs) (map-append f xs ys)
 
-pub goes_on : (i : Image) (end rva n : ℕ) → rva + 8 ≤ end → (block_at i rva).size ≡ n → 0 < n → ends_table i end rva ≡ false
+pub goes_on : (i : LaidOut) (end rva n : ℕ) → rva + 8 ≤ end → (block_at i rva).size ≡ n → 0 < n → ends_table i end rva ≡ false
 goes_on i end rva n le size some =
     let room : nat_lt end (rva + 8) ≡ false = le-ltb _ _ le in
     let more : ((block_at i rva).size == 0) ≡ false = ap (λ (x : ℕ). x == 0) size ∙ not_equal_zero n some in
     rw room more
 
 -- a chain of blocks, read back
-pub chain_read : (i : Image) (end rva : ℕ) (ps : List Page) → StandsAt i rva (flat_map block_bytes ps) → end ≡ rva + length (flat_map block_bytes ps) → length (flat_map block_bytes ps) < 2 ^ 32 → AllPages ps
+pub chain_read : (i : LaidOut) (end rva : ℕ) (ps : List Page) → StandsAt i rva (flat_map block_bytes ps) → end ≡ rva + length (flat_map block_bytes ps) → length (flat_map block_bytes ps) < 2 ^ 32 → AllPages ps
     → map view (flat_map (fixups_in i) (blocks_from (end - rva) i end rva)) ≡ map view (flat_map (λ p. p.fixups) ps)
 chain_read i end rva [] stands is small all =
     let ends : ends_table i end rva ≡ true = (let e : nat_lt end (rva + 8) ≡ true = lt-ltb _ _ (omega arith) in rw e refl) in
@@ -209,7 +209,7 @@ all-pages [] low = tt
 all-pages (f ∷ fs) low = all-before f (pages_of fs) (All-head (λ (g : Fixup). g.field < 2 ^ 32) f fs low) (all-pages fs (All-tail (λ (g : Fixup). g.field < 2 ^ 32) f fs low))
 
 -- a table that stands as a whole directory, read back
-pub table_read : (i : Image) (d : Directory) (fs : List Fixup) → All (λ (f : Fixup). f.field < 2 ^ 32) fs → StandsAt i d.rva (encoded fs) → d.size ≡ length (encoded fs) → d.size < 2 ^ 32
+pub table_read : (i : LaidOut) (d : Directory) (fs : List Fixup) → All (λ (f : Fixup). f.field < 2 ^ 32) fs → StandsAt i d.rva (encoded fs) → d.size ≡ length (encoded fs) → d.size < 2 ^ 32
     → map view (fixups_at i (Some d)) ≡ map view fs
 table_read i d fs low stands size small =
     let fuel : d.size ≡ d.rva + d.size - d.rva = omega arith in

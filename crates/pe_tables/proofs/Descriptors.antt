@@ -6,7 +6,7 @@ use Rattle.std.proofs.lemmas.Bool.{cases_Bool}
 use Rattle.pe_view.specs.declared.fault.Fault.{Fault}
 use Rattle.pe_view.specs.Faults.{first_standing}
 use Rattle.pe_view.specs.FirstStanding.{first-past, first-in}
-use Rattle.pe_layout.specs.Image.{Image}
+use Rattle.pe_layout.specs.Image.{LaidOut}
 use Rattle.pe_tables.specs.Imports.{Import, descriptor_at, descriptors_from, ends_list, imports_in}
 use Rattle.pe_tables.specs.ImportFaults.{descriptor_tests, descriptors_tests}
 use Rattle.pe_tables.specs.declared.imports.Descriptor.{Descriptor}
@@ -15,24 +15,24 @@ use Rattle.pe_tables.proofs.Past.{past-in, past-later}
 use Rattle.pe_tables.proofs.Lookups.{inside_of, past_ends}
 
 -- the descriptors behind the first
-abbrev pub descriptors_behind : ℕ → Image → ℕ → List Descriptor
+abbrev pub descriptors_behind : ℕ → LaidOut → ℕ → List Descriptor
 descriptors_behind zero i rva = []
 descriptors_behind (suc n) i rva = if ends_list i (descriptor_at i rva) then [] else descriptors_from n i (rva + 20)
 
-descriptors-first : (n : ℕ) (i : Image) (rva : ℕ) → descriptors_from n i rva ≡ descriptor_at i rva ∷ descriptors_behind n i rva
+descriptors-first : (n : ℕ) (i : LaidOut) (rva : ℕ) → descriptors_from n i rva ≡ descriptor_at i rva ∷ descriptors_behind n i rva
 descriptors-first zero i rva = refl
 descriptors-first (suc n) i rva = refl
 
 -- a descriptor that ends the list is the last
-pub descriptors-end : (n : ℕ) (i : Image) (rva : ℕ) → ends_list i (descriptor_at i rva) ≡ true → descriptors_from n i rva ≡ descriptor_at i rva ∷ []
+pub descriptors-end : (n : ℕ) (i : LaidOut) (rva : ℕ) → ends_list i (descriptor_at i rva) ≡ true → descriptors_from n i rva ≡ descriptor_at i rva ∷ []
 descriptors-end zero i rva ends = refl
 descriptors-end (suc n) i rva ends = rw ends refl
 
-pub descriptors-more : (n : ℕ) (i : Image) (rva : ℕ) → ends_list i (descriptor_at i rva) ≡ false → descriptors_from (suc n) i rva ≡ descriptor_at i rva ∷ descriptors_from n i (rva + 20)
+pub descriptors-more : (n : ℕ) (i : LaidOut) (rva : ℕ) → ends_list i (descriptor_at i rva) ≡ false → descriptors_from (suc n) i rva ≡ descriptor_at i rva ∷ descriptors_from n i (rva + 20)
 descriptors-more n i rva goes = rw goes refl
 
 -- more descriptors than an image has room for are all of them
-pub descriptors-enough : (i : Image) (n m rva : ℕ) → i.size ≤ rva + n → i.size ≤ rva + m → descriptors_from n i rva ≡ descriptors_from m i rva
+pub descriptors-enough : (i : LaidOut) (n m rva : ℕ) → i.size ≤ rva + n → i.size ≤ rva + m → descriptors_from n i rva ≡ descriptors_from m i rva
 descriptors-enough i zero m rva le le' = sym (descriptors-end m i rva (past_ends (rva + 20) i.size _ (omega arith)))
 descriptors-enough i (suc n) zero rva le le' = descriptors-end (suc n) i rva (past_ends (rva + 20) i.size _ (omega arith))
 descriptors-enough i (suc n) (suc m) rva le le' = elim (cases_Bool (ends_list i (descriptor_at i rva))) [
@@ -44,7 +44,7 @@ descriptors-enough i (suc n) (suc m) rva le le' = elim (cases_Bool (ends_list i 
 ]
 
 -- the descriptors from an RVA on, where the list goes on
-pub descriptors-step : (i : Image) (rva : ℕ) → ends_list i (descriptor_at i rva) ≡ false → descriptors_from (i.size - rva) i rva ≡ descriptor_at i rva ∷ descriptors_from (i.size - (rva + 20)) i (rva + 20)
+pub descriptors-step : (i : LaidOut) (rva : ℕ) → ends_list i (descriptor_at i rva) ≡ false → descriptors_from (i.size - rva) i rva ≡ descriptor_at i rva ∷ descriptors_from (i.size - (rva + 20)) i (rva + 20)
 descriptors-step i rva goes =
     let inside : rva + 20 ≤ i.size = inside_of (rva + 20) i.size _ goes in
     let n : ℕ = i.size - rva - 1 in
@@ -52,7 +52,7 @@ descriptors-step i rva goes =
     ap (λ (m : ℕ). descriptors_from m i rva) e ∙ descriptors-more n i rva goes
     ∙ ap (λ (ds : List Descriptor). descriptor_at i rva ∷ ds) (descriptors-enough i n (i.size - (rva + 20)) (rva + 20) (omega arith) (omega arith))
 
-module _ (i : Image) (before : List Import) (rva : ℕ) where
+module _ (i : LaidOut) (before : List Import) (rva : ℕ) where
   abbrev here : Descriptor
   here = descriptor_at i rva
 
@@ -93,6 +93,6 @@ module _ (i : Image) (before : List Import) (rva : ℕ) where
       subst (λ (ds : List Descriptor). IsTrue (goes_past 31 (descriptors_tests i before ds))) (sym e)
       (past-later 31 (descriptor_tests i before here) (descriptors_tests i (before ++ imports_in i here) left) none past)
 
-pub descriptors-none : (i : Image) (before : List Import) → first_standing (descriptors_tests i before []) ≡ None
+pub descriptors-none : (i : LaidOut) (before : List Import) → first_standing (descriptors_tests i before []) ≡ None
 unfolding descriptors_tests
 descriptors-none i before = refl

@@ -8,7 +8,7 @@ use Rattle.pe_view.specs.declared.fault.Fault.{Fault}
 use Rattle.pe_view.specs.Faults.{Test, first_standing}
 use Rattle.pe_view.specs.Number.{little}
 use Rattle.pe_head.specs.declared.directory.Directory.{Directory}
-use Rattle.pe_layout.specs.Image.{Image, number_at}
+use Rattle.pe_layout.specs.Image.{LaidOut, number_at}
 use Rattle.pe_tables.specs.Fixups.{Block, Entry, block_at, blocks_from, blocks_of, entry_of, entries_of, fixup_of, fixups_in, is_known}
 use Rattle.pe_tables.specs.FixupFaults.{field_tests, entry_tests, entries_tests, is_bad_size, blocks_tests, fixup_tests_at}
 use Rattle.pe_tables.specs.Encoded.{Page, pages_of, type_of, entry_bytes, block_size, block_bytes, encoded}
@@ -37,7 +37,7 @@ spares-first : (tests : List Test) (y : Fault) → Spares tests → first_standi
 spares-first [] y s first = absurd cc
 spares-first (t ∷ tests) y s first = first_of t (first_standing tests) y (spares-first tests y s.1) s.0 t.stands refl first
 
-field-spares : (i : Image) (slots : List (ℕ × ℕ)) (before : List Fixup) (o : Option Fixup) → Spares (field_tests i slots before o)
+field-spares : (i : LaidOut) (slots : List (ℕ × ℕ)) (before : List Fixup) (o : Option Fixup) → Spares (field_tests i slots before o)
 field-spares i slots before None = tt
 field-spares i slots before (Some f) = (inr (inr (inl refl)), (inr (inr (inr (inl refl))), (inr (inr (inr (inr refl))), tt)))
 
@@ -46,7 +46,7 @@ abbrev Known : List Entry → Type 0
 Known [] = Unit {0}
 Known (e ∷ es) = (is_known e.kind ≡ true) × Known es
 
-entries-spare : (i : Image) (slots : List (ℕ × ℕ)) (before : List Fixup) (es : List Entry) → Known es → Spares (entries_tests i slots before es)
+entries-spare : (i : LaidOut) (slots : List (ℕ × ℕ)) (before : List Fixup) (es : List Entry) → Known es → Spares (entries_tests i slots before es)
 unfolding entries_tests
 entries-spare i slots before [] known = tt
 entries-spare i slots before (e ∷ es) known =
@@ -60,7 +60,7 @@ type_known Low = refl
 type_known Bits32 = refl
 type_known Bits64 = refl
 
-entry_known : (i : Image) (rva : ℕ) (f : Fixup) → StandsAt i rva (entry_bytes f) → is_known (number_at 2 i rva / 4096) ≡ true
+entry_known : (i : LaidOut) (rva : ℕ) (f : Fixup) → StandsAt i rva (entry_bytes f) → is_known (number_at 2 i rva / 4096) ≡ true
 entry_known i rva f stands =
     let small = type_small f.kind in
     let v : ℕ = 4096 * type_of f.kind + f.field % 4096 in
@@ -68,14 +68,14 @@ entry_known i rva f stands =
     let kind : number_at 2 i rva / 4096 ≡ type_of f.kind = omega arith in
     ap is_known kind ∙ type_known f.kind
 
-padding_known : (i : Image) (rva : ℕ) → StandsAt i rva (0 ∷ 0 ∷ []) → is_known (number_at 2 i rva / 4096) ≡ true
+padding_known : (i : LaidOut) (rva : ℕ) → StandsAt i rva (0 ∷ 0 ∷ []) → is_known (number_at 2 i rva / 4096) ≡ true
 padding_known i rva stands =
     let b0 : i.byte rva ≡ 0 = byte_at i rva rva 0 (0 ∷ 0 ∷ []) stands (omega arith) (omega arith) in
     let b1 : i.byte (rva + 1) ≡ 0 = byte_at i rva (rva + 1) 1 (0 ∷ 0 ∷ []) stands (omega arith) (omega arith) in
     rw (b0, b1) refl
 
 -- the entries of a page from index k on, and at most one that fills the block up
-entries_known : (i : Image) (page rva k m : ℕ) (fs : List Fixup) → m < 2 → StandsAt i (rva + 2 * k) (flat_map entry_bytes fs ++ replicate (2 * m) 0)
+entries_known : (i : LaidOut) (page rva k m : ℕ) (fs : List Fixup) → m < 2 → StandsAt i (rva + 2 * k) (flat_map entry_bytes fs ++ replicate (2 * m) 0)
     → Known (map (λ j. entry_of i page (rva + 2 * j)) (range_with_len k (length fs + m)))
 entries_known i page rva k zero [] lt stands = tt
 entries_known i page rva k (suc zero) [] lt stands = (padding_known i (rva + 2 * k) stands, tt)
@@ -89,7 +89,7 @@ entries_known i page rva k m (f ∷ fs) lt stands =
     subst (λ (n : ℕ). Known (map (λ j. entry_of i page (rva + 2 * j)) (range_with_len k n))) count
     (entry_known i (rva + 2 * k) f (stands-front i (rva + 2 * k) (entry_bytes f) rest joined), entries_known i page rva (k + 1) m fs lt later)
 
-block_known : (i : Image) (rva : ℕ) (p : Page) → StandsAt i rva (block_bytes p) → (block_at i rva).size ≡ block_size (length p.fixups) → Known (entries_of i (block_at i rva))
+block_known : (i : LaidOut) (rva : ℕ) (p : Page) → StandsAt i rva (block_bytes p) → (block_at i rva).size ≡ block_size (length p.fixups) → Known (entries_of i (block_at i rva))
 block_known i rva p stands size =
     let n : ℕ = length p.fixups in
     let entries : List ℕ = flat_map entry_bytes p.fixups ++ replicate (2 * (n % 2)) 0 in
@@ -111,7 +111,7 @@ good_size end rva n le =
     let past : nat_lt end (rva + block_size n) ≡ false = le-ltb _ _ le in
     rw (odd, small, past) refl
 
-chain-spares : (i : Image) (slots : List (ℕ × ℕ)) (end rva : ℕ) (before : List Fixup) (ps : List Page) → StandsAt i rva (flat_map block_bytes ps) → end ≡ rva + length (flat_map block_bytes ps)
+chain-spares : (i : LaidOut) (slots : List (ℕ × ℕ)) (end rva : ℕ) (before : List Fixup) (ps : List Page) → StandsAt i rva (flat_map block_bytes ps) → end ≡ rva + length (flat_map block_bytes ps)
     → length (flat_map block_bytes ps) < 2 ^ 32 → AllPages ps → Spares (blocks_tests i slots end before (blocks_from (end - rva) i end rva))
 unfolding blocks_tests
 chain-spares i slots end rva before [] stands is small all =
@@ -136,7 +136,7 @@ chain-spares i slots end rva before (p ∷ ps) stands is small all =
           (chain-spares i slots end (rva + (block_at i rva).size) (before ++ fixups_in i (block_at i rva)) ps later (omega arith) (omega arith) all.2),
     )
 
-pub table-spares : (i : Image) (d : Directory) (slots : List (ℕ × ℕ)) (fs : List Fixup) (y : Fault) → All (λ (f : Fixup). f.field < 2 ^ 32) fs → StandsAt i d.rva (encoded fs) → d.size ≡ length (encoded fs) → d.size < 2 ^ 32
+pub table-spares : (i : LaidOut) (d : Directory) (slots : List (ℕ × ℕ)) (fs : List Fixup) (y : Fault) → All (λ (f : Fixup). f.field < 2 ^ 32) fs → StandsAt i d.rva (encoded fs) → d.size ≡ length (encoded fs) → d.size < 2 ^ 32
     → first_standing (fixup_tests_at i slots (Some d)) ≡ Some y → IsFieldFault y.number
 table-spares i d slots fs y low stands size small first =
     let fuel : d.rva + d.size - d.rva ≡ d.size = omega arith in

@@ -10,7 +10,7 @@ use Rattle.pe_view.specs.declared.fault.Fault.{Fault}
 use Rattle.pe_view.specs.Faults.{Test, first_standing}
 use Rattle.pe_view.specs.Number.{num, byte_of}
 use Rattle.pe_view.specs.FirstStanding.{first-past, first-in}
-use Rattle.pe_layout.specs.Image.{Image, number_at, bytes_at}
+use Rattle.pe_layout.specs.Image.{LaidOut, number_at, bytes_at}
 use Rattle.pe_tables.specs.Fixups.{Block, Entry, entry_at, entry_of, entries_at, entries_of, fixup_of}
 use Rattle.pe_tables.specs.FixupFaults.{entry_tests, entries_tests}
 use Rattle.pe_tables.specs.declared.fixups.Fixup.{Fixup}
@@ -33,7 +33,7 @@ cons_option-list (Some y) ys = refl
 pub filter_map-cons : {X Y : Type 0} (f : X → Option Y) (x : X) (xs : List X) → filter_map f (x ∷ xs) ≡ option_to_list (f x) ++ filter_map f xs
 filter_map-cons f x xs = cons_option-list (f x) (filter_map f xs)
 
-module _ (i : Image) (slots : List (ℕ × ℕ)) (f : ℕ → Entry) (n k : ℕ) (lt : k < n) (before : List Fixup) where
+module _ (i : LaidOut) (slots : List (ℕ × ℕ)) (f : ℕ → Entry) (n k : ℕ) (lt : k < n) (before : List Fixup) where
   -- an entry without a fault
   pub entries-past : first_standing (entry_tests i slots before (f k)) ≡ None
       → first_standing (entries_tests i slots before (drop k (map f (range_with_len 0 n)))) ≡ first_standing (entries_tests i slots (before ++ option_to_list (fixup_of (f k))) (drop (k + 1) (map f (range_with_len 0 n))))
@@ -56,7 +56,7 @@ module _ (i : Image) (slots : List (ℕ × ℕ)) (f : ℕ → Entry) (n k : ℕ)
       ∙ ap (λ fs. before ++ fs) (filter_map-cons fixup_of (f k) (drop (k + 1) (map f (range_with_len 0 n))))
       ∙ sym (append_assoc before (option_to_list (fixup_of (f k))) (filter_map fixup_of (drop (k + 1) (map f (range_with_len 0 n)))))
 
-pub entries-end : (i : Image) (slots : List (ℕ × ℕ)) (f : ℕ → Entry) (n k : ℕ) (before : List Fixup) → n ≤ k → first_standing (entries_tests i slots before (drop k (map f (range_with_len 0 n)))) ≡ None
+pub entries-end : (i : LaidOut) (slots : List (ℕ × ℕ)) (f : ℕ → Entry) (n k : ℕ) (before : List Fixup) → n ≤ k → first_standing (entries_tests i slots before (drop k (map f (range_with_len 0 n)))) ≡ None
 unfolding entries_tests
 entries-end i slots f n k before le = ap (λ es. first_standing (entries_tests i slots before es)) (drop-given-end f n k le)
 
@@ -64,10 +64,10 @@ pub fixups-end : (f : ℕ → Entry) (n k : ℕ) (before : List Fixup) → n ≤
 fixups-end f n k before le = ap (λ es. before ++ filter_map fixup_of es) (drop-given-end f n k le) ∙ append-nil before
 
 -- the number in two bytes of an image that stand apart
-byte_of_part : (i : Image) (rva n k : ℕ) (bytes : List ℕ) → bytes ≡ bytes_at i rva n → k < n → byte_of bytes k ≡ i.byte (rva + k)
+byte_of_part : (i : LaidOut) (rva n k : ℕ) (bytes : List ℕ) → bytes ≡ bytes_at i rva n → k < n → byte_of bytes k ≡ i.byte (rva + k)
 byte_of_part i rva n k bytes is lt = ap (λ (bs : List ℕ). byte_of bs k) is ∙ get_or-map-range_with_len i.byte rva n k (rva + k) 0 lt refl
 
-pub number_of_part : (i : Image) (rva n k : ℕ) (bytes : List ℕ) → bytes ≡ bytes_at i rva n → k + 2 ≤ n → num (byte_of bytes) k 2 ≡ number_at 2 i (rva + k)
+pub number_of_part : (i : LaidOut) (rva n k : ℕ) (bytes : List ℕ) → bytes ≡ bytes_at i rva n → k + 2 ≤ n → num (byte_of bytes) k 2 ≡ number_at 2 i (rva + k)
 number_of_part i rva n k bytes is le =
     let at : rva + (k + 1) ≡ rva + k + 1 = omega arith in
     let low = byte_of_part i rva n k bytes is (omega arith) in
@@ -75,7 +75,7 @@ number_of_part i rva n k bytes is le =
     rw (low, high) refl
 
 -- entries in two parts
-entries-split : (i : Image) (slots : List (ℕ × ℕ)) (before : List Fixup) (xs ys : List Entry)
+entries-split : (i : LaidOut) (slots : List (ℕ × ℕ)) (before : List Fixup) (xs ys : List Entry)
     → entries_tests i slots before (xs ++ ys) ≡ entries_tests i slots before xs ++ entries_tests i slots (before ++ filter_map fixup_of xs) ys
 unfolding entries_tests
 entries-split i slots before [] ys = ap (λ (fs : List Fixup). entries_tests i slots fs ys) (sym (append-nil before))
@@ -86,7 +86,7 @@ entries-split i slots before (x ∷ xs) ys =
     ap (λ (ts : List Test). entry_tests i slots before x ++ ts) (entries-split i slots more xs ys ∙ ap (λ (fs : List Fixup). entries_tests i slots more xs ++ entries_tests i slots fs ys) found)
     ∙ sym (append_assoc (entry_tests i slots before x) (entries_tests i slots more xs) (entries_tests i slots (before ++ filter_map fixup_of (x ∷ xs)) ys))
 
-module _ (i : Image) (slots : List (ℕ × ℕ)) (before : List Fixup) (xs ys : List Entry) where
+module _ (i : LaidOut) (slots : List (ℕ × ℕ)) (before : List Fixup) (xs ys : List Entry) where
   pub part-past : first_standing (entries_tests i slots before xs) ≡ None → first_standing (entries_tests i slots before (xs ++ ys)) ≡ first_standing (entries_tests i slots (before ++ filter_map fixup_of xs) ys)
   part-past none = ap first_standing (entries-split i slots before xs ys) ∙ first-past (entries_tests i slots before xs) (entries_tests i slots (before ++ filter_map fixup_of xs) ys) none
 
@@ -112,7 +112,7 @@ shifted_range f g from m (suc n) same =
     ap (λ (x : _). x ∷ map f (range_with_len (from + 1) n)) here ∙ ap (λ (xs : List _). g m ∷ xs) later
 
 -- the entries of a block from index k on: some, and those behind them
-pub block-parts : (i : Image) (b : Block) (k some : ℕ) → k + some ≤ (b.size - 8) / 2
+pub block-parts : (i : LaidOut) (b : Block) (k some : ℕ) → k + some ≤ (b.size - 8) / 2
     → drop k (entries_of i b) ≡ entries_at i b.page (b.rva + 8 + 2 * k) some ++ drop (k + some) (entries_of i b)
 block-parts i b k some le =
     let f : ℕ → Entry = entry_at i b in

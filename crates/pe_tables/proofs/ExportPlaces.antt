@@ -8,7 +8,7 @@ use Rattle.std.proofs.lemmas.List.Elements.{All-cons}
 use Rattle.std.proofs.lemmas.List.Kept.{AllPairs-cons}
 use Rattle.std.proofs.lemmas.Slice.Eq.{bytes_eq-Decides}
 use Rattle.pe_head.specs.declared.directory.Directory.{Directory}
-use Rattle.pe_layout.specs.Image.{Image}
+use Rattle.pe_layout.specs.Image.{LaidOut}
 use Rattle.pe_tables.specs.Key.{Target, Ordinal, Name}
 use Rattle.pe_tables.specs.Exports.{table_at, entry, target_of, name_text, name_entry, named, names_of, first_of_each, exports_at, target_at}
 use Rattle.pe_tables.specs.ExportPlaces.{IsFirstName, IsUnnamed, IsUnnumbered}
@@ -16,7 +16,7 @@ use Rattle.pe_tables.specs.declared.export_table.Table.{Table}
 use Rattle.pe_tables.proofs.Names.{Named, has, differs, found_first}
 use Rattle.pe_tables.proofs.Search.{equal, unequal}
 
-module _ (i : Image) (t : Table) (text : List ℕ) where
+module _ (i : LaidOut) (t : Table) (text : List ℕ) where
   abbrev search : ℕ → ℕ → Option Named
   search from n = find (has text) (filter_map (named i t) (range_with_len from n))
 
@@ -49,7 +49,7 @@ module _ (i : Image) (t : Table) (text : List ℕ) where
       passes (name_text i t from) (name_entry i t from) (filter_map (named i t) (range_with_len (from + 1) n)) (none from (omega arith) (omega arith))
       ∙ search_none (from + 1) n (λ k low high. none k (omega arith) (omega arith))
 
-module _ (i : Image) (d : Directory) (text : List ℕ) where
+module _ (i : LaidOut) (d : Directory) (text : List ℕ) where
   abbrev its_table : Table
   its_table = table_at i d.rva
 
@@ -124,7 +124,7 @@ module _ (f : ℕ → Option Target) (base : ℕ) where
       with_it rest None = rest
       with_it rest (Some target) = AllPairs-cons (λ (p q : Numbered). p.0 < q.0) (base + from, target) (exported (from + 1) n) (above (from + 1) n (suc (base + from)) (omega arith)) rest
 
-module _ (i : Image) (d : Directory) where
+module _ (i : LaidOut) (d : Directory) where
   abbrev entries : ℕ → Option Target
   entries k = target_of i d (entry i (table_at i d.rva) k)
 
@@ -202,5 +202,5 @@ module _ (f : ℕ → Option Target) where
       with_it rest None = rest
       with_it rest (Some target) = AllPairs-cons (λ (p q : Texted). p.0 ≢ q.0) (n.0, target) (filter_map export ns) (export-away n.0 ns apart.0) rest
 
-pub names-apart : (i : Image) (d : Directory) → AllPairs (λ (p q : List ℕ × Target). p.0 ≢ q.0) (exports_at i (Some d)).names
+pub names-apart : (i : LaidOut) (d : Directory) → AllPairs (λ (p q : List ℕ × Target). p.0 ≢ q.0) (exports_at i (Some d)).names
 names-apart i d = export-apart (λ (k : ℕ). target_of i d (entry i (table_at i d.rva) k)) (first_of_each (names_of i (table_at i d.rva))) (apart-first (names_of i (table_at i d.rva)))

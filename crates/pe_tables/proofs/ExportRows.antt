@@ -4,14 +4,14 @@ use Rattle.std.specs.Prelude.{codes}
 use Rattle.pe_view.specs.declared.fault.Place.TheVariants as place
 use Rattle.pe_view.specs.Faults.{first_standing}
 use Rattle.pe_view.specs.Text.{zero_ended}
-use Rattle.pe_layout.specs.Image.{Image}
+use Rattle.pe_layout.specs.Image.{LaidOut}
 use Rattle.pe_tables.specs.Key.{Ordinal, Name, Rva, Forward}
 use Rattle.pe_tables.specs.Exports.{exports_of, target_at}
 use Rattle.pe_tables.specs.ExportFaults.{export_tests, each_tests}
 use Rattle.pe_tables.specs.Forwarder.{forwarder_of}
 
 -- an image of 0x3000 bytes with these at 0x1020, as its export directory
-abbrev table : List ℕ → Image
+abbrev table : List ℕ → LaidOut
 table bytes = record {
   number = 0;
   size = 0x3000;
@@ -31,13 +31,13 @@ directory base entries names addresses pointers ordinals =
     ∷ addresses ∷ 0x10 ∷ 0 ∷ 0 ∷ pointers ∷ 0x10 ∷ 0 ∷ 0 ∷ ordinals ∷ 0x10 ∷ 0 ∷ 0 ∷ []
 
 -- ordinals 5 and 7, and the name `g` of ordinal 7; entry 0's value, and the entry of the name
-abbrev three_entries : ℕ → ℕ → ℕ → Image
+abbrev three_entries : ℕ → ℕ → ℕ → LaidOut
 three_entries low high named = table (
     directory 5 3 1 0x48 0x54 0x58
     ++ (low ∷ high ∷ 0 ∷ 0 ∷ 0 ∷ 0 ∷ 0 ∷ 0 ∷ 0x10 ∷ 0x10 ∷ 0 ∷ 0 ∷ 0x5a ∷ 0x10 ∷ 0 ∷ 0 ∷ named ∷ 0 ∷ 0x67 ∷ 0 ∷ []))
 
 -- one forwarder, of ordinal 1 and of the name `f`
-abbrev a_forwarder : List ℕ → Image
+abbrev a_forwarder : List ℕ → LaidOut
 a_forwarder text = table (
     directory 1 1 1 0x48 0x4c 0x50
     ++ ((0x60 ∷ 0x10 ∷ 0 ∷ 0 ∷ 0x54 ∷ 0x10 ∷ 0 ∷ 0 ∷ 0 ∷ 0 ∷ 0 ∷ 0 ∷ 0x66 ∷ 0 ∷ 0x61 ∷ 0x2e ∷ 0x64 ∷ 0x6c ∷ 0x6c ∷ 0 ∷ 0 ∷ 0 ∷ 0 ∷ 0 ∷ [])

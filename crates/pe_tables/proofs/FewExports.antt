@@ -8,7 +8,7 @@ use Rattle.std.proofs.lemmas.List.FromFn.{length-range_with_len}
 use Rattle.pe_view.specs.Faults.{first_standing}
 use Rattle.pe_view.specs.FirstStanding.{none-append, none_stands}
 use Rattle.pe_head.specs.declared.directory.Directory.{Directory}
-use Rattle.pe_layout.specs.Image.{Image}
+use Rattle.pe_layout.specs.Image.{LaidOut}
 use Rattle.pe_tables.specs.Exports.{table_at, by_entry, by_name, named, names_of, first_of_each, exports_at, exports_of}
 use Rattle.pe_tables.specs.ExportFaults.{directory_tests, name_tests, entry_tests, each_tests, export_tests, export_tests_at}
 use Rattle.pe_tables.proofs.Counts.{length-filter_map}
@@ -28,10 +28,10 @@ few_first (n ∷ ns) =
     let more = few_first ns in
     omega (arith, rest, more)
 
-abbrev AreFew : Image → Option Directory → Type 0
+abbrev AreFew : LaidOut → Option Directory → Type 0
 AreFew i d = (length (exports_at i d).ordinals ≤ 65536) × (length (exports_at i d).names ≤ 65536)
 
-table_few : (i : Image) (d : Option Directory) → first_standing (export_tests_at i d) ≡ None → AreFew i d
+table_few : (i : LaidOut) (d : Option Directory) → first_standing (export_tests_at i d) ≡ None → AreFew i d
 table_few i None none = (omega arith, omega arith)
 table_few i (Some d) none =
     let t = table_at i d.rva in
@@ -46,8 +46,8 @@ table_few i (Some d) none =
     let names = length-filter_map (by_name i d t) (first_of_each (names_of i t)) in
     (omega (arith, few_entries, entries, ordinals), omega (arith, few_names, numbers, texts, firsts, names))
 
-pub few_ordinals : (i : Image) → first_standing (export_tests i) ≡ None → length (exports_of i).ordinals ≤ 65536
+pub few_ordinals : (i : LaidOut) → first_standing (export_tests i) ≡ None → length (exports_of i).ordinals ≤ 65536
 few_ordinals i none = (table_few i (i.directory 0) none).0
 
-pub few_names : (i : Image) → first_standing (export_tests i) ≡ None → length (exports_of i).names ≤ 65536
+pub few_names : (i : LaidOut) → first_standing (export_tests i) ≡ None → length (exports_of i).names ≤ 65536
 few_names i none = (table_few i (i.directory 0) none).1

@@ -6,7 +6,7 @@ use Rattle.std.proofs.lemmas.List.Elements.{All-nil, All-append, All-cons}
 use Rattle.pe_view.specs.Faults.{Test, first_standing}
 use Rattle.pe_view.specs.FirstStanding.{none-append, none_stands}
 use Rattle.pe_head.specs.declared.directory.Directory.{Directory}
-use Rattle.pe_layout.specs.Image.{Image, is_inside, fault_at}
+use Rattle.pe_layout.specs.Image.{LaidOut, is_inside, fault_at}
 use Rattle.pe_tables.specs.Ranges.{meets, meets_any, AreApart}
 use Rattle.pe_tables.specs.Fixups.{Block, Entry, width_of, range_of, slot_range, is_known, fixup_of, entries_of, fixups_in, fixups_at, fixups_of, blocks_of}
 use Rattle.pe_tables.specs.FixupFaults.{field_tests, entry_tests, entries_tests, size_test, blocks_tests, fixup_tests_at, fixup_tests}
@@ -20,7 +20,7 @@ use Rattle.pe_tables.proofs.Pairs.{AllPairs-nil, AllPairs-snoc}
 abbrev pub IsOff : List (ℕ × ℕ) → Fixup → Type 0
 IsOff ranges f = All (λ (range : ℕ × ℕ). AreApart range (range_of f)) ranges
 
-pub record IsFine (i : Image) (slots : List (ℕ × ℕ)) (fixups : List Fixup) : Type 0 where
+pub record IsFine (i : LaidOut) (slots : List (ℕ × ℕ)) (fixups : List Fixup) : Type 0 where
   pub inside : All (λ (f : Fixup). f.field + width_of f.kind ≤ i.size) fixups
   pub apart : AllPairs (λ (f g : Fixup). AreApart (range_of f) (range_of g)) fixups
   pub off : All (IsOff slots) fixups
@@ -36,7 +36,7 @@ off_before before f none k d lt =
     apart_range f.field (width_of f.kind) (get_or before k d).field (width_of (get_or before k d).kind)
     (none_at (λ (a : Fixup). meets f.field (width_of f.kind) a.field (width_of a.kind)) before k d e lt)
 
-module _ (i : Image) (slots : List (ℕ × ℕ)) where
+module _ (i : LaidOut) (slots : List (ℕ × ℕ)) where
   fine-nil : IsFine i slots []
   fine-nil = record { inside = All-nil _; apart = AllPairs-nil (λ (f g : Fixup). AreApart (range_of f) (range_of g)); off = All-nil _ }
 
@@ -84,5 +84,5 @@ module _ (i : Image) (slots : List (ℕ × ℕ)) where
       blocks-fine (d.rva + d.size) (blocks_of i d) [] fine-nil behind.1
 
 -- the fixups of an image without a fault of its base relocation table
-pub fixups-fine : (i : Image) (slots : List ℕ) → first_standing (fixup_tests i slots) ≡ None → IsFine i (map (slot_range i.slot_width) slots) (fixups_of i)
+pub fixups-fine : (i : LaidOut) (slots : List ℕ) → first_standing (fixup_tests i slots) ≡ None → IsFine i (map (slot_range i.slot_width) slots) (fixups_of i)
 fixups-fine i slots none = table-fine i (map (slot_range i.slot_width) slots) (i.directory 5) none

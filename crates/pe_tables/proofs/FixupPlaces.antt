@@ -7,7 +7,7 @@ use Rattle.std.proofs.lemmas.Bool.Decides.{nat_tests}
 use Rattle.std.proofs.lemmas.Option.{none-some, same_Some}
 use Rattle.std.proofs.lemmas.List.Elements.{Contains-append_left, Contains-append_right, Contains-append_cases}
 use Rattle.pe_head.specs.declared.directory.Directory.{Directory}
-use Rattle.pe_layout.specs.Image.{Image, number_at}
+use Rattle.pe_layout.specs.Image.{LaidOut, number_at}
 use Rattle.pe_tables.specs.Fixups.{Block, Entry, block_at, blocks_from, ends_table, entry_at, fixup_of, fixup_by, fixups_at, fixups_in, kind_of}
 use Rattle.pe_tables.specs.Encoded.{type_of}
 use Rattle.pe_tables.specs.FixupPlaces.{page_rva, block_size_at, HasBlock, LeadsTo, here, past, IsEntry, IsNamed}
@@ -72,13 +72,13 @@ module _ (g : ℕ → Entry) (f : Fixup) where
     | inr later ↦ (let w = among_entry (a + 1) n later in let lt = w.1 in (w.0, omega arith, w.2))
   ]
 
-has_block : (i : Image) (end rva : ℕ) → ends_table i end rva ≡ false → HasBlock i end rva
+has_block : (i : LaidOut) (end rva : ℕ) → ends_table i end rva ≡ false → HasBlock i end rva
 has_block i end rva goes = let p = or_parts _ _ goes in (ltb-false end (rva + 8) p.0, λ e. not_both _ p.1 e)
   where
     not_both : (n : ℕ) → (n == 0) ≡ false → n ≡ 0 → ⊥
     not_both n unequal e = grind (arith, nat_tests)
 
-goes_on : (i : Image) (end rva : ℕ) → HasBlock i end rva → ends_table i end rva ≡ false
+goes_on : (i : LaidOut) (end rva : ℕ) → HasBlock i end rva → ends_table i end rva ≡ false
 goes_on i end rva has =
     let room : nat_lt end (rva + 8) ≡ false = le-ltb _ _ has.0 in
     let more : (number_at 4 i (rva + 4) == 0) ≡ false = not_equal_zero (number_at 4 i (rva + 4)) (positive _ has.1) in
@@ -89,7 +89,7 @@ goes_on i end rva has =
     positive (suc n) ne = omega arith
 
 -- an entry of the block at an RVA, in the list or in the image
-in_block : (i : Image) (rva : ℕ) (f : Fixup) → Contains (fixups_in i (block_at i rva)) f → (k : ℕ) × IsEntry i rva k f
+in_block : (i : LaidOut) (rva : ℕ) (f : Fixup) → Contains (fixups_in i (block_at i rva)) f → (k : ℕ) × IsEntry i rva k f
 in_block i rva f has =
     let w = among_entry (entry_at i (block_at i rva)) f 0 ((block_size_at i rva - 8) / 2) has in
     let k : ℕ = w.0 in
@@ -98,14 +98,14 @@ in_block i rva f has =
     let at : rva + 8 + 2 * k ≡ f.entry = sym is.0 in
     (k, (omega arith, is.0, ap (λ (n : ℕ). number_at 2 i n / 4096) (sym at) ∙ is.1, is.2 ∙ ap (λ (n : ℕ). page_rva i rva + number_at 2 i n % 4096) at))
 
-of_block : (i : Image) (rva k : ℕ) (f : Fixup) → IsEntry i rva k f → Contains (fixups_in i (block_at i rva)) f
+of_block : (i : LaidOut) (rva k : ℕ) (f : Fixup) → IsEntry i rva k f → Contains (fixups_in i (block_at i rva)) f
 of_block i rva k f is =
     let at : f.entry ≡ rva + 8 + 2 * k = is.1 in
     let inside = is.0 in
     entry_among (entry_at i (block_at i rva)) f 0 ((block_size_at i rva - 8) / 2) k (omega arith) (omega arith)
     (fixup_is (entry_at i (block_at i rva) k) f (at, ap (λ (n : ℕ). number_at 2 i n / 4096) (sym at) ∙ is.2, is.3 ∙ ap (λ (n : ℕ). page_rva i rva + number_at 2 i n % 4096) at))
 
-module _ (i : Image) (end : ℕ) (f : Fixup) where
+module _ (i : LaidOut) (end : ℕ) (f : Fixup) where
   -- a block to which an RVA leads has the fixup
   abbrev Below : ℕ → Type 0
   Below from = (rva : ℕ) × (k : ℕ) × (LeadsTo i end from rva × HasBlock i end rva) × IsEntry i rva k f
@@ -134,10 +134,10 @@ module _ (i : Image) (end : ℕ) (f : Fixup) where
       subst (λ (bs : List Block). Contains (flat_map (fixups_in i) bs) f) (sym (blocks-step i end from (goes_on i end from stands)))
       (Contains-append_right (fixups_in i (block_at i from)) (flat_map (fixups_in i) left) f (chain_from (from + block_size_at i from) rva k leads has is))
 
-pub named : (i : Image) (d : Directory) (f : Fixup) → Contains (fixups_at i (Some d)) f → IsNamed i d f
+pub named : (i : LaidOut) (d : Directory) (f : Fixup) → Contains (fixups_at i (Some d)) f → IsNamed i d f
 named i d f has = chain_to i (d.rva + d.size) f d.size d.rva has
 
-pub contained : (i : Image) (d : Directory) (f : Fixup) → IsNamed i d f → Contains (fixups_at i (Some d)) f
+pub contained : (i : LaidOut) (d : Directory) (f : Fixup) → IsNamed i d f → Contains (fixups_at i (Some d)) f
 contained i d f named =
     let fuel : d.rva + d.size - d.rva ≡ d.size = omega arith in
     subst (λ (n : ℕ). Contains (flat_map (fixups_in i) (blocks_from n i (d.rva + d.size) d.rva)) f) fuel

@@ -5,7 +5,7 @@ use Rattle.std.specs.List.{filter_map, flat_map, range_with_len}
 use Rattle.std.proofs.lemmas.Bool.{cases_Bool}
 use Rattle.std.proofs.Math.Nat.{mul-suc}
 use Rattle.pe_head.specs.declared.directory.Directory.{Directory}
-use Rattle.pe_layout.specs.Image.{Image, number_at}
+use Rattle.pe_layout.specs.Image.{LaidOut, number_at}
 use Rattle.pe_tables.specs.Imports.{Import, Lookup, descriptor_at, descriptors_from, ends_list, lookup_at, lookups_from, ends_table, key_of, import_of, module_of, imports_in, imports_at}
 use Rattle.pe_tables.specs.ImportPlaces.{descriptor_rva, addresses_rva, table_rva, HasDescriptor, HasEntry, HasDescriptors, HasEntries, import_at, imports_in_order}
 use Rattle.pe_tables.specs.declared.imports.Descriptor.{Descriptor}
@@ -18,19 +18,19 @@ next_step : (from width k : ℕ) → from + width * k + width ≡ from + width *
 next_step from width k = let e = mul-suc width k in let s : k + 1 ≡ suc k = omega arith in rw s (omega (arith, e))
 
 -- a table that has no entry at an RVA ends there
-ends_entry : (i : Image) (rva slot : ℕ) → (HasEntry i rva → ⊥) → ends_table i (lookup_at i rva slot) ≡ true
+ends_entry : (i : LaidOut) (rva slot : ℕ) → (HasEntry i rva → ⊥) → ends_table i (lookup_at i rva slot) ≡ true
 ends_entry i rva slot none = elim (cases_Bool (ends_table i (lookup_at i rva slot))) [
   | inl ends ↦ ends
   | inr goes ↦ absurd (none (has_entry i rva slot goes))
 ]
 
-ends_descriptor : (i : Image) (rva : ℕ) → (HasDescriptor i rva → ⊥) → ends_list i (descriptor_at i rva) ≡ true
+ends_descriptor : (i : LaidOut) (rva : ℕ) → (HasDescriptor i rva → ⊥) → ends_list i (descriptor_at i rva) ≡ true
 ends_descriptor i rva none = elim (cases_Bool (ends_list i (descriptor_at i rva))) [
   | inl ends ↦ ends
   | inr goes ↦ absurd (none (has_descriptor i rva goes))
 ]
 
-module _ (i : Image) (some : 0 < i.slot_width) (name : List ℕ) (table slots : ℕ) where
+module _ (i : LaidOut) (some : 0 < i.slot_width) (name : List ℕ) (table slots : ℕ) where
   -- what entry k imports
   abbrev of_entry : ℕ → Import
   of_entry k = record { module_name = name; key = key_of i (number_at i.slot_width i (table + i.slot_width * k)); slot = slots + i.slot_width * k }
@@ -71,7 +71,7 @@ module _ (i : Image) (some : 0 < i.slot_width) (name : List ℕ) (table slots : 
       (entries_in_order m n (k + 1) (omega arith) (λ j low high. all j (omega arith) (omega arith)) (λ has. last (subst (λ (j : ℕ). HasEntry i (rva_of j)) (sym last_is) has)))
 
 -- the imports of a descriptor
-descriptor_in_order : (i : Image) (rva count : ℕ) → 0 < i.slot_width → HasDescriptor i rva → HasEntries i (table_rva i rva) count
+descriptor_in_order : (i : LaidOut) (rva count : ℕ) → 0 < i.slot_width → HasDescriptor i rva → HasEntries i (table_rva i rva) count
     → imports_in i (descriptor_at i rva) ≡ map (import_at i rva) (range_with_len 0 count)
 descriptor_in_order i rva count some has entries =
     let name = module_of i (descriptor_at i rva) in
@@ -84,7 +84,7 @@ descriptor_in_order i rva count some has entries =
     ∙ entries_in_order i some name (table_rva i rva) (addresses_rva i rva) count i.size 0 room
     (λ k low high. entries.0 k (omega arith)) (λ has. entries.1 (let e : 0 + count ≡ count = omega arith in subst (λ (k : ℕ). HasEntry i (table_rva i rva + i.slot_width * k)) e has))
 
-module _ (i : Image) (some : 0 < i.slot_width) (list : ℕ) (counts : ℕ → ℕ) where
+module _ (i : LaidOut) (some : 0 < i.slot_width) (list : ℕ) (counts : ℕ → ℕ) where
   abbrev of_descriptor : ℕ → List Import
   of_descriptor j = map (import_at i (descriptor_rva list j)) (range_with_len 0 (counts j))
 
@@ -111,7 +111,7 @@ module _ (i : Image) (some : 0 < i.slot_width) (list : ℕ) (counts : ℕ → �
       (descriptors_in_order m n (j + 1) (omega arith) (λ k low high. all k (omega arith) (omega arith))
       (λ has. last (subst (λ (k : ℕ). HasDescriptor i (descriptor_rva list k)) (sym last_is) has)) (λ k low high. entries k (omega arith) (omega arith)))
 
-pub imports-ordered : (i : Image) (d : Directory) (count : ℕ) (counts : ℕ → ℕ) → 0 < i.slot_width → HasDescriptors i d.rva count
+pub imports-ordered : (i : LaidOut) (d : Directory) (count : ℕ) (counts : ℕ → ℕ) → 0 < i.slot_width → HasDescriptors i d.rva count
     → ((j : ℕ) → j < count → HasEntries i (table_rva i (descriptor_rva d.rva j)) (counts j)) → imports_at i (Some d) ≡ imports_in_order i d.rva count counts
 imports-ordered i d count counts some descriptors entries =
     let start : d.rva ≡ descriptor_rva d.rva 0 = omega arith in

@@ -8,7 +8,7 @@ use Rattle.std.proofs.lemmas.Option.{none-some, same_Some}
 use Rattle.std.proofs.lemmas.List.Elements.{Contains-append_left, Contains-append_right, Contains-append_cases}
 use Rattle.std.proofs.Math.Nat.{mul-suc}
 use Rattle.pe_head.specs.declared.directory.Directory.{Directory}
-use Rattle.pe_layout.specs.Image.{Image, number_at}
+use Rattle.pe_layout.specs.Image.{LaidOut, number_at}
 use Rattle.pe_tables.specs.Imports.{Import, Lookup, descriptor_at, descriptors_from, ends_list, lookup_at, lookups_from, lookups_of, ends_table, key_of, import_of, module_of, imports_in, imports_at}
 use Rattle.pe_tables.specs.ImportPlaces.{descriptor_rva, name_rva, addresses_rva, table_rva, HasDescriptor, HasEntry, IsInList, IsInTable, IsImported}
 use Rattle.pe_tables.specs.declared.imports.Descriptor.{Descriptor}
@@ -26,21 +26,21 @@ zero_not (suc n) ne = grind (arith, nat_tests)
 inside_test : (n limit : ℕ) → n ≤ limit → not (nat_le n limit) ≡ false
 inside_test n limit le = let e : nat_le n limit ≡ true = le-leb _ _ le in rw e refl
 
-pub has_entry : (i : Image) (rva slot : ℕ) → ends_table i (lookup_at i rva slot) ≡ false → HasEntry i rva
+pub has_entry : (i : LaidOut) (rva slot : ℕ) → ends_table i (lookup_at i rva slot) ≡ false → HasEntry i rva
 has_entry i rva slot goes = (inside_of _ _ _ goes, not_zero _ (or_parts _ _ goes).1)
 
-pub table_goes : (i : Image) (rva slot : ℕ) → HasEntry i rva → ends_table i (lookup_at i rva slot) ≡ false
+pub table_goes : (i : LaidOut) (rva slot : ℕ) → HasEntry i rva → ends_table i (lookup_at i rva slot) ≡ false
 table_goes i rva slot has =
     let inside = inside_test _ _ has.0 in
     let some = zero_not (number_at i.slot_width i rva) has.1 in
     rw (inside, some) refl
 
-pub has_descriptor : (i : Image) (rva : ℕ) → ends_list i (descriptor_at i rva) ≡ false → HasDescriptor i rva
+pub has_descriptor : (i : LaidOut) (rva : ℕ) → ends_list i (descriptor_at i rva) ≡ false → HasDescriptor i rva
 has_descriptor i rva goes =
     let named = or_parts _ _ (or_parts _ _ goes).1 in
     (inside_of _ _ _ goes, not_zero _ named.0, not_zero _ named.1)
 
-pub list_goes : (i : Image) (rva : ℕ) → HasDescriptor i rva → ends_list i (descriptor_at i rva) ≡ false
+pub list_goes : (i : LaidOut) (rva : ℕ) → HasDescriptor i rva → ends_list i (descriptor_at i rva) ≡ false
 list_goes i rva has =
     let inside = inside_test _ _ has.0 in
     let name = zero_not (name_rva i rva) has.1 in
@@ -72,7 +72,7 @@ module _ (P : ℕ → Type 0) (from width : ℕ) where
   pub behind : (k : ℕ) → UpTo P from width (suc k) → UpTo P (from + width) width k
   behind k all m le = subst P (sym (step from width m)) (all (suc m) (omega arith))
 
-module _ (i : Image) (module_name : List ℕ) (import : Import) where
+module _ (i : LaidOut) (module_name : List ℕ) (import : Import) where
   -- what the entry at an RVA imports
   abbrev made : ℕ → ℕ → Import
   made rva slot = record { module_name = module_name; key = key_of i (number_at i.slot_width i rva); slot = slot }
@@ -144,11 +144,11 @@ module _ (i : Image) (module_name : List ℕ) (import : Import) where
       (is ∙ sym (same_made (rva + i.slot_width + i.slot_width * k) (rva + i.slot_width * suc k) (slot + i.slot_width + i.slot_width * k) (slot + i.slot_width * suc k) (step rva i.slot_width k) (step slot i.slot_width k)))))
 
 -- the imports of a descriptor that does not end the list
-pub imports_here : (i : Image) (rva : ℕ) → HasDescriptor i rva
+pub imports_here : (i : LaidOut) (rva : ℕ) → HasDescriptor i rva
     → imports_in i (descriptor_at i rva) ≡ filter_map (import_of i (module_of i (descriptor_at i rva))) (lookups_of i (descriptor_at i rva))
 imports_here i rva has = rw (list_goes i rva has) refl
 
-module _ (i : Image) (import : Import) where
+module _ (i : LaidOut) (import : Import) where
   -- descriptor j from an RVA on has the import
   abbrev IsDescriptorFrom : ℕ → ℕ → Type 0
   IsDescriptorFrom rva j = IsInList i rva j × Contains (imports_in i (descriptor_at i (descriptor_rva rva j))) import
@@ -204,7 +204,7 @@ module _ (i : Image) (import : Import) where
       (descriptor_in n (rva + 20) j (omega arith) (behind (HasDescriptor i) rva 20 j all)
       (subst (λ (n : ℕ). Contains (imports_in i (descriptor_at i n)) import) (sym (step rva 20 j)) has)))
 
-pub named : (i : Image) (d : Directory) (import : Import) → Contains (imports_at i (Some d)) import → IsImported i d import
+pub named : (i : LaidOut) (d : Directory) (import : Import) → Contains (imports_at i (Some d)) import → IsImported i d import
 named i d import has =
     let w = descriptor_of i import i.size d.rva has in
     let rva : ℕ = descriptor_rva d.rva w.0 in
@@ -212,7 +212,7 @@ named i d import has =
     let v = entry_of i (module_of i (descriptor_at i rva)) import i.size (table_rva i rva) (addresses_rva i rva) entries in
     (w.0, v.0, w.1.0, v.1.0, v.1.1)
 
-pub contained : (i : Image) (d : Directory) (import : Import) → 0 < i.slot_width → IsImported i d import → Contains (imports_at i (Some d)) import
+pub contained : (i : LaidOut) (d : Directory) (import : Import) → 0 < i.slot_width → IsImported i d import → Contains (imports_at i (Some d)) import
 contained i d import some named =
     let rva : ℕ = descriptor_rva d.rva named.0 in
     descriptor_in i import i.size d.rva named.0 (omega arith) named.2

@@ -5,7 +5,7 @@ use Rattle.pe_view.specs.declared.fault.Place.TheVariants.{Rva}
 use Rattle.pe_view.specs.Faults.{first_standing}
 use Rattle.pe_view.specs.Text.{zero_ended}
 use Rattle.pe_head.specs.declared.directory.Directory.{Directory}
-use Rattle.pe_layout.specs.Image.{Image}
+use Rattle.pe_layout.specs.Image.{LaidOut}
 use Rattle.pe_tables.specs.Key.{Ordinal, Name}
 use Rattle.pe_tables.specs.Imports.{imports_of}
 use Rattle.pe_tables.specs.ImportFaults.{import_tests, descriptors_tests, lookups_tests}
@@ -14,7 +14,7 @@ abbrev import_directory : ℕ → ℕ → Option Directory
 import_directory rva k = if k == 1 then Some (record { rva = rva; size = 0x28 }) else None
 
 -- an image of 0x1060 bytes with these at 0x1000, and its import directory at an RVA
-abbrev image_at : ℕ → ℕ → List ℕ → Image
+abbrev image_at : ℕ → ℕ → List ℕ → LaidOut
 image_at rva width bytes = record {
   number = 0;
   size = 0x1060;
@@ -26,7 +26,7 @@ image_at rva width bytes = record {
   is_stripped = false;
 }
 
-abbrev image : List ℕ → Image
+abbrev image : List ℕ → LaidOut
 image bytes = image_at 0x1000 4 bytes
 
 -- a descriptor with its lookup table at 0x1000 and so much, its time stamp, its name at 0x1040, its slots at 0x1030

@@ -7,7 +7,7 @@ use Rattle.std.proofs.lemmas.Bool.Decides.{nat_tests}
 use Rattle.pe_view.specs.declared.fault.Fault.{Fault}
 use Rattle.pe_view.specs.Faults.{Test, first_standing}
 use Rattle.pe_view.specs.FirstStanding.{first-past, first-in, none_stands}
-use Rattle.pe_layout.specs.Image.{Image, is_inside, fault_at}
+use Rattle.pe_layout.specs.Image.{LaidOut, is_inside, fault_at}
 use Rattle.pe_tables.specs.Imports.{Import, Lookup, lookup_at, lookups_from, ends_table, import_of}
 use Rattle.pe_tables.specs.ImportFaults.{key_tests, slot_tests, lookup_tests, lookups_tests}
 use Rattle.pe_tables.specs.TableFaults.{goes_past}
@@ -21,23 +21,23 @@ pub past_ends : (n limit : ℕ) (rest : Bool) → limit < n → (not (nat_le n l
 past_ends n limit rest lt = let e : nat_le n limit ≡ false = grind (arith, nat_tests) in rw e refl
 
 -- the entries behind the first
-abbrev pub lookups_behind : ℕ → Image → ℕ → ℕ → List Lookup
+abbrev pub lookups_behind : ℕ → LaidOut → ℕ → ℕ → List Lookup
 lookups_behind zero i rva slot = []
 lookups_behind (suc n) i rva slot = if ends_table i (lookup_at i rva slot) then [] else lookups_from n i (rva + i.slot_width) (slot + i.slot_width)
 
-lookups-first : (n : ℕ) (i : Image) (rva slot : ℕ) → lookups_from n i rva slot ≡ lookup_at i rva slot ∷ lookups_behind n i rva slot
+lookups-first : (n : ℕ) (i : LaidOut) (rva slot : ℕ) → lookups_from n i rva slot ≡ lookup_at i rva slot ∷ lookups_behind n i rva slot
 lookups-first zero i rva slot = refl
 lookups-first (suc n) i rva slot = refl
 
 -- an entry that ends the table is the last
-pub lookups-end : (n : ℕ) (i : Image) (rva slot : ℕ) → ends_table i (lookup_at i rva slot) ≡ true → lookups_from n i rva slot ≡ lookup_at i rva slot ∷ []
+pub lookups-end : (n : ℕ) (i : LaidOut) (rva slot : ℕ) → ends_table i (lookup_at i rva slot) ≡ true → lookups_from n i rva slot ≡ lookup_at i rva slot ∷ []
 lookups-end zero i rva slot ends = refl
 lookups-end (suc n) i rva slot ends = rw ends refl
 
-pub lookups-more : (n : ℕ) (i : Image) (rva slot : ℕ) → ends_table i (lookup_at i rva slot) ≡ false → lookups_from (suc n) i rva slot ≡ lookup_at i rva slot ∷ lookups_from n i (rva + i.slot_width) (slot + i.slot_width)
+pub lookups-more : (n : ℕ) (i : LaidOut) (rva slot : ℕ) → ends_table i (lookup_at i rva slot) ≡ false → lookups_from (suc n) i rva slot ≡ lookup_at i rva slot ∷ lookups_from n i (rva + i.slot_width) (slot + i.slot_width)
 lookups-more n i rva slot goes = rw goes refl
 
-module _ (i : Image) (some : 0 < i.slot_width) where
+module _ (i : LaidOut) (some : 0 < i.slot_width) where
   -- more entries than an image has room for are all of them
   pub lookups-enough : (n m rva slot : ℕ) → i.size ≤ rva + n → i.size ≤ rva + m → lookups_from n i rva slot ≡ lookups_from m i rva slot
   lookups-enough zero m rva slot le le' = sym (lookups-end m i rva slot (past_ends (rva + i.slot_width) i.size _ (omega arith)))
@@ -60,7 +60,7 @@ module _ (i : Image) (some : 0 < i.slot_width) where
       ap (λ (m : ℕ). lookups_from m i rva slot) e ∙ lookups-more n i rva slot goes
       ∙ ap (λ (ls : List Lookup). lookup_at i rva slot ∷ ls) (lookups-enough n (i.size - (rva + i.slot_width)) (rva + i.slot_width) (slot + i.slot_width) (omega arith) (omega arith))
 
-module _ (i : Image) (module_name : List ℕ) (before : List Import) (rva slot : ℕ) where
+module _ (i : LaidOut) (module_name : List ℕ) (before : List Import) (rva slot : ℕ) where
   abbrev here : Lookup
   here = lookup_at i rva slot
 
@@ -105,7 +105,7 @@ module _ (i : Image) (module_name : List ℕ) (before : List Import) (rva slot :
       subst (λ (ls : List Lookup). IsTrue (goes_past 31 (lookups_tests i module_name before ls))) (sym e)
       (past-later 31 (lookup_tests i before here) (lookups_tests i module_name with_here left) none past)
 
-pub lookups-none : (i : Image) (module_name : List ℕ) (before : List Import) → first_standing (lookups_tests i module_name before []) ≡ None
+pub lookups-none : (i : LaidOut) (module_name : List ℕ) (before : List Import) → first_standing (lookups_tests i module_name before []) ≡ None
 unfolding lookups_tests
 lookups-none i module_name before = refl
 
@@ -120,13 +120,13 @@ affirmed false e = absurd cc
 pub leb-≤ : (n limit : ℕ) → nat_le n limit ≡ true → n ≤ limit
 leb-≤ n limit e = grind (arith, nat_tests)
 
-slot_by : (i : Image) (l : Lookup) (first : Test) (before : List Import) → first_standing (first ∷ (key_tests i l.rva l.value ++ slot_tests i before l.rva l.slot)) ≡ None → is_inside i l.slot i.slot_width ≡ true
+slot_by : (i : LaidOut) (l : Lookup) (first : Test) (before : List Import) → first_standing (first ∷ (key_tests i l.rva l.value ++ slot_tests i before l.rva l.slot)) ≡ None → is_inside i l.slot i.slot_width ≡ true
 slot_by i l first before none =
     affirmed (is_inside i l.slot i.slot_width)
     (none_stands (first ∷ (key_tests i l.rva l.value ++ slot_tests i before l.rva l.slot)) 3 (record { stands = not (is_inside i l.slot i.slot_width); fault = fault_at 29 i l.rva }) none refl)
 
 -- the slot of an entry without a fault that does not end the table
-pub slot_inside : (i : Image) (before : List Import) (l : Lookup) → ends_table i l ≡ false → first_standing (lookup_tests i before l) ≡ None → l.slot + i.slot_width ≤ i.size
+pub slot_inside : (i : LaidOut) (before : List Import) (l : Lookup) → ends_table i l ≡ false → first_standing (lookup_tests i before l) ≡ None → l.slot + i.slot_width ≤ i.size
 slot_inside i before l goes none =
     let some : (l.value == 0) ≡ false = (or_parts _ _ goes).1 in
     leb-≤ _ _ (slot_by i l (record { stands = not (is_inside i l.rva i.slot_width); fault = fault_at 26 i l.rva }) before (rw some at none))

@@ -9,7 +9,7 @@ use Rattle.std.proofs.lemmas.List.Elements.{All-nil, All-push, filter_map-append
 use Rattle.std.proofs.lemmas.List.Quantifiers.{all_pairs_push}
 use Rattle.std.proofs.lemmas.Slice.Eq.{bytes_eq-Decides}
 use Rattle.pe_head.specs.declared.directory.Directory.{Directory}
-use Rattle.pe_layout.specs.Image.{Image}
+use Rattle.pe_layout.specs.Image.{LaidOut}
 use Rattle.pe_tables.specs.Key.{Target}
 use Rattle.pe_tables.specs.Exports.{table_at, entry, target_of, name_text, name_entry, named, first_of_each, by_name, exports_at}
 use Rattle.pe_tables.specs.ExportPlaces.{IsFirstName, StandsBefore}
@@ -28,7 +28,7 @@ found_last (m ∷ ns) n text same = here (found_last ns n text same) (bytes_eq t
     here later true is = rw is refl
     here later false is = rw is later
 
-module _ (i : Image) (d : Directory) (t : Table) where
+module _ (i : LaidOut) (d : Directory) (t : Table) where
   abbrev Exported : Type 0
   Exported = List ℕ × Target
 
@@ -129,5 +129,5 @@ module _ (i : Image) (d : Directory) (t : Table) where
           subst (λ (m : ℕ). IsListed m (listed m)) next
           (subst (λ (ns : List Named). IsListed (n + 1) (filter_map (by_name i d t) ns)) more (with_name n text (is_some (find (has text) (first_names n))) (omega arith) is refl l))
 
-pub names-ordered : (i : Image) (d : Directory) → AllPairs (λ (p later : List ℕ × Target). StandsBefore i (table_at i d.rva) p.0 later.0) (exports_at i (Some d)).names
+pub names-ordered : (i : LaidOut) (d : Directory) → AllPairs (λ (p later : List ℕ × Target). StandsBefore i (table_at i d.rva) p.0 later.0) (exports_at i (Some d)).names
 names-ordered i d = (all_listed i d (table_at i d.rva) (table_at i d.rva).name_count (omega arith)).order

@@ -5,7 +5,7 @@ use Rattle.std.proofs.lemmas.Bool.{or_parts}
 use Rattle.pe_view.specs.Faults.{Test, first_standing}
 use Rattle.pe_view.specs.FirstStanding.{none-append, none_stands}
 use Rattle.pe_head.specs.declared.directory.Directory.{Directory}
-use Rattle.pe_layout.specs.Image.{Image, is_inside, number_at, fault_at}
+use Rattle.pe_layout.specs.Image.{LaidOut, is_inside, number_at, fault_at}
 use Rattle.pe_tables.specs.Imports.{Import, Lookup, descriptor_at, descriptors_from, lookup_at, lookups_from, lookups_of, ends_table, is_null, is_ordinal, name_of, import_of, module_of, imports_in}
 use Rattle.pe_tables.specs.ImportFaults.{key_tests, slot_tests, lookup_tests, lookups_tests, module_tests, descriptor_tests, descriptors_tests, import_tests_at}
 use Rattle.pe_tables.specs.ImportPlaces.{descriptor_rva, addresses_rva, table_rva, HasDescriptor, HasEntry, IsInList, IsInTable, HasTexts}
@@ -23,18 +23,18 @@ named_by true o e is = absurd cc
 named_by false o e is = some_text o e
 
 -- the name of an entry without a fault
-value_named : (i : Image) (first : Test) (before : List Import) (l : Lookup) → first_standing (first ∷ (key_tests i l.rva l.value ++ slot_tests i before l.rva l.slot)) ≡ None
+value_named : (i : LaidOut) (first : Test) (before : List Import) (l : Lookup) → first_standing (first ∷ (key_tests i l.rva l.value ++ slot_tests i before l.rva l.slot)) ≡ None
     → is_ordinal i l.value ≡ false → IsSome (name_of i l.value)
 value_named i first before l none =
     named_by (is_ordinal i l.value) (name_of i l.value)
     (none_stands (first ∷ (key_tests i l.rva l.value ++ slot_tests i before l.rva l.slot)) 1 (record { stands = not (is_ordinal i l.value) && is_none (name_of i l.value); fault = fault_at 27 i l.rva }) none refl)
 
-entry_named : (i : Image) (before : List Import) (l : Lookup) → ends_table i l ≡ false → first_standing (lookup_tests i before l) ≡ None → is_ordinal i l.value ≡ false → IsSome (name_of i l.value)
+entry_named : (i : LaidOut) (before : List Import) (l : Lookup) → ends_table i l ≡ false → first_standing (lookup_tests i before l) ≡ None → is_ordinal i l.value ≡ false → IsSome (name_of i l.value)
 entry_named i before l goes none =
     let some : (l.value == 0) ≡ false = (or_parts _ _ goes).1 in
     value_named i (record { stands = not (is_inside i l.rva i.slot_width); fault = fault_at 26 i l.rva }) before l (rw some at none)
 
-module _ (i : Image) (module_name : List ℕ) where
+module _ (i : LaidOut) (module_name : List ℕ) where
   -- what an entry at an RVA names has a text
   abbrev IsNamed : ℕ → Type 0
   IsNamed rva = is_ordinal i (number_at i.slot_width i rva) ≡ false → IsSome (name_of i (number_at i.slot_width i rva))
@@ -61,7 +61,7 @@ module _ (i : Image) (module_name : List ℕ) where
       subst IsNamed (step rva i.slot_width k)
       (entries_named n (rva + i.slot_width) (slot + i.slot_width) k (with_entry rva slot before) some (omega arith) (behind (HasEntry i) rva i.slot_width k all) later)
 
-module _ (i : Image) where
+module _ (i : LaidOut) where
   -- the tests of a descriptor that does not end the list
   parts_by : (first : Test) (d : Descriptor) (before : List Import) → first_standing (first ∷ (module_tests i d ++ lookups_tests i (module_of i d) before (lookups_of i d))) ≡ None
       → IsSome (i.text d.name) × (first_standing (lookups_tests i (module_of i d) before (lookups_of i d)) ≡ None)
@@ -100,7 +100,7 @@ module _ (i : Image) where
       let later = (first_passes n rva before (first_of (HasDescriptor i) rva 20 (suc j) all) none).1 in
       subst Passes (step rva 20 j) (descriptors_pass n (rva + 20) j (before ++ imports_in i (descriptor_at i rva)) (omega arith) (behind (HasDescriptor i) rva 20 j all) later)
 
-pub named : (i : Image) (d : Directory) (j k : ℕ) → 0 < i.slot_width → first_standing (import_tests_at i (Some d)) ≡ None → IsInList i d.rva j → IsInTable i (table_rva i (descriptor_rva d.rva j)) k → HasTexts i (descriptor_rva d.rva j) k
+pub named : (i : LaidOut) (d : Directory) (j k : ℕ) → 0 < i.slot_width → first_standing (import_tests_at i (Some d)) ≡ None → IsInList i d.rva j → IsInTable i (table_rva i (descriptor_rva d.rva j)) k → HasTexts i (descriptor_rva d.rva j) k
 named i d j k some none listed all =
     let w = descriptors_pass i i.size d.rva j [] (omega arith) listed none in
     texts_there i (descriptor_rva d.rva j) k w.0 some (listed j (omega arith)) all w.1

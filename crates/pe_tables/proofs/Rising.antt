@@ -6,7 +6,7 @@ use Rattle.std.proofs.lemmas.Bool.{cases_Bool}
 use Rattle.std.proofs.lemmas.List.Elements.{All-cons}
 use Rattle.std.proofs.lemmas.List.Kept.{AllPairs-cons}
 use Rattle.pe_head.specs.declared.directory.Directory.{Directory}
-use Rattle.pe_layout.specs.Image.{Image}
+use Rattle.pe_layout.specs.Image.{LaidOut}
 use Rattle.pe_tables.specs.Fixups.{Block, Entry, block_at, blocks_from, ends_table, entry_at, fixup_of, fixup_by, fixups_at, fixups_in, kind_of}
 use Rattle.pe_tables.specs.declared.fixups.Fixup.{Fixup}
 use Rattle.pe_tables.specs.declared.fixups.FixupKind.{FixupKind}
@@ -46,7 +46,7 @@ onto : (e : Entry) (kind : Option FixupKind) (to : ℕ) (fs : List Fixup) → e.
 onto e None to fs lt h = between-earlier e.rva (e.rva + 1) to fs (omega arith) h
 onto e (Some kind) to fs lt h = (omega arith, lt, h)
 
-entries_between : (i : Image) (b : Block) (a n : ℕ) → Between (b.rva + 8 + 2 * a) (b.rva + 8 + 2 * (a + n)) (filter_map fixup_of (map (entry_at i b) (range_with_len a n)))
+entries_between : (i : LaidOut) (b : Block) (a n : ℕ) → Between (b.rva + 8 + 2 * a) (b.rva + 8 + 2 * (a + n)) (filter_map fixup_of (map (entry_at i b) (range_with_len a n)))
 entries_between i b a zero = tt
 entries_between i b a (suc n) =
     let fs : List Fixup = filter_map fixup_of (map (entry_at i b) (range_with_len (a + 1) n)) in
@@ -59,17 +59,17 @@ between-later : (from to end : ℕ) (fs : List Fixup) → to ≤ end → Between
 between-later from to end [] le h = tt
 between-later from to end (f ∷ fs) le h = let lt = h.1 in (h.0, omega arith, between-later (f.entry + 1) to end fs le h.2)
 
-block_by : (i : Image) (b : Block) (n : ℕ) → (b.size - 8) / 2 ≡ n → Between b.rva (b.rva + b.size) (filter_map fixup_of (map (entry_at i b) (range_with_len 0 n)))
+block_by : (i : LaidOut) (b : Block) (n : ℕ) → (b.size - 8) / 2 ≡ n → Between b.rva (b.rva + b.size) (filter_map fixup_of (map (entry_at i b) (range_with_len 0 n)))
 block_by i b zero e = tt
 block_by i b (suc n) e =
     let fs : List Fixup = filter_map fixup_of (map (entry_at i b) (range_with_len 0 (suc n))) in
     between-earlier b.rva (b.rva + 8 + 2 * 0) (b.rva + b.size) fs (omega arith)
     (between-later (b.rva + 8 + 2 * 0) (b.rva + 8 + 2 * (0 + suc n)) (b.rva + b.size) fs (omega arith) (entries_between i b 0 (suc n)))
 
-block_between : (i : Image) (b : Block) → Between b.rva (b.rva + b.size) (fixups_in i b)
+block_between : (i : LaidOut) (b : Block) → Between b.rva (b.rva + b.size) (fixups_in i b)
 block_between i b = block_by i b ((b.size - 8) / 2) refl
 
-chain_rises : (n : ℕ) (i : Image) (end rva : ℕ) → Rising rva (flat_map (fixups_in i) (blocks_from n i end rva))
+chain_rises : (n : ℕ) (i : LaidOut) (end rva : ℕ) → Rising rva (flat_map (fixups_in i) (blocks_from n i end rva))
 chain_rises zero i end rva = tt
 chain_rises (suc n) i end rva = elim (cases_Bool (ends_table i end rva)) [
   | inl ends ↦ subst (λ (bs : List Block). Rising rva (flat_map (fixups_in i) bs)) (sym (let e : blocks_from (suc n) i end rva ≡ [] = rw ends refl in e)) tt
@@ -81,5 +81,5 @@ chain_rises (suc n) i end rva = elim (cases_Bool (ends_table i end rva)) [
       (rising-append rva (rva + b.size) (fixups_in i b) (flat_map (fixups_in i) left) (omega arith) (block_between i b) (chain_rises n i end (rva + b.size))))
 ]
 
-pub ascend : (i : Image) (d : Directory) → AllPairs (λ (f g : Fixup). f.entry < g.entry) (fixups_at i (Some d))
+pub ascend : (i : LaidOut) (d : Directory) → AllPairs (λ (f g : Fixup). f.entry < g.entry) (fixups_at i (Some d))
 ascend i d = ascends d.rva (fixups_at i (Some d)) (chain_rises d.size i (d.rva + d.size) d.rva)

@@ -3,7 +3,7 @@ use Rattle.std.proofs.Common.{◌≡◌, ℕ, ◌-◌, false, List, [], ◌∷�
 use Rattle.std.specs.Prelude.{pos, ◌-ℤ◌}
 use Rattle.pe_view.specs.declared.fault.Place.TheVariants.{Rva}
 use Rattle.pe_view.specs.Faults.{first_standing}
-use Rattle.pe_layout.specs.Image.{Image}
+use Rattle.pe_layout.specs.Image.{LaidOut}
 use Rattle.pe_tables.specs.Encoded.{encoded}
 use Rattle.pe_tables.specs.FixupFaults.{fixup_tests, blocks_tests, entries_tests}
 use Rattle.pe_tables.specs.Fixups.{fixups_of}
@@ -24,7 +24,7 @@ abbrev low : ℕ → ℕ → Fixup
 low entry field = record { entry = entry; field = field; kind = Low }
 
 -- an image of 0x3000 bytes with these at 0x2000, as its base relocation table
-abbrev table : List ℕ → Image
+abbrev table : List ℕ → LaidOut
 table bytes = record {
   number = 0;
   size = 0x3000;

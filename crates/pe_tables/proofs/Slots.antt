@@ -8,7 +8,7 @@ use Rattle.std.proofs.lemmas.List.Elements.{All-nil, All-append, All-cons}
 use Rattle.pe_view.specs.Faults.{Test, first_standing}
 use Rattle.pe_view.specs.FirstStanding.{none-append, none_stands}
 use Rattle.pe_head.specs.declared.directory.Directory.{Directory}
-use Rattle.pe_layout.specs.Image.{Image, is_inside, fault_at}
+use Rattle.pe_layout.specs.Image.{LaidOut, is_inside, fault_at}
 use Rattle.pe_tables.specs.Ranges.{meets, meets_any}
 use Rattle.pe_tables.specs.Imports.{Import, Lookup, ends_table, ends_list, is_null, key_of, import_of, module_of, lookups_of, imports_in, imports_at}
 use Rattle.pe_tables.specs.ImportFaults.{range_of, key_tests, slot_tests, lookup_tests, lookups_tests, module_tests, descriptor_tests, descriptors_tests, import_tests_at}
@@ -23,12 +23,12 @@ unequal : (a b : ℕ) → (a == b) ≡ false → a ≤ b → a < b
 unequal a b e le = grind (arith, nat_tests)
 
 -- imports without a fault of their slots
-pub record IsFine (i : Image) (imports : List Import) : Type 0 where
+pub record IsFine (i : LaidOut) (imports : List Import) : Type 0 where
   pub inside : All (λ (import : Import). import.slot + i.slot_width ≤ i.size) imports
   pub apart : AllPairs (IsApart i.slot_width) imports
   pub few : length imports ≤ 1048576
 
-module _ (i : Image) where
+module _ (i : LaidOut) where
   fine-nil : IsFine i []
   fine-nil = record { inside = All-nil _; apart = AllPairs-nil (IsApart i.slot_width); few = omega arith }
 

@@ -9,7 +9,7 @@ use Rattle.std.proofs.lemmas.Option.{same_Some}
 use Rattle.pe_view.specs.Faults.{first_standing}
 use Rattle.pe_view.specs.FirstStanding.{none-append, none_stands}
 use Rattle.pe_head.specs.declared.directory.Directory.{Directory}
-use Rattle.pe_layout.specs.Image.{Image, is_inside}
+use Rattle.pe_layout.specs.Image.{LaidOut, is_inside}
 use Rattle.pe_tables.specs.Key.{Key, Ordinal, Name, Target, Rva, Forward}
 use Rattle.pe_tables.specs.Forwarder.{is_forwarder, forwarder_of, forward_to, key_of, at_last_dot}
 use Rattle.pe_tables.specs.Exports.{table_at, entry, target_of, by_entry, by_name, named, name_entry, name_text, names_of, first_of_each, exports_at, exports_of, target_at}
@@ -54,7 +54,7 @@ inside_by true e = refl
 inside_by false e = absurd cc
 
 -- what a value exports that has no fault
-value_fits : (i : Image) (d : Directory) (rva value : ℕ) (t : Target) → first_standing (value_tests i d rva value) ≡ None → target_of i d value ≡ Some t → IsIn i.size t
+value_fits : (i : LaidOut) (d : Directory) (rva value : ℕ) (t : Target) → first_standing (value_tests i d rva value) ≡ None → target_of i d value ≡ Some t → IsIn i.size t
 value_fits i d rva value t none is = elim (cases_Bool (value == 0)) [
   | inl nothing ↦ (let e = rw nothing at is in absurd cc)
   | inr some ↦ elim (cases_Bool (is_forwarder d value)) [
@@ -77,7 +77,7 @@ each_first : (P : List ℕ × ℕ → Type 0) (ns : List (List ℕ × ℕ)) → 
 each_first P [] e = tt
 each_first P (n ∷ ns) e = (e.0, each_filter P (λ m. not (bytes_eq n.0 m.0)) (first_of_each ns) (each_first P ns e.1))
 
-module _ (i : Image) (d : Directory) (none : first_standing (export_tests_at i (Some d)) ≡ None) where
+module _ (i : LaidOut) (d : Directory) (none : first_standing (export_tests_at i (Some d)) ≡ None) where
   entries_none : Each (λ (k : ℕ). first_standing (entry_tests i d (table_at i d.rva) k) ≡ None) (range_with_len 0 (table_at i d.rva).entry_count)
   unfolding each_tests
   entries_none =
@@ -124,11 +124,11 @@ module _ (i : Image) (d : Directory) (none : first_standing (export_tests_at i (
   at_fits (Ordinal n) t found = found_in i.size (λ p. p.0 == n) (exports_at i (Some d)).ordinals t ordinals_fit found
   at_fits (Name text) t found = found_in i.size (λ p. bytes_eq text p.0) (exports_at i (Some d)).names t names_fit found
 
-fits_by : (i : Image) (o : Option Directory) (key : Key) (t : Target) → first_standing (export_tests_at i o) ≡ None → target_at (exports_at i o) key ≡ Some t → IsIn i.size t
+fits_by : (i : LaidOut) (o : Option Directory) (key : Key) (t : Target) → first_standing (export_tests_at i o) ≡ None → target_at (exports_at i o) key ≡ Some t → IsIn i.size t
 fits_by i None (Ordinal n) t none found = absurd cc
 fits_by i None (Name text) t none found = absurd cc
 fits_by i (Some d) key t none found = at_fits i d none key t found
 
 -- an export's RVA is in the image
-pub target_fits : (i : Image) (key : Key) (rva : ℕ) → first_standing (export_tests i) ≡ None → target_at (exports_of i) key ≡ Some (Rva rva) → rva < i.size
+pub target_fits : (i : LaidOut) (key : Key) (rva : ℕ) → first_standing (export_tests i) ≡ None → target_at (exports_of i) key ≡ Some (Rva rva) → rva < i.size
 target_fits i key rva none found = fits_by i (i.directory 0) key (Rva rva) none found

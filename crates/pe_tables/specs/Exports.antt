@@ -3,13 +3,13 @@ use Rattle.std.specs.Prelude.{ℕ, ◌+◌, ◌*◌, not, ◌==◌, List, [], �
 use Rattle.std.specs.List.{filter_map, find, range_with_len}
 use Rattle.std.specs.Str.{bytes_eq}
 use Rattle.pe_head.specs.declared.directory.Directory.{Directory}
-use Rattle.pe_layout.specs.Image.{Image, number_at}
+use Rattle.pe_layout.specs.Image.{LaidOut, number_at}
 use Rattle.pe_tables.specs.declared.export_table.Table.{Table}
 use Rattle.pe_tables.specs.Key.{Key, Ordinal, Name, Target, Rva}
 use Rattle.pe_tables.specs.Forwarder.{is_forwarder, forwarder_at}
 
 -- the export directory table at an RVA
-abbrev pub table_at : Image → ℕ → Table
+abbrev pub table_at : LaidOut → ℕ → Table
 table_at i rva = record {
   rva = rva;
   ordinal_base = number_at 4 i (rva + 16);
@@ -21,18 +21,18 @@ table_at i rva = record {
 }
 
 -- what entry k of the export address table holds
-abbrev pub entry : Image → Table → ℕ → ℕ
+abbrev pub entry : LaidOut → Table → ℕ → ℕ
 entry i t k = number_at 4 i (t.addresses + 4 * k)
 
 -- what such a value exports: nothing where it is 0
-abbrev pub target_of : Image → Directory → ℕ → Option Target
+abbrev pub target_of : LaidOut → Directory → ℕ → Option Target
 target_of i d value = if value == 0 then None else if is_forwarder d value then forwarder_at i value else Some (Rva value)
 
 -- the text of name k, where there is one, and the index of the address table's entry that it exports
-abbrev pub name_text : Image → Table → ℕ → Option (List ℕ)
+abbrev pub name_text : LaidOut → Table → ℕ → Option (List ℕ)
 name_text i t k = i.text (number_at 4 i (t.names + 4 * k))
 
-abbrev pub name_entry : Image → Table → ℕ → ℕ
+abbrev pub name_entry : LaidOut → Table → ℕ → ℕ
 name_entry i t k = number_at 2 i (t.ordinals + 2 * k)
 
 -- the exports: by ordinal in the order of the address table; by name, each text where it stands first
@@ -40,14 +40,14 @@ pub record Exports : Type 0 where
   pub ordinals : List (ℕ × Target)
   pub names : List (List ℕ × Target)
 
-abbrev pub by_entry : Image → Directory → Table → ℕ → Option (ℕ × Target)
+abbrev pub by_entry : LaidOut → Directory → Table → ℕ → Option (ℕ × Target)
 by_entry i d t k = option_map (λ target. (t.ordinal_base + k, target)) (target_of i d (entry i t k))
 
 -- the names that have a text, each with its entry's index
-abbrev pub named : Image → Table → ℕ → Option (List ℕ × ℕ)
+abbrev pub named : LaidOut → Table → ℕ → Option (List ℕ × ℕ)
 named i t k = option_map (λ text. (text, name_entry i t k)) (name_text i t k)
 
-abbrev pub names_of : Image → Table → List (List ℕ × ℕ)
+abbrev pub names_of : LaidOut → Table → List (List ℕ × ℕ)
 names_of i t = filter_map (named i t) (range_with_len 0 t.name_count)
 
 -- each text where it stands first
@@ -55,21 +55,21 @@ abbrev pub first_of_each : List (List ℕ × ℕ) → List (List ℕ × ℕ)
 first_of_each [] = []
 first_of_each (n ∷ ns) = n ∷ filter (λ m. not (bytes_eq n.0 m.0)) (first_of_each ns)
 
-abbrev pub by_name : Image → Directory → Table → List ℕ × ℕ → Option (List ℕ × Target)
+abbrev pub by_name : LaidOut → Directory → Table → List ℕ × ℕ → Option (List ℕ × Target)
 by_name i d t n = option_map (λ target. (n.0, target)) (target_of i d (entry i t n.1))
 
-abbrev pub exports_in : Image → Directory → Table → Exports
+abbrev pub exports_in : LaidOut → Directory → Table → Exports
 exports_in i d t = record {
   ordinals = filter_map (by_entry i d t) (range_with_len 0 t.entry_count);
   names = filter_map (by_name i d t) (first_of_each (names_of i t));
 }
 
-abbrev pub exports_at : Image → Option Directory → Exports
+abbrev pub exports_at : LaidOut → Option Directory → Exports
 exports_at i None = record { ordinals = []; names = [] }
 exports_at i (Some d) = exports_in i d (table_at i d.rva)
 
 -- the exports of an image
-abbrev pub exports_of : Image → Exports
+abbrev pub exports_of : LaidOut → Exports
 exports_of i = exports_at i (i.directory 0)
 
 -- what a key exports, where it exports something

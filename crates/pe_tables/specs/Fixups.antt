@@ -3,7 +3,7 @@
 use Rattle.std.specs.Prelude.{◌≡◌, true, false, ℕ, zero, suc, ◌+◌, ◌-◌, ◌*◌, ◌/◌, ◌%◌, Bool, ◌||◌, ◌==◌, List, [], ◌∷◌, Option, Some, None, nat_lt, if◌then◌else◌, is_some, map}
 use Rattle.std.specs.List.{filter_map, flat_map, range_with_len}
 use Rattle.pe_head.specs.declared.directory.Directory.{Directory}
-use Rattle.pe_layout.specs.Image.{Image, number_at}
+use Rattle.pe_layout.specs.Image.{LaidOut, number_at}
 use Rattle.pe_tables.specs.declared.fixups.Fixup.{Fixup}
 use Rattle.pe_tables.specs.declared.fixups.FixupKind.{FixupKind}
 use Rattle.pe_tables.specs.declared.fixups.FixupKind.TheVariants.{Bits32, Bits64, High, Low}
@@ -14,24 +14,24 @@ pub record Block : Type 0 where
   pub page : ℕ
   pub size : ℕ
 
-abbrev pub block_at : Image → ℕ → Block
+abbrev pub block_at : LaidOut → ℕ → Block
 block_at i rva = record { rva = rva; page = number_at 4 i rva; size = number_at 4 i (rva + 4) }
 
 -- no block stands where fewer than 8 bytes of the table remain, or at a BlockSize of 0
-abbrev pub ends_table : Image → ℕ → ℕ → Bool
+abbrev pub ends_table : LaidOut → ℕ → ℕ → Bool
 ends_table i end rva = nat_lt end (rva + 8) || (number_at 4 i (rva + 4) == 0)
 
 -- BlockSize where a block stands
-abbrev pub IsBlockSize : Image → ℕ → ℕ → Option ℕ → Type 0
+abbrev pub IsBlockSize : LaidOut → ℕ → ℕ → Option ℕ → Type 0
 IsBlockSize i end rva None = ends_table i end rva ≡ true
 IsBlockSize i end rva (Some size) = (ends_table i end rva ≡ false) × (size ≡ (block_at i rva).size)
 
 -- the first n blocks from an RVA on, of a table that ends at `end`
-abbrev pub blocks_from : ℕ → Image → ℕ → ℕ → List Block
+abbrev pub blocks_from : ℕ → LaidOut → ℕ → ℕ → List Block
 blocks_from zero i end rva = []
 blocks_from (suc n) i end rva = if ends_table i end rva then [] else block_at i rva ∷ blocks_from n i end (rva + number_at 4 i (rva + 4))
 
-abbrev pub blocks_of : Image → Directory → List Block
+abbrev pub blocks_of : LaidOut → Directory → List Block
 blocks_of i d = blocks_from d.size i (d.rva + d.size) d.rva
 
 -- an entry: where it stands, its type in the high four bits, and the RVA of the field that it names
@@ -40,18 +40,18 @@ pub record Entry : Type 0 where
   pub kind : ℕ
   pub field : ℕ
 
-abbrev pub entry_of : Image → ℕ → ℕ → Entry
+abbrev pub entry_of : LaidOut → ℕ → ℕ → Entry
 entry_of i page rva = record { rva = rva; kind = number_at 2 i rva / 4096; field = page + number_at 2 i rva % 4096 }
 
-abbrev pub entry_at : Image → Block → ℕ → Entry
+abbrev pub entry_at : LaidOut → Block → ℕ → Entry
 entry_at i b k = entry_of i b.page (b.rva + 8 + 2 * k)
 
 -- so many entries of a block with this PageRVA, from the one at an RVA on
-abbrev pub entries_at : Image → ℕ → ℕ → ℕ → List Entry
+abbrev pub entries_at : LaidOut → ℕ → ℕ → ℕ → List Entry
 entries_at i page rva count = map (λ k. entry_of i page (rva + 2 * k)) (range_with_len 0 count)
 
 -- the entries of a block are those that end by its end
-abbrev pub entries_of : Image → Block → List Entry
+abbrev pub entries_of : LaidOut → Block → List Entry
 entries_of i b = map (entry_at i b) (range_with_len 0 ((b.size - 8) / 2))
 
 -- the kind of field that a type stands for: 1 is HIGH, 2 is LOW, 3 is HIGHLOW, 10 is DIR64; 0, ABSOLUTE, names no field
@@ -80,15 +80,15 @@ fixup_by e (Some kind) = Some (record { entry = e.rva; field = e.field; kind = k
 abbrev pub fixup_of : Entry → Option Fixup
 fixup_of e = fixup_by e (kind_of e.kind)
 
-abbrev pub fixups_in : Image → Block → List Fixup
+abbrev pub fixups_in : LaidOut → Block → List Fixup
 fixups_in i b = filter_map fixup_of (entries_of i b)
 
-abbrev pub fixups_at : Image → Option Directory → List Fixup
+abbrev pub fixups_at : LaidOut → Option Directory → List Fixup
 fixups_at i None = []
 fixups_at i (Some d) = flat_map (fixups_in i) (blocks_of i d)
 
 -- the fixups of an image, in table order
-abbrev pub fixups_of : Image → List Fixup
+abbrev pub fixups_of : LaidOut → List Fixup
 fixups_of i = fixups_at i (i.directory 5)
 
 -- the bytes of a field, and those of an import's slot

@@ -2,7 +2,7 @@
 use Rattle.std.specs.Prelude.{◌≡◌, ◌≢◌, ◌++◌, All, true, ℕ, ◌+◌, ◌-◌, ◌*◌, Bool, ◌&&◌, ◌==◌, List, [], ◌∷◌, Option, Some, None, nat_lt, nat_le, if◌then◌else◌, option_map, option_and_then, length}
 use Rattle.std.specs.List.{list_all}
 use Rattle.pe_head.specs.declared.directory.Directory.{Directory}
-use Rattle.pe_layout.specs.Image.{Image}
+use Rattle.pe_layout.specs.Image.{LaidOut}
 use Rattle.pe_tables.specs.Key.{Key, Ordinal, Name, Target, Forward}
 
 -- an address inside the export directory itself is that of a forwarder's text
@@ -45,7 +45,7 @@ abbrev pub forwarder_of : List ℕ → Option Target
 forwarder_of text = option_and_then forward_to (at_last_dot text)
 
 -- the forwarder whose text stands at an RVA
-abbrev pub forwarder_at : Image → ℕ → Option Target
+abbrev pub forwarder_at : LaidOut → ℕ → Option Target
 forwarder_at i rva = option_and_then forwarder_of (i.text rva)
 
 -- the text is that of a key: a name, or `#` and decimal digits that write an ordinal

@@ -3,7 +3,7 @@
 use Rattle.std.specs.Prelude.{ℕ, ◌-◌, ◌^◌, Bool, find, Option, None, Some, ℤ, pos, ◌+ℤ◌, ◌-ℤ◌, unsigned_abs}
 use Rattle.std.specs.Int.{int_div_euclid, int_rem_euclid}
 use Rattle.pe_view.specs.Number.{digit, is_in}
-use Rattle.pe_layout.specs.Image.{Image, number_at}
+use Rattle.pe_layout.specs.Image.{LaidOut, number_at}
 use Rattle.pe_tables.specs.Fixups.{width_of, fixups_of}
 use Rattle.pe_tables.specs.declared.fixups.Fixup.{Fixup}
 use Rattle.pe_tables.specs.declared.fixups.FixupKind.{FixupKind}
@@ -26,13 +26,13 @@ abbrev pub in_field : ℕ → Fixup → Bool
 in_field r f = is_in f.field (width_of f.kind) r
 
 -- what a field holds in the image at a base
-abbrev pub shifted : Image → ℕ → Fixup → ℕ
+abbrev pub shifted : LaidOut → ℕ → Fixup → ℕ
 shifted i base f = shift f.kind (number_at (width_of f.kind) i f.field) (pos base -ℤ pos i.image_base)
 
-abbrev pub relocated_by : Image → ℕ → ℕ → Option Fixup → ℕ
+abbrev pub relocated_by : LaidOut → ℕ → ℕ → Option Fixup → ℕ
 relocated_by i base r None = i.byte r
 relocated_by i base r (Some f) = digit (shifted i base f) (r - f.field)
 
 -- the byte at an RVA of the image at a base: that of the field in which it is, else the laid-out one
-abbrev pub relocated : Image → ℕ → ℕ → ℕ
+abbrev pub relocated : LaidOut → ℕ → ℕ → ℕ
 relocated i base r = relocated_by i base r (find (in_field r) (fixups_of i))

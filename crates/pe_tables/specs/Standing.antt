@@ -1,13 +1,13 @@
 -- Bytes of a table that stand in an image, and what a fixup is apart from where its entry stands.
 use Rattle.std.specs.Prelude.{◌≡◌, ◌⊎◌, ℕ, ◌+◌, ◌^◌, ◌<◌, All, List, length, slice_index_or}
 use Rattle.pe_head.specs.declared.directory.Directory.{Directory}
-use Rattle.pe_layout.specs.Image.{Image}
+use Rattle.pe_layout.specs.Image.{LaidOut}
 use Rattle.pe_tables.specs.Encoded.{encoded}
 use Rattle.pe_tables.specs.declared.fixups.Fixup.{Fixup}
 use Rattle.pe_tables.specs.declared.fixups.FixupKind.{FixupKind}
 
 -- these bytes stand in the image at an RVA
-abbrev pub StandsAt : Image → ℕ → List ℕ → Type 0
+abbrev pub StandsAt : LaidOut → ℕ → List ℕ → Type 0
 StandsAt i rva bytes = (k : ℕ) → k < length bytes → i.byte (rva + k) ≡ slice_index_or bytes k 0
 
 -- what a fixup relocates
@@ -15,7 +15,7 @@ abbrev pub view : Fixup → ℕ × FixupKind
 view f = (f.field, f.kind)
 
 -- the encoded table of these fixups stands in the image as a whole directory
-pub record StandsWhole (i : Image) (d : Directory) (fixups : List Fixup) : Type 0 where
+pub record StandsWhole (i : LaidOut) (d : Directory) (fixups : List Fixup) : Type 0 where
   pub fields : All (λ (f : Fixup). f.field < 2 ^ 32) fixups
   pub bytes : StandsAt i d.rva (encoded fixups)
   pub size : d.size ≡ length (encoded fixups)

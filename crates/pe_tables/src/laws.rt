@@ -5,7 +5,7 @@ ghost use Rattle.std.specs.List.{flat_map};
 ghost use Rattle.pe_head.specs.declared.directory.Directory.{Directory};
 ghost use Rattle.pe_view.specs.declared.fault.Fault.{Fault};
 ghost use Rattle.pe_view.specs.Faults.{first_standing};
-ghost use Rattle.pe_layout.specs.Image.{Image};
+ghost use Rattle.pe_layout.specs.Image.{LaidOut};
 ghost use Rattle.pe_tables.specs.Key.{Key, Ordinal, Name, Target, Rva, Forward};
 ghost use Rattle.pe_tables.specs.Exports.{table_at, name_entry, exports_at, exports_of, target_at};
 ghost use Rattle.pe_tables.specs.ExportFaults.{export_tests};
@@ -27,12 +27,12 @@ ghost use Rattle.pe_tables.specs.ImportPlaces.{IsInList, IsInTable, IsImported, 
 
 /// The fixups of a table are exactly the entries of types 3 and 10 of the blocks to which its start leads.
 pub fn fixups_are_named()
-    ensures { (i : Image) (d : Directory) (f : Fixup) → Contains (fixups_at i (Some d)) f ↔ IsNamed i d f }
+    ensures { (i : LaidOut) (d : Directory) (f : Fixup) → Contains (fixups_at i (Some d)) f ↔ IsNamed i d f }
 {}
 
 /// The fixups of a table ascend by where their entries stand.
 pub fn entries_ascend()
-    ensures { (i : Image) (d : Directory) → AllPairs (λ (f g : Fixup). f.entry < g.entry) (fixups_at i (Some d)) }
+    ensures { (i : LaidOut) (d : Directory) → AllPairs (λ (f g : Fixup). f.entry < g.entry) (fixups_at i (Some d)) }
 {}
 
 /// The blocks of an encoded table are one for each page that has a field, pages ascending, each with that page's fixups, and
@@ -46,52 +46,52 @@ pub fn pages_ascend()
 
 /// An encoded table that stands in an image as a whole directory is read back: the same fields and kinds in the same order.
 pub fn encoded_is_read_back()
-    ensures { (i : Image) (d : Directory) (fixups : List Fixup) → StandsWhole i d fixups
+    ensures { (i : LaidOut) (d : Directory) (fixups : List Fixup) → StandsWhole i d fixups
         → map view (fixups_at i (Some d)) ≡ map view fixups }
 {}
 
 /// A name exports what the entry of the first name with its text does, and nothing where no name has its text.
 pub fn first_names_export()
-    ensures first { (i : Image) (d : Directory) (text : List ℕ) (k : ℕ) → let t = table_at i d.rva in
+    ensures first { (i : LaidOut) (d : Directory) (text : List ℕ) (k : ℕ) → let t = table_at i d.rva in
         IsFirstName i t text k → target_at (exports_at i (Some d)) (Name text) ≡ exported_at i d t (name_entry i t k) }
-    ensures none { (i : Image) (d : Directory) (text : List ℕ) → IsUnnamed i (table_at i d.rva) text
+    ensures none { (i : LaidOut) (d : Directory) (text : List ℕ) → IsUnnamed i (table_at i d.rva) text
         → target_at (exports_at i (Some d)) (Name text) ≡ None }
 {}
 
 /// An ordinal exports what its entry of the address table does, and nothing where the table has no such entry.
 pub fn entries_export()
-    ensures entry { (i : Image) (d : Directory) (k : ℕ) → let t = table_at i d.rva in
+    ensures entry { (i : LaidOut) (d : Directory) (k : ℕ) → let t = table_at i d.rva in
         k < t.entry_count → target_at (exports_at i (Some d)) (Ordinal (t.ordinal_base + k)) ≡ exported_at i d t k }
-    ensures none { (i : Image) (d : Directory) (ordinal : ℕ) → IsUnnumbered (table_at i d.rva) ordinal
+    ensures none { (i : LaidOut) (d : Directory) (ordinal : ℕ) → IsUnnumbered (table_at i d.rva) ordinal
         → target_at (exports_at i (Some d)) (Ordinal ordinal) ≡ None }
 {}
 
 /// No ordinal and no name is listed twice: the ordinals ascend, and the names differ.
 pub fn keys_export_once()
-    ensures ordinals { (i : Image) (d : Directory)
+    ensures ordinals { (i : LaidOut) (d : Directory)
         → AllPairs (λ (export later : ℕ × Target). export.0 < later.0) (exports_at i (Some d)).ordinals }
-    ensures names { (i : Image) (d : Directory)
+    ensures names { (i : LaidOut) (d : Directory)
         → AllPairs (λ (export later : List ℕ × Target). export.0 ≢ later.0) (exports_at i (Some d)).names }
 {}
 
 /// The imports of a table are exactly what the lookup entries of its descriptors import: entry k of descriptor j, where no
 /// entry up to it and no descriptor up to j ends its table or the list.
 pub fn imports_are_named()
-    ensures { (i : Image) (d : Directory) (import : Import) → 0 < i.slot_width → Contains (imports_at i (Some d)) import ↔ IsImported i d import }
+    ensures { (i : LaidOut) (d : Directory) (import : Import) → 0 < i.slot_width → Contains (imports_at i (Some d)) import ↔ IsImported i d import }
 {}
 
 /// The slots of the imports of an image without a fault of its import table are in the image, share no byte with one another,
 /// and are at most 1,048,576.
 pub fn slots_are_apart()
-    ensures inside { (i : Image) → first_standing (import_tests i) ≡ None
+    ensures inside { (i : LaidOut) → first_standing (import_tests i) ≡ None
         → All (λ (import : Import). import.slot + i.slot_width ≤ i.size) (imports_of i) }
-    ensures apart { (i : Image) → first_standing (import_tests i) ≡ None → AllPairs (IsApart i.slot_width) (imports_of i) }
-    ensures few { (i : Image) → first_standing (import_tests i) ≡ None → length (imports_of i) ≤ 1048576 }
+    ensures apart { (i : LaidOut) → first_standing (import_tests i) ≡ None → AllPairs (IsApart i.slot_width) (imports_of i) }
+    ensures few { (i : LaidOut) → first_standing (import_tests i) ≡ None → length (imports_of i) ≤ 1048576 }
 {}
 
 /// Each text that an import table without a fault names is there: no import has an empty name for want of one.
 pub fn names_are_there()
-    ensures { (i : Image) (d : Directory) (j k : ℕ) → let descriptor = descriptor_rva d.rva j in
+    ensures { (i : LaidOut) (d : Directory) (j k : ℕ) → let descriptor = descriptor_rva d.rva j in
         0 < i.slot_width → first_standing (import_tests_at i (Some d)) ≡ None
         → IsInList i d.rva j → IsInTable i (table_rva i descriptor) k → HasTexts i descriptor k }
 {}
@@ -99,26 +99,26 @@ pub fn names_are_there()
 /// The fields of the fixups of an image without a fault of its base relocation table, which is asked beside these slots, are
 /// in the image, share no byte with one another or with a slot, and are fewer than 2^31.
 pub fn fields_are_apart()
-    ensures inside { (i : Image) (slots : List ℕ) → first_standing (fixup_tests i slots) ≡ None
+    ensures inside { (i : LaidOut) (slots : List ℕ) → first_standing (fixup_tests i slots) ≡ None
         → All (λ (f : Fixup). f.field + width_of f.kind ≤ i.size) (fixups_of i) }
-    ensures apart { (i : Image) (slots : List ℕ) → first_standing (fixup_tests i slots) ≡ None
+    ensures apart { (i : LaidOut) (slots : List ℕ) → first_standing (fixup_tests i slots) ≡ None
         → AllPairs (λ (f g : Fixup). AreApart (range_of f) (range_of g)) (fixups_of i) }
-    ensures off_slots { (i : Image) (slots : List ℕ) → first_standing (fixup_tests i slots) ≡ None
+    ensures off_slots { (i : LaidOut) (slots : List ℕ) → first_standing (fixup_tests i slots) ≡ None
         → All (λ (f : Fixup). All (λ (slot : ℕ × ℕ). AreApart slot (range_of f)) (map (slot_range i.slot_width) slots)) (fixups_of i) }
-    ensures few { (i : Image) (slots : List ℕ) → i.size ≤ 2 ^ 31 → first_standing (fixup_tests i slots) ≡ None
+    ensures few { (i : LaidOut) (slots : List ℕ) → i.size ≤ 2 ^ 31 → first_standing (fixup_tests i slots) ≡ None
         → length (fixups_of i) < 2 ^ 31 }
 {}
 
 /// Each RVA that an image without a fault of its export table exports is in the image.
 pub fn targets_are_inside()
-    ensures { (i : Image) (key : Key) (rva : ℕ) → first_standing (export_tests i) ≡ None
+    ensures { (i : LaidOut) (key : Key) (rva : ℕ) → first_standing (export_tests i) ≡ None
         → target_at (exports_of i) key ≡ Some (Rva rva) → rva < i.size }
 {}
 
 /// An image without a fault of its export table exports at most 65,536 ordinals and at most 65,536 names.
 pub fn exports_are_few()
-    ensures ordinals { (i : Image) → first_standing (export_tests i) ≡ None → length (exports_of i).ordinals ≤ 65536 }
-    ensures names { (i : Image) → first_standing (export_tests i) ≡ None → length (exports_of i).names ≤ 65536 }
+    ensures ordinals { (i : LaidOut) → first_standing (export_tests i) ≡ None → length (exports_of i).ordinals ≤ 65536 }
+    ensures names { (i : LaidOut) → first_standing (export_tests i) ≡ None → length (exports_of i).names ≤ 65536 }
 {}
 
 /// A field that is moved on by one difference of bases and then by another is moved on by their sum, modulo what it holds: a
@@ -150,20 +150,20 @@ pub fn forwarders_are_texts()
 /// The imports of a table stand by descriptor, and those of a descriptor by entry, up to the descriptor that ends the list and
 /// the entry that ends each table.
 pub fn imports_keep_their_order()
-    ensures { (i : Image) (d : Directory) (count : ℕ) (counts : ℕ → ℕ) → 0 < i.slot_width → HasDescriptors i d.rva count
+    ensures { (i : LaidOut) (d : Directory) (count : ℕ) (counts : ℕ → ℕ) → 0 < i.slot_width → HasDescriptors i d.rva count
         → ((j : ℕ) → j < count → HasEntries i (table_rva i (descriptor_rva d.rva j)) (counts j))
         → imports_at i (Some d) ≡ imports_in_order i d.rva count counts }
 {}
 
 /// The exports by name keep the order of the name pointer table: each text stands where it stands there first.
 pub fn names_keep_their_order()
-    ensures { (i : Image) (d : Directory) → let t = table_at i d.rva in
+    ensures { (i : LaidOut) (d : Directory) → let t = table_at i d.rva in
         AllPairs (λ (export later : List ℕ × Target). StandsBefore i t export.0 later.0) (exports_at i (Some d)).names }
 {}
 
 /// Where an encoded table stands in an image as a whole directory, neither fault 33 nor fault 35 stands: its first fault is
 /// 34, 36, 37 or 38, if it has one. So where none of these stands it is read, and read back.
 pub fn encoded_has_field_faults_alone()
-    ensures { (i : Image) (d : Directory) (slots : List (ℕ × ℕ)) (fixups : List Fixup) (fault : Fault) → StandsWhole i d fixups
+    ensures { (i : LaidOut) (d : Directory) (slots : List (ℕ × ℕ)) (fixups : List Fixup) (fault : Fault) → StandsWhole i d fixups
         → first_standing (fixup_tests_at i slots (Some d)) ≡ Some fault → IsFieldFault fault.number }
 {}

@@ -2,7 +2,7 @@
 use Rattle.std.proofs.Common.{◌≡◌, ℕ, ◌+◌, ◌-◌, ◌%◌, ◌<◌, true, false, List, length, get_or, Option, Some, None, refl, ap, ◌∙◌, inl, inr, arith}
 use Rattle.std.specs.Prelude.{find, AllPairs, pos, ◌-ℤ◌, Contains}
 use Rattle.pe_view.specs.Number.{digit}
-use Rattle.pe_layout.specs.Image.{Image, number_at}
+use Rattle.pe_layout.specs.Image.{LaidOut, number_at}
 use Rattle.pe_tables.specs.Fixups.{width_of, fixups_of}
 use Rattle.pe_tables.specs.declared.fixups.Fixup.{Fixup}
 use Rattle.pe_tables.specs.Relocated.{shift, in_field, shifted, relocated, relocated_by}
@@ -13,7 +13,7 @@ use Rattle.pe_write.proofs.Whole.{FieldsApart}
 
 -- The image of g is that of i at the base, a multiple of 65,536, wherever `free` holds, and it has the same fixups; their fields are free and share
 -- no byte.
-pub record IsRebasedImage (free : ℕ → Type 0) (i g : Image) (base : ℕ) : Type 0 where
+pub record IsRebasedImage (free : ℕ → Type 0) (i g : LaidOut) (base : ℕ) : Type 0 where
   pub aligned : base % 65536 ≡ 0
   pub image_base : g.image_base ≡ base
   pub bytes : (r : ℕ) → free r → g.byte r ≡ relocated i base r
@@ -31,7 +31,7 @@ own fs f k apart j lt is small =
     let here : in_field (f.field + k) (get_or fs j f) ≡ true = rw (is f) (in_range f.field (width_of f.kind) (f.field + k) (omega arith) (omega arith)) in
     find_first (in_field (f.field + k)) fs j f lt (λ n below. apart_fails (get_or fs n f) f k small (rw (is f) at (apart n j f below lt))) here ∙ ap Some (is f)
 
-module _ (Free : ℕ → Type 0) (i g : Image) (base : ℕ) (s : IsRebasedImage Free i g base) where
+module _ (Free : ℕ → Type 0) (i g : LaidOut) (base : ℕ) (s : IsRebasedImage Free i g base) where
   -- what a field holds in the new image
   field_number : (f : Fixup) → (j : ℕ) → j < length (fixups_of i) → ((d : Fixup) → get_or (fixups_of i) j d ≡ f) → number_at (width_of f.kind) g f.field ≡ shifted i base f
   field_number f j lt is =

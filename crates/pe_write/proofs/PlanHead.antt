@@ -7,25 +7,25 @@ use Rattle.pe_head.specs.declared.optional.Magic.{Magic}
 use Rattle.pe_head.specs.declared.optional.Magic.TheVariants.{Pe32, Pe32Plus}
 use Rattle.pe_head.specs.Head.{pe_offset, coff_field, field, is_pe32, magic_of, either_field}
 use Rattle.pe_write.specs.declared.plan.Plan.{Plan}
-use Rattle.pe_write.specs.PlanHeaders.{row, row_bytes, rows_bytes, rows_size, header_rows, optional_size, magic_number, base_of_data_of}
+use Rattle.pe_write.specs.PlanHeaders.{sized, row_bytes, rows_bytes, rows_size, header_rows, optional_size, magic_number, base_of_data_of}
 use Rattle.pe_write.specs.PlanFits.{RowFits}
 use Rattle.pe_write.proofs.RowsRead.{row_at}
 
 -- what is read of a file that begins with the plan's rows, by the form
 module _ {A : Type 0} (plan : Plan A) (rest : List ℕ) (fits : AllByRecursion RowFits (header_rows plan)) where
   -- the number of row k
-  pub at : (k w v : ℕ) → slice_get (header_rows plan) k ≡ Some (row w v) → num (byte_of (rows_bytes (header_rows plan) ++ rest)) (0 + rows_size (take k (header_rows plan))) w ≡ v
+  pub at : (k w v : ℕ) → slice_get (header_rows plan) k ≡ Some (sized w v) → num (byte_of (rows_bytes (header_rows plan) ++ rest)) (0 + rows_size (take k (header_rows plan))) w ≡ v
   at k w v is = row_at (header_rows plan) [] rest 0 k w v refl fits is
 
   pub p-is : pe_offset (rows_bytes (header_rows plan) ++ rest) ≡ 0x40
   p-is = at 2 4 0x40 refl
 
-  pub coff-is : (o w k v : ℕ) → slice_get (header_rows plan) k ≡ Some (row w v) → 0 + rows_size (take k (header_rows plan)) ≡ 0x40 + 4 + o → coff_field (rows_bytes (header_rows plan) ++ rest) o w ≡ v
+  pub coff-is : (o w k v : ℕ) → slice_get (header_rows plan) k ≡ Some (sized w v) → 0 + rows_size (take k (header_rows plan)) ≡ 0x40 + 4 + o → coff_field (rows_bytes (header_rows plan) ++ rest) o w ≡ v
   coff-is o w k v is e =
       let g : List ℕ = rows_bytes (header_rows plan) ++ rest in
       ap (λ (p : ℕ). num (byte_of g) (p + 4 + o) w) p-is ∙ ap (λ (x : ℕ). num (byte_of g) x w) (sym e) ∙ at k w v is
 
-  pub field-is : (o w k v : ℕ) → slice_get (header_rows plan) k ≡ Some (row w v) → 0 + rows_size (take k (header_rows plan)) ≡ 0x40 + 24 + o → field (rows_bytes (header_rows plan) ++ rest) o w ≡ v
+  pub field-is : (o w k v : ℕ) → slice_get (header_rows plan) k ≡ Some (sized w v) → 0 + rows_size (take k (header_rows plan)) ≡ 0x40 + 24 + o → field (rows_bytes (header_rows plan) ++ rest) o w ≡ v
   field-is o w k v is e =
       let g : List ℕ = rows_bytes (header_rows plan) ++ rest in
       ap (λ (p : ℕ). num (byte_of g) (p + 24 + o) w) p-is ∙ ap (λ (x : ℕ). num (byte_of g) x w) (sym e) ∙ at k w v is
@@ -86,8 +86,8 @@ module _ {A : Type 0} (plan : Plan A) (rest : List ℕ) (fits : AllByRecursion R
   narrow-read : Read (record plan { magic = Pe32 }) (rows_bytes (header_rows (record plan { magic = Pe32 })) ++ rest)
   unfolding row_bytes
   narrow-read =
-      let F = λ (o w k v : ℕ) (at : slice_get (header_rows (record plan { magic = Pe32 })) k ≡ Some (row w v)) (e : 0 + rows_size (take k (header_rows (record plan { magic = Pe32 }))) ≡ 0x40 + 24 + o). field-is (record plan { magic = Pe32 }) rest fits o w k v at e in
-      let C = λ (o w k v : ℕ) (at : slice_get (header_rows (record plan { magic = Pe32 })) k ≡ Some (row w v)) (e : 0 + rows_size (take k (header_rows (record plan { magic = Pe32 }))) ≡ 0x40 + 4 + o). coff-is (record plan { magic = Pe32 }) rest fits o w k v at e in
+      let F = λ (o w k v : ℕ) (at : slice_get (header_rows (record plan { magic = Pe32 })) k ≡ Some (sized w v)) (e : 0 + rows_size (take k (header_rows (record plan { magic = Pe32 }))) ≡ 0x40 + 24 + o). field-is (record plan { magic = Pe32 }) rest fits o w k v at e in
+      let C = λ (o w k v : ℕ) (at : slice_get (header_rows (record plan { magic = Pe32 })) k ≡ Some (sized w v)) (e : 0 + rows_size (take k (header_rows (record plan { magic = Pe32 }))) ≡ 0x40 + 4 + o). coff-is (record plan { magic = Pe32 }) rest fits o w k v at e in
       record {
         mz = at (record plan { magic = Pe32 }) rest fits 0 2 0x5a4d refl;
         signature = ap (λ (x : ℕ). num (byte_of (rows_bytes (header_rows (record plan { magic = Pe32 })) ++ rest)) x 4) (p-is (record plan { magic = Pe32 }) rest fits) ∙ at (record plan { magic = Pe32 }) rest fits 3 4 0x4550 refl;
@@ -144,8 +144,8 @@ module _ {A : Type 0} (plan : Plan A) (rest : List ℕ) (fits : AllByRecursion R
   wide-read : Read (record plan { magic = Pe32Plus }) (rows_bytes (header_rows (record plan { magic = Pe32Plus })) ++ rest)
   unfolding row_bytes
   wide-read =
-      let F = λ (o w k v : ℕ) (at : slice_get (header_rows (record plan { magic = Pe32Plus })) k ≡ Some (row w v)) (e : 0 + rows_size (take k (header_rows (record plan { magic = Pe32Plus }))) ≡ 0x40 + 24 + o). field-is (record plan { magic = Pe32Plus }) rest fits o w k v at e in
-      let C = λ (o w k v : ℕ) (at : slice_get (header_rows (record plan { magic = Pe32Plus })) k ≡ Some (row w v)) (e : 0 + rows_size (take k (header_rows (record plan { magic = Pe32Plus }))) ≡ 0x40 + 4 + o). coff-is (record plan { magic = Pe32Plus }) rest fits o w k v at e in
+      let F = λ (o w k v : ℕ) (at : slice_get (header_rows (record plan { magic = Pe32Plus })) k ≡ Some (sized w v)) (e : 0 + rows_size (take k (header_rows (record plan { magic = Pe32Plus }))) ≡ 0x40 + 24 + o). field-is (record plan { magic = Pe32Plus }) rest fits o w k v at e in
+      let C = λ (o w k v : ℕ) (at : slice_get (header_rows (record plan { magic = Pe32Plus })) k ≡ Some (sized w v)) (e : 0 + rows_size (take k (header_rows (record plan { magic = Pe32Plus }))) ≡ 0x40 + 4 + o). coff-is (record plan { magic = Pe32Plus }) rest fits o w k v at e in
       record {
         mz = at (record plan { magic = Pe32Plus }) rest fits 0 2 0x5a4d refl;
         signature = ap (λ (x : ℕ). num (byte_of (rows_bytes (header_rows (record plan { magic = Pe32Plus })) ++ rest)) x 4) (p-is (record plan { magic = Pe32Plus }) rest fits) ∙ at (record plan { magic = Pe32Plus }) rest fits 3 4 0x4550 refl;

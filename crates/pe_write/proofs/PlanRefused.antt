@@ -15,7 +15,7 @@ use Rattle.pe_head.specs.HeaderFaults.{head_tests}
 use Rattle.pe_layout.specs.Piece.{end_of}
 use Rattle.pe_layout.specs.SectionFaults.{layout_tests, placing_tests, section_tests, sections_tests}
 use Rattle.pe_write.specs.declared.plan.Plan.{Plan}
-use Rattle.pe_write.specs.PlanHeaders.{Row, row, header_rows, plan_file, plan_size, plan_sections, plan_headers}
+use Rattle.pe_write.specs.PlanHeaders.{Row, sized, header_rows, plan_file, plan_size, plan_sections, plan_headers}
 use Rattle.pe_write.specs.PlanFaults.{is_wide, is_misplaced, table_end, places_tests, plan_tests}
 use Rattle.pe_write.specs.PlanFits.{RowFits, IsPlan}
 use Rattle.pe_write.proofs.PlanFaults.{not_none}
@@ -32,7 +32,7 @@ narrow_by : {A : Type 0} (plan : Plan A) (m : Magic) → plan.magic ≡ m → Al
 narrow_by {A = A} plan Pe32 is fits =
     let same : record plan { magic = Pe32 } ≡ plan = ap (λ (m : Magic). record plan { magic = m }) (sym is) in
     let Narrow : Plan A → Type 0 = λ q. AllByRecursion RowFits (header_rows q) → is_wide q.magic q.image_base ≡ false in
-    subst Narrow same (λ f. let small = fits_at (header_rows (record plan { magic = Pe32 })) 20 (row 4 plan.image_base) refl f in le-ltb _ _ (omega arith)) fits
+    subst Narrow same (λ f. let small = fits_at (header_rows (record plan { magic = Pe32 })) 20 (sized 4 plan.image_base) refl f in le-ltb _ _ (omega arith)) fits
 narrow_by plan Pe32Plus is fits = ap (λ (m : Magic). is_wide m plan.image_base) is
 
 -- of sections without faults 14 and 15 each lies where it may

@@ -18,7 +18,7 @@ use Rattle.pe_head.specs.HeaderFaults.{head_tests}
 use Rattle.pe_head.specs.Accepted.{HeadersNest, headers_inside, headers_nest}
 use Rattle.pe_head.specs.Optional.{image_base_offset, image_base_width}
 use Rattle.pe_layout.specs.SectionFaults.{layout_tests, placing_tests}
-use Rattle.pe_layout.specs.Image.{Image, image_from, image_of_file}
+use Rattle.pe_layout.specs.Image.{LaidOut, image_from, image_of_file}
 use Rattle.pe_layout.specs.Plain.{plain}
 use Rattle.pe_tables.specs.Fixups.{fixups_of}
 use Rattle.pe_tables.specs.declared.fixups.Fixup.{Fixup}
@@ -72,7 +72,7 @@ pub record Laws : Type 0 where
   pub behind : (image : ℕ) (file : List ℕ) → first_standing (layout_tests image file) ≡ None → All (λ (s : SectionHeader). (head_of file).size_of_headers ≤ s.virtual_address) (head_of file).sections.items
   pub apart : (image : ℕ) (file : List ℕ) → first_standing (layout_tests image file) ≡ None → AllPairs (λ (s later : SectionHeader). end_of s ≤ later.virtual_address) (head_of file).sections.items
   pub held : (image : ℕ) (file : List ℕ) → first_standing (layout_tests image file) ≡ None → All (λ (s : SectionHeader). 0 < rawlen s → s.pointer_to_raw_data + rawlen s ≤ length file) (head_of file).sections.items
-  pub fields : (i : Image) (slots : List ℕ) → first_standing (fixup_tests i slots) ≡ None → AllPairs FieldsApart (fixups_of i)
+  pub fields : (i : LaidOut) (slots : List ℕ) → first_standing (fixup_tests i slots) ≡ None → AllPairs FieldsApart (fixups_of i)
 
 pub laid_of : Laws → (file : List ℕ) → first_standing (layout_tests 0 file) ≡ None → AreLaid (head_of file) (length file)
 laid_of laws file laid = record { behind = laws.behind 0 file laid; apart = laws.apart 0 file laid; held = laws.held 0 file laid }

@@ -6,7 +6,7 @@ use Rattle.pe_view.specs.Faults.{first_standing}
 use Rattle.pe_view.specs.FirstStanding.{first-past, first-in}
 use Rattle.pe_head.specs.Head.{head_of}
 use Rattle.pe_head.specs.declared.headers.Headers.{Headers}
-use Rattle.pe_layout.specs.Image.{Image, image_of_file}
+use Rattle.pe_layout.specs.Image.{LaidOut, image_of_file}
 use Rattle.pe_layout.specs.Layout.{headers_of, image_of, IsLayoutOf}
 use Rattle.pe_layout.specs.declared.layout.Layout.{Layout}
 use Rattle.pe_tables.specs.declared.fixups.Fixup.{Fixup}
@@ -25,7 +25,7 @@ use Rattle.pe_write.proofs.Whole.{whole}
 pub same_base : (file : List ℕ) (base : ℕ) (l : Layout) → IsLayoutOf file 0 l
     → first_standing (own_base_tests (headers_of l).magic (image_of l) base) ≡ first_standing (own_base_tests (head_of file).magic (image_of_file 0 file) base)
 same_base file base l is =
-    ap (λ (i : Image). first_standing (own_base_tests (headers_of l).magic i base)) is.shows
+    ap (λ (i : LaidOut). first_standing (own_base_tests (headers_of l).magic i base)) is.shows
     ∙ ap (λ (h : Headers). first_standing (own_base_tests h.magic (image_of_file 0 file) base)) is.headers
 
 -- and of its fields and raw data

@@ -10,7 +10,7 @@ use Rattle.std.proofs.lemmas.List.FromFn.{length-map-range_with_len, get_or-map-
 use Rattle.pe_view.specs.Number.{num, byte_of, digit, part, little}
 use Rattle.pe_head.specs.declared.directory.Directory.{Directory}
 use Rattle.pe_head.specs.declared.section.SectionHeader.{SectionHeader}
-use Rattle.pe_write.specs.PlanHeaders.{Row, row, row_bytes, rows_bytes, rows_size, directory_rows, section_rows, section_bytes}
+use Rattle.pe_write.specs.PlanHeaders.{Row, sized, row_bytes, rows_bytes, rows_size, directory_rows, section_rows, section_bytes}
 use Rattle.pe_write.specs.PlanFits.{RowFits, IsRow}
 use Rattle.pe_write.proofs.Numbers.{num_of_own_digits}
 use Rattle.pe_write.proofs.Planned.{byte-left, byte-right}
@@ -21,22 +21,22 @@ length-little w v = length-map-range_with_len (digit v) 0 w
 little-at : (w v k : ℕ) → k < w → byte_of (little w v) k ≡ digit v k
 little-at w v k lt = get_or-map-range_with_len (digit v) 0 w k k 0 lt (omega arith)
 
-length-row : (r : Row) → length (row_bytes r) ≡ r.width
+length-sized : (r : Row) → length (row_bytes r) ≡ r.width
 unfolding row_bytes
-length-row r = length-little r.width r.value
+length-sized r = length-little r.width r.value
 
-row_here : (before rest : List ℕ) (n w v : ℕ) → length before ≡ n → v < 256 ^ w → num (byte_of (before ++ (row_bytes (row w v) ++ rest))) n w ≡ v
+row_here : (before rest : List ℕ) (n w v : ℕ) → length before ≡ n → v < 256 ^ w → num (byte_of (before ++ (row_bytes (sized w v) ++ rest))) n w ≡ v
 unfolding row_bytes
 row_here before rest n w v len fits =
     num_of_own_digits (byte_of (before ++ (little w v ++ rest))) n w v fits
     (λ k lt. byte-right before (little w v ++ rest) n k len ∙ byte-left (little w v) rest k (let e = length-little w v in omega arith) ∙ little-at w v k lt)
 
 -- the number of row k
-pub row_at : (rows : List Row) (before rest : List ℕ) (n k w v : ℕ) → length before ≡ n → AllByRecursion RowFits rows → slice_get rows k ≡ Some (row w v)
+pub row_at : (rows : List Row) (before rest : List ℕ) (n k w v : ℕ) → length before ≡ n → AllByRecursion RowFits rows → slice_get rows k ≡ Some (sized w v)
     → num (byte_of (before ++ (rows_bytes rows ++ rest))) (n + rows_size (take k rows)) w ≡ v
 row_at [] before rest n k w v len fits at = absurd cc
 row_at (r ∷ rs) before rest n zero w v len fits at =
-    let same : r ≡ row w v = same_Some r (row w v) at in
+    let same : r ≡ sized w v = same_Some r (sized w v) at in
     let width : r.width ≡ w = ap (λ (x : Row). x.width) same in
     let value : r.value ≡ v = ap (λ (x : Row). x.value) same in
     ap (λ (xs : List ℕ). num (byte_of (before ++ xs)) (n + 0) w) (append_assoc (row_bytes r) (rows_bytes rs) rest)
@@ -44,7 +44,7 @@ row_at (r ∷ rs) before rest n zero w v len fits at =
     ∙ ap (λ (x : ℕ). num (byte_of (before ++ (row_bytes r ++ (rows_bytes rs ++ rest)))) x r.width) (omega arith)
     ∙ row_here before (rows_bytes rs ++ rest) n r.width r.value len fits.0 ∙ value
 row_at (r ∷ rs) before rest n (suc k) w v len fits at =
-    let size = length-row r in
+    let size = length-sized r in
     ap (λ (xs : List ℕ). num (byte_of (before ++ xs)) (n + (r.width + rows_size (take k rs))) w) (append_assoc (row_bytes r) (rows_bytes rs) rest)
     ∙ ap (λ (xs : List ℕ). num (byte_of xs) (n + (r.width + rows_size (take k rs))) w) (sym (append_assoc before (row_bytes r) (rows_bytes rs ++ rest)))
     ∙ ap (λ (x : ℕ). num (byte_of ((before ++ row_bytes r) ++ (rows_bytes rs ++ rest))) x w) (omega arith)
@@ -52,7 +52,7 @@ row_at (r ∷ rs) before rest n (suc k) w v len fits at =
 
 pub length-rows : (rows : List Row) → length (rows_bytes rows) ≡ rows_size rows
 length-rows [] = refl
-length-rows (r ∷ rs) = let e = length-rows rs in let f = length-row r in omega (arith, length-append (row_bytes r) (rows_bytes rs))
+length-rows (r ∷ rs) = let e = length-rows rs in let f = length-sized r in omega (arith, length-append (row_bytes r) (rows_bytes rs))
 
 pub rows-append : (xs ys : List Row) → rows_bytes (xs ++ ys) ≡ rows_bytes xs ++ rows_bytes ys
 rows-append [] ys = refl
@@ -90,7 +90,7 @@ section_here before rest n s len fits =
     let other : List ℕ = (before ++ s.name) ++ (rows_bytes rows ++ rest) in
     let same : g ≡ other = ap (λ (xs : List ℕ). before ++ xs) (append_assoc s.name (rows_bytes rows) rest) ∙ sym (append_assoc before s.name (rows_bytes rows ++ rest)) in
     let there : length (before ++ s.name) ≡ n + 8 = omega (arith, length-append before s.name) in
-    let read = λ (k w v o : ℕ) (at : slice_get rows k ≡ Some (row w v)) (e : n + o ≡ n + 8 + rows_size (take k rows)).
+    let read = λ (k w v o : ℕ) (at : slice_get rows k ≡ Some (sized w v)) (e : n + o ≡ n + 8 + rows_size (take k rows)).
     ap (λ (xs : List ℕ). num (byte_of xs) (n + o) w) same ∙ ap (λ (x : ℕ). num (byte_of other) x w) e ∙ row_at rows (before ++ s.name) rest (n + 8) k w v there fits.rows at in
     record {
       name = ap (λ (xs : List ℕ). take 8 xs) (drop_at before (section_bytes s ++ rest) n len) ∙ ap (λ (xs : List ℕ). take 8 xs) (append_assoc s.name (rows_bytes rows) rest) ∙ take_at s.name (rows_bytes rows ++ rest) 8 name;

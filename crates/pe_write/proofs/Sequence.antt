@@ -5,7 +5,7 @@ use Rattle.std.proofs.lemmas.Bool.{cases_lt}
 use Rattle.std.proofs.lemmas.List.FromFn.{fill_by_all}
 use Rattle.pe_view.specs.Number.{num, byte_of, digit, is_in}
 use Rattle.pe_head.specs.declared.headers.Headers.{Headers}
-use Rattle.pe_layout.specs.Image.{Image, number_at}
+use Rattle.pe_layout.specs.Image.{LaidOut, number_at}
 use Rattle.pe_tables.specs.Fixups.{width_of}
 use Rattle.pe_tables.specs.declared.fixups.Fixup.{Fixup}
 use Rattle.pe_tables.specs.Patch.{bytes, shifted_at}
@@ -86,7 +86,7 @@ pub puts_all : (ws : List Write) (xs : List ℕ) → Each (Inside (length xs)) w
 puts_all ws xs inside apart = fill_by_all (byte_with ws xs) (puts ws xs) (length xs) 0 (length-puts ws xs inside) (λ k lt. puts_byte ws xs k inside apart)
 
 -- ---- fields, one after another
-module _ (h : Headers) (i : Image) (base : ℕ) where
+module _ (h : Headers) (i : LaidOut) (base : ℕ) where
   -- the bytes of the field are in the file what they are in the image
   abbrev pub Reads : List ℕ → Fixup → Type 0
   Reads xs f = num (byte_of xs) (place_of h f) (width_of f.kind) ≡ number_at (width_of f.kind) i f.field

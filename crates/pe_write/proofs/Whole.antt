@@ -9,7 +9,7 @@ use Rattle.pe_head.specs.declared.optional.Magic.TheVariants.{Pe32, Pe32Plus}
 use Rattle.pe_head.specs.declared.section.SectionHeader.{SectionHeader}
 use Rattle.pe_head.specs.declared.headers.Headers.{Headers}
 use Rattle.pe_head.specs.Section.{rawlen}
-use Rattle.pe_layout.specs.Image.{Image, image_from, number_at}
+use Rattle.pe_layout.specs.Image.{LaidOut, image_from, number_at}
 use Rattle.pe_layout.specs.Plain.{plain, section_byte}
 use Rattle.pe_tables.specs.Fixups.{width_of, range_of, fixups_of}
 use Rattle.pe_tables.specs.Ranges.{AreApart}
@@ -51,7 +51,7 @@ abbrev pub FieldsApart : Fixup → Fixup → Type 0
 FieldsApart f g = AreApart (range_of f) (range_of g)
 
 -- fields that are apart in the image are apart in the file
-pub clear_at : (h : Headers) (n : ℕ) (i : Image) (base : ℕ) (f g : Fixup) → Lies h n → Kept h f → Kept h g → FieldsApart f g → AreClear (field_write h i base f) (field_write h i base g)
+pub clear_at : (h : Headers) (n : ℕ) (i : LaidOut) (base : ℕ) (f g : Fixup) → Lies h n → Kept h f → Kept h g → FieldsApart f g → AreClear (field_write h i base f) (field_write h i base g)
 clear_at h n i base f g l kf kg apart =
     let w = where_at h n f l kf in
     let v = where_at h n g l kg in

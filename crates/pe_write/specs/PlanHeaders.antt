@@ -15,8 +15,8 @@ pub record Row : Type 0 where
   pub width : ℕ
   pub value : ℕ
 
-abbrev pub row : ℕ → ℕ → Row
-row width value = record { width = width; value = value }
+abbrev pub sized : ℕ → ℕ → Row
+sized width value = record { width = width; value = value }
 
 -- the field's bytes, the lowest first
 unfoldable pub row_bytes : Row → List ℕ
@@ -39,39 +39,39 @@ magic_number Pe32Plus = 0x20b
 
 -- the file's first bytes: `MZ`, zeros, where the signature stands, and the signature
 abbrev pub dos_rows : List Row
-dos_rows = row 2 0x5a4d ∷ row 58 0 ∷ row 4 0x40 ∷ row 4 0x4550 ∷ []
+dos_rows = sized 2 0x5a4d ∷ sized 58 0 ∷ sized 4 0x40 ∷ sized 4 0x4550 ∷ []
 
 -- the COFF header
 abbrev pub coff_rows : {A : Type 0} → Plan A → List Row
 coff_rows plan =
-    row 2 plan.machine ∷ row 2 (length plan.sections.items) ∷ row 4 plan.time_stamp ∷ row 4 0 ∷ row 4 0 ∷ row 2 (optional_size plan.magic) ∷ row 2 plan.characteristics ∷ []
+    sized 2 plan.machine ∷ sized 2 (length plan.sections.items) ∷ sized 4 plan.time_stamp ∷ sized 4 0 ∷ sized 4 0 ∷ sized 2 (optional_size plan.magic) ∷ sized 2 plan.characteristics ∷ []
 
 -- the optional header up to BaseOfCode
 abbrev pub standard_rows : {A : Type 0} → Plan A → List Row
-standard_rows plan = row 2 (magic_number plan.magic) ∷ row 1 0 ∷ row 1 0 ∷ row 4 0 ∷ row 4 0 ∷ row 4 0 ∷ row 4 plan.entry ∷ row 4 0 ∷ []
+standard_rows plan = sized 2 (magic_number plan.magic) ∷ sized 1 0 ∷ sized 1 0 ∷ sized 4 0 ∷ sized 4 0 ∷ sized 4 0 ∷ sized 4 plan.entry ∷ sized 4 0 ∷ []
 
 -- BaseOfData, which PE32 alone has, and ImageBase
 abbrev pub base_rows : Magic → ℕ → List Row
-base_rows Pe32 base = row 4 0 ∷ row 4 base ∷ []
-base_rows Pe32Plus base = row 8 base ∷ []
+base_rows Pe32 base = sized 4 0 ∷ sized 4 base ∷ []
+base_rows Pe32Plus base = sized 8 base ∷ []
 
 -- the alignments and versions
 abbrev pub alignment_rows : {A : Type 0} → Plan A → List Row
 alignment_rows plan =
-    row 4 plan.section_alignment ∷ row 4 plan.file_alignment ∷ row 2 0 ∷ row 2 0 ∷ row 2 0 ∷ row 2 0 ∷ row 2 0 ∷ row 2 0 ∷ row 4 0 ∷ []
+    sized 4 plan.section_alignment ∷ sized 4 plan.file_alignment ∷ sized 2 0 ∷ sized 2 0 ∷ sized 2 0 ∷ sized 2 0 ∷ sized 2 0 ∷ sized 2 0 ∷ sized 4 0 ∷ []
 
 -- from SizeOfImage to DllCharacteristics
 abbrev pub size_rows : {A : Type 0} → Plan A → List Row
-size_rows plan = row 4 plan.size_of_image ∷ row 4 plan.size_of_headers ∷ row 4 0 ∷ row 2 plan.subsystem ∷ row 2 plan.dll_characteristics ∷ []
+size_rows plan = sized 4 plan.size_of_image ∷ sized 4 plan.size_of_headers ∷ sized 4 0 ∷ sized 2 plan.subsystem ∷ sized 2 plan.dll_characteristics ∷ []
 
 -- what stack and heap reserve and commit
 abbrev pub reserve_rows : Magic → List Row
-reserve_rows Pe32 = row 4 0 ∷ row 4 0 ∷ row 4 0 ∷ row 4 0 ∷ []
-reserve_rows Pe32Plus = row 8 0 ∷ row 8 0 ∷ row 8 0 ∷ row 8 0 ∷ []
+reserve_rows Pe32 = sized 4 0 ∷ sized 4 0 ∷ sized 4 0 ∷ sized 4 0 ∷ []
+reserve_rows Pe32Plus = sized 8 0 ∷ sized 8 0 ∷ sized 8 0 ∷ sized 8 0 ∷ []
 
 -- LoaderFlags and NumberOfRvaAndSizes
 abbrev pub count_rows : List Row
-count_rows = row 4 0 ∷ row 4 16 ∷ []
+count_rows = sized 4 0 ∷ sized 4 16 ∷ []
 
 -- the optional header up to its directories
 abbrev pub optional_rows : {A : Type 0} → Plan A → List Row
@@ -79,7 +79,7 @@ optional_rows plan =
     standard_rows plan ++ (base_rows plan.magic plan.image_base ++ (alignment_rows plan ++ (size_rows plan ++ (reserve_rows plan.magic ++ count_rows))))
 
 abbrev pub directory_rows : Directory → List Row
-directory_rows d = row 4 d.rva ∷ row 4 d.size ∷ []
+directory_rows d = sized 4 d.rva ∷ sized 4 d.size ∷ []
 
 -- the headers up to the directories
 abbrev pub front_rows : {A : Type 0} → Plan A → List Row
@@ -91,10 +91,10 @@ header_rows plan = front_rows plan ++ flat_map directory_rows plan.directories
 
 -- a section's header behind its name: where it lies in the image and in the file, and the rest
 abbrev pub place_rows : SectionHeader → List Row
-place_rows s = row 4 s.virtual_size ∷ row 4 s.virtual_address ∷ row 4 s.size_of_raw_data ∷ row 4 s.pointer_to_raw_data ∷ []
+place_rows s = sized 4 s.virtual_size ∷ sized 4 s.virtual_address ∷ sized 4 s.size_of_raw_data ∷ sized 4 s.pointer_to_raw_data ∷ []
 
 abbrev pub rest_rows : SectionHeader → List Row
-rest_rows s = row 4 s.pointer_to_relocations ∷ row 4 s.pointer_to_linenumbers ∷ row 2 s.number_of_relocations ∷ row 2 s.number_of_linenumbers ∷ row 4 s.characteristics ∷ []
+rest_rows s = sized 4 s.pointer_to_relocations ∷ sized 4 s.pointer_to_linenumbers ∷ sized 2 s.number_of_relocations ∷ sized 2 s.number_of_linenumbers ∷ sized 4 s.characteristics ∷ []
 
 abbrev pub section_rows : SectionHeader → List Row
 section_rows s = place_rows s ++ rest_rows s

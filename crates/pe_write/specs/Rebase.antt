@@ -5,7 +5,7 @@ use Rattle.pe_head.specs.declared.headers.Headers.{Headers}
 use Rattle.pe_head.specs.Head.{head_of}
 use Rattle.pe_head.specs.Optional.{image_base_offset, image_base_width}
 use Rattle.pe_head.specs.Section.{rawlen}
-use Rattle.pe_layout.specs.Image.{Image, image_from}
+use Rattle.pe_layout.specs.Image.{LaidOut, image_from}
 use Rattle.pe_tables.specs.Fixups.{width_of, fixups_of}
 use Rattle.pe_tables.specs.Relocated.{shifted}
 use Rattle.pe_tables.specs.declared.fixups.Fixup.{Fixup}
@@ -41,11 +41,11 @@ abbrev pub check_sum_write : Headers → Write
 check_sum_write h = record { offset = check_sum_place h; width = 4; value = 0 }
 
 -- a field as it is in the image at the base
-abbrev pub field_write : Headers → Image → ℕ → Fixup → Write
+abbrev pub field_write : Headers → LaidOut → ℕ → Fixup → Write
 field_write h i base f = record { offset = place_of h f; width = width_of f.kind; value = shifted i base f }
 
 -- what is written: the base as ImageBase, 0 as CheckSum, and every fixup's field
-abbrev pub rebase_writes : Headers → Image → ℕ → List Write
+abbrev pub rebase_writes : Headers → LaidOut → ℕ → List Write
 rebase_writes h i base = image_base_write h base ∷ check_sum_write h ∷ map (field_write h i base) (fixups_of i)
 
 -- the file of an image with these headers, at the base

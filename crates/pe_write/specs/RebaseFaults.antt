@@ -8,7 +8,7 @@ use Rattle.pe_head.specs.declared.section.SectionHeader.{SectionHeader}
 use Rattle.pe_head.specs.declared.headers.Headers.{Headers}
 use Rattle.pe_head.specs.Head.{head_of, section_offset}
 use Rattle.pe_head.specs.Section.{rawlen}
-use Rattle.pe_layout.specs.Image.{Image, image_of_file}
+use Rattle.pe_layout.specs.Image.{LaidOut, image_of_file}
 use Rattle.pe_layout.specs.SectionFaults.{layout_tests}
 use Rattle.pe_tables.specs.Ranges.{meets}
 use Rattle.pe_tables.specs.Fixups.{fixups_of}
@@ -20,11 +20,11 @@ use Rattle.pe_set.specs.Placement.{Placement, base_tests}
 use Rattle.pe_write.specs.Rebase.{raw_section}
 
 -- the image at a base, alone
-abbrev pub placed : Magic → Image → ℕ → Placement
+abbrev pub placed : Magic → LaidOut → ℕ → Placement
 placed magic i base = record { base = base; size = i.size; magic = magic; image_base = i.image_base; is_stripped = i.is_stripped }
 
 -- faults 44 to 46: beside no other image, 47 does not stand
-abbrev pub own_base_tests : Magic → Image → ℕ → List Test
+abbrev pub own_base_tests : Magic → LaidOut → ℕ → List Test
 own_base_tests magic i base = base_tests [] 0 (placed magic i base)
 
 -- fault 51 of a fixup
@@ -51,7 +51,7 @@ abbrev pub data_tests : Headers → List Fixup → List Test
 data_tests h fixups = fields_tests h fixups ++ ranges_tests h [] 0 h.sections.items
 
 -- faults 24 to 38
-abbrev pub tables_tests : Image → List Test
+abbrev pub tables_tests : LaidOut → List Test
 tables_tests i = import_tests i ++ fixup_tests i (map (λ import. import.slot) (imports_of i))
 
 -- faults 1 to 15, 24 to 38, 44 to 46, 51 and 52

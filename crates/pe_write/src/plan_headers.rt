@@ -5,7 +5,7 @@ ghost use Rattle.std.specs.List.{flat_map, AllByRecursion};
 ghost use Rattle.pe_write.specs.PlanFaults.{is_wide};
 ghost use Rattle.pe_write.specs.PlanFile.{file_end, headers_from};
 ghost use Rattle.pe_write.specs.PlanFits.{IsRow, RowFits};
-ghost use Rattle.pe_write.specs.PlanHeaders.{row, row_bytes, rows_bytes, magic_number, optional_size, dos_rows, coff_rows, standard_rows, base_rows, alignment_rows, size_rows, reserve_rows, count_rows, directory_rows, header_rows, place_rows, rest_rows, section_bytes};
+ghost use Rattle.pe_write.specs.PlanHeaders.{sized, row_bytes, rows_bytes, magic_number, optional_size, dos_rows, coff_rows, standard_rows, base_rows, alignment_rows, size_rows, reserve_rows, count_rows, directory_rows, header_rows, place_rows, rest_rows, section_bytes};
 
 use crate::plan::{Plan, PlanSection};
 use crate::plan_data::{raw_end, section_header};
@@ -15,7 +15,7 @@ use std::alloc::{AllocError, Allocator};
 /// Adds a number's bytes, the lowest first.
 #[tactic(auto, unfolding(crate::specs::PlanHeaders::row_bytes))]
 fn push_u8<A: Allocator>(bytes: &mut Vec<u8, A>, number: u8) -> Result<(), AllocError>
-    ensures bytes { OnOk result (bytes.new.items ≡ bytes.old.items ++ row_bytes (row 1 number)) }
+    ensures bytes { OnOk result (bytes.new.items ≡ bytes.old.items ++ row_bytes (sized 1 number)) }
     ensures fits { number < 2 ^ 8 }
 {
     bytes.extend_from_slice(&number.to_le_bytes())
@@ -24,7 +24,7 @@ fn push_u8<A: Allocator>(bytes: &mut Vec<u8, A>, number: u8) -> Result<(), Alloc
 /// Adds a number's bytes, the lowest first.
 #[tactic(auto, unfolding(crate::specs::PlanHeaders::row_bytes))]
 fn push_u16<A: Allocator>(bytes: &mut Vec<u8, A>, number: u16) -> Result<(), AllocError>
-    ensures bytes { OnOk result (bytes.new.items ≡ bytes.old.items ++ row_bytes (row 2 number)) }
+    ensures bytes { OnOk result (bytes.new.items ≡ bytes.old.items ++ row_bytes (sized 2 number)) }
     ensures fits { number < 2 ^ 16 }
 {
     bytes.extend_from_slice(&number.to_le_bytes())
@@ -33,7 +33,7 @@ fn push_u16<A: Allocator>(bytes: &mut Vec<u8, A>, number: u16) -> Result<(), All
 /// Adds a number's bytes, the lowest first.
 #[tactic(auto, unfolding(crate::specs::PlanHeaders::row_bytes))]
 fn push_u32<A: Allocator>(bytes: &mut Vec<u8, A>, number: u32) -> Result<(), AllocError>
-    ensures bytes { OnOk result (bytes.new.items ≡ bytes.old.items ++ row_bytes (row 4 number)) }
+    ensures bytes { OnOk result (bytes.new.items ≡ bytes.old.items ++ row_bytes (sized 4 number)) }
     ensures fits { number < 2 ^ 32 }
 {
     bytes.extend_from_slice(&number.to_le_bytes())
@@ -42,7 +42,7 @@ fn push_u32<A: Allocator>(bytes: &mut Vec<u8, A>, number: u32) -> Result<(), All
 /// Adds a number's bytes, the lowest first.
 #[tactic(auto, unfolding(crate::specs::PlanHeaders::row_bytes))]
 fn push_u64<A: Allocator>(bytes: &mut Vec<u8, A>, number: u64) -> Result<(), AllocError>
-    ensures bytes { OnOk result (bytes.new.items ≡ bytes.old.items ++ row_bytes (row 8 number)) }
+    ensures bytes { OnOk result (bytes.new.items ≡ bytes.old.items ++ row_bytes (sized 8 number)) }
     ensures fits { number < 2 ^ 64 }
 {
     bytes.extend_from_slice(&number.to_le_bytes())
@@ -51,7 +51,7 @@ fn push_u64<A: Allocator>(bytes: &mut Vec<u8, A>, number: u64) -> Result<(), All
 /// Adds the zeros between `MZ` and the field that tells where the signature stands.
 #[tactic(auto, unfolding(crate::specs::PlanHeaders::row_bytes))]
 fn push_dos_fields<A: Allocator>(bytes: &mut Vec<u8, A>) -> Result<(), AllocError>
-    ensures { OnOk result (bytes.new.items ≡ bytes.old.items ++ row_bytes (row 58 0)) }
+    ensures { OnOk result (bytes.new.items ≡ bytes.old.items ++ row_bytes (sized 58 0)) }
 {
     bytes.extend_from_slice(&[0; 58])
 }

@@ -5,7 +5,7 @@ use Rattle.pe_view.specs.Faults.{first_standing}
 use Rattle.pe_view.specs.View.{bytes_of}
 use Rattle.coff_object.specs.ObjectFaults.{section_tests}
 use Rattle.coff_object.specs.ObjectView.{section_view}
-use Rattle.coff_object.specs.Reading.{section_at, section_start, section_starts}
+use Rattle.coff_object.specs.Reading.{section_in, section_start, section_starts}
 use Rattle.coff_object.proofs.section.read_sections.Given as goal
 
 abbrev pub invariant-loop-i : goal.invariant-loop-i
@@ -14,6 +14,6 @@ invariant-loop-i g l = record {
       first_standing (flat_map (section_tests (bytes_of l.view)) (map (section_start (bytes_of l.view)) (range_with_len l.i (l.tables.sections - l.i))))
       ≡ first_standing (flat_map (section_tests (bytes_of l.view)) (section_starts (bytes_of l.view)));
   read :
-      map section_view l.sections.items ++ map (section_at (bytes_of l.view)) (map (section_start (bytes_of l.view)) (range_with_len l.i (l.tables.sections - l.i)))
-      ≡ map (section_at (bytes_of l.view)) (section_starts (bytes_of l.view));
+      map section_view l.sections.items ++ map (section_in (bytes_of l.view)) (map (section_start (bytes_of l.view)) (range_with_len l.i (l.tables.sections - l.i)))
+      ≡ map (section_in (bytes_of l.view)) (section_starts (bytes_of l.view));
 }

@@ -1,6 +1,6 @@
 use Rattle.std.proofs.Common.{◌≡◌, ◌∙◌, ap, sym, refl, ◌+◌, ◌<◌, length, ℕ, List, get_or}
 use Rattle.pe_set.specs.declared.binding.Binding.{Binding}
-use Rattle.pe_space.specs.Content.{Image, image_of}
+use Rattle.pe_space.specs.Content.{SpaceImage, nth_image}
 use Rattle.pe_space.specs.Held.{Held, images_of}
 use Rattle.pe_space.specs.Tied.{IsSlot}
 use Rattle.pe_space.specs.Kept.{address_of, any_slot}
@@ -20,10 +20,10 @@ loop-binding-preserved g c =
     let b = get_or bs k no_binding in
     let slot : IsSlot (images_of first) b = each_at (IsSlot (images_of first)) bs k no_binding c.requires.slots c.loop-binding-test.true in
     let here : b.exporter < length hs = in_list first hs (images_of first) b.exporter refl c.loop-binding.invariant.images slot.exporter in
-    let base : c.base.result ≡ (image_of (images_of first) b.exporter).base =
-    c.base.ensures ∙ ap (λ (h : Held). h.image.base) (sym c.index-images-binding.is) ∙ ap (λ (m : Image). m.base) (image_read hs b.exporter c.index-images-binding.result here c.index-images-binding.is)
-    ∙ ap (λ (x : List Image). (image_of x b.exporter).base) c.loop-binding.invariant.images in
-    let address : c.base.result + c.from.result ≡ address_of (images_of first) b = ap (λ (n : ℕ). n + c.from.result) base ∙ ap (λ (n : ℕ). (image_of (images_of first) b.exporter).base + n) c.from.ensures in
+    let base : c.base.result ≡ (nth_image (images_of first) b.exporter).base =
+    c.base.ensures ∙ ap (λ (h : Held). h.image.base) (sym c.index-images-binding.is) ∙ ap (λ (m : SpaceImage). m.base) (image_read hs b.exporter c.index-images-binding.result here c.index-images-binding.is)
+    ∙ ap (λ (x : List SpaceImage). (nth_image x b.exporter).base) c.loop-binding.invariant.images in
+    let address : c.base.result + c.from.result ≡ address_of (images_of first) b = ap (λ (n : ℕ). n + c.from.result) base ∙ ap (λ (n : ℕ). (nth_image (images_of first) b.exporter).base + n) c.from.ensures in
     let both = rebind_hit first hs _ any_slot (address_of (images_of first)) k bs no_binding c.index-images-binding-in-loop-binding.result c.put_slot.new.self (c.base.result + c.from.result) _
     c.loop-binding-test.true c.requires.slots c.loop-binding.invariant.images refl c.index-images-binding-in-loop-binding.is address c.put_slot.ensures refl c.loop-binding.invariant.rest in
     record { images = both.0; rest = both.1 }

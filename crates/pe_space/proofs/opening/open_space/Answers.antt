@@ -4,7 +4,7 @@ use Rattle.pe_set.specs.Set.{Module, modules_of, at_bases}
 use Rattle.pe_set.specs.SetView.{entries_of, modules_view}
 use Rattle.pe_set.specs.declared.binding.Binding.{Binding}
 use Rattle.pe_space.specs.Bare.{set_at}
-use Rattle.pe_space.specs.Content.{Image, Content, image_of, byte_at}
+use Rattle.pe_space.specs.Content.{SpaceImage, Content, nth_image, byte_at}
 use Rattle.pe_space.specs.Fresh.{IsFit}
 use Rattle.pe_space.specs.Placing.{IsPlaced}
 use Rattle.pe_space.specs.Tied.{Each, IsTied}
@@ -17,9 +17,9 @@ use Rattle.pe_space.proofs.Judged.{made_and_left}
 use Rattle.pe_space.proofs.opening.open_space.Goals as goal
 
 -- what has been opened and bound is what the set lays out
-filed_is : (images : List Image) (bs : List Binding) (s : List Module) → images ≡ map image_content s → bs ≡ bindings_of s → filed_content images bs ≡ laid_out s
+filed_is : (images : List SpaceImage) (bs : List Binding) (s : List Module) → images ≡ map image_content s → bs ≡ bindings_of s → filed_content images bs ≡ laid_out s
 unfolding laid_out
-filed_is images bs s opened bound = ap (λ (x : List Image). filed_content x bs) opened ∙ ap (filed_content (map image_content s)) bound
+filed_is images bs s opened bound = ap (λ (x : List SpaceImage). filed_content x bs) opened ∙ ap (filed_content (map image_content s)) bound
 
 -- no slot of an empty set is bound
 no_bindings : (set : List _) → length set ≡ 0 → length (bindings_of (modules_of (entries_of set))) ≡ 0
@@ -71,7 +71,7 @@ new-requires-2-clause-whole g c = λ j.
     let sound = c.accepted_sets_are_sound.ensures c.args.policy es c.in_ok-modules.ensures.exact.0 in
     let all = all_made image_content c.loop-own.images.items c.loop-own.own-iterator.rest.items c.loop-own.own-iterator.rest.len s c.loop-own.invariant.made (sym c.loop-own.own-iterator.rest.ok.0) c.in-None.ensures.steps.0 in
     let is = filed_is c.loop-own.images.items c.in_ok-modules.field-0.bindings.items s all c.in_ok-modules.ensures.exact.1.bindings in
-    subst (λ (x : Content). length (image_of x.images j).plain ≡ (image_of x.images j).size) (sym is) (whole_at s j)
+    subst (λ (x : Content). length (nth_image x.images j).plain ≡ (nth_image x.images j).size) (sym is) (whole_at s j)
 
 pub new-requires-2-clause-small : goal.new-requires-2-clause-small
 new-requires-2-clause-small g c = λ j.
@@ -80,7 +80,7 @@ new-requires-2-clause-small g c = λ j.
     let sound = c.accepted_sets_are_sound.ensures c.args.policy es c.in_ok-modules.ensures.exact.0 in
     let all = all_made image_content c.loop-own.images.items c.loop-own.own-iterator.rest.items c.loop-own.own-iterator.rest.len s c.loop-own.invariant.made (sym c.loop-own.own-iterator.rest.ok.0) c.in-None.ensures.steps.0 in
     let is = filed_is c.loop-own.images.items c.in_ok-modules.field-0.bindings.items s all c.in_ok-modules.ensures.exact.1.bindings in
-    subst (λ (x : Content). (image_of x.images j).size ≤ 2 ^ 31) (sym is) (small s sound j)
+    subst (λ (x : Content). (nth_image x.images j).size ≤ 2 ^ 31) (sym is) (small s sound j)
 
 pub returns-clause-exact : goal.returns-clause-exact
 returns-clause-exact g c =

@@ -4,7 +4,7 @@ use Rattle.std.proofs.lemmas.List.{take_all}
 use Rattle.std.specs.Prelude.{◌==◌, map, option_map}
 use Rattle.std.specs.List.{find, filter_map, range_with_len}
 use Rattle.pe_head.specs.declared.directory.Directory.{Directory}
-use Rattle.pe_layout.specs.Image.{Image}
+use Rattle.pe_layout.specs.Image.{LaidOut}
 use Rattle.pe_layout.specs.Layout.{image_of}
 use Rattle.pe_tables.specs.Key as spec
 use Rattle.pe_tables.specs.Key.{target_view}
@@ -24,7 +24,7 @@ abbrev no_name : Name
 no_name = record { text = record { ref_ptr = (0, 0); now = [] }; entry = 0 }
 
 -- what is found under the ordinal of an entry is what the entry exports
-exported_by : (i : Image) (d : Directory) (t : Table) (ordinals : List (ℕ × Target)) (k : ℕ) (result : Option Target) → k < t.entry_count
+exported_by : (i : LaidOut) (d : Directory) (t : Table) (ordinals : List (ℕ × Target)) (k : ℕ) (result : Option Target) → k < t.entry_count
     → map ordinal_view ordinals ≡ filter_map (by_entry i d t) (range_with_len 0 t.entry_count)
     → result ≡ option_map (λ (e : ℕ × Target). e.1) (find (λ (e : ℕ × Target). e.0 == t.ordinal_base + k) ordinals) → option_map target_view result ≡ target_of i d (entry i t k)
 exported_by i d t ordinals k result within listed is =

@@ -5,7 +5,7 @@ use Rattle.std.proofs.lemmas.List.{take_at}
 use Rattle.pe_view.specs.Faults.{first_standing}
 use Rattle.pe_head.specs.declared.headers.Headers.{Headers}
 use Rattle.pe_head.specs.Head.{head_of}
-use Rattle.pe_layout.specs.Image.{Image, image_of_file}
+use Rattle.pe_layout.specs.Image.{LaidOut, image_of_file}
 use Rattle.pe_layout.specs.Layout.{headers_of}
 use Rattle.pe_tables.specs.Fixups.{fixups_of}
 use Rattle.pe_tables.specs.declared.fixups.Fixup.{Fixup}
@@ -30,13 +30,13 @@ returns-in_err-fixups-clause-exact g c =
     let laid = c.in_ok-layout.ensures in
     let error = c.in_err-fixups.field-0.0 in
     let p = err_from_is_err_and c.from_residual-in_err-fixups.result c.from_residual-in_err-fixups.ensures.1 in
-    rw (p.1, p.2) (refused_tables file c.args.base laid.0 error (subst (λ (i : Image). Refuses (tables_tests i) error) laid.1.shows c.in_err-fixups.ensures))
+    rw (p.1, p.2) (refused_tables file c.args.base laid.0 error (subst (λ (i : LaidOut). Refuses (tables_tests i) error) laid.1.shows c.in_err-fixups.ensures))
 
 pub returns-in_err-check_base-clause-exact : goal.returns-in_err-check_base-clause-exact
 returns-in_err-check_base-clause-exact g c =
     let file = c.args.file.now in
     let laid = c.in_ok-layout.ensures in
-    let read = subst (λ (i : Image). first_standing (tables_tests i) ≡ None) laid.1.shows c.in_ok-fixups.ensures.0 in
+    let read = subst (λ (i : LaidOut). first_standing (tables_tests i) ≡ None) laid.1.shows c.in_ok-fixups.ensures.0 in
     let found = sym (same_base file c.args.base c.in_ok-layout.layout laid.1) ∙ c.in_err-check_base.ensures in
     let p = err_from_is_err_and c.from_residual-in_err-check_base.result c.from_residual-in_err-check_base.ensures.1 in
     rw (p.1, p.2) (refused_base file c.args.base laid.0 read c.in_err-check_base.field-0.0 found)
@@ -58,7 +58,7 @@ pub returns-in_err-rewrite-clause-exact : goal.returns-in_err-rewrite-clause-exa
 returns-in_err-rewrite-clause-exact g c =
     let file = c.args.file.now in
     let laid = c.in_ok-layout.ensures in
-    let read = subst (λ (i : Image). first_standing (tables_tests i) ≡ None) laid.1.shows c.in_ok-fixups.ensures.0 in
+    let read = subst (λ (i : LaidOut). first_standing (tables_tests i) ≡ None) laid.1.shows c.in_ok-fixups.ensures.0 in
     let based = sym (same_base file c.args.base c.in_ok-layout.layout laid.1) ∙ c.in_ok-check_base.ensures.0 in
     let fixups : c.deref.result.now ≡ fixups_of (image_of_file 0 file) = c.deref.ensures.value ∙ c.in_ok-fixups.ensures.1 ∙ ap fixups_of laid.1.shows in
     let found = sym (same_data file c.in_ok-layout.layout c.deref.result.now laid.1 fixups) ∙ c.in_err-rewrite.ensures in
@@ -71,7 +71,7 @@ returns-clause-exact g c =
     let file = c.args.file.now in
     let base = c.args.base in
     let laid = c.in_ok-layout.ensures in
-    let read = subst (λ (i : Image). first_standing (tables_tests i) ≡ None) laid.1.shows c.in_ok-fixups.ensures.0 in
+    let read = subst (λ (i : LaidOut). first_standing (tables_tests i) ≡ None) laid.1.shows c.in_ok-fixups.ensures.0 in
     let based = sym (same_base file c.args.base c.in_ok-layout.layout laid.1) ∙ c.in_ok-check_base.ensures.0 in
     let fixups : c.deref.result.now ≡ fixups_of (image_of_file 0 file) = c.deref.ensures.value ∙ c.in_ok-fixups.ensures.1 ∙ ap fixups_of laid.1.shows in
     let found = sym (same_data file c.in_ok-layout.layout c.deref.result.now laid.1 fixups) ∙ c.in_ok-rewrite.ensures.0 in

@@ -7,7 +7,7 @@ use Rattle.pe_layout.specs.Layout.{image_of}
 use Rattle.pe_tables.specs.declared.fixups.Fixup.{Fixup}
 use Rattle.pe_tables.specs.declared.fixups.FixupKind.TheVariants.{Bits32}
 use Rattle.pe_space.specs.Number.{digit}
-use Rattle.pe_space.specs.Content.{Image, in_field, width_of}
+use Rattle.pe_space.specs.Content.{SpaceImage, in_field, width_of}
 use Rattle.pe_space.specs.Windows.{laid_on, fixed_at, fixed_bytes}
 use Rattle.pe_space.proofs.Covering.{each_contains, field_at, fields_still, field_width_small}
 use Rattle.pe_space.proofs.SlotsAndFields.{is_in-true}
@@ -24,13 +24,13 @@ given false P t h = cc
 
 pub loop-fixup-init : goal.loop-fixup-init
 loop-fixup-init g c =
-    let size : (image_of c.self.inside.layout).size ≡ c.args.self.now.size = ap (λ (m : Image). m.size) c.self.view_is in
+    let size : (image_of c.self.inside.layout).size ≡ c.args.self.now.size = ap (λ (m : SpaceImage). m.size) c.self.view_is in
     record {
       len = c.fill.auto.buffer;
       still =
           fields_still c.args.self.now (image_of c.self.inside.layout) c.fixups_in-fixup-items.result.now c.args.start (length c.args.window.now) c.fill.new.buffer
           (given c.fill.result _ (c.fill.ensures.fits.1 (omega (arith, size, c.requires.inside))) c.fill.ensures.filled)
-          (sym (ap (λ (m : Image). m.plain) c.self.view_is))
+          (sym (ap (λ (m : SpaceImage). m.plain) c.self.view_is))
           (omega (arith, size, c.requires.inside))
           (λ f listed low high. c.fixups_in-fixup-items.ensures.all f listed low (omega (arith, high, c.from.ensures, c.fill.auto.buffer)));
     }

@@ -3,7 +3,7 @@ use Rattle.std.specs.List.{Contains}
 use Rattle.std.proofs.lemmas.List.{at_drop_more, drop_all}
 use Rattle.std.proofs.lemmas.List.Elements.{Contains-get_or}
 use Rattle.pe_set.specs.declared.binding.Binding.{Binding}
-use Rattle.pe_space.specs.Content.{Image, Content, image_of, byte_in, slot_width}
+use Rattle.pe_space.specs.Content.{SpaceImage, Content, nth_image, byte_in, slot_width}
 use Rattle.pe_space.specs.Filed.{filed_content}
 use Rattle.pe_space.specs.Tied.{IsImage, IsSlot}
 use Rattle.pe_space.specs.Windows.{bytes_in, fixed_bytes, laid_on}
@@ -32,7 +32,7 @@ read-requires-clause-inside g c =
     let images = c.self.inside.images.items in
     let own = filed_content images c.self.inside.bindings.items in
     let here : c.args.number < length images = there own c.args.self.now c.args.number c.self.view_is c.requires.number in
-    let size = ap (λ (m : Image). m.size) (image_at images c.args.number c.index-image.result.now here c.index-image.ensures) in
+    let size = ap (λ (m : SpaceImage). m.size) (image_at images c.args.number c.index-image.result.now here c.index-image.ensures) in
     omega (arith, size, same_size own c.args.self.now c.args.number c.self.view_is here, c.requires.inside)
 
 pub slots_in-slot-items-requires-clause-small : goal.slots_in-slot-items-requires-clause-small
@@ -54,8 +54,8 @@ loop-slot-init g c =
       still =
           subst (λ (x : Content). Still (byte_in x c.args.number) (in_slot_of c.slot_width-width.result) c.args.start c.slots_in-slot-items.result.now c.read.new.window) c.self.view_is
           (slots_still own c.self.invariant.tied c.self.invariant.whole c.args.number here c.slot_width-width.result c.slots_in-slot-items.result.now c.args.start (length c.args.window.now) c.read.new.window
-          (c.slot_width-width.ensures ∙ ap slot_width (c.magic.ensures ∙ ap (λ (m : Image). m.magic) image))
-          (c.read.ensures ∙ ap (λ (m : Image). fixed_bytes m c.args.start (length c.args.window.now)) image)
+          (c.slot_width-width.ensures ∙ ap slot_width (c.magic.ensures ∙ ap (λ (m : SpaceImage). m.magic) image))
+          (c.read.ensures ∙ ap (λ (m : SpaceImage). fixed_bytes m c.args.start (length c.args.window.now)) image)
           (λ b bound at low high. c.slots_in-slot-items.ensures.all b (subst (λ (x : Content). Contains x.bindings b) c.self.view_is bound) at low (omega (arith, high, c.from.ensures, c.read.auto.window))));
     }
 
@@ -81,7 +81,7 @@ overflow_add-address g c =
     let held = c.slots_in-slot-items.ensures.held b (Contains-get_or slots i no_binding c.loop-slot-test.true) in
     let bound : Contains c.self.inside.bindings.items b = subst (λ (x : Content). Contains x.bindings b) (sym c.self.view_is) held.0 in
     let slot : IsSlot images b = each_contains (IsSlot images) c.self.inside.bindings.items b c.self.invariant.tied.slots bound in
-    let base : c.base.result ≡ (image_of images b.exporter).base = c.base.ensures ∙ ap (λ (m : Image). m.base) (image_at images b.exporter c.index.result.now slot.exporter c.index.ensures) in
+    let base : c.base.result ≡ (nth_image images b.exporter).base = c.base.ensures ∙ ap (λ (m : SpaceImage). m.base) (image_at images b.exporter c.index.result.now slot.exporter c.index.ensures) in
     omega (arith, base, c.from-in-loop-slot.ensures, address_fits (filed_content images c.self.inside.bindings.items) b c.self.invariant.placed slot)
 
 pub loop-slot-preserved : goal.loop-slot-preserved
@@ -96,12 +96,12 @@ loop-slot-preserved g c =
     let held = c.slots_in-slot-items.ensures.held b (Contains-get_or slots i no_binding c.loop-slot-test.true) in
     let bound : Contains c.self.inside.bindings.items b = subst (λ (x : Content). Contains x.bindings b) (sym c.self.view_is) held.0 in
     let slot : IsSlot images b = each_contains (IsSlot images) c.self.inside.bindings.items b c.self.invariant.tied.slots bound in
-    let base : c.base.result ≡ (image_of images b.exporter).base = c.base.ensures ∙ ap (λ (m : Image). m.base) (image_at images b.exporter c.index.result.now slot.exporter c.index.ensures) in
-    let address : c.base.result + c.from-in-loop-slot.result ≡ (image_of images b.exporter).base + b.rva = omega (arith, base, c.from-in-loop-slot.ensures) in
+    let base : c.base.result ≡ (nth_image images b.exporter).base = c.base.ensures ∙ ap (λ (m : SpaceImage). m.base) (image_at images b.exporter c.index.result.now slot.exporter c.index.ensures) in
+    let address : c.base.result + c.from-in-loop-slot.result ≡ (nth_image images b.exporter).base + b.rva = omega (arith, base, c.from-in-loop-slot.ensures) in
     let image = image_at images c.args.number c.index-image.result.now here c.index-image.ensures in
     let w = c.slot_width-width.result in
-    let width : w ≡ slot_width (image_of images c.args.number).magic = c.slot_width-width.ensures ∙ ap slot_width (c.magic.ensures ∙ ap (λ (m : Image). m.magic) image) in
-    let v = (image_of images b.exporter).base + b.rva in
+    let width : w ≡ slot_width (nth_image images c.args.number).magic = c.slot_width-width.ensures ∙ ap slot_width (c.magic.ensures ∙ ap (λ (m : SpaceImage). m.magic) image) in
+    let v = (nth_image images b.exporter).base + b.rva in
     let laid : c.lay_on.new.window ≡ laid_on c.args.start b.slot w v c.loop-slot.window =
     c.lay_on.ensures ∙ ap (λ (n : ℕ). laid_on c.args.start b.slot w n c.loop-slot.window) address in
     let wanted = byte_in c.args.self.now c.args.number in

@@ -1,6 +1,6 @@
 use Rattle.std.proofs.Common.{◌∙◌, ◌-◌, ap, sym, arith, List, ℕ, get_or}
 use Rattle.std.specs.Prelude.{Some}
-use Rattle.pe_space.specs.Content.{Image, Content, holder_from, byte_at, byte_in}
+use Rattle.pe_space.specs.Content.{SpaceImage, Content, holder_from, byte_at, byte_in}
 use Rattle.pe_space.specs.Filed.{filed_content}
 use Rattle.pe_space.specs.Windows.{bytes_in}
 use Rattle.pe_space.proofs.Defining.{byte_nowhere}
@@ -28,7 +28,7 @@ overflow_cast-rva g c =
     let low = found.low in
     let high = found.high in
     let small = c.self.invariant.small j in
-    let size = ap (λ (m : Image). m.size) found.image in
+    let size = ap (λ (m : SpaceImage). m.size) found.image in
     omega (arith, low, high, small, size, c.base.ensures)
 
 pub read-requires-clause-number : goal.read-requires-clause-number
@@ -51,7 +51,7 @@ read-requires-clause-inside g c =
     let found = found_at images c.as_slice.result.now a j m c.as_slice.ensures.value c.in_ok-number.ensures.holder c.index.ensures in
     let low = found.low in
     let high = found.high in
-    let size = ap (λ (m : Image). m.size) found.image in
+    let size = ap (λ (m : SpaceImage). m.size) found.image in
     let same = same_size own c.args.self.now j c.self.view_is found.place in
     omega (arith, low, high, size, same, c.base.ensures)
 
@@ -76,4 +76,4 @@ returns-in_err-number g c =
     c.from_residual.ensures
     ∙ sym (ap (λ (x : Content). byte_at x c.args.address) (sym c.self.view_is)
     ∙ byte_nowhere (filed_content images c.self.inside.bindings.items) c.args.address
-    (sym (ap (λ (x : List Image). holder_from 0 x c.args.address) c.as_slice.ensures.value) ∙ sym c.in_err-number.ensures.holder))
+    (sym (ap (λ (x : List SpaceImage). holder_from 0 x c.args.address) c.as_slice.ensures.value) ∙ sym c.in_err-number.ensures.holder))

@@ -1,6 +1,6 @@
 use Rattle.std.proofs.Common.{◌≡◌, ◌∙◌, ap, sym, arith, ℕ, length}
 use Rattle.std.specs.Prelude.{None, count_by}
-use Rattle.pe_space.specs.Content.{Image, Content, image_of}
+use Rattle.pe_space.specs.Content.{SpaceImage, Content, nth_image}
 use Rattle.pe_space.specs.Filed.{filed_content}
 use Rattle.pe_space.specs.Memory.{ends_in}
 use Rattle.pe_space.specs.Moves.{move_fault, moved, moved_counts}
@@ -54,10 +54,10 @@ returns-clause-counts g c =
     let none : move_fault (filed_content images bs) c.args.image c.args.base ≡ None =
     fault_so images c.as_slice.result.now bs c.args.image c.args.base c.as_slice.ensures.value ∙ sym c.move_fault.ensures ∙ c.in_default.is in
     let lt = (accepts (filed_content images bs) c.args.image c.args.base none).image in
-    let fields : c.field_count-fields.result ≡ length (image_of images c.args.image).fixups =
-    c.field_count-fields.ensures ∙ ap (λ (m : Image). length m.fixups) c.rebase.ensures ∙ ap (λ (m : Image). length m.fixups) (image_at images c.args.image c.index_mut-own.result.now lt c.index_mut-own.ensures.value) in
+    let fields : c.field_count-fields.result ≡ length (nth_image images c.args.image).fixups =
+    c.field_count-fields.ensures ∙ ap (λ (m : SpaceImage). length m.fixups) c.rebase.ensures ∙ ap (λ (m : SpaceImage). length m.fixups) (image_at images c.args.image c.index_mut-own.result.now lt c.index_mut-own.ensures.value) in
     let slots = c.count_slots-slots.ensures ∙ ap (count_by (ends_in c.args.image)) c.as_slice-2.ensures.value in
     ap (λ (n : ℕ). counted n c.count_slots-slots.result) fields
-    ∙ ap (counted (length (image_of images c.args.image).fixups)) slots
+    ∙ ap (counted (length (nth_image images c.args.image).fixups)) slots
     ∙ sym (counts_bare (filed_content images bs) c.args.image)
     ∙ ap (λ (x : Content). moved_counts x c.args.image) c.self.view_is

@@ -1,7 +1,7 @@
 use Rattle.std.proofs.Common.{◌∙◌, ◌-◌, ap, sym, arith, length, List, ℕ}
 use Rattle.std.specs.Prelude.{Ok, Err}
 use Rattle.std.proofs.lemmas.Result.{err_from_is_err_and}
-use Rattle.pe_space.specs.Content.{Image, Content, window_at}
+use Rattle.pe_space.specs.Content.{SpaceImage, Content, window_at}
 use Rattle.pe_space.specs.Filed.{filed_content}
 use Rattle.pe_space.specs.Windows.{bytes_in}
 use Rattle.pe_space.proofs.Defining.{window_told}
@@ -35,7 +35,7 @@ overflow_cast-rva g c =
     let low = found.low in
     let high = found.high in
     let small = c.self.invariant.small j in
-    let size = ap (λ (m : Image). m.size) found.image in
+    let size = ap (λ (m : SpaceImage). m.size) found.image in
     omega (arith, low, high, small, size, c.base.ensures)
 
 pub read-requires-clause-number : goal.read-requires-clause-number
@@ -62,7 +62,7 @@ read-requires-clause-inside g c =
     let lies = window_so images c.as_slice.result.now a n (Ok j) c.as_slice.ensures.value c.in_ok-number.ensures.image in
     let both = found_window images a n j m lies c.index.ensures in
     let found = both.0 in
-    let size = ap (λ (m : Image). m.size) found.image in
+    let size = ap (λ (m : SpaceImage). m.size) found.image in
     omega (arith, both.1, size, same_size own c.args.self.now j c.self.view_is found.place, c.base.ensures)
 
 pub returns-in_err-number-clause-fault : goal.returns-in_err-number-clause-fault

@@ -5,7 +5,7 @@ use Rattle.std.proofs.lemmas.List.{length-map, with_items_is}
 use Rattle.pe_view.specs.Faults.{first_standing}
 use Rattle.pe_set.specs.Placement.{Placement, move_tests}
 use Rattle.pe_space.specs.Bare.{bare}
-use Rattle.pe_space.specs.Content.{Content, Image}
+use Rattle.pe_space.specs.Content.{Content, SpaceImage}
 use Rattle.pe_space.specs.Held.{Held}
 use Rattle.pe_space.specs.Kept.{kept_content, IsKept}
 use Rattle.pe_space.specs.Memory.{ends_in}
@@ -77,7 +77,7 @@ returns-clause-counts g c =
     ap (λ (ps : List Placement). first_standing (move_tests ps c.args.image c.args.base)) (placed_so items c.as_slice.result.now c.as_slice.ensures.value) ∙ sym c.move_fault.ensures ∙ c.in_default.is in
     let lt : c.args.image < length items = (let n = length-map items (λ (x : Held). x.image) in let m = (accepts (kept_content items bs) c.args.image c.args.base none).image in omega arith) in
     let fields = c.field_count-fields.ensures ∙ ap (λ (h : Held). length h.image.fixups) c.rebase.ensures
-    ∙ ap (λ (m : Image). length m.fixups) (image_read items c.args.image c.index_mut-own.result.now lt c.index_mut-own.ensures.value) in
+    ∙ ap (λ (m : SpaceImage). length m.fixups) (image_read items c.args.image c.index_mut-own.result.now lt c.index_mut-own.ensures.value) in
     let slots = c.rebind-slots.ensures.count ∙ ap (count_by (ends_in c.args.image)) c.as_slice-2.ensures.value in
     ap (λ (n : ℕ). counted n c.rebind-slots.result) fields
     ∙ ap (counted _) slots
