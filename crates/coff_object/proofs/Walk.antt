@@ -4,14 +4,14 @@ use Rattle.std.specs.Prelude.{map, not, nat_lt, ◌==◌}
 use Rattle.std.proofs.lemmas.Bool.{ne_eqb, ltb-false}
 use Rattle.std.specs.List.{flat_map, range_with_len}
 use Rattle.std.proofs.lemmas.List.{map-append, append-nil}
-use Rattle.pe_view.specs.Faults.{Test, first_standing}
-use Rattle.pe_view.specs.FirstStanding.{first-in, first-past, none-append, none_stands}
+use Rattle.pe_view.specs.Faults.{Test, first_standing, Refuses, AnswersOrWants}
+use Rattle.pe_view.specs.FirstStanding.{first-in, first-past, refused-past, none-append, none_stands}
 use Rattle.pe_view.specs.declared.fault.Fault as view
 use Rattle.coff_object.specs.Field.{field}
-use Rattle.coff_object.specs.ObjectFaults.{Refuses, ObjectAnswers, section_tests}
+use Rattle.coff_object.specs.ObjectFaults.{section_tests}
 use Rattle.coff_object.specs.Reading.{aux_count, symbols_from, relocation_start}
-use Rattle.coff_object.specs.declared.error.ObjectError.{ObjectError}
-use Rattle.coff_object.specs.declared.error.ObjectError.TheVariants.{Fault, Memory}
+use Rattle.pe_view.specs.declared.refusal.Refusal.{Refusal}
+use Rattle.pe_view.specs.declared.refusal.Refusal.TheVariants.{Fault, Memory}
 use Rattle.coff_object.proofs.SymbolsBack.{symbols-step}
 
 -- the indexes that are left, from one of them on
@@ -29,7 +29,7 @@ pub stop : (tests : ℕ → List Test) (h : ℕ) (left more : List ℕ) (whole :
 stop tests h left more whole y is some inv = sym inv ∙ ap (λ (hs : List ℕ). first_standing (flat_map tests hs)) is ∙ first-in (tests h) (flat_map tests more) y some
 
 -- or want of memory
-pub stop_reading : (tests : ℕ → List Test) (h : ℕ) (left more : List ℕ) (whole : List Test) (e : ObjectError) → left ≡ h ∷ more → Refuses (tests h) e
+pub stop_reading : (tests : ℕ → List Test) (h : ℕ) (left more : List ℕ) (whole : List Test) (e : Refusal) → left ≡ h ∷ more → Refuses (tests h) e
     → first_standing (flat_map tests left) ≡ first_standing whole → Refuses whole e
 stop_reading tests h left more whole Memory is refused inv = tt
 stop_reading tests h left more whole (Fault y) is refused inv = stop tests h left more whole y is refused inv
@@ -50,16 +50,6 @@ symbols_next file k next records is within =
 -- the record that is read begins a symbol
 pub symbols_some : (file : List ℕ) (k records : ℕ) → k < records → symbols_from file k (records - k) 0 ≡ k ∷ symbols_from file (k + 1) (records - (k + 1)) (aux_count file k)
 symbols_some file k records lt = ap (λ (n : ℕ). symbols_from file k n 0) (let left : records - k ≡ suc (records - (k + 1)) = omega arith in left)
-
--- the first part of a table refuses
-pub refused-in : (front rest : List Test) (e : ObjectError) → Refuses front e → Refuses (front ++ rest) e
-refused-in front rest Memory refused = tt
-refused-in front rest (Fault y) refused = first-in front rest y refused
-
--- a later part refuses
-pub refused-past : (front rest : List Test) (e : ObjectError) → first_standing front ≡ None → Refuses rest e → Refuses (front ++ rest) e
-refused-past front rest Memory none refused = tt
-refused-past front rest (Fault y) none refused = first-past front rest none ∙ refused
 
 -- the record at hand passes its one test
 pub pass_test : (test : ℕ → Test) (k n : ℕ) (whole : Option view.Fault) → k < n → (test k).stands ≡ false → first_standing (map test (range_with_len k (n - k))) ≡ whole
@@ -94,6 +84,6 @@ pub first_none : (tests : ℕ → List Test) (h : ℕ) (left more : List ℕ) �
 first_none tests h left more is none = none-append (tests h) (flat_map tests more) (sym (ap (λ (hs : List ℕ). first_standing (flat_map tests hs)) is) ∙ none)
 
 -- what is asked behind tests of which none stands
-pub behind : {X : Type 0} (front rest : List Test) (P : X → Type 0) (result : Result X ObjectError) → first_standing front ≡ None → ObjectAnswers rest P result → ObjectAnswers (front ++ rest) P result
+pub behind : {X : Type 0} (front rest : List Test) (P : X → Type 0) (result : Result X Refusal) → first_standing front ≡ None → AnswersOrWants rest P result → AnswersOrWants (front ++ rest) P result
 behind front rest P (Ok x) none answers = (first-past front rest none ∙ answers.0, answers.1)
 behind front rest P (Err e) none answers = refused-past front rest e none answers

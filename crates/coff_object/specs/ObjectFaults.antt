@@ -9,8 +9,6 @@ use Rattle.coff_object.specs.Names.{section_name, symbol_name}
 use Rattle.coff_object.specs.Reading.{section_start, section_starts, relocation_start, is_absent, record_start, aux_count, symbol_indexes, object_of}
 use Rattle.coff_object.specs.Records.{Object}
 use Rattle.coff_object.specs.Strings.{symbol_pointer, record_count, strings_start, strings_size, size_field}
-use Rattle.coff_object.specs.declared.error.ObjectError.{ObjectError}
-use Rattle.coff_object.specs.declared.error.ObjectError.TheVariants.{Fault, Memory}
 
 -- a row of the table: a number, a file offset, and the condition
 abbrev pub at_offset : ℕ → ℕ → Bool → Test
@@ -85,13 +83,3 @@ object_tests file = header_tests file ++ (symbol_table_tests file ++ record_test
 pub record IsObjectOf (file : List ℕ) (o : Object) : Type 0 where
   pub accepted : first_standing (object_tests file) ≡ None
   pub holds : object_of file ≡ o
-
--- the first fault that stands; want of memory may stand in its place
-abbrev pub Refuses : List Test → ObjectError → Type 0
-Refuses tests Memory = Unit {0}
-Refuses tests (Fault fault) = first_standing tests ≡ Some fault
-
--- Ok, of a value with the property, only where no test stands; otherwise the first fault that does, or want of memory
-abbrev pub ObjectAnswers : {X : Type 0} → List Test → (X → Type 0) → Result X ObjectError → Type 0
-ObjectAnswers tests P (Ok x) = (first_standing tests ≡ None) × P x
-ObjectAnswers tests P (Err error) = Refuses tests error

@@ -1,11 +1,12 @@
 ghost use Rattle.std.specs.Prelude.{◌≡◌, ◌++◌, None, IsErrOf, ⊤};
 ghost use Rattle.std.specs.List.{flat_map};
-ghost use Rattle.pe_view.specs.Faults.{Answers, first_standing};
+ghost use Rattle.pe_view.specs.Faults.{Answers, first_standing, AnswersOrWants};
 ghost use Rattle.pe_view.specs.View.{bytes_of};
-ghost use Rattle.coff_object.specs.ObjectFaults.{ObjectAnswers, header_tests, section_tests, relocation_tests, record_tests, object_tests};
+ghost use Rattle.coff_object.specs.ObjectFaults.{header_tests, section_tests, relocation_tests, record_tests, object_tests};
 ghost use Rattle.coff_object.specs.ObjectView.{object_view};
 ghost use Rattle.coff_object.specs.Reading.{section_starts, object_of};
 ghost use Rattle.coff_object.specs.TablesPlace.{AreTables};
+ghost use Rattle.pe_view.specs.declared.refusal.Refusal.{Refusal};
 
 use crate::error::ObjectError;
 use crate::fields::{u16_in, u32_in};
@@ -36,7 +37,7 @@ fn read_records<'a, A: Allocator + Copy>(
     tables: Tables,
 ) -> Result<Object<'a, A>, ObjectError>
     requires { AreTables (bytes_of view) tables }
-    ensures { ObjectAnswers (record_tests (bytes_of view.entry)) (λ object. object_view object ≡ object_of (bytes_of view.entry)) result }
+    ensures { AnswersOrWants (record_tests (bytes_of view.entry)) (λ object. object_view object ≡ object_of (bytes_of view.entry)) result }
 {
     let sections = read_sections(alloc, view, tables)?;
     let symbols = read_symbols(alloc, view, tables)?;
@@ -62,8 +63,8 @@ fn read_records<'a, A: Allocator + Copy>(
 /// Texts and bytes of the object are parts of the file. ("PE Format": COFF File Header, Section Table, COFF Relocations, COFF
 /// Symbol Table, COFF String Table.)
 pub fn read_object<A: Allocator + Copy>(alloc: A, file: &[u8]) -> Result<Object<'_, A>, ObjectError>
-    ensures exact { ObjectAnswers (object_tests file.now) (λ object. object_view object ≡ object_of file.now) result }
-    ensures memory { IsErrOf result ObjectError.Memory → first_standing (header_tests file.now) ≡ None }
+    ensures exact { AnswersOrWants (object_tests file.now) (λ object. object_view object ≡ object_of file.now) result }
+    ensures memory { IsErrOf result Refusal.Memory → first_standing (header_tests file.now) ≡ None }
 {
     let view = View::new(file);
     check_header(view)?;

@@ -1,7 +1,8 @@
 ghost use Rattle.std.specs.Prelude.{◌≡◌, ◌+◌, ◌≤◌, ◌<◌, ◌^◌, ◌&&◌, map, not, nat_lt, is_none, IfSome};
 ghost use Rattle.std.specs.List.{flat_map};
 ghost use Rattle.pe_view.specs.View.{bytes_of, size_of};
-ghost use Rattle.coff_object.specs.ObjectFaults.{ObjectAnswers, section_tests};
+ghost use Rattle.coff_object.specs.ObjectFaults.{section_tests};
+ghost use Rattle.pe_view.specs.Faults.{AnswersOrWants};
 ghost use Rattle.coff_object.specs.ObjectView.{raw_view, section_view};
 ghost use Rattle.coff_object.specs.Reading.{raw_at, is_absent, section_in, section_starts};
 ghost use Rattle.coff_object.specs.TablesPlace.{AreTables};
@@ -69,7 +70,7 @@ fn read_section<'a, A: Allocator>(
 ) -> Result<ObjSection<'a, A>, ObjectError>
     requires tables { AreTables (bytes_of view) tables }
     requires inside { h + 40 ≤ size_of view }
-    ensures { ObjectAnswers (section_tests (bytes_of view.entry) h) (λ section. section_view section ≡ section_in (bytes_of view.entry) h) result }
+    ensures { AnswersOrWants (section_tests (bytes_of view.entry) h) (λ section. section_view section ≡ section_in (bytes_of view.entry) h) result }
 {
     let (pointer, size, flags) = (
         u32_in(view, h, 20),
@@ -107,7 +108,7 @@ pub(crate) fn read_sections<'a, A: Allocator + Copy>(
     tables: Tables,
 ) -> Result<Vec<ObjSection<'a, A>, A>, ObjectError>
     requires { AreTables (bytes_of view) tables }
-    ensures { ObjectAnswers (flat_map (section_tests (bytes_of view.entry)) (section_starts (bytes_of view.entry)))
+    ensures { AnswersOrWants (flat_map (section_tests (bytes_of view.entry)) (section_starts (bytes_of view.entry)))
         (λ sections. map section_view sections.items ≡ map (section_in (bytes_of view.entry)) (section_starts (bytes_of view.entry))) result }
 {
     let mut sections = Vec::new(alloc);

@@ -1,8 +1,8 @@
 ghost use Rattle.std.specs.Prelude.{◌≡◌, ◌+◌, ◌*◌, ◌≤◌, ◌<◌, map, length, IfOk, OnOk};
 ghost use Rattle.std.specs.List.{flat_map};
-ghost use Rattle.pe_view.specs.Faults.{Answers};
+ghost use Rattle.pe_view.specs.Faults.{Answers, AnswersOrWants};
 ghost use Rattle.pe_view.specs.View.{bytes_of};
-ghost use Rattle.coff_object.specs.ObjectFaults.{ObjectAnswers, symbol_tests};
+ghost use Rattle.coff_object.specs.ObjectFaults.{symbol_tests};
 ghost use Rattle.coff_object.specs.ObjectView.{symbol_view};
 ghost use Rattle.coff_object.specs.Reading.{section_of_number, symbol_at, record_start, aux_count, symbol_indexes};
 ghost use Rattle.coff_object.specs.TablesPlace.{AreTables};
@@ -94,7 +94,7 @@ pub(crate) fn read_symbols<'a, A: Allocator>(
     tables: Tables,
 ) -> Result<Vec<Symbol<'a>, A>, ObjectError>
     requires { AreTables (bytes_of view) tables }
-    ensures { ObjectAnswers (flat_map (symbol_tests (bytes_of view.entry)) (symbol_indexes (bytes_of view.entry)))
+    ensures { AnswersOrWants (flat_map (symbol_tests (bytes_of view.entry)) (symbol_indexes (bytes_of view.entry)))
         (λ symbols. map symbol_view symbols.items ≡ map (λ k. symbol_at (bytes_of view.entry) (record_start (bytes_of view.entry) k)) (symbol_indexes (bytes_of view.entry))) result }
 {
     let mut symbols = Vec::new(alloc);

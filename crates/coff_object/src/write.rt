@@ -1,8 +1,8 @@
 ghost use Rattle.std.specs.Prelude.{◌≡◌, ◌+◌, ◌-◌, ◌≤◌, ◌<◌, ◌^◌, ◌++◌, false, [], if◌then◌else◌, length, map, min, ⊤, None, Some, Err, ℕ, List, All, IsTrue, OnOk, IfOk};
 ghost use Rattle.std.specs.List.{flat_map, AllByRecursion};
-ghost use Rattle.pe_view.specs.Faults.{Answers, first_standing};
+ghost use Rattle.pe_view.specs.Faults.{Answers, first_standing, AnswersOrWants};
 ghost use Rattle.coff_object.specs.ObjectView.{section_view, symbol_view, object_view};
-ghost use Rattle.coff_object.specs.ObjectFaults.{ObjectAnswers, IsObjectOf};
+ghost use Rattle.coff_object.specs.ObjectFaults.{IsObjectOf};
 ghost use Rattle.coff_object.specs.Records as format;
 ghost use Rattle.coff_object.specs.Records.{SectionFits, RelocationsFit, SymbolFits, HeaderFits, Fits};
 ghost use Rattle.pe_view.specs.declared.fault.Fault as code_fault;
@@ -13,6 +13,7 @@ ghost use Rattle.coff_object.specs.Written.{bodies_start, has_strings, symbols_s
 ghost use Rattle.coff_object.specs.NamePlaces.{section_places, symbol_places, ArePlacesOf};
 ghost use Rattle.coff_object.specs.Writable.{IsWritable};
 ghost use Rattle.coff_object.specs.WriteFaults.{name_tests, section_tests, form_tests, write_tests, is_far, has_many_relocations, is_bad_symbol, is_bad_object};
+ghost use Rattle.pe_view.specs.declared.refusal.Refusal.{Refusal};
 
 use crate::error::ObjectError;
 use crate::layout::{NamePlaces, bodies_size, body_size, place_names, record_count, symbols_size};
@@ -333,9 +334,9 @@ pub fn write_object<A: Allocator + Copy>(
     alloc: A,
     object: &Object<A>,
 ) -> Result<Vec<u8, A>, ObjectError>
-    ensures exact { ObjectAnswers (write_tests (object_view object.now)) (λ bytes. bytes.items ≡ canon (object_view object.now)) result }
+    ensures exact { AnswersOrWants (write_tests (object_view object.now)) (λ bytes. bytes.items ≡ canon (object_view object.now)) result }
     ensures read_back { IfOk result (λ bytes. IsObjectOf bytes.items (object_view object.now)) }
-    ensures early { (fault : code_fault.Fault) → first_standing (name_tests (object_view object.now)) ≡ Some fault → result ≡ Err (ObjectError.Fault fault) }
+    ensures early { (fault : code_fault.Fault) → first_standing (name_tests (object_view object.now)) ≡ Some fault → result ≡ Err (Refusal.Fault fault) }
 {
     check_names(object)?;
     let places = place_names(alloc, object)?;

@@ -2,8 +2,8 @@
 use Rattle.std.proofs.Common.{◌≡◌, ℕ, ◌<◌, ◌≤◌, List, ◌++◌, length, map, sym, ap, None, Result, Ok, Err, refl, ◌∙◌, arith}
 use Rattle.std.proofs.lemmas.Bool.{ltb-false}
 use Rattle.std.proofs.lemmas.Simd.{map-map}
-use Rattle.pe_view.specs.Faults.{Test, first_standing}
-use Rattle.pe_view.specs.FirstStanding.{first-past, first-in, none-append, none_stands}
+use Rattle.pe_view.specs.Faults.{Test, first_standing, AnswersOrWants}
+use Rattle.pe_view.specs.FirstStanding.{first-past, refused-past, none-append, none_stands}
 use Rattle.pe_head.specs.Head.{head_of}
 use Rattle.pe_head.specs.HeaderFaults.{head_tests}
 use Rattle.pe_layout.specs.Layout.{IsLayoutOf}
@@ -14,26 +14,14 @@ use Rattle.pe_tables.specs.Fixups.{fixups_of}
 use Rattle.pe_tables.specs.Import.{slots_of}
 use Rattle.pe_tables.specs.Imports as table
 use Rattle.pe_tables.specs.ImportView.{import_view}
-use Rattle.pe_tables.specs.TableFaults.{Refuses, TableAnswers}
 use Rattle.pe_tables.specs.declared.import.Import.{Import}
-use Rattle.pe_tables.specs.declared.error.TableError.{TableError}
-use Rattle.pe_tables.specs.declared.error.TableError.TheVariants as errors
+use Rattle.pe_view.specs.declared.refusal.Refusal.{Refusal}
 use Rattle.pe_image.specs.declared.image.Image.{Image}
 use Rattle.pe_image.specs.ImageOf.{HoldsTablesOf, IsImageOf}
 
--- the first phase refuses
-pub refused-in : (front rest : List Test) (error : TableError) → Refuses front error → Refuses (front ++ rest) error
-refused-in front rest errors.Memory refused = tt
-refused-in front rest (errors.Fault y) refused = first-in front rest y refused
-
--- a later phase refuses
-pub refused-past : (front rest : List Test) (error : TableError) → first_standing front ≡ None → Refuses rest error → Refuses (front ++ rest) error
-refused-past front rest errors.Memory none refused = tt
-refused-past front rest (errors.Fault y) none refused = first-past front rest none ∙ refused
-
 -- phases behind others without a fault
-pub behind : {X : Type 0} (front rest : List Test) (P Q : X → Type 0) (result : Result X TableError) → first_standing front ≡ None → ((x : X) → P x → Q x)
-    → TableAnswers rest P result → TableAnswers (front ++ rest) Q result
+pub behind : {X : Type 0} (front rest : List Test) (P Q : X → Type 0) (result : Result X Refusal) → first_standing front ≡ None → ((x : X) → P x → Q x)
+    → AnswersOrWants rest P result → AnswersOrWants (front ++ rest) Q result
 behind front rest P Q (Ok x) none more answers = (first-past front rest none ∙ answers.0, more x answers.1)
 behind front rest P Q (Err error) none more answers = refused-past front rest error none answers
 

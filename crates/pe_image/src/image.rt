@@ -1,10 +1,10 @@
 ghost use Rattle.std.specs.Prelude.{◌≡◌, ◌≢◌, ◌<◌, None, length, IsErrOf};
-ghost use Rattle.pe_view.specs.Faults.{first_standing};
+ghost use Rattle.pe_view.specs.Faults.{first_standing, AnswersOrWants};
 ghost use Rattle.pe_layout.specs.SectionFaults.{layout_tests};
 ghost use Rattle.pe_layout.specs.Layout.{image_of, IsLayoutOf};
-ghost use Rattle.pe_tables.specs.TableFaults.{TableAnswers};
 ghost use Rattle.pe_image.specs.ImageTests.{table_tests, image_tests};
 ghost use Rattle.pe_image.specs.ImageOf.{HoldsTablesOf, IsImageOf};
+ghost use Rattle.pe_view.specs.declared.refusal.Refusal.{Refusal};
 
 use pe_layout::Layout;
 use pe_tables::{Exports, Fixup, Import, TableError, read_exports, read_fixups, read_imports};
@@ -26,8 +26,8 @@ pub struct Image<'a, A: Allocator> {
 
 /// The layout of an image's file, or the first of faults 1 to 15.
 fn lay_out(file: &[u8], number: u16) -> Result<Layout<'_>, TableError>
-    ensures exact { TableAnswers (layout_tests number file.now) (IsLayoutOf file.now number) result }
-    ensures no_memory { result ≢ Err TableError.Memory }
+    ensures exact { AnswersOrWants (layout_tests number file.now) (IsLayoutOf file.now number) result }
+    ensures no_memory { result ≢ Err Refusal.Memory }
 {
     match Layout::new(View::new(file), number) {
         Ok(layout) => Ok(layout),
@@ -40,7 +40,7 @@ fn read_tables<A: Allocator + Copy>(
     alloc: A,
     layout: Layout<'_>,
 ) -> Result<Image<'_, A>, TableError>
-    ensures { TableAnswers (table_tests (image_of layout.entry)) (HoldsTablesOf layout.entry) result }
+    ensures { AnswersOrWants (table_tests (image_of layout.entry)) (HoldsTablesOf layout.entry) result }
 {
     let exports = read_exports(alloc, &layout)?;
     let imports = read_imports(alloc, &layout)?;
@@ -66,9 +66,9 @@ pub fn read_image<A: Allocator + Copy>(
     file: &[u8],
     number: u16,
 ) -> Result<Image<'_, A>, TableError>
-    ensures exact { TableAnswers (image_tests number file.now) (IsImageOf number file.now) result }
-    ensures memory { IsErrOf result TableError.Memory → first_standing (layout_tests number file.now) ≡ None }
-    ensures not_empty { IsErrOf result TableError.Memory → 0 < length file.now }
+    ensures exact { AnswersOrWants (image_tests number file.now) (IsImageOf number file.now) result }
+    ensures memory { IsErrOf result Refusal.Memory → first_standing (layout_tests number file.now) ≡ None }
+    ensures not_empty { IsErrOf result Refusal.Memory → 0 < length file.now }
 {
     let layout = lay_out(file, number)?;
     read_tables(alloc, layout)

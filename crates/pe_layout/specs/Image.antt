@@ -5,7 +5,7 @@ use Rattle.pe_view.specs.declared.fault.Fault.{Fault}
 use Rattle.pe_view.specs.declared.fault.Place.TheVariants.{Rva}
 use Rattle.pe_view.specs.Number.{num}
 use Rattle.pe_head.specs.declared.optional.Magic.{Magic}
-use Rattle.pe_head.specs.declared.optional.Magic.TheVariants.{Pe32, Pe32Plus}
+use Rattle.pe_head.specs.Optional.{image_base_width}
 use Rattle.pe_head.specs.declared.directory.Directory.{Directory}
 use Rattle.pe_head.specs.declared.headers.Headers.{Headers}
 use Rattle.pe_head.specs.Head.{head_of}
@@ -27,9 +27,9 @@ pub record LaidOut : Type 0 where
 abbrev pub directory_of : Headers → ℕ → Option Directory
 directory_of h i = option_and_then (λ d. if d.rva == 0 || (i == 5 && d.size == 0) then None else Some d) (slice_get h.directories.items i)
 
+-- a slot holds an address, as ImageBase does
 abbrev pub slot_width_of : Magic → ℕ
-slot_width_of Pe32 = 4
-slot_width_of Pe32Plus = 8
+slot_width_of = image_base_width
 
 -- the image that headers and a file lay out, under a number
 abbrev pub image_from : ℕ → Headers → List ℕ → LaidOut

@@ -4,7 +4,7 @@ ghost use Rattle.pe_view.specs.Faults.{first_standing};
 ghost use Rattle.pe_layout.specs.SectionFaults.{placing_tests};
 
 use crate::placing::check_sections;
-use pe_head::{Directory, Headers, Magic, characteristic, directory_index, read_headers};
+use pe_head::{Directory, Headers, characteristic, directory_index, read_headers};
 use pe_view::{Fault, View};
 
 /// An image as its headers and sections lay it out: SizeOfImage bytes, each of the headers, of a section's raw data, or 0.
@@ -73,10 +73,7 @@ impl<'a> Layout<'a> {
         ensures value { result ≡ (image_of self.now).slot_width }
         ensures width { (result ≡ 4) ⊎ (result ≡ 8) }
     {
-        match self.headers.magic {
-            Magic::Pe32 => 4,
-            Magic::Pe32Plus => 8,
-        }
+        self.headers.magic.image_base_width() as u32
     }
 
     /// The address at which the image prefers to stand: ImageBase.

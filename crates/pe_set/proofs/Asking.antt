@@ -10,9 +10,9 @@ use Rattle.pe_set.specs.Numbered.{numbered}
 use Rattle.pe_set.specs.SetFaults.{RefusesClass, map_error}
 use Rattle.pe_set.specs.declared.error.MapError.{MapError}
 use Rattle.pe_set.specs.declared.error.MapError.TheVariants as errors
-use Rattle.pe_tables.specs.TableFaults.{Refuses as TableRefuses}
-use Rattle.pe_tables.specs.declared.error.TableError.{TableError}
-use Rattle.pe_tables.specs.declared.error.TableError.TheVariants as table_errors
+use Rattle.pe_view.specs.Faults.{Refuses as TableRefuses}
+use Rattle.pe_view.specs.declared.refusal.Refusal.{Refusal}
+use Rattle.pe_view.specs.declared.refusal.Refusal.TheVariants as refusals
 
 -- the items from i on are item i and those behind it
 pub next_item : {X : Type 0} (xs : List X) (i : ℕ) (d : X) → i < length xs → drop i xs ≡ get_or xs i d ∷ drop (i + 1) xs
@@ -27,9 +27,9 @@ refuses-whole part whole first errors.Memory refused = tt
 refuses-whole part whole first (errors.Fault y) refused = first y refused
 refuses-whole part whole first (errors.Cycle y length) refused = absurd refused
 
-pub refuses-table : (part whole : List Test) → ((y : Fault) → first_standing part ≡ Some y → first_standing whole ≡ Some y) → (error : TableError) → TableRefuses part error → RefusesClass whole (map_error error)
-refuses-table part whole first table_errors.Memory refused = tt
-refuses-table part whole first (table_errors.Fault y) refused = first y refused
+pub refuses-table : (part whole : List Test) → ((y : Fault) → first_standing part ≡ Some y → first_standing whole ≡ Some y) → (error : Refusal) → TableRefuses part error → RefusesClass whole (map_error error)
+refuses-table part whole first refusals.Memory refused = tt
+refuses-table part whole first (refusals.Fault y) refused = first y refused
 
 module _ {X Y : Type 0} (view : X → Y) (f : ℕ → Y → List Test) (xs : List X) (i : ℕ) (x : X) (next : drop i xs ≡ x ∷ drop (i + 1) xs)
     (rest : first_standing (numbered f i (map view (drop i xs))) ≡ first_standing (numbered f 0 (map view xs))) where

@@ -7,8 +7,8 @@ use Rattle.pe_view.specs.Faults.{Test, test, first_standing}
 use Rattle.pe_head.specs.declared.optional.Magic.{Magic}
 use Rattle.pe_head.specs.declared.optional.Magic.TheVariants.{Pe32, Pe32Plus}
 use Rattle.pe_tables.specs.Imports.{Import}
-use Rattle.pe_tables.specs.declared.error.TableError.{TableError}
-use Rattle.pe_tables.specs.declared.error.TableError.TheVariants as table_errors
+use Rattle.pe_view.specs.declared.refusal.Refusal.{Refusal}
+use Rattle.pe_view.specs.declared.refusal.Refusal.TheVariants as refusals
 use Rattle.pe_set.specs.Numbered.{numbered}
 use Rattle.pe_image.specs.ImageTests.{image_tests}
 use Rattle.pe_set.specs.Placement.{base_tests}
@@ -102,6 +102,6 @@ abbrev pub ClassAnswers : {X : Type 0} → List Test → (X → Type 0) → Resu
 ClassAnswers tests P (Ok x) = (first_standing tests ≡ None) × P x
 ClassAnswers tests P (Err error) = RefusesClass tests error
 
-abbrev pub map_error : TableError → MapError
-map_error (table_errors.Fault fault) = errors.Fault fault
-map_error table_errors.Memory = errors.Memory
+abbrev pub map_error : Refusal → MapError
+map_error (refusals.Fault fault) = errors.Fault fault
+map_error refusals.Memory = errors.Memory

@@ -13,10 +13,7 @@ use pe_tables::{Fixup, shift_field};
 pub(crate) fn slot_width(magic: Magic) -> usize
     ensures { result ≡ slot_width_of magic }
 {
-    match magic {
-        Magic::Pe32 => 4,
-        Magic::Pe32Plus => 8,
-    }
+    magic.image_base_width() as usize
 }
 
 /// Moves fields on from one base to another.

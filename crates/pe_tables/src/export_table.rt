@@ -1,8 +1,9 @@
 ghost use Rattle.std.specs.Prelude.{◌≡◌, ◌≢◌, ◌+◌, ◌^◌, ◌<◌, ◌≤◌};
 ghost use Rattle.pe_layout.specs.Layout.{image_of};
-ghost use Rattle.pe_tables.specs.TableFaults.{TableAnswers};
+ghost use Rattle.pe_view.specs.Faults.{AnswersOrWants};
 ghost use Rattle.pe_tables.specs.Exports.{table_at};
 ghost use Rattle.pe_tables.specs.ExportFaults.{is_outside, directory_tests, IsInside};
+ghost use Rattle.pe_view.specs.declared.refusal.Refusal.{Refusal};
 
 use crate::error::{TableError, fault_at};
 use pe_layout::Layout;
@@ -56,9 +57,9 @@ fn is_outside(layout: &Layout, rva: u32, width: u32, count: u32) -> bool
 
 /// Reads the table at an RVA, whose own tables lie in the image, unless one of faults 16 to 18 stands.
 pub(crate) fn read_table(layout: &Layout, rva: u32) -> Result<Table, TableError>
-    ensures exact { TableAnswers (directory_tests (image_of layout.now) (table_at (image_of layout.now) rva))
+    ensures exact { AnswersOrWants (directory_tests (image_of layout.now) (table_at (image_of layout.now) rva))
         (λ table. (table ≡ table_at (image_of layout.now) rva) × IsInside (image_of layout.now) table) result }
-    ensures no_memory { result ≢ Err TableError.Memory }
+    ensures no_memory { result ≢ Err Refusal.Memory }
 {
     if u64::from(rva) + 40 > u64::from(layout.size()) {
         return Err(fault_at(16, layout, rva));

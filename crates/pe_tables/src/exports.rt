@@ -1,12 +1,13 @@
 ghost use Rattle.std.specs.Prelude.{◌≡◌, ◌<◌, None, Some, IsOk, IsErrOf, option_map, map, All, AllPairs, []};
 ghost use Rattle.std.specs.List.{filter_map, range_with_len};
 ghost use Rattle.pe_layout.specs.Layout.{image_of};
-ghost use Rattle.pe_tables.specs.TableFaults.{TableAnswers};
+ghost use Rattle.pe_view.specs.Faults.{AnswersOrWants};
 ghost use Rattle.pe_tables.specs.Key.{target_view};
 ghost use Rattle.pe_tables.specs.Exports.{entry, target_of, named, names_of, by_entry, exports_of};
 ghost use Rattle.pe_tables.specs.ExportFaults.{IsInside, each_tests, name_tests, entry_tests, export_tests, HasRows};
 ghost use Rattle.pe_tables.specs.ExportsView.{name_view, ordinal_view, exports_view};
 ghost use Rattle.pe_tables.specs.NameIndex.{IsIndexOf};
+ghost use Rattle.pe_view.specs.declared.refusal.Refusal.{Refusal};
 
 use crate::error::{TableError, fault_at};
 use crate::export_lookup::{Exports, target_by_ordinal};
@@ -31,7 +32,7 @@ pub(crate) struct Name<'a> {
 fn read_name<'a>(layout: &Layout<'a>, table: &Table, index: u32) -> Result<Name<'a>, TableError>
     requires inside { IsInside (image_of layout.now) table.now }
     requires within { index < table.now.name_count }
-    ensures { TableAnswers (name_tests (image_of layout.now) table.now index)
+    ensures { AnswersOrWants (name_tests (image_of layout.now) table.now index)
         (λ name. (Some (name_view name) ≡ named (image_of layout.now) table.now index) × (name.entry < table.now.entry_count)) result }
 {
     let pointer = table.names + 4 * index;
@@ -53,7 +54,7 @@ fn read_names<'a, A: Allocator + Copy>(
     table: &Table,
 ) -> Result<Vec<Name<'a>, A>, TableError>
     requires { IsInside (image_of layout.now) table.now }
-    ensures { TableAnswers (each_tests (name_tests (image_of layout.now) table.now) table.now.name_count)
+    ensures { AnswersOrWants (each_tests (name_tests (image_of layout.now) table.now) table.now.name_count)
         (λ names. (map name_view names.items ≡ names_of (image_of layout.now) table.now) × All (λ name. name.entry < table.now.entry_count) names.items) result }
 {
     let mut names = Vec::with_capacity(alloc, table.name_count as usize)?;
@@ -86,7 +87,7 @@ fn read_entry<'a>(
 ) -> Result<Option<Target<'a>>, TableError>
     requires inside { IsInside (image_of layout.now) table.now }
     requires within { index < table.now.entry_count }
-    ensures { TableAnswers (entry_tests (image_of layout.now) directory table.now index)
+    ensures { AnswersOrWants (entry_tests (image_of layout.now) directory table.now index)
         (λ target. option_map target_view target ≡ target_of (image_of layout.now) directory (entry (image_of layout.now) table.now index)) result }
 {
     let rva = table.addresses + 4 * index;
@@ -111,7 +112,7 @@ fn read_ordinals<'a, A: Allocator + Copy>(
     table: &Table,
 ) -> Result<Vec<(u64, Target<'a>), A>, TableError>
     requires { IsInside (image_of layout.now) table.now }
-    ensures { TableAnswers (each_tests (entry_tests (image_of layout.now) directory table.now) table.now.entry_count)
+    ensures { AnswersOrWants (each_tests (entry_tests (image_of layout.now) directory table.now) table.now.entry_count)
         (λ ordinals. (map ordinal_view ordinals.items ≡ filter_map (by_entry (image_of layout.now) directory table.now) (range_with_len 0 table.now.entry_count))
         × AllPairs (λ export later. export.0 < later.0) ordinals.items) result }
 {
@@ -135,7 +136,7 @@ fn read_entries<'a, A: Allocator + Copy>(
 ) -> Result<Exports<'a, A>, TableError>
     requires inside { IsInside (image_of layout.now) table.now }
     requires within { All (λ name. name.entry < table.now.entry_count) names.now }
-    ensures { TableAnswers (each_tests (entry_tests (image_of layout.now) directory table.now) table.now.entry_count)
+    ensures { AnswersOrWants (each_tests (entry_tests (image_of layout.now) directory table.now) table.now.entry_count)
         (λ exports. (map ordinal_view exports.ordinals.items ≡ filter_map (by_entry (image_of layout.now) directory table.now) (range_with_len 0 table.now.entry_count))
         × IsIndexOf (λ index. target_of (image_of layout.now) directory (entry (image_of layout.now) table.now index)) (map name_view names.now) exports.names) result }
 {
@@ -159,9 +160,9 @@ pub fn read_exports<'a, A: Allocator + Copy>(
     alloc: A,
     layout: &Layout<'a>,
 ) -> Result<Exports<'a, A>, TableError>
-    ensures exact { TableAnswers (export_tests (image_of layout.now)) (λ exports. exports_view exports ≡ exports_of (image_of layout.now)) result }
+    ensures exact { AnswersOrWants (export_tests (image_of layout.now)) (λ exports. exports_view exports ≡ exports_of (image_of layout.now)) result }
     ensures absent { (image_of layout.now).directory 0 ≡ None → IsOk result }
-    ensures memory { IsErrOf result TableError.Memory → HasRows (image_of layout.now) ((image_of layout.now).directory 0) }
+    ensures memory { IsErrOf result Refusal.Memory → HasRows (image_of layout.now) ((image_of layout.now).directory 0) }
 {
     let Some(directory) = layout.directory(directory_index::EXPORT) else {
         return Ok(Exports::new(alloc));

@@ -3,7 +3,8 @@ ghost use Rattle.std.specs.List.{filter_map};
 ghost use Rattle.pe_layout.specs.Layout.{image_of};
 ghost use Rattle.pe_view.specs.View.{bytes_of, size_of};
 ghost use Rattle.pe_layout.specs.Image.{number_at, bytes_at};
-ghost use Rattle.pe_tables.specs.TableFaults.{TableAnswers, goes_past};
+ghost use Rattle.pe_tables.specs.TableFaults.{goes_past};
+ghost use Rattle.pe_view.specs.Faults.{AnswersOrWants};
 ghost use Rattle.pe_tables.specs.Ranges.{SameRanges, meets_any};
 ghost use Rattle.pe_tables.specs.RangesView.{ranges_in};
 ghost use Rattle.pe_tables.specs.Fixups.{IsBlockSize, width_of, kind_of, range_of, slot_range, block_at, blocks_of, entry_of, entries_at, entries_of, fixup_of, fixups_in, fixups_at, fixups_of};
@@ -12,6 +13,7 @@ ghost use Rattle.pe_tables.specs.FixupFaults.{is_bad_size, entry_tests, entries_
 ghost use Rattle.pe_tables.specs.Import.{slots_of};
 ghost use Rattle.pe_tables.specs.FixupReading.{IsIndexed, Reads};
 ghost use Rattle.pe_tables.specs.FirstBlock.{FirstBlock};
+ghost use Rattle.pe_view.specs.declared.refusal.Refusal.{Refusal};
 
 use crate::error::{TableError, fault_at};
 use crate::import::Import;
@@ -134,7 +136,7 @@ fn read_entry<A: Allocator + Copy>(
 ) -> Result<(), TableError>
     requires value { entry ≡ number_at 2 (image_of layout.now) rva }
     requires indexed { IsIndexed found.old }
-    ensures { TableAnswers (entry_tests (image_of layout.now) (ranges_in slots.now) found.old.fixups.items (entry_of (image_of layout.now) page rva))
+    ensures { AnswersOrWants (entry_tests (image_of layout.now) (ranges_in slots.now) found.old.fixups.items (entry_of (image_of layout.now) page rva))
         (λ _. Reads found.old found.new (option_to_list (fixup_of (entry_of (image_of layout.now) page rva)))) result }
 {
     let entry_type = entry / 4096;
@@ -176,7 +178,7 @@ fn read_entries<A: Allocator + Copy>(
     requires bytes { bytes_of bytes ≡ bytes_at (image_of layout.now) rva (size_of bytes) }
     requires small { rva + size_of bytes < 2 ^ 32 }
     requires indexed { IsIndexed found.old }
-    ensures { TableAnswers (entries_tests (image_of layout.now) (ranges_in slots.now) found.old.fixups.items (entries_at (image_of layout.now) page rva (size_of bytes.entry / 2)))
+    ensures { AnswersOrWants (entries_tests (image_of layout.now) (ranges_in slots.now) found.old.fixups.items (entries_at (image_of layout.now) page rva (size_of bytes.entry / 2)))
         (λ _. Reads found.old found.new (filter_map fixup_of (entries_at (image_of layout.now) page rva (size_of bytes.entry / 2)))) result }
 {
     for index in 0..(bytes.len() / 2) as u32 {
@@ -200,7 +202,7 @@ fn read_some_entries<A: Allocator + Copy>(
     requires inside { rva + 2 * count ≤ (image_of layout.now).size }
     requires small { rva + 2 * count < 2 ^ 32 }
     requires indexed { IsIndexed found.old }
-    ensures { TableAnswers (entries_tests (image_of layout.now) (ranges_in slots.now) found.old.fixups.items (entries_at (image_of layout.now) page rva count))
+    ensures { AnswersOrWants (entries_tests (image_of layout.now) (ranges_in slots.now) found.old.fixups.items (entries_at (image_of layout.now) page rva count))
         (λ _. Reads found.old found.new (filter_map fixup_of (entries_at (image_of layout.now) page rva count))) result }
 {
     let mut buffer = [0; 2 * ENTRIES_AT_ONCE as usize];
@@ -222,7 +224,7 @@ fn read_block<A: Allocator + Copy>(
     requires inside { rva + size ≤ (image_of layout.now).size }
     requires small { rva + size < 2 ^ 32 }
     requires indexed { IsIndexed found.old }
-    ensures { TableAnswers (entries_tests (image_of layout.now) (ranges_in slots.now) found.old.fixups.items (entries_of (image_of layout.now) (block_at (image_of layout.now) rva)))
+    ensures { AnswersOrWants (entries_tests (image_of layout.now) (ranges_in slots.now) found.old.fixups.items (entries_of (image_of layout.now) (block_at (image_of layout.now) rva)))
         (λ _. Reads found.old found.new (fixups_in (image_of layout.now) (block_at (image_of layout.now) rva))) result }
 {
     let page = layout.u32_at(rva).unwrap();
@@ -286,7 +288,7 @@ fn read_blocks<A: Allocator + Copy>(
     requires small { directory.rva + directory.size < 2 ^ 32 }
     requires none { found.old.fixups.items ≡ [] }
     requires indexed { IsIndexed found.old }
-    ensures { TableAnswers (blocks_tests (image_of layout.now) (ranges_in slots.now) (directory.rva + directory.size) [] (blocks_of (image_of layout.now) directory))
+    ensures { AnswersOrWants (blocks_tests (image_of layout.now) (ranges_in slots.now) (directory.rva + directory.size) [] (blocks_of (image_of layout.now) directory))
         (λ _. found.new.fixups.items ≡ fixups_at (image_of layout.now) (Some directory)) result }
 {
     let end = directory.rva + directory.size;
@@ -311,9 +313,9 @@ pub fn read_fixups<A: Allocator + Copy>(
     layout: &Layout,
     imports: &[Import],
 ) -> Result<Vec<Fixup, A>, TableError>
-    ensures exact { TableAnswers (fixup_tests (image_of layout.now) (slots_of imports.now)) (λ fixups. fixups.items ≡ fixups_of (image_of layout.now)) result }
+    ensures exact { AnswersOrWants (fixup_tests (image_of layout.now) (slots_of imports.now)) (λ fixups. fixups.items ≡ fixups_of (image_of layout.now)) result }
     ensures absent { (image_of layout.now).directory 5 ≡ None → IsOk result }
-    ensures memory { IsErrOf result TableError.Memory → IsTrue (goes_past 33 (fixup_tests (image_of layout.now) (slots_of imports.now))) }
+    ensures memory { IsErrOf result Refusal.Memory → IsTrue (goes_past 33 (fixup_tests (image_of layout.now) (slots_of imports.now))) }
 {
     let Some(directory) = layout.directory(directory_index::BASE_RELOCATION) else {
         return Ok(Vec::new(alloc));

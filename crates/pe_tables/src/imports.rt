@@ -2,12 +2,14 @@ ghost use Rattle.std.specs.Prelude.{◌≡◌, ◌≢◌, ◌+◌, ◌≤◌, �
 ghost use Rattle.std.specs.List.{filter_map, flat_map};
 ghost use Rattle.pe_layout.specs.Layout.{image_of};
 ghost use Rattle.pe_layout.specs.Image.{number_at};
-ghost use Rattle.pe_tables.specs.TableFaults.{TableAnswers, goes_past};
+ghost use Rattle.pe_tables.specs.TableFaults.{goes_past};
+ghost use Rattle.pe_view.specs.Faults.{AnswersOrWants};
 ghost use Rattle.pe_tables.specs.Imports.{is_null, ends_list, descriptor_at, descriptors_of, lookup_at, lookup_table, lookups_of, ends_table, is_ordinal, key_of, import_of, module_of, imports_in, imports_at, imports_of};
 ghost use Rattle.pe_tables.specs.ImportFaults.{key_tests, slot_tests, lookup_tests, lookups_tests, module_tests, descriptor_tests, descriptors_tests, import_tests};
 ghost use Rattle.pe_tables.specs.ImportView.{import_view};
 ghost use Rattle.pe_tables.specs.ImportReading.{read_of, IsIndexed, Reads};
 ghost use Rattle.pe_tables.specs.Key.{key_view};
+ghost use Rattle.pe_view.specs.declared.refusal.Refusal.{Refusal};
 
 use crate::error::{TableError, fault_at};
 use crate::import::Import;
@@ -95,8 +97,8 @@ fn is_ordinal(layout: &Layout, value: u64) -> bool
 /// By what the lookup entry at an RVA with this value names an export, unless fault 27 or 28 stands. The hint before a name
 /// is not read.
 fn read_key<'a>(layout: &Layout<'a>, rva: u32, value: u64) -> Result<Key<'a>, TableError>
-    ensures exact { TableAnswers (key_tests (image_of layout.now) rva value) (λ key. key_view key ≡ key_of (image_of layout.now) value) result }
-    ensures no_memory { result ≢ Err TableError.Memory }
+    ensures exact { AnswersOrWants (key_tests (image_of layout.now) rva value) (λ key. key_view key ≡ key_of (image_of layout.now) value) result }
+    ensures no_memory { result ≢ Err Refusal.Memory }
 {
     if is_ordinal(layout, value) {
         return Ok(Key::Ordinal((value % 0x1_0000) as u16));
@@ -118,8 +120,8 @@ fn check_slot<A: Allocator + Copy>(
     slot: u32,
 ) -> Result<(), TableError>
     requires { IsIndexed (image_of layout.now).slot_width found.now }
-    ensures exact { TableAnswers (slot_tests (image_of layout.now) (read_of found.now) rva slot) (λ _. Unit {0}) result }
-    ensures no_memory { result ≢ Err TableError.Memory }
+    ensures exact { AnswersOrWants (slot_tests (image_of layout.now) (read_of found.now) rva slot) (λ _. Unit {0}) result }
+    ensures no_memory { result ≢ Err Refusal.Memory }
 {
     let width = layout.slot_width();
     if !layout.contains(slot, u64::from(width)) {
@@ -144,10 +146,10 @@ fn read_lookup<'a, A: Allocator + Copy>(
     slot: u32,
 ) -> Result<bool, TableError>
     requires { IsIndexed (image_of layout.now).slot_width found.old }
-    ensures exact { TableAnswers (lookup_tests (image_of layout.now) (read_of found.old) (lookup_at (image_of layout.now) rva slot))
+    ensures exact { AnswersOrWants (lookup_tests (image_of layout.now) (read_of found.old) (lookup_at (image_of layout.now) rva slot))
         (λ goes_on. (goes_on ≡ not (ends_table (image_of layout.now) (lookup_at (image_of layout.now) rva slot)))
         × Reads (image_of layout.now).slot_width found.old found.new (option_to_list (import_of (image_of layout.now) «module».entry.now (lookup_at (image_of layout.now) rva slot)))) result }
-    ensures memory { IsErrOf result TableError.Memory → IsTrue (goes_past 31 (lookup_tests (image_of layout.now) (read_of found.old) (lookup_at (image_of layout.now) rva slot))) }
+    ensures memory { IsErrOf result Refusal.Memory → IsTrue (goes_past 31 (lookup_tests (image_of layout.now) (read_of found.old) (lookup_at (image_of layout.now) rva slot))) }
 {
     let width = layout.slot_width();
     if !layout.contains(rva, u64::from(width)) {
@@ -171,9 +173,9 @@ fn read_lookups<'a, A: Allocator + Copy>(
     descriptor: Descriptor,
 ) -> Result<(), TableError>
     requires { IsIndexed (image_of layout.now).slot_width found.old }
-    ensures exact { TableAnswers (lookups_tests (image_of layout.now) «module».entry.now (read_of found.old) (lookups_of (image_of layout.now) descriptor))
+    ensures exact { AnswersOrWants (lookups_tests (image_of layout.now) «module».entry.now (read_of found.old) (lookups_of (image_of layout.now) descriptor))
         (λ _. Reads (image_of layout.now).slot_width found.old found.new (filter_map (import_of (image_of layout.now) «module».entry.now) (lookups_of (image_of layout.now) descriptor))) result }
-    ensures memory { IsErrOf result TableError.Memory → IsTrue (goes_past 31 (lookups_tests (image_of layout.now) «module».entry.now (read_of found.old) (lookups_of (image_of layout.now) descriptor))) }
+    ensures memory { IsErrOf result Refusal.Memory → IsTrue (goes_past 31 (lookups_tests (image_of layout.now) «module».entry.now (read_of found.old) (lookups_of (image_of layout.now) descriptor))) }
 {
     let width = layout.slot_width();
     let mut rva = descriptor.lookup_table();
@@ -203,8 +205,8 @@ fn descriptor_at(layout: &Layout, rva: u32) -> Descriptor
 /// The name of the module that a descriptor names, unless fault 25 or 32 stands.
 fn module_name<'a>(layout: &Layout<'a>, descriptor: Descriptor) -> Result<&'a [u8], TableError>
     requires { descriptor.rva + 20 < 2 ^ 32 }
-    ensures exact { TableAnswers (module_tests (image_of layout.now) descriptor) (λ name. name.now ≡ module_of (image_of layout.now) descriptor) result }
-    ensures no_memory { result ≢ Err TableError.Memory }
+    ensures exact { AnswersOrWants (module_tests (image_of layout.now) descriptor) (λ name. name.now ≡ module_of (image_of layout.now) descriptor) result }
+    ensures no_memory { result ≢ Err Refusal.Memory }
 {
     let Some(name) = layout.name_at(descriptor.name) else {
         return Err(fault_at(25, layout, descriptor.rva + 12));
@@ -223,10 +225,10 @@ fn read_descriptor<'a, A: Allocator + Copy>(
     rva: u32,
 ) -> Result<bool, TableError>
     requires { IsIndexed (image_of layout.now).slot_width found.old }
-    ensures exact { TableAnswers (descriptor_tests (image_of layout.now) (read_of found.old) (descriptor_at (image_of layout.now) rva))
+    ensures exact { AnswersOrWants (descriptor_tests (image_of layout.now) (read_of found.old) (descriptor_at (image_of layout.now) rva))
         (λ goes_on. (goes_on ≡ not (ends_list (image_of layout.now) (descriptor_at (image_of layout.now) rva)))
         × Reads (image_of layout.now).slot_width found.old found.new (imports_in (image_of layout.now) (descriptor_at (image_of layout.now) rva))) result }
-    ensures memory { IsErrOf result TableError.Memory → IsTrue (goes_past 31 (descriptor_tests (image_of layout.now) (read_of found.old) (descriptor_at (image_of layout.now) rva))) }
+    ensures memory { IsErrOf result Refusal.Memory → IsTrue (goes_past 31 (descriptor_tests (image_of layout.now) (read_of found.old) (descriptor_at (image_of layout.now) rva))) }
 {
     if !layout.contains(rva, 20) {
         return Err(fault_at(24, layout, rva));
@@ -248,9 +250,9 @@ fn read_descriptors<'a, A: Allocator + Copy>(
 ) -> Result<(), TableError>
     requires indexed { IsIndexed (image_of layout.now).slot_width found.old }
     requires none { read_of found.old ≡ [] }
-    ensures exact { TableAnswers (descriptors_tests (image_of layout.now) [] (descriptors_of (image_of layout.now) start))
+    ensures exact { AnswersOrWants (descriptors_tests (image_of layout.now) [] (descriptors_of (image_of layout.now) start))
         (λ _. read_of found.new ≡ flat_map (imports_in (image_of layout.now)) (descriptors_of (image_of layout.now) start)) result }
-    ensures memory { IsErrOf result TableError.Memory → IsTrue (goes_past 31 (descriptors_tests (image_of layout.now) [] (descriptors_of (image_of layout.now) start))) }
+    ensures memory { IsErrOf result Refusal.Memory → IsTrue (goes_past 31 (descriptors_tests (image_of layout.now) [] (descriptors_of (image_of layout.now) start))) }
 {
     let mut rva = start;
     while read_descriptor(layout, found, rva)? {
@@ -268,9 +270,9 @@ pub fn read_imports<'a, A: Allocator + Copy>(
     alloc: A,
     layout: &Layout<'a>,
 ) -> Result<Vec<Import<'a>, A>, TableError>
-    ensures exact { TableAnswers (import_tests (image_of layout.now)) (λ imports. map import_view imports.items ≡ imports_of (image_of layout.now)) result }
+    ensures exact { AnswersOrWants (import_tests (image_of layout.now)) (λ imports. map import_view imports.items ≡ imports_of (image_of layout.now)) result }
     ensures absent { (image_of layout.now).directory 1 ≡ None → IsOk result }
-    ensures memory { IsErrOf result TableError.Memory → IsTrue (goes_past 31 (import_tests (image_of layout.now))) }
+    ensures memory { IsErrOf result Refusal.Memory → IsTrue (goes_past 31 (import_tests (image_of layout.now))) }
 {
     let Some(directory) = layout.directory(directory_index::IMPORT) else {
         return Ok(Vec::new(alloc));

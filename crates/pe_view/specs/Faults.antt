@@ -3,6 +3,8 @@
 use Rattle.std.specs.Prelude.{◌≡◌, ℕ, ◌<◌, Bool, true, false, List, [], ◌∷◌, slice_get, Option, None, Some, Result, Ok, Err, if◌then◌else◌}
 use Rattle.pe_view.specs.declared.fault.Fault.{Fault}
 use Rattle.pe_view.specs.declared.fault.Place.{Place}
+use Rattle.pe_view.specs.declared.refusal.Refusal.{Refusal}
+use Rattle.pe_view.specs.declared.refusal.Refusal.TheVariants as refusals
 
 -- whether a fault stands
 pub record Test : Type 0 where
@@ -22,6 +24,16 @@ first_standing (t ∷ ts) = if t.stands then Some t.fault else first_standing ts
 abbrev pub Answers : {X : Type 0} → List Test → (X → Type 0) → Result X Fault → Type 0
 Answers tests P (Ok x) = (first_standing tests ≡ None) × P x
 Answers tests P (Err fault) = first_standing tests ≡ Some fault
+
+-- the first fault that stands; want of memory may stand in its place
+abbrev pub Refuses : List Test → Refusal → Type 0
+Refuses tests refusals.Memory = Unit {0}
+Refuses tests (refusals.Fault fault) = first_standing tests ≡ Some fault
+
+-- Ok, of a value with the property, only where no test stands; otherwise the first fault that does, or want of memory
+abbrev pub AnswersOrWants : {X : Type 0} → List Test → (X → Type 0) → Result X Refusal → Type 0
+AnswersOrWants tests P (Ok x) = (first_standing tests ≡ None) × P x
+AnswersOrWants tests P (Err refusal) = Refuses tests refusal
 
 -- the fault is that of a test that stands, and no test before it does
 pub record IsFirstStanding (tests : List Test) (fault : Fault) : Type 0 where

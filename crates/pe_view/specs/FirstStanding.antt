@@ -5,7 +5,9 @@ use Rattle.std.specs.Option.{option_or}
 use Rattle.std.proofs.lemmas.Option.{same_Some}
 use Rattle.std.proofs.lemmas.List.{drop-drop, take-append-drop}
 use Rattle.pe_view.specs.declared.fault.Fault.{Fault}
-use Rattle.pe_view.specs.Faults.{Test, first_standing, IsFirstStanding, NoneStands}
+use Rattle.pe_view.specs.declared.refusal.Refusal.{Refusal}
+use Rattle.pe_view.specs.declared.refusal.Refusal.TheVariants as refusals
+use Rattle.pe_view.specs.Faults.{Test, first_standing, IsFirstStanding, NoneStands, Refuses}
 
 or_test : (b : Bool) (y : Fault) (front rest both : Option Fault) → both ≡ option_or front rest → cond b (Some y) both ≡ option_or (cond b (Some y) front) rest
 or_test true y front rest both e = refl
@@ -23,6 +25,16 @@ first-past front rest none = first-append front rest ∙ ap (λ (o : Option Faul
 -- two tables, the first of which has one
 pub first-in : (front rest : List Test) (y : Fault) → first_standing front ≡ Some y → first_standing (front ++ rest) ≡ Some y
 first-in front rest y some = first-append front rest ∙ ap (λ (o : Option Fault). option_or o (first_standing rest)) some
+
+-- two tables, the first of which refuses
+pub refused-in : (front rest : List Test) (refusal : Refusal) → Refuses front refusal → Refuses (front ++ rest) refusal
+refused-in front rest refusals.Memory refused = tt
+refused-in front rest (refusals.Fault y) refused = first-in front rest y refused
+
+-- two tables, the second of which refuses
+pub refused-past : (front rest : List Test) (refusal : Refusal) → first_standing front ≡ None → Refuses rest refusal → Refuses (front ++ rest) refusal
+refused-past front rest refusals.Memory none refused = tt
+refused-past front rest (refusals.Fault y) none refused = first-past front rest none ∙ refused
 
 none_test : (b : Bool) (y : Fault) (rest : Option Fault) → cond b (Some y) rest ≡ None → (b ≡ false) × (rest ≡ None)
 none_test true y rest none = absurd cc

@@ -1,7 +1,8 @@
 //! Bounded views of a file's bytes, and the faults by which a file is refused.
 //!
 //! A [`View`] reads numbers, byte ranges and zero-ended texts at file offsets and answers `None` for whatever passes the
-//! end of the file; a [`Fault`] says which rule of the format a file breaks, in which image, and where:
+//! end of the file; a [`Fault`] says which rule of the format a file breaks, in which image, and where; a [`Refusal`] is a fault,
+//! or want of memory:
 //!
 //! ```text
 //! let view = View::new(b"MZ\x90\x00");
@@ -12,9 +13,11 @@
 
 mod fault;
 pub mod laws;
+mod refusal;
 mod view;
 
 pub use fault::{Fault, Place};
+pub use refusal::Refusal;
 pub use view::View;
 
 #[cfg(test)]

@@ -2,8 +2,8 @@
 use Rattle.std.proofs.Common.{◌≡◌, ℕ, List, Some, None, ap, ◌∙◌}
 use Rattle.std.specs.Prelude.{pos, ◌-ℤ◌}
 use Rattle.pe_view.specs.declared.fault.Fault.{Fault}
-use Rattle.pe_view.specs.Faults.{first_standing}
-use Rattle.pe_view.specs.FirstStanding.{first-past, first-in}
+use Rattle.pe_view.specs.Faults.{first_standing, Refuses}
+use Rattle.pe_view.specs.FirstStanding.{first-past, first-in, refused-in, refused-past}
 use Rattle.pe_head.specs.Head.{head_of}
 use Rattle.pe_head.specs.declared.headers.Headers.{Headers}
 use Rattle.pe_layout.specs.Image.{LaidOut, image_of_file}
@@ -15,9 +15,7 @@ use Rattle.pe_tables.specs.Fixups.{fixups_of}
 use Rattle.pe_write.specs.Rebase.{rebased}
 use Rattle.pe_write.specs.RebaseFaults.{own_base_tests, data_tests, tables_tests, rebase_tests}
 use Rattle.pe_write.specs.Rewriting.{put_header, moved_all}
-use Rattle.pe_write.specs.WriteAnswers.{Refuses}
-use Rattle.pe_write.specs.declared.error.WriteError.{WriteError}
-use Rattle.pe_write.proofs.Phases.{refused-in, refused-past}
+use Rattle.pe_view.specs.declared.refusal.Refusal.{Refusal}
 use Rattle.pe_write.proofs.Rebasable.{IsSound, lies, kept}
 use Rattle.pe_write.proofs.Whole.{whole}
 
@@ -41,7 +39,7 @@ module _ (file : List ℕ) (base : ℕ) where
   refused_layout y some = first-in (layout_tests 0 file) _ y some
 
   module _ (laid : first_standing (layout_tests 0 file) ≡ None) where
-    pub refused_tables : (e : WriteError) → Refuses (tables_tests (image_of_file 0 file)) e → Refuses (rebase_tests file base) e
+    pub refused_tables : (e : Refusal) → Refuses (tables_tests (image_of_file 0 file)) e → Refuses (rebase_tests file base) e
     unfolding rebase_tests
     refused_tables e r = refused-past (layout_tests 0 file) _ e laid (refused-in (tables_tests (image_of_file 0 file)) _ e r)
 

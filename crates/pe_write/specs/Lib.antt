@@ -7,5 +7,4 @@ pub mod Rebase
 pub mod Rebased
 pub mod RebaseFaults
 pub mod Rewriting
-pub mod WriteAnswers
 pub mod Writes

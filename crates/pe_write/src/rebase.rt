@@ -1,14 +1,14 @@
 ghost use Rattle.std.specs.Prelude.{◌≡◌, ◌≤◌, ◌+◌, ⊤, length, pos, ◌-ℤ◌, Some, Err, IfOk};
 ghost use Rattle.pe_view.specs.declared.fault.Fault as code_fault;
-ghost use Rattle.pe_view.specs.Faults.{Answers, first_standing};
+ghost use Rattle.pe_view.specs.Faults.{Answers, first_standing, AnswersOrWants};
 ghost use Rattle.pe_layout.specs.SectionFaults.{layout_tests};
 ghost use Rattle.pe_layout.specs.Layout.{headers_of, image_of, IsLayoutOf};
 ghost use Rattle.pe_tables.specs.Fixups.{fixups_of};
-ghost use Rattle.pe_write.specs.WriteAnswers.{WriteAnswers};
 ghost use Rattle.pe_write.specs.Rebase.{rebased, check_sum_place};
 ghost use Rattle.pe_write.specs.Rebased.{IsRebased};
 ghost use Rattle.pe_write.specs.RebaseFaults.{own_base_tests, fields_tests, data_tests, tables_tests, rebase_tests};
 ghost use Rattle.pe_write.specs.Rewriting.{AreLaid, put_header, moved_all};
+ghost use Rattle.pe_view.specs.declared.refusal.Refusal.{Refusal};
 
 use crate::error::WriteError;
 use crate::raw_data::{check_raw_data, holder};
@@ -64,7 +64,7 @@ fn lay_out(file: &[u8]) -> Result<Layout<'_>, Fault>
 
 /// The fixups of an image, or the first of faults 24 to 38.
 fn read_tables<A: Allocator + Copy>(alloc: A, layout: &Layout) -> Result<Vec<Fixup, A>, WriteError>
-    ensures { WriteAnswers (tables_tests (image_of layout.now)) (λ fixups. fixups.items ≡ fixups_of (image_of layout.now)) result }
+    ensures { AnswersOrWants (tables_tests (image_of layout.now)) (λ fixups. fixups.items ≡ fixups_of (image_of layout.now)) result }
 {
     let imports = read_imports(alloc, layout)?;
     let fixups = read_fixups(alloc, layout, &imports)?;
@@ -140,8 +140,8 @@ pub fn rebase_file<A: Allocator + Copy>(
     file: &[u8],
     base: u64,
 ) -> Result<Vec<u8, A>, WriteError>
-    ensures exact { WriteAnswers (rebase_tests file.now base) (λ bytes. bytes.items ≡ rebased file.now base) result }
-    ensures early { (fault : code_fault.Fault) → first_standing (layout_tests 0 file.now) ≡ Some fault → result ≡ Err (WriteError.Fault fault) }
+    ensures exact { AnswersOrWants (rebase_tests file.now base) (λ bytes. bytes.items ≡ rebased file.now base) result }
+    ensures early { (fault : code_fault.Fault) → first_standing (layout_tests 0 file.now) ≡ Some fault → result ≡ Err (Refusal.Fault fault) }
     ensures bytes { IfOk result (λ bytes. IsRebased file.now base bytes.items) }
 {
     pe_layout::laws::sections_are_apart();

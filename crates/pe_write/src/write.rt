@@ -1,13 +1,13 @@
 ghost use Rattle.std.specs.Prelude.{◌≡◌, ℕ, None, Some, Err, [], OnOk, IfOk};
 ghost use Rattle.pe_view.specs.declared.fault.Fault as code_fault;
-ghost use Rattle.pe_view.specs.Faults.{first_standing};
+ghost use Rattle.pe_view.specs.Faults.{first_standing, AnswersOrWants};
 ghost use Rattle.pe_head.specs.Head.{head_of};
 ghost use Rattle.pe_layout.specs.Plain.{plain};
 ghost use Rattle.pe_layout.specs.SectionFaults.{layout_tests};
 ghost use Rattle.pe_write.specs.PlanFaults.{plan_tests};
 ghost use Rattle.pe_write.specs.PlanFits.{IsPlan};
 ghost use Rattle.pe_write.specs.PlanHeaders.{plan_file, plan_headers, planned};
-ghost use Rattle.pe_write.specs.WriteAnswers.{WriteAnswers};
+ghost use Rattle.pe_view.specs.declared.refusal.Refusal.{Refusal};
 
 use crate::error::WriteError;
 use crate::plan::Plan;
@@ -52,8 +52,8 @@ pub fn write_image<A: Allocator + Copy, P: Allocator>(
     alloc: A,
     plan: &Plan<'_, P>,
 ) -> Result<Vec<u8, A>, WriteError>
-    ensures exact { WriteAnswers (plan_tests plan.now) (λ bytes. bytes.items ≡ plan_file plan.now) result }
-    ensures early { (fault : code_fault.Fault) → first_standing (plan_tests plan.now) ≡ Some fault → result ≡ Err (WriteError.Fault fault) }
+    ensures exact { AnswersOrWants (plan_tests plan.now) (λ bytes. bytes.items ≡ plan_file plan.now) result }
+    ensures early { (fault : code_fault.Fault) → first_standing (plan_tests plan.now) ≡ Some fault → result ≡ Err (Refusal.Fault fault) }
     ensures head { IfOk result (λ bytes. head_of bytes.items ≡ plan_headers plan.now) }
     ensures accepted { IfOk result (λ bytes. first_standing (layout_tests 0 bytes.items) ≡ None) }
     ensures planned { IfOk result (λ bytes. (r : ℕ) → plain (head_of bytes.items) bytes.items r ≡ planned plan.now r) }

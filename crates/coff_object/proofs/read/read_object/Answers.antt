@@ -1,10 +1,10 @@
 -- The header is asked first, then where the tables stand, then what is in them.
 use Rattle.std.proofs.Common.{◌≡◌, ◌∙◌, ℕ, List, ◌++◌, Some, subst}
 use Rattle.std.proofs.lemmas.Result.{err_from_is_err_and}
-use Rattle.pe_view.specs.Faults.{first_standing}
+use Rattle.pe_view.specs.Faults.{first_standing, AnswersOrWants}
 use Rattle.pe_view.specs.FirstStanding.{first-in, first-past}
 use Rattle.pe_view.specs.View.{bytes_of}
-use Rattle.coff_object.specs.ObjectFaults.{ObjectAnswers, header_tests, symbol_table_tests, record_tests, object_tests}
+use Rattle.coff_object.specs.ObjectFaults.{header_tests, symbol_table_tests, record_tests, object_tests}
 use Rattle.coff_object.specs.ObjectView.{object_view}
 use Rattle.coff_object.specs.Reading.{object_of}
 use Rattle.coff_object.proofs.Walk.{behind}
@@ -34,6 +34,6 @@ unfolding object_tests
 returns-clause-exact g c =
     let shown = bytes_of c.new-view.result in
     let result = c.read_records.result in
-    subst (λ (file : List ℕ). ObjectAnswers (object_tests file) (λ object. object_view object ≡ object_of file) result) c.new-view.ensures
+    subst (λ (file : List ℕ). AnswersOrWants (object_tests file) (λ object. object_view object ≡ object_of file) result) c.new-view.ensures
     (behind (header_tests shown) (symbol_table_tests shown ++ record_tests shown) _ result c.in_ok-check_header.ensures.exact.0
     (behind (symbol_table_tests shown) (record_tests shown) _ result c.in_ok-tables.ensures.0 c.read_records.ensures))

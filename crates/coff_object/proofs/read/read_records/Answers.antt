@@ -2,13 +2,12 @@
 use Rattle.std.proofs.Common.{◌∙◌, ap}
 use Rattle.std.specs.List.{flat_map}
 use Rattle.std.proofs.lemmas.Result.{err_from_is_err_and}
-use Rattle.pe_view.specs.FirstStanding.{first-past}
+use Rattle.pe_view.specs.FirstStanding.{first-past, refused-in, refused-past}
 use Rattle.pe_view.specs.Number.{part}
 use Rattle.pe_view.specs.View.{bytes_of}
 use Rattle.coff_object.specs.ObjectFaults.{section_tests, symbol_tests, record_tests}
 use Rattle.coff_object.specs.Reading.{section_starts, symbol_indexes}
 use Rattle.coff_object.proofs.ReadBack.{same_object}
-use Rattle.coff_object.proofs.Walk.{refused-in, refused-past}
 use Rattle.coff_object.proofs.read.read_records.Goals as goal
 
 pub returns-in_err-sections : goal.returns-in_err-sections

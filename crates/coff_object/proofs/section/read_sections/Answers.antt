@@ -3,9 +3,9 @@ use Rattle.std.proofs.Common.{◌≡◌, ◌+◌, ◌*◌, ℕ, None, ap, subst,
 use Rattle.std.specs.Prelude.{map}
 use Rattle.std.specs.List.{flat_map}
 use Rattle.std.proofs.lemmas.Result.{err_from_is_err_and}
-use Rattle.pe_view.specs.Faults.{first_standing}
+use Rattle.pe_view.specs.Faults.{first_standing, Refuses}
 use Rattle.pe_view.specs.View.{bytes_of}
-use Rattle.coff_object.specs.ObjectFaults.{Refuses, section_tests}
+use Rattle.coff_object.specs.ObjectFaults.{section_tests}
 use Rattle.coff_object.specs.ObjectView.{section_view}
 use Rattle.coff_object.specs.Reading.{section_in, section_start, section_starts}
 use Rattle.coff_object.proofs.Walk.{range_left, pass, stop_reading, read_more, all_passed, all_read}

@@ -1,12 +1,13 @@
 -- The tables are asked for where the layout has no fault.
 use Rattle.std.proofs.Common.{subst}
 use Rattle.std.proofs.lemmas.Result.{err_from_is_err_and}
+use Rattle.pe_view.specs.FirstStanding.{refused-in}
 use Rattle.pe_layout.specs.Image.{LaidOut, image_of_file}
 use Rattle.pe_layout.specs.SectionFaults.{layout_tests}
-use Rattle.pe_tables.specs.TableFaults.{TableAnswers}
+use Rattle.pe_view.specs.Faults.{AnswersOrWants}
 use Rattle.pe_image.specs.ImageOf.{HoldsTablesOf, IsImageOf}
 use Rattle.pe_image.specs.ImageTests.{image_tests, table_tests}
-use Rattle.pe_image.proofs.Phases.{refused-in, behind, has_bytes, tables_of_file}
+use Rattle.pe_image.proofs.Phases.{behind, has_bytes, tables_of_file}
 use Rattle.pe_image.proofs.image.read_image.Goals as goal
 
 pub returns-in_err-layout-clause-exact : goal.returns-in_err-layout-clause-exact
@@ -24,7 +25,7 @@ returns-clause-exact g c =
     let number = c.args.number in
     let layout = c.in_ok-layout.layout in
     let laid = c.in_ok-layout.ensures.exact in
-    let asked = subst (λ (i : LaidOut). TableAnswers (table_tests i) (HoldsTablesOf layout) c.read_tables.result) laid.1.shows c.read_tables.ensures in
+    let asked = subst (λ (i : LaidOut). AnswersOrWants (table_tests i) (HoldsTablesOf layout) c.read_tables.result) laid.1.shows c.read_tables.ensures in
     behind (layout_tests number file) (table_tests (image_of_file number file)) (HoldsTablesOf layout) (IsImageOf number file) c.read_tables.result laid.0
     (λ i. tables_of_file number file layout i laid.1) asked
 

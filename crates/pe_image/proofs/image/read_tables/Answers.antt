@@ -1,16 +1,15 @@
 -- Each phase is asked behind phases without a fault.
 use Rattle.std.proofs.Common.{◌∙◌, ◌≡◌, None, List, ℕ, ap, subst, refl}
 use Rattle.std.proofs.lemmas.Result.{err_from_is_err_and}
-use Rattle.pe_view.specs.Faults.{first_standing}
-use Rattle.pe_view.specs.FirstStanding.{first-past}
+use Rattle.pe_view.specs.Faults.{first_standing, Refuses}
+use Rattle.pe_view.specs.FirstStanding.{first-past, refused-in, refused-past}
 use Rattle.pe_layout.specs.Layout.{image_of}
 use Rattle.pe_tables.specs.ExportFaults.{export_tests}
 use Rattle.pe_tables.specs.Import.{slots_of}
 use Rattle.pe_tables.specs.ImportFaults.{import_tests}
 use Rattle.pe_tables.specs.FixupFaults.{fixup_tests}
-use Rattle.pe_tables.specs.TableFaults.{Refuses}
 use Rattle.pe_image.specs.ImageTests.{table_tests}
-use Rattle.pe_image.proofs.Phases.{refused-in, refused-past, own_slots}
+use Rattle.pe_image.proofs.Phases.{own_slots}
 use Rattle.pe_image.proofs.image.read_tables.Goals as goal
 
 pub returns-in_err-exports : goal.returns-in_err-exports

@@ -12,7 +12,7 @@ use Rattle.pe_tables.specs.ImportReading.{read_of}
 use Rattle.pe_tables.specs.declared.imports.Descriptor.{Descriptor}
 use Rattle.pe_tables.proofs.Lookups.{inside_of, negated, affirmed}
 use Rattle.pe_tables.proofs.Descriptors.{descriptors-enough, descriptors-step, descriptors-in, descriptors-past, descriptors-end, descriptors-imports, descriptors-none, descriptors-asked, descriptors-asked_later}
-use Rattle.pe_tables.specs.declared.error.TableError.TheVariants.{Memory}
+use Rattle.pe_view.specs.declared.refusal.Refusal.TheVariants.{Memory}
 use Rattle.pe_tables.proofs.Refusing.{refuses-whole, err_of}
 use Rattle.pe_tables.proofs.imports.read_descriptors.Goals as goal
 

@@ -10,7 +10,7 @@ use Rattle.pe_tables.specs.ImportFaults.{lookup_tests, lookups_tests}
 use Rattle.pe_tables.specs.TableFaults.{goes_past}
 use Rattle.pe_tables.specs.ImportReading.{read_of}
 use Rattle.pe_tables.proofs.Lookups.{lookups-enough, lookups-step, lookups-in, lookups-past, lookups-end, lookups-imports, lookups-none, lookups-asked, lookups-asked_later, slot_inside, inside_of, negated, affirmed}
-use Rattle.pe_tables.specs.declared.error.TableError.TheVariants.{Memory}
+use Rattle.pe_view.specs.declared.refusal.Refusal.TheVariants.{Memory}
 use Rattle.pe_tables.proofs.Refusing.{refuses-whole, err_of}
 use Rattle.pe_tables.proofs.imports.read_lookups.Goals as goal
 

@@ -2,7 +2,7 @@ use Rattle.std.proofs.Common.{◌≡◌, ◌∙◌, sym, ap, List, ℕ, None, su
 use Rattle.std.specs.Prelude.{pos, ◌-ℤ◌}
 use Rattle.std.proofs.lemmas.Result.{err_from_is_err_and}
 use Rattle.std.proofs.lemmas.List.{take_at}
-use Rattle.pe_view.specs.Faults.{first_standing}
+use Rattle.pe_view.specs.Faults.{first_standing, Refuses}
 use Rattle.pe_head.specs.declared.headers.Headers.{Headers}
 use Rattle.pe_head.specs.Head.{head_of}
 use Rattle.pe_layout.specs.Image.{LaidOut, image_of_file}
@@ -13,7 +13,6 @@ use Rattle.pe_write.specs.Rebase.{rebased}
 use Rattle.pe_write.specs.Rebased.{IsRebased}
 use Rattle.pe_write.specs.RebaseFaults.{tables_tests}
 use Rattle.pe_write.specs.Rewriting.{moved_all, put_header}
-use Rattle.pe_write.specs.WriteAnswers.{Refuses}
 use Rattle.pe_write.proofs.InWords.{in_words}
 use Rattle.pe_write.proofs.Rebasable.{Laws, sound, laid_of, own_fields}
 use Rattle.pe_write.proofs.Rebasing.{refused_layout, refused_tables, refused_base, same_base, same_data, all_but_data, made}
