@@ -1,13 +1,13 @@
 -- The first fault of a table of tests, part by part: what proofs of all layers say of it.
-use Rattle.std.proofs.Common.{◌≡◌, ℕ, zero, suc, ◌+◌, ◌-◌, ◌≤◌, ◌<◌, Bool, true, false, cond, List, [], ◌∷◌, ◌++◌, drop, Option, Some, None, refl, sym, ap, ◌∙◌, arith, inl, inr, ◌⊎◌}
-use Rattle.std.specs.Prelude.{slice_range, slice_get, ◌↔◌}
+use Rattle.std.proofs.Common.{◌≡◌, ℕ, zero, suc, ◌+◌, ◌-◌, ◌≤◌, Bool, true, false, cond, List, [], ◌∷◌, ◌++◌, drop, Option, Some, None, refl, sym, ap, ◌∙◌, arith}
+use Rattle.std.specs.Prelude.{slice_range, slice_get}
 use Rattle.std.specs.Option.{option_or}
 use Rattle.std.proofs.lemmas.Option.{same_Some}
 use Rattle.std.proofs.lemmas.List.{drop-drop, take-append-drop}
 use Rattle.pe_view.specs.declared.fault.Fault.{Fault}
 use Rattle.pe_view.specs.declared.refusal.Refusal.{Refusal}
 use Rattle.pe_view.specs.declared.refusal.Refusal.TheVariants as refusals
-use Rattle.pe_view.specs.Faults.{Test, first_standing, IsFirstStanding, NoneStands, Refuses}
+use Rattle.pe_view.specs.Faults.{Test, first_standing, Refuses}
 
 or_test : (b : Bool) (y : Fault) (front rest both : Option Fault) → both ≡ option_or front rest → cond b (Some y) both ≡ option_or (cond b (Some y) front) rest
 or_test true y front rest both e = refl
