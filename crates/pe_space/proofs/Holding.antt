@@ -57,25 +57,27 @@ rebound_miss images p address k bs d ms end lt off h =
 pub in_list : (first hs : List Held) (images : List SpaceImage) (j : ℕ) → images ≡ images_of first → images_of hs ≡ images → j < length images → j < length hs
 in_list first hs images j e same lt = let n = ap length same in let m = length-map hs (λ (x : Held). x.image) in omega arith
 
+-- an address is written into the slot of a binding
+pub put_here : (hs : List Held) (b : Binding) (v : ℕ) (r new : Held) → IsSlot (images_of hs) b → r ≡ get_or hs b.image r
+    → new ≡ record (get_or hs b.image r) { memory = patch (get_or hs b.image r).memory b.slot (bytes (slot_width (get_or hs b.image r).image.magic) v) }
+    → (images_of (slice_set hs b.image new) ≡ images_of hs) × (memories_of (slice_set hs b.image new) ≡ put_slot (images_of hs) b v (memories_of hs))
+put_here hs b v r new slot is made =
+    let from_r : new ≡ record r { memory = patch r.memory b.slot (bytes (slot_width r.image.magic) v) } =
+    made ∙ ap (λ (x : Held). record x { memory = patch x.memory b.slot (bytes (slot_width x.image.magic) v) }) (sym is) in
+    put_step hs b v r new (in_list hs hs (images_of hs) b.image refl refl slot.image) is from_r
+
 -- a loop over the bindings, where the slot is written
-pub rebind_hit : (first hs after : List Held) (p : Binding → Bool) (address : Binding → ℕ) (k : ℕ) (bs : List Binding) (d : Binding) (r new : Held) (v : ℕ) (end : List (List ℕ))
-    → k < length bs → Each (IsSlot (images_of first)) bs → images_of hs ≡ images_of first → p (get_or bs k d) ≡ true
-    → r ≡ get_or hs (get_or bs k d).image r → v ≡ address (get_or bs k d)
-    → new ≡ record (get_or hs (get_or bs k d).image r) { memory = patch (get_or hs (get_or bs k d).image r).memory (get_or bs k d).slot (bytes (slot_width (get_or hs (get_or bs k d).image r).image.magic) v) }
-    → after ≡ slice_set hs (get_or bs k d).image new
-    → rebound (images_of first) p address (drop k bs) (memories_of hs) ≡ end
-    → (images_of after ≡ images_of first) × (rebound (images_of first) p address (drop (k + 1) bs) (memories_of after) ≡ end)
-rebind_hit first hs after p address k bs d r new v end lt slots same on is at made set_is h =
-    let b = get_or bs k d in
-    let here : b.image < length hs = in_list first hs (images_of first) b.image refl same (each_at (IsSlot (images_of first)) bs k d slots lt).image in
-    let from_r : new ≡ record r { memory = patch r.memory b.slot (bytes (slot_width r.image.magic) (address b)) } =
-    made ∙ ap (λ (x : Held). record x { memory = patch x.memory b.slot (bytes (slot_width x.image.magic) v) }) (sym is)
-    ∙ ap (λ (n : ℕ). record r { memory = patch r.memory b.slot (bytes (slot_width r.image.magic) n) }) at in
-    let both = put_step hs b (address b) r new here is from_r in (
-      ap images_of set_is ∙ both.0 ∙ same,
-      ap (λ (x : List Held). rebound (images_of first) p address (drop (k + 1) bs) (memories_of x)) set_is
-          ∙ ap (rebound (images_of first) p address (drop (k + 1) bs)) (both.1 ∙ ap (λ (x : List SpaceImage). put_slot x b (address b) (memories_of hs)) same)
-          ∙ rebound_hit (images_of first) p address k bs d (memories_of hs) end lt on h,
+pub rebind_hit : (images : List SpaceImage) (hs after : List Held) (p : Binding → Bool) (address : Binding → ℕ) (k : ℕ) (bs : List Binding) (d : Binding) (v : ℕ) (end : List (List ℕ))
+    → k < length bs → images_of hs ≡ images → p (get_or bs k d) ≡ true → v ≡ address (get_or bs k d)
+    → images_of after ≡ images_of hs → memories_of after ≡ put_slot (images_of hs) (get_or bs k d) v (memories_of hs)
+    → rebound images p address (drop k bs) (memories_of hs) ≡ end
+    → (images_of after ≡ images) × (rebound images p address (drop (k + 1) bs) (memories_of after) ≡ end)
+rebind_hit images hs after p address k bs d v end lt same on at kept put h =
+    let b = get_or bs k d in (
+      kept ∙ same,
+      ap (rebound images p address (drop (k + 1) bs))
+          (put ∙ ap (λ (n : ℕ). put_slot (images_of hs) b n (memories_of hs)) at ∙ ap (λ (x : List SpaceImage). put_slot x b (address b) (memories_of hs)) same)
+          ∙ rebound_hit images p address k bs d (memories_of hs) end lt on h,
     )
 
 -- ---- the byte at an address

@@ -1,7 +1,7 @@
 ghost use Rattle.std.specs.Prelude.{◌≡◌, ◌+◌, ◌<◌, ◌≤◌, ◌^◌, ℕ, length, count_by};
 ghost use Rattle.pe_space.specs.Bare.{bare};
 ghost use Rattle.pe_space.specs.Content.{nth_image};
-ghost use Rattle.pe_space.specs.Memory.{rebound, ends_in, from_base};
+ghost use Rattle.pe_space.specs.Memory.{put_slot, rebound, ends_in, from_base};
 ghost use Rattle.pe_space.specs.Held.{images_of, memories_of};
 ghost use Rattle.pe_space.specs.Tied.{Each, IsSlot, IsTied};
 ghost use Rattle.pe_space.specs.Placing.{IsPlaced};
@@ -35,6 +35,19 @@ impl<A: Allocator> Model for MappedSpace<A> {
     ghost invariant = { λ s. IsKept s.images.items s.bindings.items };
 }
 
+/// Writes an address into the slot of a binding.
+fn put_address<A: Allocator + Copy>(
+    images: &mut [MappedImage<A>],
+    binding: &Binding,
+    address: u64,
+)
+    requires { IsSlot (images_of images.old) binding.now }
+    ensures images { images_of images.new ≡ images_of images.old }
+    ensures memories { memories_of images.new ≡ put_slot (images_of images.old) binding.now address (memories_of images.old) }
+{
+    images[binding.image as usize].put_slot(binding.slot, address);
+}
+
 /// Writes the address of its export into each slot.
 fn bind<A: Allocator + Copy>(images: &mut [MappedImage<A>], bindings: &[Binding])
     requires slots { Each (IsSlot (images_of images.old)) bindings.now }
@@ -44,7 +57,7 @@ fn bind<A: Allocator + Copy>(images: &mut [MappedImage<A>], bindings: &[Binding]
 {
     for binding in bindings {
         let address = images[binding.exporter as usize].base() + u64::from(binding.rva);
-        images[binding.image as usize].put_slot(binding.slot, address);
+        put_address(images, binding, address);
     }
 }
 
@@ -65,8 +78,7 @@ fn rebind<A: Allocator + Copy>(
     let mut count = 0;
     for binding in bindings {
         if binding.exporter == exporter {
-            let image = &mut images[binding.image as usize];
-            image.put_slot(binding.slot, base + u64::from(binding.rva));
+            put_address(images, binding, base + u64::from(binding.rva));
             count += 1;
         }
     }

@@ -16,8 +16,9 @@ unfolding no_binding
 loop-binding-preserved g c = elim c.if-binding-exporter.branch [
   | then-binding-exporter w ↦
       let k = c.loop-binding.binding-index in
-      let both = rebind_hit c.args.images.now c.loop-binding.images c.if-binding-exporter.images (ends_in c.args.exporter) (from_base c.args.base) k c.args.bindings.now no_binding w.index-images-binding.result w.put_slot.new.self (c.args.base + w.from.result) _
-      c.loop-binding-test.true c.requires.slots c.loop-binding.invariant.images (eq-eqb _ _ w.if-binding-exporter.true) w.index-images-binding.is (ap (λ n. c.args.base + n) w.from.ensures) w.put_slot.ensures w.images-is c.loop-binding.invariant.rest in
+      let both = rebind_hit (images_of c.args.images.now) c.loop-binding.images c.if-binding-exporter.images (ends_in c.args.exporter) (from_base c.args.base) k c.args.bindings.now no_binding (c.args.base + w.from.result) _
+      c.loop-binding-test.true c.loop-binding.invariant.images (eq-eqb _ _ w.if-binding-exporter.true) (ap (λ n. c.args.base + n) w.from.ensures)
+      (ap images_of w.images-is ∙ w.put_address.ensures.images) (ap memories_of w.images-is ∙ w.put_address.ensures.memories) c.loop-binding.invariant.rest in
       record {
         images = both.0;
         rest = both.1;
