@@ -3,6 +3,7 @@ pub mod Numbering
 pub mod Pieces
 pub mod Plain
 pub mod Reports
+pub mod Rows
 pub mod RuleWords
 pub mod Token
 pub mod Widths

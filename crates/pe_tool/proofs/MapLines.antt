@@ -1,20 +1,11 @@
--- The lines of a mapped set's report.
-use Rattle.std.proofs.Common.{◌≡◌, ◌∙◌, ℕ, ◌+◌, ◌≤◌, List, [], ◌∷◌, ◌++◌, length, take, sym, ap, arith, append-nil, true, Result, Ok, Err, is_ok}
-use Rattle.std.specs.Prelude.{flat_map, unwrap_or, OnOk}
-use Rattle.std.specs.List.{range_with_len}
-use Rattle.std.proofs.lemmas.Grind.{flat_map-append}
-use Rattle.std.proofs.lemmas.List.{length-take-le, map-id}
-use Rattle.std.proofs.lemmas.List.FromFn.{length-map-range_with_len, map-range_with_len_more}
+-- The bytes of a window's lines.
+use Rattle.std.proofs.Common.{◌≡◌, ◌∙◌, ℕ, ◌≤◌, List, ◌++◌, length, take, sym, ap, true, Result, Ok, Err, is_ok}
+use Rattle.std.specs.Prelude.{unwrap_or, OnOk}
+use Rattle.std.proofs.lemmas.List.{length-take-le}
+use Rattle.std.proofs.lemmas.List.FromFn.{length-map-range_with_len}
 use Rattle.std.proofs.Math.Seq.{take-append_seam}
 use Rattle.pe_space.specs.Content.{Content, byte_at, window_at}
 use Rattle.pe_tool.specs.MapReport.{bytes_from}
-
-numbers_more : (n : ℕ) → range_with_len 0 (n + 1) ≡ range_with_len 0 n ++ n ∷ []
-numbers_more n = sym (map-id (range_with_len 0 (n + 1))) ∙ map-range_with_len_more (λ j. j) 0 n n (omega arith) ∙ ap (λ (xs : List ℕ). xs ++ n ∷ []) (map-id (range_with_len 0 n))
-
--- one more line
-pub line_more : (line : ℕ → List ℕ) (k : ℕ) → flat_map line (range_with_len 0 (k + 1)) ≡ flat_map line (range_with_len 0 k) ++ line k
-line_more line k = ap (flat_map line) (numbers_more k) ∙ flat_map-append line (range_with_len 0 k) (k ∷ []) ∙ ap (λ (xs : List ℕ). flat_map line (range_with_len 0 k) ++ xs) (append-nil (line k))
 
 from_ok : {T E : Type 0} (r : Result T E) (P : Type 0) → is_ok r ≡ true → OnOk r P → P
 from_ok (Ok x) P is p = p

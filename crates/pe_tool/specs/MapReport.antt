@@ -14,11 +14,11 @@ use Rattle.pe_set.specs.declared.error.MapError.TheVariants as errors
 use Rattle.pe_set.specs.declared.entry.Policy.{Policy}
 use Rattle.pe_space.specs.Content.{Image, image_of, window_at, base_in, size_in}
 use Rattle.pe_space.specs.SetContent.{content_of, defined_byte}
-use Rattle.pe_tool.specs.declared.outcome.Outcome.{Outcome}
-use Rattle.pe_tool.specs.declared.outcome.Outcome.TheVariants.{Done, Refused}
-use Rattle.pe_tool.specs.FaultLine.{fault_line, cycle_line}
-use Rattle.pe_tool.specs.Part.{joined}
-use Rattle.pe_tool.specs.Text.{hex, quoted, numbered}
+use Rattle.pe_text.specs.declared.outcome.Outcome.{Outcome}
+use Rattle.pe_text.specs.declared.outcome.Outcome.TheVariants.{Done, Refused}
+use Rattle.pe_text.specs.FaultLine.{fault_line, cycle_line}
+use Rattle.pe_text.specs.Part.{joined}
+use Rattle.pe_text.specs.Text.{hex, quoted, numbered}
 
 -- an image: its number in the set, its module's name, its base and its SizeOfImage
 unfoldable pub image_line : ℕ → List ℕ → ℕ → ℕ → List ℕ

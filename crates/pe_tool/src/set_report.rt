@@ -8,20 +8,16 @@ ghost use Rattle.pe_set.specs.SetFaults.{names_tests};
 ghost use Rattle.pe_set.specs.Sound.{IsSound};
 ghost use Rattle.pe_space.specs.SetContent.{content_of, defined_byte};
 ghost use Rattle.pe_space.specs.Content.{byte_at};
-ghost use Rattle.pe_tool.specs.Engine.{Puts};
-ghost use Rattle.pe_tool.specs.FaultLine.{cycle_line};
-ghost use Rattle.pe_tool.specs.TextWriter.{IsReady, Adds};
-ghost use Rattle.pe_tool.specs.declared.outcome.Outcome.{Outcome};
+ghost use Rattle.pe_text.specs.Engine.{Puts};
+ghost use Rattle.pe_text.specs.FaultLine.{cycle_line};
+ghost use Rattle.pe_text.specs.TextWriter.{IsReady, Adds};
+ghost use Rattle.pe_text.specs.declared.outcome.Outcome.{Outcome};
 ghost use Rattle.pe_tool.specs.MapReport.{map_text, window_fault, IsMapText};
 
-use crate::device::Sink;
-use crate::fault_line::write_cycle_line;
 use crate::map_lines::{write_bindings, write_images, write_window};
-use crate::outcome::{Outcome, ToolError};
-use crate::report::refuse;
-use crate::text_writer::TextWriter;
 use crate::window::window_fault;
 use pe_space::{MapError, Policy, SetEntry, Space, open_space};
+use pe_text::{Outcome, Sink, TextWriter, ToolError, refuse, write_cycle_line};
 use pe_view::Fault;
 use std::alloc::{AllocError, Allocator};
 
