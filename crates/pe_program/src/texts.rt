@@ -67,7 +67,10 @@ fn write_text<A: Allocator + Copy>(
 }
 
 /// What an engine answered, of an output that is to hold its text.
-pub(crate) fn flushed(answer: Result<Outcome, ToolError>, output: &mut Output<impl Write>) -> Printed {
+pub(crate) fn flushed(
+    answer: Result<Outcome, ToolError>,
+    output: &mut Output<impl Write>,
+) -> Printed {
     let answer = match output.flush() {
         Ok(()) => answer,
         Err(_) => Err(ToolError::Write),

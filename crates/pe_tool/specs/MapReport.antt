@@ -85,6 +85,11 @@ abbrev pub fault_or : Option Fault → Option Fault → Option Fault
 fault_or None other = other
 fault_or (Some fault) other = Some fault
 
+-- what is written of a set that has no fault: its report, or fault 54
+abbrev pub IsSpaceText : List Module → Option (ℕ × ℕ) → Outcome → List ℕ → Type 0
+IsSpaceText s window Done text = (window_fault s window ≡ None) × (text ≡ map_text s window)
+IsSpaceText s window (Refused fault) text = (window_fault s window ≡ Some fault) × (text ≡ fault_line fault)
+
 -- the first fault of the set, else that of the window
 abbrev pub map_fault : Policy → List Entry → Option (ℕ × ℕ) → Option Fault
 map_fault policy es window = fault_or (first_standing (set_tests policy es)) (window_fault (modules_of es) window)
