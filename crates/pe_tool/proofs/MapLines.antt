@@ -1,20 +1,18 @@
--- The lines of a mapped set's report.
-use Rattle.std.proofs.Common.{◌≡◌, ◌∙◌, ℕ, ◌+◌, ◌≤◌, List, [], ◌∷◌, ◌++◌, length, take, sym, ap, arith, append-nil, true, Result, Ok, Err, is_ok}
-use Rattle.std.specs.Prelude.{flat_map, unwrap_or, OnOk}
-use Rattle.std.specs.List.{range_with_len}
-use Rattle.std.proofs.lemmas.Grind.{flat_map-append}
-use Rattle.std.proofs.lemmas.List.{length-take-le, map-id}
-use Rattle.std.proofs.lemmas.List.FromFn.{length-map-range_with_len, map-range_with_len_more}
+-- The report of a mapped set: the bytes of a window's lines, and the whole.
+use Rattle.std.proofs.Common.{◌≡◌, ◌∙◌, ℕ, ◌≤◌, List, ◌++◌, length, take, sym, ap, true, Result, Ok, Err, is_ok, None}
+use Rattle.std.specs.Prelude.{Option, unwrap_or, OnOk}
+use Rattle.std.proofs.lemmas.List.{length-take-le}
+use Rattle.std.proofs.lemmas.List.FromFn.{length-map-range_with_len}
 use Rattle.std.proofs.Math.Seq.{take-append_seam}
 use Rattle.pe_space.specs.Content.{Content, byte_at, window_at}
-use Rattle.pe_tool.specs.MapReport.{bytes_from}
-
-numbers_more : (n : ℕ) → range_with_len 0 (n + 1) ≡ range_with_len 0 n ++ n ∷ []
-numbers_more n = sym (map-id (range_with_len 0 (n + 1))) ∙ map-range_with_len_more (λ j. j) 0 n n (omega arith) ∙ ap (λ (xs : List ℕ). xs ++ n ∷ []) (map-id (range_with_len 0 n))
-
--- one more line
-pub line_more : (line : ℕ → List ℕ) (k : ℕ) → flat_map line (range_with_len 0 (k + 1)) ≡ flat_map line (range_with_len 0 k) ++ line k
-line_more line k = ap (flat_map line) (numbers_more k) ∙ flat_map-append line (range_with_len 0 k) (k ∷ []) ∙ ap (λ (xs : List ℕ). flat_map line (range_with_len 0 k) ++ xs) (append-nil (line k))
+use Rattle.pe_view.specs.Faults.{first_standing}
+use Rattle.pe_set.specs.Set.{Entry, modules_of}
+use Rattle.pe_set.specs.SetFaults.{set_tests}
+use Rattle.pe_set.specs.SetErrors.{set_error}
+use Rattle.pe_set.specs.declared.entry.Policy.{Policy}
+use Rattle.pe_text.specs.declared.outcome.Outcome.{Outcome}
+use Rattle.pe_text.specs.declared.outcome.Outcome.TheVariants.{Done, Refused}
+use Rattle.pe_tool.specs.MapReport.{bytes_from, IsSpaceText, IsMapText}
 
 from_ok : {T E : Type 0} (r : Result T E) (P : Type 0) → is_ok r ≡ true → OnOk r P → P
 from_ok (Ok x) P is p = p
@@ -31,3 +29,9 @@ bytes_read c a n room buffer after r ok le all on_ok =
     ap (λ (xs : List ℕ). take n (xs ++ after)) is
     ∙ ap (λ (m : ℕ). take m (bytes_from (byte_at c) a n ++ after)) (sym count)
     ∙ take-append_seam (bytes_from (byte_at c) a n) after
+
+-- what is written of a set that has no fault is its report
+pub told_whole : (policy : Policy) (es : List Entry) (window : Option (ℕ × ℕ)) (outcome : Outcome) (text : List ℕ) → first_standing (set_tests policy es) ≡ None → set_error policy es ≡ None
+    → IsSpaceText (modules_of es) window outcome text → IsMapText policy es window outcome text
+told_whole policy es window Done text none no_error told = (rw none told.0, told.1)
+told_whole policy es window (Refused fault) text none no_error told = (rw none told.0, rw no_error told.1)

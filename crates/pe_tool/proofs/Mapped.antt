@@ -26,7 +26,7 @@ use Rattle.pe_space.proofs.Images.{modules_count, all_got}
 use Rattle.pe_space.proofs.Move.{limit_le}
 use Rattle.pe_space.proofs.SlotsAndFields.{is_in-true, true-is_in}
 use Rattle.pe_tool.specs.MapReport.{image_line, told_line, export_address, bytes_from, refusal_of, window_lines}
-use Rattle.pe_tool.specs.Text.{numbered}
+use Rattle.pe_text.specs.Text.{numbered}
 
 -- ---- where the images stand
 pub placements_kept : (s : List Module) → map placement_of (content_of s).images ≡ map sets.placement_of s

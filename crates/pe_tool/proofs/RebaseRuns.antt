@@ -9,15 +9,15 @@ use Rattle.pe_layout.specs.SectionFaults.{layout_tests}
 use Rattle.pe_write.specs.Rebase.{rebased}
 use Rattle.pe_write.specs.RebaseFaults.{rebase_tests}
 use Rattle.pe_write.specs.declared.error.WriteError.{WriteError}
-use Rattle.pe_tool.specs.declared.outcome.Outcome.{Outcome}
-use Rattle.pe_tool.specs.declared.outcome.ToolError.{ToolError}
-use Rattle.pe_tool.specs.declared.outcome.ToolError.TheVariants.{Read, Write, Memory}
-use Rattle.pe_tool.specs.declared.text_writer.TextWriter.{TextWriter}
-use Rattle.pe_tool.specs.Engine.{IsWhole}
+use Rattle.pe_text.specs.declared.outcome.Outcome.{Outcome}
+use Rattle.pe_text.specs.declared.outcome.ToolError.{ToolError}
+use Rattle.pe_text.specs.declared.outcome.ToolError.TheVariants.{Read, Write, Memory}
+use Rattle.pe_text.specs.declared.text_writer.TextWriter.{TextWriter}
+use Rattle.pe_text.specs.Engine.{IsWhole}
 use Rattle.pe_tool.specs.RebaseRun.{IsOutcome, Output, Gets, PutsLine, RebaseRan, outcome_bytes, outcome_line}
-use Rattle.pe_tool.specs.TextWriter.{IsBeginning, IsFresh, Stands, Adds}
-use Rattle.pe_tool.proofs.Adding.{Stands-fresh}
-use Rattle.pe_tool.proofs.Reports.{since}
+use Rattle.pe_text.specs.TextWriter.{IsBeginning, IsFresh, Stands, Adds}
+use Rattle.pe_text.proofs.Adding.{Stands-fresh}
+use Rattle.pe_text.proofs.Reports.{since}
 
 module _ {W : Type 0} (taken : W → List ℕ) (failures : W → ℕ) (base : ℕ) (outcome : Outcome) where
   -- the line was written

@@ -14,11 +14,11 @@ use Rattle.pe_set.specs.declared.error.MapError.TheVariants as errors
 use Rattle.pe_set.specs.declared.entry.Policy.{Policy}
 use Rattle.pe_space.specs.Content.{Image, image_of, window_at, base_in, size_in}
 use Rattle.pe_space.specs.SetContent.{content_of, defined_byte}
-use Rattle.pe_tool.specs.declared.outcome.Outcome.{Outcome}
-use Rattle.pe_tool.specs.declared.outcome.Outcome.TheVariants.{Done, Refused}
-use Rattle.pe_tool.specs.FaultLine.{fault_line, cycle_line}
-use Rattle.pe_tool.specs.Part.{joined}
-use Rattle.pe_tool.specs.Text.{hex, quoted, numbered}
+use Rattle.pe_text.specs.declared.outcome.Outcome.{Outcome}
+use Rattle.pe_text.specs.declared.outcome.Outcome.TheVariants.{Done, Refused}
+use Rattle.pe_text.specs.FaultLine.{fault_line, cycle_line}
+use Rattle.pe_text.specs.Part.{joined}
+use Rattle.pe_text.specs.Text.{hex, quoted, numbered}
 
 -- an image: its number in the set, its module's name, its base and its SizeOfImage
 unfoldable pub image_line : ℕ → List ℕ → ℕ → ℕ → List ℕ
@@ -84,6 +84,11 @@ window_fault s (Some w) = refusal_of (window_at (content_of s) w.0 w.1)
 abbrev pub fault_or : Option Fault → Option Fault → Option Fault
 fault_or None other = other
 fault_or (Some fault) other = Some fault
+
+-- what is written of a set that has no fault: its report, or fault 54
+abbrev pub IsSpaceText : List Module → Option (ℕ × ℕ) → Outcome → List ℕ → Type 0
+IsSpaceText s window Done text = (window_fault s window ≡ None) × (text ≡ map_text s window)
+IsSpaceText s window (Refused fault) text = (window_fault s window ≡ Some fault) × (text ≡ fault_line fault)
 
 -- the first fault of the set, else that of the window
 abbrev pub map_fault : Policy → List Entry → Option (ℕ × ℕ) → Option Fault

@@ -3,15 +3,15 @@ use Rattle.std.specs.Prelude.{◌≡◌, ◌+◌, ◌<◌, ◌≤◌, ◌^◌, �
 use Rattle.pe_view.specs.Faults.{first_standing}
 use Rattle.pe_write.specs.Rebase.{rebased}
 use Rattle.pe_write.specs.RebaseFaults.{rebase_tests}
-use Rattle.pe_tool.specs.declared.outcome.Outcome.{Outcome}
-use Rattle.pe_tool.specs.declared.outcome.Outcome.TheVariants.{Done, Refused}
-use Rattle.pe_tool.specs.declared.outcome.ToolError.{ToolError}
-use Rattle.pe_tool.specs.declared.outcome.ToolError.TheVariants.{Read, Write, Memory}
-use Rattle.pe_tool.specs.Engine.{IsWhole, OnJudged}
-use Rattle.pe_tool.specs.FaultLine.{fault_line}
-use Rattle.pe_tool.specs.Part.{joined}
-use Rattle.pe_tool.specs.Text.{hex}
-use Rattle.pe_tool.specs.TextWriter.{IsBeginning}
+use Rattle.pe_text.specs.declared.outcome.Outcome.{Outcome}
+use Rattle.pe_text.specs.declared.outcome.Outcome.TheVariants.{Done, Refused}
+use Rattle.pe_text.specs.declared.outcome.ToolError.{ToolError}
+use Rattle.pe_text.specs.declared.outcome.ToolError.TheVariants.{Read, Write, Memory}
+use Rattle.pe_text.specs.Engine.{IsWhole, OnJudged}
+use Rattle.pe_text.specs.FaultLine.{fault_line}
+use Rattle.pe_text.specs.Part.{joined}
+use Rattle.pe_text.specs.Text.{hex}
+use Rattle.pe_text.specs.TextWriter.{IsBeginning}
 
 -- the line of a file that was rebased
 unfoldable pub rebased_line : ℕ → List ℕ

@@ -3,15 +3,13 @@
 ghost use Rattle.std.specs.Prelude.{◌≡◌, ◌+◌, ◌<◌, ◌≤◌, ◌^◌, ℕ, All, Ok, Some, length, flat_map, map};
 ghost use Rattle.pe_set.specs.SetView.{entry_view};
 ghost use Rattle.pe_space.specs.Content.{byte_at, window_at, placement_of};
-ghost use Rattle.pe_tool.specs.Text.{numbered};
-ghost use Rattle.pe_tool.specs.TextWriter.{IsReady, Adds};
+ghost use Rattle.pe_text.specs.Text.{numbered};
+ghost use Rattle.pe_text.specs.TextWriter.{IsReady, Adds};
 ghost use Rattle.pe_tool.specs.MapReport.{bind_line, byte_text, bytes_line, bytes_from, window_lines, export_address, image_line, told_line};
 
-use crate::device::Sink;
-use crate::part::Part::{Decimal, Hex2, Hex8, Hex16, Quoted, Text};
-use crate::part::write_parts;
-use crate::text_writer::TextWriter;
 use pe_space::{Binding, SetEntry, Space};
+use pe_text::Part::{Decimal, Hex2, Hex8, Hex16, Quoted, Text};
+use pe_text::{Sink, TextWriter, write_parts};
 
 /// How many bytes a line of a window shows.
 const LINE_BYTES: u32 = 16;

@@ -1,16 +1,14 @@
 //! A file at another base, to one output, and a line that tells of it, to another.
 
 ghost use Rattle.std.specs.Prelude.{◌-◌, ◌^◌, ◌<◌, ◌⊎◌, ◌↔◌, IsErrOf};
-ghost use Rattle.pe_tool.specs.TextWriter.{IsReady, Adds};
+ghost use Rattle.pe_text.specs.TextWriter.{IsReady, Adds};
 ghost use Rattle.pe_tool.specs.RebaseRun.{PutsLine, RebaseRan, outcome_line, rebased_line};
 
-use crate::device::{Sink, Source};
-use crate::fault_line::write_fault_line;
-use crate::outcome::{Outcome, ToolError};
-use crate::part::Part::{Hex16, Text};
-use crate::part::write_parts;
-use crate::text_writer::{TextWriter, write_all};
-use crate::whole_file::read_whole;
+use pe_text::Part::{Hex16, Text};
+use pe_text::{
+    Outcome, Sink, Source, TextWriter, ToolError, read_whole, write_all, write_fault_line,
+    write_parts,
+};
 use pe_write::{WriteError, rebase_file};
 use std::alloc::Allocator;
 

@@ -8,20 +8,16 @@ ghost use Rattle.pe_set.specs.SetFaults.{names_tests};
 ghost use Rattle.pe_set.specs.Sound.{IsSound};
 ghost use Rattle.pe_space.specs.SetContent.{content_of, defined_byte};
 ghost use Rattle.pe_space.specs.Content.{byte_at};
-ghost use Rattle.pe_tool.specs.Engine.{Puts};
-ghost use Rattle.pe_tool.specs.FaultLine.{cycle_line};
-ghost use Rattle.pe_tool.specs.TextWriter.{IsReady, Adds};
-ghost use Rattle.pe_tool.specs.declared.outcome.Outcome.{Outcome};
-ghost use Rattle.pe_tool.specs.MapReport.{map_text, window_fault, IsMapText};
+ghost use Rattle.pe_text.specs.Engine.{Puts};
+ghost use Rattle.pe_text.specs.FaultLine.{cycle_line};
+ghost use Rattle.pe_text.specs.TextWriter.{IsReady, Adds};
+ghost use Rattle.pe_text.specs.declared.outcome.Outcome.{Outcome};
+ghost use Rattle.pe_tool.specs.MapReport.{map_text, window_fault, IsSpaceText, IsMapText};
 
-use crate::device::Sink;
-use crate::fault_line::write_cycle_line;
 use crate::map_lines::{write_bindings, write_images, write_window};
-use crate::outcome::{Outcome, ToolError};
-use crate::report::refuse;
-use crate::text_writer::TextWriter;
 use crate::window::window_fault;
 use pe_space::{MapError, Policy, SetEntry, Space, open_space};
+use pe_text::{Outcome, Sink, TextWriter, ToolError, refuse, write_cycle_line};
 use pe_view::Fault;
 use std::alloc::{AllocError, Allocator};
 
@@ -46,6 +42,28 @@ fn write_space<S: Space, W: Sink>(
         write_window(text, space, address, count);
     }
     text.text(b"end\n");
+}
+
+/// Asks where a window lies, and only then adds the report of a space that was mapped from a set, or the line of fault 54.
+fn tell_space<S: Space, W: Sink>(
+    text: &mut TextWriter<W>,
+    space: &S,
+    set: &[SetEntry],
+    window: Option<(u64, u32)>,
+) -> Outcome
+    requires ready { IsReady W.failures text.old }
+    requires content { S.content space.now ≡ content_of (modules_of (entries_of set.now)) }
+    requires sound { IsSound (modules_of (entries_of set.now)) }
+    requires bytes { (a : ℕ) → byte_at (S.content space.now) a ≡ defined_byte (modules_of (entries_of set.now)) a }
+    ensures { (added : List ℕ) × IsSpaceText (modules_of (entries_of set.now)) window result added × Adds W.taken W.failures text.old text.new added }
+{
+    if let Some((address, count)) = window
+        && let Some(fault) = window_fault(space, address, count)
+    {
+        return refuse(text, fault);
+    }
+    write_space(text, space, set, window);
+    Outcome::Done
 }
 
 /// Adds the line of a fault that is a cycle of forwarders.
@@ -75,19 +93,12 @@ fn write_map<A: Allocator + Copy, W: Sink>(
 {
     pe_set::laws::accepted_sets_are_sound();
     pe_space::laws::content_serves_at_all_bases();
-    let space = match open_space(alloc, set, policy) {
-        Ok(space) => space,
-        Err(MapError::Fault(fault)) => return Ok(refuse(text, fault)),
-        Err(MapError::Cycle { fault, length }) => return Ok(refuse_cycle(text, fault, length)),
-        Err(MapError::Memory) => return Err(AllocError),
-    };
-    if let Some((address, count)) = window
-        && let Some(fault) = window_fault(&space, address, count)
-    {
-        return Ok(refuse(text, fault));
+    match open_space(alloc, set, policy) {
+        Ok(space) => Ok(tell_space(text, &space, set, window)),
+        Err(MapError::Fault(fault)) => Ok(refuse(text, fault)),
+        Err(MapError::Cycle { fault, length }) => Ok(refuse_cycle(text, fault, length)),
+        Err(MapError::Memory) => Err(AllocError),
     }
-    write_space(text, &space, set, window);
-    Ok(Outcome::Done)
 }
 
 /// Maps a set of images and writes the report of it: a line for each image, with its number, name, base and SizeOfImage; a line

@@ -3,7 +3,7 @@
 
 ghost use Rattle.std.specs.Prelude.{◌≡◌, ◌<◌, ◌≤◌, length, true, false, [], IfOk};
 
-use pe_tool::{Failed, Sink, Source};
+use pe_text::{Failed, Sink, Source};
 use std::alloc::{AllocError, Global};
 
 /// Which of a device's calls fails.

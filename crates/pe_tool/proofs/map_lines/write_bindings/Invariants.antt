@@ -2,7 +2,7 @@ use Rattle.std.proofs.Common.{take, map}
 use Rattle.std.specs.Prelude.{flat_map}
 use Rattle.pe_space.specs.Content.{placement_of}
 use Rattle.pe_tool.specs.MapReport.{bind_line, export_address}
-use Rattle.pe_tool.specs.TextWriter.{Adds}
+use Rattle.pe_text.specs.TextWriter.{Adds}
 use Rattle.pe_tool.proofs.map_lines.write_bindings.Given as goal
 
 abbrev pub invariant-loop-binding : goal.invariant-loop-binding

@@ -1,7 +1,7 @@
 use Rattle.std.proofs.Common.{take}
 use Rattle.std.specs.Prelude.{flat_map}
 use Rattle.pe_tool.specs.MapReport.{byte_text}
-use Rattle.pe_tool.specs.TextWriter.{Adds}
+use Rattle.pe_text.specs.TextWriter.{Adds}
 use Rattle.pe_tool.proofs.map_lines.write_bytes.Given as goal
 
 abbrev pub invariant-loop-byte : goal.invariant-loop-byte

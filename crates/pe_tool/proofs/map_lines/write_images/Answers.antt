@@ -1,5 +1,5 @@
-use Rattle.pe_tool.proofs.Adding.{◌then◌}
-use Rattle.pe_tool.proofs.Numbering.{numbered-next}
+use Rattle.pe_text.proofs.Adding.{◌then◌}
+use Rattle.pe_text.proofs.Numbering.{numbered-next}
 use Rattle.pe_tool.proofs.map_lines.write_images.Goals as goal
 
 pub loop-number-preserved : goal.loop-number-preserved

@@ -3,8 +3,8 @@ use Rattle.pe_set.specs.SetView.{entry_view}
 use Rattle.pe_set.specs.declared.entry.SetEntry.{SetEntry}
 use Rattle.pe_space.specs.Content.{placement_of}
 use Rattle.pe_tool.specs.MapReport.{told_line}
-use Rattle.pe_tool.specs.Text.{numbered}
-use Rattle.pe_tool.specs.TextWriter.{Adds}
+use Rattle.pe_text.specs.Text.{numbered}
+use Rattle.pe_text.specs.TextWriter.{Adds}
 use Rattle.pe_tool.proofs.map_lines.write_images.Given as goal
 
 abbrev pub invariant-loop-number : goal.invariant-loop-number

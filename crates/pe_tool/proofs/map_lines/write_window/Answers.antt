@@ -1,8 +1,9 @@
 use Rattle.std.proofs.Common.{◌+◌, ◌*◌, ◌≤◌, ◌<◌, ℕ, List, subst, arith}
 use Rattle.pe_tool.specs.MapReport.{bytes_line}
-use Rattle.pe_tool.specs.TextWriter.{Adds}
-use Rattle.pe_tool.proofs.Adding.{◌then◌}
-use Rattle.pe_tool.proofs.MapLines.{line_more, bytes_read}
+use Rattle.pe_text.specs.TextWriter.{Adds}
+use Rattle.pe_text.proofs.Adding.{◌then◌}
+use Rattle.pe_text.proofs.Numbering.{line_more}
+use Rattle.pe_tool.proofs.MapLines.{bytes_read}
 use Rattle.pe_tool.proofs.map_lines.write_window.Goals as goal
 
 pub loop-index-preserved : goal.loop-index-preserved

@@ -2,7 +2,7 @@ use Rattle.std.specs.Prelude.{flat_map}
 use Rattle.std.specs.List.{range_with_len}
 use Rattle.pe_space.specs.Content.{byte_at}
 use Rattle.pe_tool.specs.MapReport.{window_line}
-use Rattle.pe_tool.specs.TextWriter.{Adds}
+use Rattle.pe_text.specs.TextWriter.{Adds}
 use Rattle.pe_tool.proofs.map_lines.write_window.Given as goal
 
 abbrev pub invariant-loop-index : goal.invariant-loop-index

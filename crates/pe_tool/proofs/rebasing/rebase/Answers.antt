@@ -2,7 +2,7 @@ use Rattle.std.proofs.Common.{◌≡◌, ◌∙◌, ◌<◌, ℕ, List, length, 
 use Rattle.pe_view.specs.Faults.{first_standing}
 use Rattle.pe_write.specs.Rebase.{rebased}
 use Rattle.pe_write.specs.RebaseFaults.{rebase_tests}
-use Rattle.pe_tool.specs.declared.outcome.Outcome.TheVariants.{Refused}
+use Rattle.pe_text.specs.declared.outcome.Outcome.TheVariants.{Refused}
 use Rattle.pe_tool.proofs.RebaseRuns.{ran_told, ran_out_of_memory, ran_short, some_bytes}
 use Rattle.pe_tool.proofs.rebasing.rebase.Goals as goal
 

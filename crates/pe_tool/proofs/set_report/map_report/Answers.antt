@@ -1,7 +1,7 @@
 use Rattle.std.proofs.Common.{rules}
 use Rattle.pe_set.specs.SetView.{entries_of}
 use Rattle.pe_tool.specs.MapReport.{IsMapText}
-use Rattle.pe_tool.proofs.Reports.{Puts-whole, Puts-failed, Puts-none, write_told}
+use Rattle.pe_text.proofs.Reports.{Puts-whole, Puts-failed, Puts-none, write_told}
 use Rattle.pe_tool.proofs.set_report.map_report.Goals as goal
 
 pub returns-in-Ok-finish-clause-puts : goal.returns-in-Ok-finish-clause-puts

@@ -1,0 +1,3 @@
+pub mod ObjectLines
+pub mod ObjectPlaces
+pub mod ObjectRows

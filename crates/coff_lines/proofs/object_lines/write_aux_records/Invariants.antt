@@ -1,0 +1,15 @@
+use Rattle.std.proofs.Common.{ℕ, ◌+◌, ◌*◌}
+use Rattle.std.specs.Prelude.{flat_map}
+use Rattle.std.specs.List.{range_with_len}
+use Rattle.pe_view.specs.Number.{part}
+use Rattle.coff_object.specs.Auxiliary.{aux_of}
+use Rattle.coff_object.specs.ObjectView.{symbol_view}
+use Rattle.coff_lines.specs.ObjectLines.{aux_line}
+use Rattle.pe_text.specs.TextWriter.{Adds}
+use Rattle.coff_lines.proofs.object_lines.write_aux_records.Given as goal
+
+abbrev pub invariant-loop-k : goal.invariant-loop-k
+invariant-loop-k g l = record {
+  adds : Adds g.W.Sink.taken g.W.Sink.failures l.initial.text l.text
+      (flat_map (λ (k : ℕ). aux_line (l.index + k) (aux_of (symbol_view l.symbol) (part l.symbol.aux.now (18 * k) 18))) (range_with_len 0 l.k));
+}

@@ -1,0 +1,55 @@
+//! The engine that writes an object's dump.
+
+ghost use Rattle.std.specs.Prelude.{◌-◌, ◌^◌, ◌<◌, ◌↔◌, IsErrOf};
+ghost use Rattle.pe_text.specs.Engine.{Ran};
+ghost use Rattle.coff_lines.specs.ObjectReport.{IsObjectText};
+
+use crate::object_lines::write_object;
+use coff_object::laws::symbols_fill_the_table;
+use coff_object::{ObjectError, read_object};
+use pe_text::{Outcome, Report, Sink, Source, TextWriter, ToolError, refuse, run_report};
+use std::alloc::{AllocError, Allocator};
+
+/// The report of [`dump_object`]: what an accepted object holds, or its first fault.
+struct DumpObject;
+
+impl Report for DumpObject {
+    ghost is_text = { IsObjectText };
+
+    fn write<A: Allocator + Copy, W: Sink>(
+        alloc: A,
+        text: &mut TextWriter<W>,
+        file: &[u8],
+    ) -> Result<Outcome, AllocError> {
+        symbols_fill_the_table();
+        match read_object(alloc, file) {
+            Ok(object) => {
+                write_object(text, &object);
+                Ok(Outcome::Done)
+            }
+            Err(ObjectError::Fault(fault)) => Ok(refuse(text, fault)),
+            Err(ObjectError::Memory) => Err(AllocError),
+        }
+    }
+}
+
+/// Writes what an object holds, a line for three fields of its header, for each section, relocation, symbol and auxiliary
+/// record, or the object's first fault.
+///
+/// The reader is read to its end, or to 2^32 + 1 bytes; then all faults are asked, and only then the text is written. After
+/// `Write` a beginning of it was written, after `Read` and `Memory` nothing; `Memory` never comes where the reader gave no
+/// byte. Condition: fewer than 2^64 - 1 failures are counted on either device so far.
+pub fn dump_object<A: Allocator + Copy, R: Source, W: Sink>(
+    alloc: A,
+    reader: &mut R,
+    writer: &mut W,
+) -> Result<Outcome, ToolError>
+    requires reads { R.failures reader.old < 2 ^ 64 - 1 }
+    requires writes { W.failures writer.old < 2 ^ 64 - 1 }
+    ensures ran { Ran IsObjectText (R.given reader.old) (R.given reader.new)
+        (W.taken writer.old) (W.taken writer.new) (R.ended reader.new) result }
+    ensures read { IsErrOf result ToolError.Read ↔ (R.failures reader.old < R.failures reader.new) }
+    ensures write { IsErrOf result ToolError.Write ↔ (W.failures writer.old < W.failures writer.new) }
+{
+    run_report::<DumpObject, A, R, W>(alloc, reader, writer)
+}

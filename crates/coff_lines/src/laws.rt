@@ -1,0 +1,14 @@
+//! What the definitions mean, as laws. The contract of each function here is a law.
+
+ghost use Rattle.std.specs.Prelude.{◌≡◌, ℕ, List, None, flat_map};
+ghost use Rattle.pe_view.specs.Faults.{first_standing};
+ghost use Rattle.coff_object.specs.ObjectFaults.{object_tests};
+ghost use Rattle.coff_object.specs.Reading.{object_of, symbol_indexes};
+ghost use Rattle.coff_lines.specs.ObjectLines.{symbol_lines};
+ghost use Rattle.coff_lines.specs.ObjectPlaces.{record_lines};
+
+/// In the dump of an object that is not refused, each record of the file's symbol table stands under its own index: as a symbol
+/// where it begins one, else in the shape of the symbol before it.
+pub fn records_are_shown_under_their_indexes()
+    ensures { (file : List ℕ) → first_standing (object_tests file) ≡ None → symbol_lines 0 (object_of file).symbols ≡ flat_map (record_lines file) (symbol_indexes file) }
+{}

@@ -1,0 +1,16 @@
+//! The dump of a COFF object: a line for three fields of its header, for each section, relocation, symbol and auxiliary record.
+//!
+//! [`dump_object`] reads the object's file, judges it and writes the text:
+//!
+//! ```text
+//! let mut reader = Counted::new(file);
+//! let mut writer = Counted::new(standard_output);
+//! let answer = dump_object(alloc, &mut reader, &mut writer);
+//! ```
+#![tactic(auto)]
+
+mod engine;
+pub mod laws;
+mod object_lines;
+
+pub use engine::dump_object;

@@ -1,0 +1,408 @@
+//! The dump of an object: what it holds, a line each.
+
+ghost use Rattle.std.specs.Prelude.{◌≡◌, ◌+◌, ◌<◌, ◌^◌, ◌∷◌, [], Some, codes, decimal, flat_map, map, option_map, slice_get};
+ghost use Rattle.coff_object.specs.Auxiliary.{Function, Section as SectionRecord};
+ghost use Rattle.coff_object.specs.AuxiliaryView.{aux_view};
+ghost use Rattle.coff_object.specs.ObjectView.{raw_view, section_view, symbol_view, object_view};
+ghost use Rattle.coff_object.specs.Written.{raw_size, aux_records, records_of};
+ghost use Rattle.coff_lines.specs.ObjectLines.{amd64_names, i386_names, type_names, class_names, name_in, raw_word, section_line, section_lines, relocation_line, section_text, symbol_line, shape_text, aux_line, aux_lines, symbol_lines, object_text};
+ghost use Rattle.pe_text.specs.Part.{joined, part_text};
+ghost use Rattle.pe_text.specs.Text.{hex, numbered};
+ghost use Rattle.pe_text.specs.TextWriter.{IsReady, Adds};
+
+use coff_object::{Aux, ObjSection, Object, RawData, Relocation, Symbol, SymbolSection};
+use pe_head::machine;
+use pe_text::Part::{self, Decimal, Hex4, Hex8, Name, Quoted, Text};
+use pe_text::{
+    Sink, TextWriter, characteristics, time_date_stamp, write_fields, write_machine, write_parts,
+};
+use std::alloc::Allocator;
+
+/// How many bytes an auxiliary record has.
+const AUX_LEN: usize = 18;
+
+/// The name of a storage class ("PE Format", Storage Class).
+fn class_name(class: u8) -> Option<&'static [u8]>
+    ensures { option_map (λ name. name.now) result ≡ name_in class_names class }
+{
+    match class {
+        0 => Some(b"NULL"),
+        2 => Some(b"EXTERNAL"),
+        3 => Some(b"STATIC"),
+        6 => Some(b"LABEL"),
+        101 => Some(b"FUNCTION"),
+        103 => Some(b"FILE"),
+        104 => Some(b"SECTION"),
+        105 => Some(b"WEAK_EXTERNAL"),
+        _ => None,
+    }
+}
+
+/// The name of a relocation's type for AMD64 ("PE Format", Type Indicators).
+fn amd64_name(kind: u16) -> Option<&'static [u8]>
+    ensures { option_map (λ name. name.now) result ≡ name_in amd64_names kind }
+{
+    match kind {
+        0 => Some(b"ABSOLUTE"),
+        1 => Some(b"ADDR64"),
+        2 => Some(b"ADDR32"),
+        3 => Some(b"ADDR32NB"),
+        4 => Some(b"REL32"),
+        5 => Some(b"REL32_1"),
+        6 => Some(b"REL32_2"),
+        7 => Some(b"REL32_3"),
+        8 => Some(b"REL32_4"),
+        9 => Some(b"REL32_5"),
+        10 => Some(b"SECTION"),
+        11 => Some(b"SECREL"),
+        _ => None,
+    }
+}
+
+/// The name of a relocation's type for I386 ("PE Format", Type Indicators).
+fn i386_name(kind: u16) -> Option<&'static [u8]>
+    ensures { option_map (λ name. name.now) result ≡ name_in i386_names kind }
+{
+    match kind {
+        0 => Some(b"ABSOLUTE"),
+        6 => Some(b"DIR32"),
+        7 => Some(b"DIR32NB"),
+        10 => Some(b"SECTION"),
+        11 => Some(b"SECREL"),
+        20 => Some(b"REL32"),
+        _ => None,
+    }
+}
+
+/// The name of a relocation's type, if the types of the machine have names here.
+fn type_name(machine: u16, kind: u16) -> Option<&'static [u8]>
+    ensures { option_map (λ name. name.now) result ≡ name_in (type_names machine) kind }
+{
+    match machine {
+        machine::AMD64 => amd64_name(kind),
+        machine::I386 => i386_name(kind),
+        _ => None,
+    }
+}
+
+/// How many bytes a section has, and whether they stand in the file.
+fn size_and_word(raw: &RawData) -> (u64, &'static [u8])
+    ensures size { result.0 ≡ raw_size (raw_view raw.now) }
+    ensures word { result.1.now ≡ raw_word (raw_view raw.now) }
+{
+    match raw {
+        RawData::Bytes(bytes) => (bytes.len() as u64, b" bytes"),
+        RawData::Absent(size) => (*size as u64, b" absent"),
+    }
+}
+
+#[tactic(auto, unfolding(crate::specs::ObjectLines::section_line))]
+fn write_section<A: Allocator, W: Sink>(
+    line: &mut TextWriter<W>,
+    number: u64,
+    section: &ObjSection<A>,
+)
+    requires { IsReady W.failures line.old }
+    ensures { Adds W.taken W.failures line.old line.new (section_line number (section_view section.now)) }
+{
+    let (size, word) = size_and_word(&section.raw);
+    let relocations = section.relocations.as_slice().len();
+    write_parts(
+        line,
+        &[
+            Text(b"section "),
+            Decimal(number),
+            Text(b" "),
+            Quoted(section.name),
+            Text(b" size 0x"),
+            Hex8(size),
+            Text(word),
+            Text(b" flags 0x"),
+            Hex8(section.flags as u64),
+            Text(b" relocations "),
+            Decimal(relocations as u64),
+            Text(b"\n"),
+        ],
+    );
+}
+
+#[tactic(auto, unfolding(crate::specs::ObjectLines::relocation_line))]
+fn write_relocation<W: Sink>(line: &mut TextWriter<W>, machine: u16, relocation: &Relocation)
+    requires { IsReady W.failures line.old }
+    ensures { Adds W.taken W.failures line.old line.new (relocation_line machine relocation.now) }
+{
+    write_parts(
+        line,
+        &[
+            Text(b"reloc 0x"),
+            Hex8(relocation.address as u64),
+            Text(b" symbol "),
+            Decimal(relocation.symbol as u64),
+            Text(b" type "),
+            Decimal(relocation.kind as u64),
+            Name(type_name(machine, relocation.kind)),
+            Text(b"\n"),
+        ],
+    );
+}
+
+fn write_relocations<W: Sink>(text: &mut TextWriter<W>, machine: u16, relocations: &[Relocation])
+    requires { IsReady W.failures text.old }
+    ensures { Adds W.taken W.failures text.old text.new (flat_map (relocation_line machine) relocations.now) }
+{
+    for relocation in relocations {
+        write_relocation(text, machine, relocation);
+    }
+}
+
+/// Adds the lines of each section, with its number from 1.
+fn write_sections<A: Allocator, W: Sink>(
+    text: &mut TextWriter<W>,
+    machine: u16,
+    sections: &[ObjSection<A>],
+)
+    requires { IsReady W.failures text.old }
+    ensures { Adds W.taken W.failures text.old text.new
+        (numbered (section_lines machine) 1 (map section_view sections.now)) }
+{
+    for (index, section) in sections.iter().enumerate() {
+        write_section(text, index as u64 + 1, section);
+        write_relocations(text, machine, &section.relocations);
+    }
+}
+
+/// To which section a symbol belongs: a word, or a number.
+fn section_part<'a>(section: SymbolSection) -> Part<'a>
+    ensures { part_text result ≡ section_text section }
+{
+    match section {
+        SymbolSection::Undefined => Text(b"undefined"),
+        SymbolSection::Absolute => Text(b"absolute"),
+        SymbolSection::Debug => Text(b"debug"),
+        SymbolSection::Section(number) => Decimal(number as u64),
+    }
+}
+
+/// How many auxiliary records a symbol has.
+fn aux_count(symbol: &Symbol) -> u64
+    ensures { result ≡ aux_records (symbol_view symbol.now) }
+{
+    (symbol.aux.len() / AUX_LEN) as u64
+}
+
+#[tactic(auto, unfolding(crate::specs::ObjectLines::symbol_line))]
+fn write_symbol<W: Sink>(line: &mut TextWriter<W>, index: u64, symbol: &Symbol)
+    requires { IsReady W.failures line.old }
+    ensures { Adds W.taken W.failures line.old line.new (symbol_line index (symbol_view symbol.now)) }
+{
+    write_parts(
+        line,
+        &[
+            Text(b"symbol "),
+            Decimal(index),
+            Text(b" "),
+            Quoted(symbol.name),
+            Text(b" value 0x"),
+            Hex8(symbol.value as u64),
+            Text(b" section "),
+            section_part(symbol.section),
+            Text(b" type 0x"),
+            Hex4(symbol.kind),
+            Text(b" class "),
+            Decimal(symbol.class as u64),
+            Name(class_name(symbol.class)),
+            Text(b" aux "),
+            Decimal(aux_count(symbol)),
+            Text(b"\n"),
+        ],
+    );
+}
+
+/// Adds two digits for each byte.
+fn write_digits<W: Sink>(line: &mut TextWriter<W>, bytes: &[u8])
+    requires { IsReady W.failures line.old }
+    ensures { Adds W.taken W.failures line.old line.new (flat_map (hex 2) bytes.now) }
+{
+    for byte in bytes {
+        line.hex(2, *byte as u64);
+    }
+}
+
+/// Adds a word and two numbers.
+fn write_pair<W: Sink>(line: &mut TextWriter<W>, word: &[u8], first: u64, second: u64)
+    requires { IsReady W.failures line.old }
+    ensures { Adds W.taken W.failures line.old line.new (joined (word.now ∷ decimal first ∷ codes " " ∷ decimal second ∷ [])) }
+{
+    write_parts(
+        line,
+        &[Text(word), Decimal(first), Text(b" "), Decimal(second)],
+    );
+}
+
+/// Adds what the record behind a function's definition holds.
+fn write_function<W: Sink>(
+    line: &mut TextWriter<W>,
+    tag_index: u32,
+    total_size: u32,
+    pointer_to_linenumber: u32,
+    pointer_to_next_function: u32,
+)
+    requires { IsReady W.failures line.old }
+    ensures { Adds W.taken W.failures line.old line.new
+        (shape_text (Function tag_index total_size pointer_to_linenumber pointer_to_next_function)) }
+{
+    write_parts(
+        line,
+        &[
+            Text(b"function "),
+            Decimal(tag_index as u64),
+            Text(b" "),
+            Decimal(total_size as u64),
+            Text(b" 0x"),
+            Hex8(pointer_to_linenumber as u64),
+            Text(b" "),
+            Decimal(pointer_to_next_function as u64),
+        ],
+    );
+}
+
+/// Adds what the record behind a section's symbol holds.
+fn write_section_record<W: Sink>(
+    line: &mut TextWriter<W>,
+    length: u32,
+    relocations: u16,
+    line_numbers: u16,
+    checksum: u32,
+    number: u16,
+    selection: u8,
+)
+    requires { IsReady W.failures line.old }
+    ensures { Adds W.taken W.failures line.old line.new
+        (shape_text (SectionRecord length relocations line_numbers checksum number selection)) }
+{
+    write_parts(
+        line,
+        &[
+            Text(b"section "),
+            Decimal(length as u64),
+            Text(b" "),
+            Decimal(relocations as u64),
+            Text(b" "),
+            Decimal(line_numbers as u64),
+            Text(b" 0x"),
+            Hex8(checksum as u64),
+            Text(b" "),
+            Decimal(number as u64),
+            Text(b" "),
+            Decimal(selection as u64),
+        ],
+    );
+}
+
+/// Adds what an auxiliary record holds.
+fn write_shape<W: Sink>(line: &mut TextWriter<W>, aux: &Aux)
+    requires { IsReady W.failures line.old }
+    ensures { Adds W.taken W.failures line.old line.new (shape_text (aux_view aux.now)) }
+{
+    match aux {
+        Aux::Function {
+            tag_index,
+            total_size,
+            pointer_to_linenumber: pointer,
+            pointer_to_next_function: next,
+        } => write_function(line, *tag_index, *total_size, *pointer, *next),
+        Aux::Lines { line: number, next } => {
+            write_pair(line, b"lines ", *number as u64, *next as u64)
+        }
+        Aux::Weak { tag_index, search } => {
+            write_pair(line, b"weak ", *tag_index as u64, *search as u64)
+        }
+        Aux::File { name } => write_parts(line, &[Text(b"file "), Quoted(name)]),
+        Aux::Section {
+            length,
+            relocations,
+            line_numbers,
+            checksum,
+            number,
+            selection,
+        } => write_section_record(
+            line,
+            *length,
+            *relocations,
+            *line_numbers,
+            *checksum,
+            *number,
+            *selection,
+        ),
+        Aux::Raw { bytes } => {
+            line.text(b"raw ");
+            write_digits(line, bytes);
+        }
+    }
+}
+
+#[tactic(auto, unfolding(crate::specs::ObjectLines::aux_line))]
+fn write_aux<W: Sink>(line: &mut TextWriter<W>, index: u64, aux: &Aux)
+    requires { IsReady W.failures line.old }
+    ensures { Adds W.taken W.failures line.old line.new (aux_line index (aux_view aux.now)) }
+{
+    line.text(b"aux ");
+    line.decimal(index);
+    line.text(b" ");
+    write_shape(line, aux);
+    line.text(b"\n");
+}
+
+/// Adds the lines of the auxiliary records of the symbol at a position of the object, the first with this index.
+fn write_aux_records<A: Allocator, W: Sink>(
+    text: &mut TextWriter<W>,
+    object: &Object<A>,
+    position: usize,
+    symbol: &Symbol,
+    index: u64,
+)
+    requires ready { IsReady W.failures text.old }
+    requires there { slice_get object.now.symbols.items position ≡ Some symbol.now }
+    requires few { index + aux_records (symbol_view symbol.now) < 2 ^ 64 }
+    ensures { Adds W.taken W.failures text.old text.new (aux_lines index (symbol_view symbol.now)) }
+{
+    for k in 0..symbol.aux.len() / AUX_LEN {
+        let aux = object.aux_view(position, k).unwrap();
+        write_aux(text, index + k as u64, &aux);
+    }
+}
+
+/// Adds the lines of each symbol, with the index of its record, and of its auxiliary records.
+fn write_symbols<A: Allocator, W: Sink>(text: &mut TextWriter<W>, object: &Object<A>)
+    requires ready { IsReady W.failures text.old }
+    requires few { records_of (map symbol_view object.now.symbols.items) < 2 ^ 32 }
+    ensures { Adds W.taken W.failures text.old text.new (symbol_lines 0 (map symbol_view object.now.symbols.items)) }
+{
+    let symbols = object.symbols.as_slice();
+    let mut index = 0;
+    for (position, symbol) in symbols.iter().enumerate() {
+        write_symbol(text, index, symbol);
+        write_aux_records(text, object, position, symbol, index + 1);
+        index += 1 + aux_count(symbol);
+    }
+}
+
+/// Adds the lines of an object's dump.
+#[tactic(auto, unfolding(crate::specs::ObjectLines::object_text))]
+pub(crate) fn write_object<A: Allocator, W: Sink>(text: &mut TextWriter<W>, object: &Object<A>)
+    requires ready { IsReady W.failures text.old }
+    requires few { records_of (map symbol_view object.now.symbols.items) < 2 ^ 32 }
+    ensures { Adds W.taken W.failures text.old text.new (object_text (object_view object.now)) }
+{
+    write_machine(text, object.machine);
+    write_fields(
+        text,
+        &[
+            time_date_stamp(object.time_stamp),
+            characteristics(object.characteristics),
+        ],
+    );
+    write_sections(text, object.machine, object.sections.as_slice());
+    write_symbols(text, object);
+    text.text(b"end\n");
+}

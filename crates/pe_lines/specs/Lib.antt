@@ -1,0 +1,14 @@
+pub use Rattle.pe_view.specs.Faults
+pub use Rattle.pe_head.specs.Head
+pub use Rattle.pe_layout.specs.Image
+pub use Rattle.pe_tables.specs.Exports
+pub use Rattle.pe_tables.specs.Fixups
+pub use Rattle.pe_tables.specs.Imports
+pub use Rattle.pe_tables.specs.Key
+pub use Rattle.pe_image.specs.ImageTests
+pub use Rattle.pe_text.specs.Engine
+pub mod Dump
+pub mod Format
+pub mod HeaderFields
+pub mod Reports
+pub mod TableLines

@@ -1,0 +1,19 @@
+//! What is told of an image: that it is accepted, or what it holds, a line for each field of its headers, directory, section,
+//! export, import and base relocation.
+//!
+//! [`check`] and [`dump`] read the image's file, judge it and write their texts:
+//!
+//! ```text
+//! let mut reader = Counted::new(file);
+//! let mut writer = Counted::new(standard_output);
+//! let answer = dump(alloc, &mut reader, &mut writer);
+//! ```
+#![tactic(auto)]
+
+mod dump_lines;
+mod engine;
+mod format;
+mod header_fields;
+mod table_lines;
+
+pub use engine::{check, dump};

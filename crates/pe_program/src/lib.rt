@@ -1,0 +1,27 @@
+//! The program `petool`, over any runtime: it opens the files that its words name, has the engines of `pe_tool` write their texts
+//! on standard output, tells of what fails on standard error, and answers the exit status.
+//!
+//! ```text
+//! fn main(rt: HostRuntime) -> ExitCode {
+//!     ExitCode::from(run(&rt))
+//! }
+//! ```
+#![tactic(auto)]
+
+mod command_line;
+mod file_job;
+mod input;
+mod late_file;
+mod map_job;
+mod messages;
+mod output;
+mod program;
+mod rebase_job;
+mod statuses;
+mod texts;
+
+pub use command_line::{NoWords, refuse_command_line, words_of};
+pub use file_job::run_file;
+pub use map_job::run_map;
+pub use program::run;
+pub use texts::{Engine, OUTPUT_BUFFER};

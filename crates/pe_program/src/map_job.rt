@@ -1,0 +1,125 @@
+//! The job `map`: files are read whole, mapped, and told of.
+
+use crate::file_job::refuse_path;
+use crate::input::{FIRST_BYTES, name_of, open_file};
+use crate::messages::{STANDARD_OUTPUT, tell_failure, tell_fault};
+use crate::statuses::OUT_OF_MEMORY;
+use crate::texts::{Printed, Text, print_text};
+use pe_tool::{Counted, MapFile, Outcome, Policy, SetEntry, ToolError, read_whole, status};
+use pe_view::Fault;
+use std::alloc::{AllocError, Allocator};
+use std::io::{Input, Read};
+use std::rt::Files;
+
+/// Reads bytes to their end.
+fn read_bytes<A: Allocator + Copy>(
+    alloc: A,
+    file: impl Read + Drop,
+) -> Result<Vec<u8, A>, ToolError> {
+    let mut reader = Counted::new(file);
+    read_whole(alloc, &mut reader)
+}
+
+/// Reads a file whole, or tells what failed and answers the exit status.
+fn read_file<R: Files + Input + Eprint + Alloc>(rt: &R, path: &str) -> Result<Vec<u8, R::A>, u8>
+where
+    R::A: Copy,
+{
+    let mut file = match open_file(rt, path) {
+        Ok(file) => file,
+        Err(error) => return Err(refuse_path(rt, path, error)),
+    };
+    let answer = read_bytes(rt.alloc(), &mut file);
+    answer.map_err(|failure| {
+        tell_failure(rt, name_of(path), failure, file.error());
+        status(&Err(failure))
+    })
+}
+
+/// Tells on standard error that memory for `map` was refused, and answers the exit status.
+fn refuse_map(rt: &impl Eprint) -> u8 {
+    tell_failure(rt, "map", ToolError::Memory, None);
+    OUT_OF_MEMORY
+}
+
+/// Reads files whole, in their order, up to the first that fails.
+fn read_files<R: Files + Input + Eprint + Alloc>(
+    rt: &R,
+    files: &[MapFile],
+) -> Result<Vec<Vec<u8, R::A>, R::A>, u8>
+where
+    R::A: Copy,
+{
+    let mut contents = Vec::new(rt.alloc());
+    for file in files {
+        let bytes = read_file(rt, file.path.as_str())?;
+        if contents.push(bytes).is_err() {
+            return Err(refuse_map(rt));
+        }
+    }
+    Ok(contents)
+}
+
+/// The set of files with these contents.
+fn set_of<'a, A: Allocator>(
+    alloc: A,
+    files: &'a [MapFile],
+    contents: &'a [Vec<u8, A>],
+) -> Result<Vec<SetEntry<'a>, A>, AllocError> {
+    let files = files.iter().zip(contents.iter());
+    files
+        .map(|(file, bytes)| SetEntry {
+            name: file.name.as_bytes(),
+            file: bytes,
+            base: file.base,
+        })
+        .collect(alloc)
+}
+
+/// Tells a fault of a set: of the file that it names, or of the command.
+fn tell_set_fault(rt: &impl Eprint, files: &[MapFile], set: &[SetEntry], fault: Fault) {
+    let image = usize::from(fault.image);
+    match (files.get(image), set.get(image)) {
+        (Some(file), Some(entry)) => {
+            let first = entry.file.get(..FIRST_BYTES).unwrap_or(entry.file);
+            tell_fault(rt, name_of(file.path.as_str()), fault, first);
+        }
+        _ => tell_fault(rt, "map", fault, b""),
+    }
+}
+
+/// Tells on standard error what `map` met in a set, or why it gave up, and answers the exit status.
+fn tell_set(rt: &impl Eprint, files: &[MapFile], set: &[SetEntry], printed: Printed) -> u8 {
+    match printed.answer {
+        Ok(Outcome::Done) => {}
+        Ok(Outcome::Refused(fault)) => tell_set_fault(rt, files, set, fault),
+        Err(ToolError::Write) => tell_failure(rt, STANDARD_OUTPUT, ToolError::Write, printed.error),
+        Err(failure) => tell_failure(rt, "map", failure, None),
+    }
+    status(&printed.answer)
+}
+
+/// Maps files, and answers the exit status.
+pub fn run_map<R: Files + Input + Print + Eprint + Alloc>(
+    rt: &R,
+    policy: Policy,
+    window: Option<(u64, u32)>,
+    files: &[MapFile],
+) -> u8
+where
+    R::A: Copy,
+{
+    let contents = match read_files(rt, files) {
+        Ok(contents) => contents,
+        Err(status) => return status,
+    };
+    let Ok(set) = set_of(rt.alloc(), files, &contents) else {
+        return refuse_map(rt);
+    };
+    let text: Text<'_, R::File> = Text::Map {
+        set: &set,
+        policy,
+        window,
+    };
+    tell_set(rt, files, &set, print_text(rt, text))
+}

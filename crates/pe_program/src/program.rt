@@ -1,0 +1,38 @@
+//! What the program does.
+
+use crate::command_line::{refuse_command_line, refuse_words, words_of};
+use crate::file_job::run_file;
+use crate::map_job::run_map;
+use crate::rebase_job::run_rebase;
+use crate::texts::Engine;
+use pe_tool::{Job, parse_words};
+use std::io::Input;
+use std::rt::{Env, Files};
+
+/// Does what the command line asks for, and answers the exit status.
+pub fn run<R: Files + Input + Env + Print + Eprint + AllocGlobal>(rt: &R) -> u8 {
+    let words = match words_of(rt) {
+        Ok(words) => words,
+        Err(error) => return refuse_command_line(rt, error),
+    };
+    match parse_words(rt.alloc(), &words) {
+        Ok(Job::Check { file }) => run_file(rt, Engine::Check, file.as_str()),
+        Ok(Job::Dump { file }) => run_file(rt, Engine::Dump, file.as_str()),
+        Ok(Job::Object { file }) => run_file(rt, Engine::Object, file.as_str()),
+        Ok(
+            Job::Map {
+                policy,
+                window,
+                files,
+            },
+        ) => run_map(rt, policy, window, &files),
+        Ok(
+            Job::Rebase {
+                base,
+                source,
+                target,
+            },
+        ) => run_rebase(rt, base, source.as_str(), target.as_str()),
+        Err(error) => refuse_words(rt, error),
+    }
+}

@@ -1,0 +1,13 @@
+//! Exit statuses that no engine answers.
+
+/// The exit status where help or the version was printed.
+pub(crate) const DONE: u8 = 0;
+
+/// The exit status where the words are no command line.
+pub(crate) const BAD_WORDS: u8 = 2;
+
+/// The exit status where a file or standard output failed.
+pub(crate) const DEVICE_FAILED: u8 = 3;
+
+/// The exit status where memory was refused.
+pub(crate) const OUT_OF_MEMORY: u8 = 4;

@@ -1,0 +1,101 @@
+//! The texts of engines on standard output.
+
+use crate::output::Output;
+use pe_tool::{
+    Counted, Outcome, Policy, SetEntry, ToolError, check, dump, dump_object, map_report,
+};
+use std::alloc::Allocator;
+use std::io;
+use std::io::{BufWriter, Error, Read, Write};
+
+/// How many bytes of standard output are held before they are written.
+pub const OUTPUT_BUFFER: usize = 1 << 16;
+
+/// The engines that read one file.
+#[derive(Clone, Copy)]
+pub enum Engine {
+    /// `pe_tool::check`
+    Check,
+    /// `pe_tool::dump`
+    Dump,
+    /// `pe_tool::dump_object`
+    Object,
+}
+
+/// What to print, and of what.
+#[derive(Drop)]
+pub(crate) enum Text<'a, F> {
+    /// The text of an engine, of an open file.
+    File(Engine, F),
+    /// The report of `map`.
+    Map {
+        set: &'a [SetEntry<'a>],
+        policy: Policy,
+        window: Option<(u64, u32)>,
+    },
+}
+
+/// An engine's answer, and the system's word for it where standard output failed.
+#[derive(Clone, Copy)]
+pub(crate) struct Printed {
+    pub answer: Result<Outcome, ToolError>,
+    pub error: Option<Error>,
+}
+
+/// Runs the engine of a text.
+fn write_text<A: Allocator + Copy>(
+    alloc: A,
+    text: Text<'_, impl Read + Drop>,
+    writer: impl Write + Drop,
+) -> Result<Outcome, ToolError> {
+    let mut writer = Counted::new(writer);
+    match text {
+        Text::File(engine, file) => {
+            let mut reader = Counted::new(file);
+            match engine {
+                Engine::Check => check(alloc, &mut reader, &mut writer),
+                Engine::Dump => dump(alloc, &mut reader, &mut writer),
+                Engine::Object => dump_object(alloc, &mut reader, &mut writer),
+            }
+        }
+        Text::Map {
+            set,
+            policy,
+            window,
+        } => map_report(alloc, set, policy, window, &mut writer),
+    }
+}
+
+/// What an engine answered, of an output that is to hold its text.
+pub(crate) fn flushed(
+    answer: Result<Outcome, ToolError>,
+    output: &mut Output<impl Write>,
+) -> Printed {
+    let answer = match output.flush() {
+        Ok(()) => answer,
+        Err(_) => Err(ToolError::Write),
+    };
+    Printed {
+        answer,
+        error: output.error(),
+    }
+}
+
+/// What was answered where there is no room for a buffer.
+pub(crate) const NO_ROOM: Printed = Printed {
+    answer: Err(ToolError::Memory),
+    error: None,
+};
+
+/// Runs the engine of a text, which is on standard output when it is done.
+pub(crate) fn print_text<R: Print + Alloc>(rt: &R, text: Text<'_, impl Read + Drop>) -> Printed
+where
+    R::A: Copy,
+{
+    let Ok(buffer) = BufWriter::with_capacity(rt.alloc(), OUTPUT_BUFFER, io::writer(rt)) else {
+        return NO_ROOM;
+    };
+    let mut output = Output::new(buffer);
+    let answer = write_text(rt.alloc(), text, &mut output);
+    flushed(answer, &mut output)
+}

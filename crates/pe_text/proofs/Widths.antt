@@ -1,0 +1,49 @@
+-- The digits of a number, and how many it needs.
+use Rattle.std.proofs.Common.{ℕ, zero, suc, ◌≡◌, ◌+◌, ◌*◌, ◌/◌, ◌%◌, ◌^◌, ◌-◌, ◌<◌, ◌≤◌, List, [], ◌∷◌, ◌++◌, append_assoc, append-nil, refl, arith, sym, ◌∙◌, ap}
+use Rattle.std.proofs.Math.Nat.{pow-succ', lt-mul-div-succ, div-eq_of_lt}
+use Rattle.std.proofs.lemmas.Nat.{pow-add, pow_pos}
+use Rattle.std.proofs.lemmas.Bool.{lt-ltb, le-ltb}
+use Rattle.pe_text.specs.Text.{glyph, hex, width_from}
+
+-- a shift by four bits a digit
+pub shift-digits : (k : ℕ) → 2 ^ (4 * k) ≡ 16 ^ k
+shift-digits zero = refl
+shift-digits (suc k) = let e : 4 * suc k ≡ 4 + 4 * k = omega arith in rw (e, pow-add 2 4 (4 * k), shift-digits k, pow-succ' 16 k) refl
+
+-- the digits hold all of a number, of which a shift by them leaves nothing
+fits : (k n : ℕ) → n / 2 ^ (4 * k) ≡ 0 → n < 16 ^ k
+fits k n e = rw (← shift-digits k) (let below = lt-mul-div-succ n {b = 2 ^ (4 * k)} (pow_pos (4 * k)) in let b = rw e at below in omega arith)
+
+-- they do not
+passes : (k n : ℕ) → (n / 2 ^ (4 * k) ≡ 0 → ⊥) → 16 ^ k ≤ n
+passes k n ne = let no : n < 16 ^ k → ⊥ = λ below. ne (rw (shift-digits k) (div-eq_of_lt below)) in omega arith
+
+-- no more digits are needed
+pub width_from-enough : (more k n : ℕ) → n / 2 ^ (4 * k) ≡ 0 → width_from more k n ≡ k
+unfolding width_from
+width_from-enough zero k n e = refl
+width_from-enough (suc more) k n e = rw (lt-ltb n (16 ^ k) (fits k n e)) refl
+
+-- one more is needed
+pub width_from-more : (more k n : ℕ) → (n / 2 ^ (4 * k) ≡ 0 → ⊥) → width_from (suc more) k n ≡ width_from more (k + 1) n
+unfolding width_from
+width_from-more more k n ne = rw (le-ltb n (16 ^ k) (passes k n ne)) refl
+
+-- one more is needed, below sixteen
+pub width_from-next : (k n : ℕ) → k < 16 → (n / 2 ^ (4 * k) ≡ 0 → ⊥) → width_from (16 - (k + 1)) (k + 1) n ≡ width_from (16 - k) k n
+width_from-next k n below ne = let e : 16 - k ≡ suc (16 - (k + 1)) = omega arith in rw e (sym (width_from-more (16 - (k + 1)) k n ne))
+
+-- the first digit of k, and the others
+hex-first : (k n : ℕ) → 0 < k → hex k n ≡ glyph (n / 16 ^ (k - 1) % 16) ∷ hex (k - 1) n
+unfolding hex
+hex-first k n some = let e : k ≡ suc (k - 1) = omega arith in ap (λ (j : ℕ). hex j n) e
+
+-- one more digit is written
+pub hex-next : (k n digit : ℕ) (written all : List ℕ) → 0 < k → digit ≡ glyph (n / 2 ^ (4 * (k - 1)) % 16) → written ++ hex k n ≡ all
+    → (written ++ digit ∷ []) ++ hex (k - 1) n ≡ all
+hex-next k n digit written all some d e = rw (append_assoc, d, shift-digits (k - 1), ← hex-first k n some) e
+
+-- all digits are written
+pub hex-end : (written all : List ℕ) (n : ℕ) → written ++ hex 0 n ≡ all → written ≡ all
+unfolding hex
+hex-end written all n e = sym (append-nil written) ∙ e

@@ -1,0 +1,17 @@
+use Rattle.std.proofs.Common.{rules}
+use Rattle.pe_text.proofs.Reports.{Puts-whole, Puts-failed, Puts-none}
+use Rattle.pe_text.proofs.engine.write_report.Goals as goal
+
+pub returns-in-Ok-finish-clause-puts : goal.returns-in-Ok-finish-clause-puts
+returns-in-Ok-finish-clause-puts g c =
+    Puts-whole g.W.Sink.taken g.W.Sink.failures (g.T.Report.is_text c.args.file.now) _ _ c.finish.new.self _ _ c.in-Ok.outcome c.new-text.ensures.fresh c.in-Ok.ensures.adds
+    c.in-Ok-finish.ensures.written (search rules)
+
+pub returns-in-Err-clause-puts : goal.returns-in-Err-clause-puts
+returns-in-Err-clause-puts g c =
+    Puts-failed g.W.Sink.taken g.W.Sink.failures (g.T.Report.is_text c.args.file.now) _ _ c.finish.new.self _ _ c.in-Ok.outcome c.new-text.ensures.fresh c.in-Ok.ensures.adds
+    c.in-Err.ensures.written (search rules)
+
+pub returns-in_default-clause-puts : goal.returns-in_default-clause-puts
+returns-in_default-clause-puts g c =
+    Puts-none g.W.Sink.taken g.W.Sink.failures (g.T.Report.is_text c.args.file.now) _ c.write.new.text _ _ c.new-text.ensures.fresh c.in_default.ensures.adds_none (search rules)

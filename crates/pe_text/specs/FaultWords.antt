@@ -1,0 +1,43 @@
+-- A fault in words: what stands at its place, and which rule does not hold of it.
+use Rattle.std.specs.Prelude.{ℕ, false, ◌==◌, if◌then◌else◌, List, [], ◌∷◌, ◌++◌, codes, decimal, Option, None, Some, unwrap_or, map}
+use Rattle.std.specs.Fmt.{digits}
+use Rattle.pe_text.specs.declared.fault_text.TheConstants.{RULES}
+use Rattle.pe_text.specs.declared.fault_text.FaultWords.{FaultWords}
+use Rattle.pe_view.specs.declared.fault.Place.{Place}
+use Rattle.pe_view.specs.declared.fault.Place.TheVariants.{File, Rva, Address, Item}
+use Rattle.pe_view.specs.declared.fault.Fault.{Fault}
+
+-- what stands at the place of a fault, and what is wrong with it
+abbrev pub Words : Type 0
+Words = List ℕ × List ℕ
+
+abbrev pub words_view : FaultWords → Words
+words_view w = (w.subject.now, w.rule.now)
+
+-- the words of a fault, in a table of numbers and words
+abbrev pub words_in : List (ℕ × Words) → ℕ → Option Words
+words_in [] number = None
+words_in (row ∷ rows) number = if number == row.0 then Some row.1 else words_in rows number
+
+-- the words of each fault, by its number
+unfoldable pub rules : List (ℕ × Words)
+rules = map (λ row. (row.0, (row.1.now, row.2.now))) RULES
+
+-- the words of a number, which no fault may have
+abbrev pub words_of : ℕ → Words
+words_of number = unwrap_or (words_in rules number) (codes "place", codes "no fault has this number")
+
+-- a number in hexadecimal, without zeros before it
+abbrev pub hex_text : ℕ → List ℕ
+hex_text = digits 16 false
+
+-- the words with the place between them
+abbrev pub with_place : Words → Place → List ℕ
+with_place words (File offset) = words.0 ++ codes " at 0x" ++ hex_text offset ++ codes ": " ++ words.1
+with_place words (Rva rva) = words.0 ++ codes " at RVA 0x" ++ hex_text rva ++ codes ": " ++ words.1
+with_place words (Address address) = words.0 ++ codes " 0x" ++ hex_text address ++ codes ": " ++ words.1
+with_place words (Item item) = words.0 ++ codes " " ++ decimal item ++ codes ": " ++ words.1
+
+-- the fault in words
+abbrev pub sentence : Fault → List ℕ
+sentence fault = with_place (words_of fault.number) fault.place

@@ -1,0 +1,15 @@
+pub use Rattle.pe_view.specs.Faults
+pub use Rattle.pe_head.specs.Head
+pub mod Counted
+pub mod Device
+pub mod Engine
+pub mod FaultLine
+pub mod FaultWords
+pub mod Field
+pub mod FileKind
+pub mod MachineLine
+pub mod Outcome
+pub mod Part
+pub mod Text
+pub mod TextWriter
+pub mod WholeFile

@@ -1,0 +1,41 @@
+-- Numbers and texts as lines show them.
+use Rattle.std.specs.Prelude.{ℕ, ◌+◌, ◌/◌, ◌%◌, ◌^◌, ◌==◌, ◌&&◌, not, Bool, nat_lt, nat_le, if◌then◌else◌, zero, suc, List, [], ◌∷◌, ◌++◌, codes, flat_map}
+
+-- a hexadecimal digit, in lower case
+abbrev pub glyph : ℕ → ℕ
+glyph d = if nat_lt d 10 then 48 + d else 87 + d
+
+-- the last `width` hexadecimal digits of a number
+unfoldable pub hex : ℕ → ℕ → List ℕ
+hex zero n = []
+hex (suc k) n = glyph (n / 16 ^ k % 16) ∷ hex k n
+
+-- the least width, from one on and at most `more` above it, that holds all of the number
+unfoldable pub width_from : ℕ → ℕ → ℕ → ℕ
+width_from zero width n = width
+width_from (suc more) width n = if nat_lt n (16 ^ width) then width else width_from more (width + 1) n
+
+-- the width of a number of at most 16 digits that is shown in 8 at least
+abbrev pub hex_8_width : ℕ → ℕ
+hex_8_width n = width_from 8 8 n
+
+-- a number in 8 hexadecimal digits, or in more where it needs them
+abbrev pub hex_8 : ℕ → List ℕ
+hex_8 n = hex (hex_8_width n) n
+
+-- the byte stands for itself in a quoted text: it is printable, no quote and no backslash
+abbrev pub is_plain : ℕ → Bool
+is_plain byte = nat_le 0x20 byte && nat_le byte 0x7e && not (byte == 0x22) && not (byte == 0x5c)
+
+-- a byte of a quoted text: itself, or `\x` and two digits
+unfoldable pub escaped : ℕ → List ℕ
+escaped byte = if is_plain byte then byte ∷ [] else (codes "\\x" ++ hex 2 byte)
+
+-- a text in double quotes
+unfoldable pub quoted : List ℕ → List ℕ
+quoted text = codes "\"" ++ flat_map escaped text ++ codes "\""
+
+-- what each row of a table gives with its number, one after the other; the first has the number n
+abbrev pub numbered : {Row : Type 0} → (ℕ → Row → List ℕ) → ℕ → List Row → List ℕ
+numbered line n [] = []
+numbered line n (row ∷ rows) = line n row ++ numbered line (n + 1) rows

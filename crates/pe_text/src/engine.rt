@@ -1,0 +1,86 @@
+//! How a file is read whole, judged, and told of in a text.
+
+ghost use Rattle.std.specs.Prelude.{◌≡◌, ◌-◌, ◌^◌, ◌<◌, ◌↔◌, ℕ, List, length, IfOk, OnErr, IsErrOf};
+ghost use Rattle.pe_text.specs.declared.outcome.Outcome.{Outcome};
+ghost use Rattle.pe_text.specs.Engine.{Puts, Ran};
+ghost use Rattle.pe_text.specs.FaultLine.{fault_line};
+ghost use Rattle.pe_text.specs.TextWriter.{IsReady, Adds};
+
+use crate::device::{Sink, Source};
+use crate::fault_line::write_fault_line;
+use crate::outcome::{Outcome, ToolError};
+use crate::text_writer::TextWriter;
+use crate::whole_file::read_whole;
+use pe_view::Fault;
+use std::alloc::{AllocError, Allocator};
+
+/// What an engine says of a file.
+pub trait Report {
+    // a text says so of the file, by the outcome
+    ghost is_text: { List ℕ → Outcome → List ℕ → Type 0 };
+
+    /// Judges the file, and only then adds the text. Where memory is refused it adds nothing, and that never comes of an
+    /// empty file.
+    fn write<A: Allocator + Copy, W: Sink>(
+        alloc: A,
+        text: &mut TextWriter<W>,
+        file: &[u8],
+    ) -> Result<Outcome, AllocError>
+        requires { IsReady W.failures text.old }
+        ensures same { text.new.writer.ghost_name ≡ text.old.writer.ghost_name }
+        ensures adds { IfOk result (λ outcome. (added : List ℕ) × is_text file.now outcome added × Adds W.taken W.failures text.old text.new added) }
+        ensures adds_none { OnErr result (text.new.writer.now ≡ text.old.writer.now) }
+        ensures reads { OnErr result (0 < length file.now) };
+}
+
+/// Adds the line of a fault.
+pub fn refuse<W: Sink>(text: &mut TextWriter<W>, fault: Fault) -> Outcome
+    requires { IsReady W.failures text.old }
+    ensures adds { Adds W.taken W.failures text.old text.new (fault_line fault) }
+    ensures outcome { result ≡ Outcome.Refused fault }
+{
+    write_fault_line(text, &fault);
+    Outcome::Refused(fault)
+}
+
+/// Judges a file, and writes its text.
+fn write_report<T: Report, A: Allocator + Copy, W: Sink>(
+    alloc: A,
+    writer: &mut W,
+    file: &[u8],
+) -> Result<Outcome, ToolError>
+    requires { W.failures writer.old < 2 ^ 64 - 1 }
+    ensures puts { Puts (T.is_text file.now) (W.taken writer.old) (W.taken writer.new)
+        (W.failures writer.old) (W.failures writer.new) result }
+    ensures memory { IsErrOf result ToolError.Memory → 0 < length file.now }
+{
+    let mut text = TextWriter::new(writer);
+    let Ok(outcome) = T::write(alloc, &mut text, file) else {
+        return Err(ToolError::Memory);
+    };
+    match text.finish() {
+        Ok(()) => Ok(outcome),
+        Err(_) => Err(ToolError::Write),
+    }
+}
+
+/// Reads a file whole, judges it, and writes its text.
+///
+/// The reader is read to its end, or to 2^32 + 1 bytes. After `Write` a beginning of the text was written, after `Read` and
+/// `Memory` nothing; `Memory` never comes where the reader gave no byte. Condition: fewer than 2^64 - 1 failures are counted
+/// on either device so far.
+pub fn run_report<T: Report, A: Allocator + Copy, R: Source, W: Sink>(
+    alloc: A,
+    reader: &mut R,
+    writer: &mut W,
+) -> Result<Outcome, ToolError>
+    requires reads { R.failures reader.old < 2 ^ 64 - 1 }
+    requires writes { W.failures writer.old < 2 ^ 64 - 1 }
+    ensures ran { Ran T.is_text (R.given reader.old) (R.given reader.new)
+        (W.taken writer.old) (W.taken writer.new) (R.ended reader.new) result }
+    ensures read { IsErrOf result ToolError.Read ↔ (R.failures reader.old < R.failures reader.new) }
+    ensures write { IsErrOf result ToolError.Write ↔ (W.failures writer.old < W.failures writer.new) }
+{
+    let file = read_whole(alloc, reader)?;
+    write_report::<T, A, W>(alloc, writer, &file)
+}

@@ -1,0 +1,340 @@
+//! Faults in words.
+
+ghost use Rattle.std.specs.Prelude.{◌≡◌, Some, option_map};
+ghost use Rattle.pe_text.specs.FaultWords.{rules, words_view, words_in, words_of, sentence};
+
+use pe_view::{Fault, Place};
+use std::fmt::{self, Display};
+
+/// What stands at the place of a fault, and what is wrong with it, in the terms of "PE Format".
+#[derive(Clone, Copy, Debug, PartialEq, Eq)]
+pub struct FaultWords {
+    /// What stands at the fault's place.
+    pub subject: &'static str,
+    /// Which rule does not hold of it.
+    pub rule: &'static str,
+}
+
+/// The words of each fault: its number, what stands at its place, and which rule does not hold of it.
+static RULES: [(u16, &str, &str); 69] = [
+    (1, "byte", "the file has over 2^32 bytes"),
+    (
+        2,
+        "end of the file",
+        "the file has under 64 bytes, which an MS-DOS header takes",
+    ),
+    (3, "MS-DOS header", "the file does not begin with MZ"),
+    (
+        4,
+        "offset of the signature",
+        "the signature and the COFF file header behind it pass the end of the file",
+    ),
+    (5, "signature", "the bytes are not PE and two zero bytes"),
+    (
+        6,
+        "Magic",
+        "the field is neither 0x10b (PE32) nor 0x20b (PE32+), or passes the end of the file",
+    ),
+    (
+        7,
+        "SizeOfOptionalHeader",
+        "the size is under that of the optional header's fixed fields and data directories",
+    ),
+    (
+        8,
+        "SizeOfOptionalHeader",
+        "the optional header passes the end of the file",
+    ),
+    (9, "NumberOfSections", "the image has over 96 sections"),
+    (
+        10,
+        "NumberOfSections",
+        "the section table passes the end of the file",
+    ),
+    (11, "SizeOfImage", "the size is 0 or over 2^31"),
+    (
+        12,
+        "SizeOfHeaders",
+        "the headers end before the section table does, or pass the end of the file or of the image",
+    ),
+    (
+        13,
+        "section header",
+        "the section's raw data passes the end of the file",
+    ),
+    (
+        14,
+        "section header",
+        "the section passes the end of the image",
+    ),
+    (
+        15,
+        "section header",
+        "the section begins before the headers or the section before it end",
+    ),
+    (
+        16,
+        "export directory table",
+        "the table is not wholly in the image",
+    ),
+    (
+        17,
+        "RVA in the export directory table",
+        "the table at this RVA is not wholly in the image",
+    ),
+    (
+        18,
+        "count in the export directory table",
+        "the table has over 65,536 entries",
+    ),
+    (
+        19,
+        "export name pointer",
+        "the pointer leads to no text that a zero byte ends",
+    ),
+    (
+        20,
+        "export ordinal",
+        "the ordinal is the index of no entry of the export address table",
+    ),
+    (
+        21,
+        "export address",
+        "the address is past the end of the image",
+    ),
+    (
+        22,
+        "export address",
+        "the forwarder is no text of a module, a dot, and a name or an ordinal",
+    ),
+    (
+        24,
+        "import directory entry",
+        "the entry is not wholly in the image",
+    ),
+    (
+        25,
+        "name RVA of an import directory entry",
+        "the RVA leads to no text that a zero byte ends",
+    ),
+    (
+        26,
+        "import lookup entry",
+        "the entry is not wholly in the image",
+    ),
+    (
+        27,
+        "import lookup entry",
+        "the entry leads to no name that a zero byte ends",
+    ),
+    (
+        28,
+        "import lookup entry",
+        "the entry is that of a name, and its bits 62 to 31 are not 0",
+    ),
+    (
+        29,
+        "import lookup entry",
+        "its slot of the import address table is not wholly in the image",
+    ),
+    (
+        30,
+        "import lookup entry",
+        "its slot of the import address table has a byte in common with that of an earlier entry",
+    ),
+    (
+        31,
+        "import lookup entry",
+        "the image has over 1,048,576 imports",
+    ),
+    (
+        32,
+        "import directory entry",
+        "the RVA of the import lookup table is 0, and the time stamp is not",
+    ),
+    (
+        33,
+        "base relocation block",
+        "the block's size is odd, is under 8, or passes the end of the directory",
+    ),
+    (
+        34,
+        "base relocation table",
+        "the table passes the end of the image",
+    ),
+    (
+        35,
+        "base relocation",
+        "the type is none of ABSOLUTE, HIGH, LOW, HIGHLOW and DIR64",
+    ),
+    (
+        36,
+        "base relocation",
+        "its field is not wholly in the image",
+    ),
+    (
+        37,
+        "base relocation",
+        "its field has a byte in common with that of an earlier base relocation",
+    ),
+    (
+        38,
+        "base relocation",
+        "its field has a byte in common with the import address table",
+    ),
+    (41, "file", "the set has over 256 files"),
+    (42, "file", "its module has the name of an earlier one"),
+    (43, "file", "its Magic is not that of file 0"),
+    (44, "base", "the base is no multiple of 65,536"),
+    (45, "base", "the image passes the end of the address space"),
+    (
+        46,
+        "base",
+        "its base relocations were stripped, and the base is not its ImageBase",
+    ),
+    (
+        47,
+        "base",
+        "the image has an address in common with another one",
+    ),
+    (
+        48,
+        "import address table slot",
+        "the import leads to a module that is not in the set",
+    ),
+    (
+        49,
+        "import address table slot",
+        "the import leads to a module that does not export it",
+    ),
+    (
+        50,
+        "import address table slot",
+        "the import leads into a cycle of forwarders",
+    ),
+    (
+        51,
+        "field of a base relocation",
+        "the field is not wholly in the raw data of one section",
+    ),
+    (
+        52,
+        "section header",
+        "the section's raw data begins in the headers, or has a byte in common with that of an earlier section",
+    ),
+    (53, "image", "its plan does not fit the format"),
+    (54, "window", "the window does not lie in one image"),
+    (55, "image", "there is no image of this index"),
+    (
+        61,
+        "end of the file",
+        "the file has under 20 bytes, which a COFF file header takes, or over 2^32",
+    ),
+    (
+        62,
+        "COFF file header",
+        "the file begins as an image, an archive or an import object does",
+    ),
+    (
+        63,
+        "NumberOfSections",
+        "the section table passes the end of the file",
+    ),
+    (
+        64,
+        "section header",
+        "the section's raw data passes the end of the file",
+    ),
+    (
+        65,
+        "section header",
+        "the count of relocations is an extended one, which is not read",
+    ),
+    (
+        66,
+        "section header",
+        "the section's relocations pass the end of the file",
+    ),
+    (
+        67,
+        "PointerToSymbolTable",
+        "the symbol table passes the end of the file",
+    ),
+    (
+        68,
+        "string table",
+        "the table's size is cut off, is 1 to 3, or passes the end of the file",
+    ),
+    (
+        69,
+        "name",
+        "its offset leads to no text of the string table that a zero byte ends",
+    ),
+    (
+        70,
+        "symbol",
+        "its auxiliary symbol records pass the end of the symbol table",
+    ),
+    (
+        71,
+        "symbol",
+        "its section number is that of no section, nor ABSOLUTE or DEBUG",
+    ),
+    (
+        72,
+        "relocation",
+        "its index is that of no record of the symbol table",
+    ),
+    (81, "name", "the name has a zero byte in it"),
+    (
+        82,
+        "section",
+        "the offset of its name in the string table is over 9,999,999",
+    ),
+    (83, "section", "the section has over 65,534 relocations"),
+    (84, "object", "its file would have over 2^32 - 1 bytes"),
+    (85, "object", "a part of it does not fit the format"),
+];
+
+/// The words of a fault by its number, and `None` for a number that belongs to no fault.
+pub fn fault_words(number: u16) -> Option<FaultWords>
+    ensures { option_map words_view result ≡ words_in rules number }
+{
+    for (of, subject, rule) in &RULES {
+        if *of == number {
+            return Some(FaultWords { subject, rule });
+        }
+    }
+    None
+}
+
+/// The words of a number, which no fault may have.
+fn words_of(number: u16) -> FaultWords
+    ensures { words_view result ≡ words_of number }
+{
+    match fault_words(number) {
+        Some(words) => words,
+        None => FaultWords {
+            subject: "place",
+            rule: "no fault has this number",
+        },
+    }
+}
+
+/// A fault in words: `section header at 0x138: the section's raw data passes the end of the file`.
+#[derive(Clone, Copy, Debug)]
+pub struct FaultText(pub Fault);
+
+impl Display for FaultText {
+    ghost output = { λ text. Some (sentence text.0) };
+
+    fn fmt<W: fmt::Write>(&self, f: &mut fmt::Formatter<W>) -> fmt::Result {
+        let FaultWords { subject, rule } = words_of(self.0.number);
+        match self.0.place {
+            Place::File(offset) => write!(f, "{subject} at 0x{offset:x}: {rule}"),
+            Place::Rva(rva) => write!(f, "{subject} at RVA 0x{rva:x}: {rule}"),
+            Place::Address(address) => write!(f, "{subject} 0x{address:x}: {rule}"),
+            Place::Item(item) => write!(f, "{subject} {item}: {rule}"),
+        }
+    }
+}

@@ -1,0 +1,43 @@
+//! Texts of what files hold: the devices that they are read from and written to, and the lines that all of them share.
+//!
+//! A [`Report`] says of a file's bytes which text they have, and [`run_report`] reads the file from any [`Source`] and writes the
+//! text to any [`Sink`]; [`Counted`] makes one of any reader or writer of std. Lines are written part by part:
+//!
+//! ```text
+//! let mut text = TextWriter::new(&mut writer);
+//! write_parts(&mut text, &[Text(b"base 0x"), Hex16(base), Text(b"\n")]);
+//! text.finish()?;
+//! ```
+//!
+//! The crates of `petool`'s texts and its engines alone are written against it.
+#![tactic(auto)]
+
+mod counted;
+mod device;
+mod digits;
+mod engine;
+mod fault_line;
+mod fault_text;
+mod field;
+mod fields;
+mod file_beginning;
+mod machine_line;
+mod outcome;
+mod part;
+mod text_writer;
+mod told;
+mod whole_file;
+
+pub use counted::Counted;
+pub use device::{Failed, Sink, Source};
+pub use engine::{Report, refuse, run_report};
+pub use fault_line::{write_cycle_line, write_fault_line};
+pub use fault_text::{FaultText, FaultWords, fault_words};
+pub use field::Field;
+pub use fields::{characteristics, time_date_stamp, write_fields};
+pub use file_beginning::{FileKind, file_kind};
+pub use machine_line::write_machine;
+pub use outcome::{Outcome, ToolError, status};
+pub use part::{Part, write_parts};
+pub use text_writer::{TextWriter, write_all};
+pub use whole_file::read_whole;

@@ -1,0 +1,40 @@
+ghost use Rattle.std.specs.Prelude.{◌≡◌};
+ghost use Rattle.pe_text.specs.Outcome.{status_of};
+
+use pe_view::Fault;
+use thiserror::Error;
+
+/// What an engine found in a file.
+#[derive(Clone, Copy, Debug, PartialEq, Eq)]
+pub enum Outcome {
+    /// The file has no fault, and the text says what it holds.
+    Done,
+    /// The file is refused by this fault, and the text is the fault's line.
+    Refused(Fault),
+}
+
+/// Why an engine gave up.
+#[derive(Clone, Copy, Debug, PartialEq, Eq, Error)]
+pub enum ToolError {
+    /// A read failed. Nothing was written.
+    #[error("reading failed")]
+    Read,
+    /// A write failed, or took no byte. What was written is a beginning of the text.
+    #[error("writing failed")]
+    Write,
+    /// Memory was refused. Nothing was written.
+    #[error("out of memory")]
+    Memory,
+}
+
+/// The exit status that tells an engine's answer: 0 done, 1 refused, 3 reading or writing failed, 4 memory.
+pub fn status(answer: &Result<Outcome, ToolError>) -> u8
+    ensures { result ≡ status_of answer.now }
+{
+    match answer {
+        Ok(Outcome::Done) => 0,
+        Ok(Outcome::Refused(_)) => 1,
+        Err(ToolError::Read | ToolError::Write) => 3,
+        Err(ToolError::Memory) => 4,
+    }
+}

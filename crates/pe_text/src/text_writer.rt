@@ -1,0 +1,220 @@
+ghost use Rattle.std.specs.Prelude.{◌≡◌, ◌-◌, ◌^◌, ◌<◌, ◌≤◌, length, take, slice_index_or, [], ◌∷◌, decimal, flat_map, ℕ, List, true, false};
+ghost use Rattle.pe_text.specs.TextWriter.{WritesAll, Finishes};
+ghost use Rattle.pe_text.specs.Text.{hex, hex_8, is_plain, escaped, quoted};
+
+use crate::device::{Failed, Sink};
+use crate::digits::{hex_digit, hex_width};
+use arrayvec::ArrayVec;
+use itoa::Buffer;
+
+/// Writes a text to a sink in pieces of at most 256 bytes.
+///
+/// A call adds to the text and takes no memory; a full array, or the end of the text, is what makes a write. After a
+/// write that failed nothing more is written, and [`TextWriter::finish`] tells of it.
+#[derive(Drop)]
+pub struct TextWriter<'w, W: Sink> {
+    writer: &'w mut W,
+    held: ArrayVec<u8, 256>,
+    failed: bool,
+}
+
+/// Writes the whole piece, in as many calls as the sink needs.
+pub fn write_all<W: Sink>(writer: &mut W, piece: &[u8]) -> Result<(), Failed>
+    requires { W.failures writer.old < 2 ^ 64 - 1 }
+    ensures { WritesAll (W.taken writer.old) (W.taken writer.new)
+        (W.failures writer.old) (W.failures writer.new) result piece.now }
+{
+    let mut at = 0;
+    while at < piece.len() {
+        at += writer.write(&piece[at..])?;
+    }
+    Ok(())
+}
+
+/// Whether a byte of a quoted text stands for itself: it is printable, no quote and no backslash.
+fn is_plain(byte: u8) -> bool
+    ensures { result ≡ is_plain byte }
+{
+    matches!(byte, b' '..=b'~') && byte != b'"' && byte != b'\\'
+}
+
+/// How many bytes of a quoted text stand for themselves, from the first on.
+fn plain_len(bytes: &[u8]) -> usize
+    ensures within { result ≤ length bytes.now }
+    ensures plain { (k d : ℕ) → k < result → is_plain (slice_index_or bytes.now k d) ≡ true }
+    ensures other { (d : ℕ) → result < length bytes.now → is_plain (slice_index_or bytes.now result d) ≡ false }
+{
+    let mut len = 0;
+    while len < bytes.len() && is_plain(bytes[len]) {
+        len += 1;
+    }
+    len
+}
+
+impl<'w, W: Sink> TextWriter<'w, W> {
+    ghost use Rattle.pe_text.specs.TextWriter.{IsFresh, IsReady, Stands, Adds};
+
+    /// A writer of a text that goes on where the sink is.
+    pub fn new(writer: &'w mut W) -> TextWriter<'w, W>
+        ensures same { result.writer.ghost_name ≡ writer.entry.ghost_name }
+        ensures fresh { IsFresh writer.old result }
+    {
+        TextWriter {
+            writer,
+            held: ArrayVec::new(),
+            failed: false,
+        }
+    }
+
+    /// Writes what is held.
+    fn flush(&mut self)
+        requires { IsReady W.failures self.old }
+        ensures adds { Adds W.taken W.failures self.old self.new [] }
+        ensures empty { self.new.held.items ≡ [] }
+    {
+        if self.failed {
+            self.held.clear();
+            return;
+        }
+        let result = write_all(self.writer, self.held.as_slice());
+        self.held.clear();
+        self.failed = result.is_err();
+    }
+
+    /// Writes what is held if there is no room for another byte.
+    fn make_room(&mut self)
+        requires { IsReady W.failures self.old }
+        ensures adds { Adds W.taken W.failures self.old self.new [] }
+        ensures room { length self.new.held.items < 256 }
+    {
+        if !self.held.is_full() {
+            return;
+        }
+        self.flush();
+    }
+
+    /// Adds as many of the bytes as there is room for, and answers how many.
+    fn hold(&mut self, bytes: &[u8]) -> usize
+        requires { IsReady W.failures self.old }
+        ensures fits { result ≤ length bytes.now }
+        ensures some { 0 < length bytes.now → 0 < result }
+        ensures adds { Adds W.taken W.failures self.old self.new (take result bytes.now) }
+    {
+        self.make_room();
+        let count = bytes.len().min(self.held.remaining_capacity());
+        self.held.try_extend_from_slice(&bytes[..count]).unwrap();
+        count
+    }
+
+    /// Adds a byte.
+    pub fn byte(&mut self, byte: u8)
+        requires { IsReady W.failures self.old }
+        ensures { Adds W.taken W.failures self.old self.new (byte ∷ []) }
+    {
+        self.make_room();
+        self.held.push(byte);
+    }
+
+    /// Adds these bytes.
+    pub fn text(&mut self, bytes: &[u8])
+        requires { IsReady W.failures self.old }
+        ensures { Adds W.taken W.failures self.old self.new bytes.now }
+    {
+        let mut at = 0;
+        while at < bytes.len() {
+            at += self.hold(&bytes[at..]);
+        }
+    }
+
+    /// Adds a number in decimal.
+    pub fn decimal(&mut self, number: u64)
+        requires { IsReady W.failures self.old }
+        ensures { Adds W.taken W.failures self.old self.new (decimal number) }
+    {
+        let mut buffer = Buffer::new();
+        self.text(buffer.format(number).as_bytes());
+    }
+
+    /// Adds the last `width` hexadecimal digits of a number.
+    pub fn hex(&mut self, width: u8, number: u64)
+        requires ready { IsReady W.failures self.old }
+        requires width { width ≤ 16 }
+        ensures { Adds W.taken W.failures self.old self.new (hex width number) }
+    {
+        let mut left = width;
+        while left > 0 {
+            left -= 1;
+            self.byte(hex_digit(((number >> (4 * left)) % 16) as u8));
+        }
+    }
+
+    /// Adds a number in 8 hexadecimal digits, or in more where it needs them.
+    pub fn hex_8(&mut self, number: u64)
+        requires { IsReady W.failures self.old }
+        ensures { Adds W.taken W.failures self.old self.new (hex_8 number) }
+    {
+        self.hex(hex_width(number), number);
+    }
+
+    /// Adds a byte of a quoted text that doesn't stand for itself: `\x` and two digits.
+    #[tactic(auto, unfolding(crate::specs::Text::escaped))]
+    fn escaped(&mut self, byte: u8)
+        requires ready { IsReady W.failures self.old }
+        requires not_plain { is_plain byte ≡ false }
+        ensures { Adds W.taken W.failures self.old self.new (escaped byte) }
+    {
+        self.text(b"\\x");
+        self.hex(2, byte as u64);
+    }
+
+    /// Adds some bytes of a quoted text, from the first on, and answers how many: those that stand for themselves at once.
+    fn some_escaped(&mut self, bytes: &[u8]) -> usize
+        requires ready { IsReady W.failures self.old }
+        requires some { 0 < length bytes.now }
+        ensures fits { result ≤ length bytes.now }
+        ensures some { 0 < result }
+        ensures adds { Adds W.taken W.failures self.old self.new (flat_map escaped (take result bytes.now)) }
+    {
+        let plain = plain_len(bytes);
+        if plain == 0 {
+            self.escaped(bytes[0]);
+            return 1;
+        }
+        self.text(&bytes[..plain]);
+        plain
+    }
+
+    /// Adds the bytes of a quoted text.
+    fn all_escaped(&mut self, bytes: &[u8])
+        requires { IsReady W.failures self.old }
+        ensures { Adds W.taken W.failures self.old self.new (flat_map escaped bytes.now) }
+    {
+        let mut at = 0;
+        while at < bytes.len() {
+            at += self.some_escaped(&bytes[at..]);
+        }
+    }
+
+    /// Adds a text in double quotes, each byte that is not printable, a quote or a backslash as `\x` and two digits.
+    #[tactic(auto, unfolding(crate::specs::Text::quoted))]
+    pub fn quoted(&mut self, bytes: &[u8])
+        requires { IsReady W.failures self.old }
+        ensures { Adds W.taken W.failures self.old self.new (quoted bytes.now) }
+    {
+        self.text(b"\"");
+        self.all_escaped(bytes);
+        self.text(b"\"");
+    }
+
+    /// Writes what is held, and tells whether a write has failed.
+    pub fn finish(&mut self) -> Result<(), Failed>
+        requires { IsReady W.failures self.old }
+        ensures adds { Adds W.taken W.failures self.old self.new [] }
+        ensures written { (start text : List ℕ) (count : ℕ) →
+            Stands W.taken W.failures self.old start text count →
+            Finishes (W.taken self.new.writer.now) (W.failures self.new.writer.now) result start text count }
+    {
+        self.flush();
+        if self.failed { Err(Failed) } else { Ok(()) }
+    }
+}

@@ -1,4 +1,0 @@
-use Rattle.pe_tool.proofs.dump_lines.write_base_of_data.Goals as goal
-
-pub returns-in-Some : goal.returns-in-Some
-returns-in-Some g c = rw c.in-Some.is c.write_fields-in-Some.ensures

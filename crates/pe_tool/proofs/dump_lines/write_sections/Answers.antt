@@ -1,8 +1,0 @@
-use Rattle.pe_tool.proofs.Adding.{◌then◌}
-use Rattle.pe_tool.proofs.Numbering.{numbered-next}
-use Rattle.pe_tool.proofs.dump_lines.write_sections.Goals as goal
-
-pub loop-index-preserved : goal.loop-index-preserved
-loop-index-preserved g c =
-    let i = c.loop-index.invariant in
-    (_, i.1 then c.write_section.ensures, numbered-next _ _ _ _ _ _ c.loop-index-test.true i.2)

@@ -1,7 +1,0 @@
-use Rattle.pe_tool.specs.FaultLine.{fault_line}
-use Rattle.pe_tool.proofs.Adding.{◌then◌}
-use Rattle.pe_tool.proofs.fault_line.write_fault_line.Goals as goal
-
-pub returns : goal.returns
-unfolding fault_line
-returns g c = c.write_fault.ensures then c.text.ensures

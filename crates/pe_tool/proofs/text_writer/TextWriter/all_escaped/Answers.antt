@@ -1,9 +1,0 @@
-use Rattle.std.proofs.Common.{ℕ, arith, length-drop, length-take}
-use Rattle.pe_tool.proofs.Plain.{escaped-then}
-use Rattle.pe_tool.proofs.text_writer.TextWriter.all_escaped.Goals as goal
-
-pub loop-at-preserved : goal.loop-at-preserved
-loop-at-preserved g c = record {
-  within = omega (arith, length-take {A = ℕ}, length-drop {A = ℕ}, c.some_escaped-at.ensures.fits);
-  adds = escaped-then _ _ _ c.loop-at.invariant.adds c.some_escaped-at.ensures.adds;
-}

@@ -1,0 +1,185 @@
+//! The words of `petool map`.
+
+use crate::job::MapFile;
+use crate::word_values::{BadValue, address_of};
+use clap::{Arg, ArgAction, ArgMatches, Command};
+use std::alloc::{AllocError, AllocFailed, Global};
+
+/// The most bytes that a window may have.
+const MAX_COUNT: u32 = 4096;
+
+/// What `map` does.
+const ABOUT: &str =
+    "Maps images, binds their imports, and prints where each stands, what each bound slot holds and the bytes of a window, or the first fault";
+
+/// What `map --help` says behind the options.
+const EXAMPLE: &str = "\
+Example:
+  petool map --window 10001000 --count 17 10000000=v1.dll
+
+  image 0 \"v1.dll\" base 0x0000000010000000 size 0x00003000
+  0x0000000010001000 00 01 02 03 04 05 06 07 08 09 0a 0b 0c 0d 0e 0f
+  0x0000000010001010 00
+  end";
+
+/// What `map` is asked for.
+#[derive(Debug, Drop)]
+pub(crate) struct MapWords {
+    /// Whether slots of modules that are not among the files are left as they stand.
+    pub is_known: bool,
+    pub window: Option<(u64, u32)>,
+    pub files: Vec<MapFile>,
+}
+
+/// Why words of `map` ask for nothing.
+pub(crate) enum NoMap<'a> {
+    Bad(BadValue<'a>),
+    Memory,
+}
+
+impl<'a> From<AllocError> for NoMap<'a> {
+    fn from(_error: AllocError) -> NoMap<'a> {
+        NoMap::Memory
+    }
+}
+
+impl<'a, T: Drop> From<AllocFailed<T>> for NoMap<'a> {
+    fn from(_error: AllocFailed<T>) -> NoMap<'a> {
+        NoMap::Memory
+    }
+}
+
+/// The flag `--known`.
+fn known_flag<'a>(alloc: Global) -> Arg<'a> {
+    Arg::new(alloc, "known")
+        .long("known")
+        .action(ArgAction::SetTrue)
+        .help(
+            "Leaves the slot of an import whose module is not among the files as it stands in its file",
+        )
+}
+
+/// The option `--window`.
+fn window_option<'a>(alloc: Global) -> Arg<'a> {
+    Arg::new(alloc, "window")
+        .long("window")
+        .value_name("HEX")
+        .help("Prints the bytes from this address on, 16 a line")
+}
+
+/// The option `--count`.
+fn count_option<'a>(alloc: Global) -> Arg<'a> {
+    Arg::new(alloc, "count")
+        .long("count")
+        .value_name("N")
+        .default_value("16")
+        .help("How many bytes the window has, 1 to 4096")
+}
+
+/// The files that are to be mapped.
+fn file_arguments<'a>(alloc: Global) -> Arg<'a> {
+    Arg::new(alloc, "HEX=FILE")
+        .required(true)
+        .action(ArgAction::Append)
+        .num_args(1..)
+        .help(
+            "The base of an image and its file, or - for standard input; the file's name is the module's",
+        )
+}
+
+/// The subcommand `map`.
+pub(crate) fn map_command<'a>(alloc: Global) -> Result<Command<'a>, AllocError> {
+    Command::new(alloc, "map")
+        .about(ABOUT)
+        .after_help(EXAMPLE)
+        .arg(known_flag(alloc))?
+        .arg(window_option(alloc))?
+        .arg(count_option(alloc))?
+        .arg(file_arguments(alloc))
+}
+
+/// The number of bytes that decimal digits give, 1 to 4,096.
+fn count_of(text: &str) -> Option<u32> {
+    if !text.bytes().all(|byte| byte.is_ascii_digit()) {
+        return None;
+    }
+    let count = text.parse::<u32>().ok()?;
+    (1..=MAX_COUNT).contains(&count).then_some(count)
+}
+
+/// The window that is asked for. Its number of bytes is judged even where no window is.
+fn window_of<'a>(found: &ArgMatches<'a>) -> Result<Option<(u64, u32)>, BadValue<'a>> {
+    let value = found.get_str("count").unwrap_or("");
+    let Some(count) = count_of(value) else {
+        return Err(BadValue {
+            value,
+            argument: "--count <N>",
+            reason: "no number from 1 to 4096",
+        });
+    };
+    let Some(value) = found.get_str("window") else {
+        return Ok(None);
+    };
+    match address_of(value) {
+        Some(address) => Ok(Some((address, count))),
+        None => Err(BadValue {
+            value,
+            argument: "--window <HEX>",
+            reason: "no address of 1 to 16 hexadecimal digits",
+        }),
+    }
+}
+
+/// The base and the path of a file that is to be mapped, and its module's name.
+fn parts_of(value: &str) -> Result<(u64, &str, &str), &'static str> {
+    let Some((base, path)) = value.split_once('=') else {
+        return Err("no '=' after a base");
+    };
+    let Some(base) = address_of(base) else {
+        return Err("no base of 1 to 16 hexadecimal digits");
+    };
+    let name = match path.rsplit_once('/') {
+        Some((_, name)) => name,
+        None => path,
+    };
+    if name.is_empty() {
+        return Err("no name of a file");
+    }
+    Ok((base, path, name))
+}
+
+/// The files that are to be mapped.
+fn files_of<'a>(alloc: Global, found: &ArgMatches<'a>) -> Result<Vec<MapFile>, NoMap<'a>> {
+    let mut files = Vec::new(alloc);
+    for value in found.get_strs("HEX=FILE").unwrap_or(&[]) {
+        let (base, path, name) = match parts_of(value) {
+            Ok(parts) => parts,
+            Err(reason) => {
+                return Err(NoMap::Bad(BadValue {
+                    value,
+                    argument: "<HEX=FILE>...",
+                    reason,
+                }));
+            }
+        };
+        files.push(MapFile {
+            base,
+            path: String::from_str(alloc, path)?,
+            name: String::from_str(alloc, name)?,
+        })?;
+    }
+    Ok(files)
+}
+
+/// What words of `map` ask for.
+pub(crate) fn map_words<'a>(alloc: Global, found: &ArgMatches<'a>) -> Result<MapWords, NoMap<'a>> {
+    let window = match window_of(found) {
+        Ok(window) => window,
+        Err(bad) => return Err(NoMap::Bad(bad)),
+    };
+    Ok(MapWords {
+        is_known: found.get_flag("known"),
+        window,
+        files: files_of(alloc, found)?,
+    })
+}
