@@ -4,7 +4,7 @@ use Rattle.std.specs.Prelude.{find, slice_get}
 use Rattle.std.specs.Option.{option_map_or}
 use Rattle.std.proofs.lemmas.Bool.{and_parts, leb-true}
 use Rattle.pe_view.specs.Number.{digit, is_in}
-use Rattle.pe_layout.specs.Image.{Image}
+use Rattle.pe_layout.specs.Image.{LaidOut}
 use Rattle.pe_tables.specs.Relocated.{in_field, relocated_by}
 use Rattle.pe_set.specs.Set.{Module, AreAlike}
 use Rattle.pe_set.specs.Bindings.{bindings_of}
@@ -13,7 +13,7 @@ use Rattle.pe_space.specs.Content.{in_slot}
 use Rattle.pe_space.specs.SetContent.{slot_byte, byte_of_image, byte_in_image, defined_from, defined_byte}
 
 -- with another image in place of that of number k
-abbrev pub exchanged : ℕ → Image → List Module → List Module
+abbrev pub exchanged : ℕ → LaidOut → List Module → List Module
 exchanged zero i [] = []
 exchanged zero i (m ∷ s) = record m { image = i } ∷ s
 exchanged (suc k) i [] = []
@@ -24,14 +24,14 @@ all_alike [] = tt
 all_alike (m ∷ s) = (refl, refl, refl, all_alike s)
 
 -- names, exports and imports stay
-pub alike_exchanged : (i : Image) (k : ℕ) (s : List Module) → AreAlike (exchanged k i s) s
+pub alike_exchanged : (i : LaidOut) (k : ℕ) (s : List Module) → AreAlike (exchanged k i s) s
 alike_exchanged i zero [] = tt
 alike_exchanged i zero (m ∷ s) = (refl, refl, refl, all_alike s)
 alike_exchanged i (suc k) [] = tt
 alike_exchanged i (suc k) (m ∷ s) = (refl, refl, refl, alike_exchanged i k s)
 
 -- and so do bases
-base_exchanged : (i : Image) (k : ℕ) (s : List Module) (j : ℕ) → option_map_or (λ (m : Module). m.base) (slice_get (exchanged k i s) j) 0 ≡ option_map_or (λ (m : Module). m.base) (slice_get s j) 0
+base_exchanged : (i : LaidOut) (k : ℕ) (s : List Module) (j : ℕ) → option_map_or (λ (m : Module). m.base) (slice_get (exchanged k i s) j) 0 ≡ option_map_or (λ (m : Module). m.base) (slice_get s j) 0
 base_exchanged i zero [] j = refl
 base_exchanged i zero (m ∷ s) zero = refl
 base_exchanged i zero (m ∷ s) (suc j) = refl
@@ -41,7 +41,7 @@ base_exchanged i (suc k) (m ∷ s) (suc j) = base_exchanged i k s j
 
 -- ---- the byte at an address
 -- the image has the size of the one that it stands for, and the byte that this has there
-pub record IsAlike (i : Image) (m : Module) (a : ℕ) : Type 0 where
+pub record IsAlike (i : LaidOut) (m : Module) (a : ℕ) : Type 0 where
   pub size : i.size ≡ m.image.size
   pub byte : m.base ≤ a → relocated_by i m.base (a - m.base) (find (in_field (a - m.base)) m.fixups) ≡ relocated_by m.image m.base (a - m.base) (find (in_field (a - m.base)) m.fixups)
 
@@ -49,7 +49,7 @@ either : {X : Type 0} (b : Bool) (x y u v : X) → (b ≡ true → x ≡ y) → 
 either true x y u v own other = own refl
 either false x y u v own other = other
 
-module _ (i : Image) (k : ℕ) (s : List Module) (a : ℕ) (bound : bindings_of (exchanged k i s) ≡ bindings_of s) where
+module _ (i : LaidOut) (k : ℕ) (s : List Module) (a : ℕ) (bound : bindings_of (exchanged k i s) ≡ bindings_of s) where
   slot_same : (b : Binding) (j : ℕ) → slot_byte (exchanged k i s) b j ≡ slot_byte s b j
   slot_same b j = ap (λ (base : ℕ). digit (base + b.rva) j) (base_exchanged i k s b.exporter)
 

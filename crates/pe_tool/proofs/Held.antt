@@ -4,7 +4,7 @@ use Rattle.std.specs.Prelude.{nat_le}
 use Rattle.std.proofs.Math.Bool.{and-false}
 use Rattle.std.proofs.lemmas.Bool.{lt-leb, le-ltb}
 use Rattle.pe_set.specs.Placement.{Placement}
-use Rattle.pe_space.specs.Content.{Image, placement_of, image_of, is_in, placed_from, base_in, size_in}
+use Rattle.pe_space.specs.Content.{SpaceImage, placement_of, nth_image, is_in, placed_from, base_in, size_in}
 
 at_zero : (p : Placement) (ps : List Placement) (m a base size : ℕ) → Some p.base ≡ Some base → Some p.size ≡ Some size
     → placed_from m (p ∷ ps) a ≡ cond (is_in base size a) (Some m) (placed_from (m + 1) ps a)
@@ -31,12 +31,12 @@ held_later ps n a base size b s is left =
     ∙ sym (ap (λ (t : Bool). cond t (Some n) (placed_from (n + 1) (drop (suc n) ps) a)) is) ∙ sym (asks ps n n a base size b s) ∙ left
 
 -- what is told of image n
-pub base_told : (images : List Image) (n base : ℕ) → base_in (map placement_of images) n ≡ Some base → (image_of images n).base ≡ base
+pub base_told : (images : List SpaceImage) (n base : ℕ) → base_in (map placement_of images) n ≡ Some base → (nth_image images n).base ≡ base
 base_told [] n base b = absurd cc
 base_told (i ∷ images) zero base b = cc
 base_told (i ∷ images) (suc n) base b = base_told images n base b
 
-pub size_told : (images : List Image) (n size : ℕ) → size_in (map placement_of images) n ≡ Some size → (image_of images n).size ≡ size
+pub size_told : (images : List SpaceImage) (n size : ℕ) → size_in (map placement_of images) n ≡ Some size → (nth_image images n).size ≡ size
 size_told [] n size s = absurd cc
 size_told (i ∷ images) zero size s = cc
 size_told (i ∷ images) (suc n) size s = size_told images n size s

@@ -15,7 +15,7 @@ use Rattle.pe_set.specs.Bindings.{bindings_of}
 use Rattle.pe_set.specs.declared.binding.Binding.{Binding}
 use Rattle.pe_set.specs.declared.entry.SetEntry.{SetEntry}
 use Rattle.pe_space.specs.Content as contents
-use Rattle.pe_space.specs.Content.{Image, Content, placement_of, image_of, is_in, holder_from, byte_at, size_in, base_in, window_image_by, window_image, window_in, window_at}
+use Rattle.pe_space.specs.Content.{SpaceImage, Content, placement_of, nth_image, is_in, holder_from, byte_at, size_in, base_in, window_image_by, window_image, window_in, window_at}
 use Rattle.pe_space.specs.Placing.{IsPlaced}
 use Rattle.pe_space.specs.SetContent.{image_content, laid_out, content_of}
 use Rattle.pe_space.specs.Tied.{Apart}
@@ -48,7 +48,7 @@ bindings_laid s = refl
 -- that images stand where they may is said of their placements
 placed_alike : (c d : Content) → map placement_of c.images ≡ map placement_of d.images → c.bindings ≡ d.bindings → IsPlaced d → IsPlaced c
 placed_alike c d same bound all =
-    let at : (j : ℕ) → placement_of (image_of c.images j) ≡ placement_of (image_of d.images j) =
+    let at : (j : ℕ) → placement_of (nth_image c.images j) ≡ placement_of (nth_image d.images j) =
     λ j. sym (placed_at c.images j) ∙ ap (λ (ps : List Placement). placement_at ps j) same ∙ placed_at d.images j in
     let count : length c.images ≡ length d.images = sym (length-map c.images placement_of) ∙ ap length same ∙ length-map d.images placement_of in
     let few = all.few in
@@ -58,8 +58,8 @@ placed_alike c d same bound all =
       aligned = λ j. subst (λ (p : Placement). p.base % 65536 ≡ 0) (sym (at j)) (all.aligned j);
       room = λ j. subst (λ (p : Placement). p.base + p.size ≤ address_limit p.magic) (sym (at j)) (all.room j);
       apart = λ j k lt lt' ne.
-          subst (λ (p : Placement). Apart p.base p.size (image_of c.images k).base (image_of c.images k).size) (sym (at j))
-          (subst (λ (q : Placement). Apart (image_of d.images j).base (image_of d.images j).size q.base q.size) (sym (at k)) (all.apart j k (omega (arith, lt, count)) (omega (arith, lt', count)) ne));
+          subst (λ (p : Placement). Apart p.base p.size (nth_image c.images k).base (nth_image c.images k).size) (sym (at j))
+          (subst (λ (q : Placement). Apart (nth_image d.images j).base (nth_image d.images j).size q.base q.size) (sym (at k)) (all.apart j k (omega (arith, lt, count)) (omega (arith, lt', count)) ne));
     }
 
 pub placed_kept : (s : List Module) → IsSound s → IsPlaced (content_of s)
@@ -112,7 +112,7 @@ window_bytes c a (suc n) = ap (λ (bytes : List ℕ). unwrap_or (byte_at c a) 0 
 -- where a window lies that is not refused
 record LiesIn (c : Content) (a n j : ℕ) : Type 0 where
   held : holder_from 0 c.images a ≡ Some j
-  inside : a + n ≤ (image_of c.images j).base + (image_of c.images j).size
+  inside : a + n ≤ (nth_image c.images j).base + (nth_image c.images j).size
 
 lies_at : (c : Content) (a n : ℕ) (o : Result ℕ Fault) → window_image (map placement_of c.images) a n ≡ o → refusal_of (window_in c a n o) ≡ None → (j : ℕ) × LiesIn c a n j
 lies_at c a n (Err fault) is none = absurd cc
@@ -127,7 +127,7 @@ lies_where c a n none =
     lies_at c a (suc n) w refl (subst (λ (t : Bool). refusal_of (cond t (Ok []) (window_in c a (suc n) w)) ≡ None) (not_empty n) none)
 
 -- a window in the image that holds its first address
-given : (c : Content) (a n j : ℕ) → holder_from 0 c.images a ≡ Some j → a + suc n ≤ (image_of c.images j).base + (image_of c.images j).size → window_at c a (suc n) ≡ Ok (contents.bytes_from c a (suc n))
+given : (c : Content) (a n j : ℕ) → holder_from 0 c.images a ≡ Some j → a + suc n ≤ (nth_image c.images j).base + (nth_image c.images j).size → window_at c a (suc n) ≡ Ok (contents.bytes_from c a (suc n))
 given c a n j held fits =
     let ps = map placement_of c.images in
     let end : a + suc n ≤ (placement_at ps j).base + (placement_at ps j).size = subst (λ (p : Placement). a + suc n ≤ p.base + p.size) (sym (placed_at c.images j)) fits in
@@ -144,7 +144,7 @@ part_of c all a n j there k m fits =
     let range = is_in-true _ _ a holds.1 in
     let low = range.0 in
     let end = there.inside in
-    let i = image_of c.images j in
+    let i = nth_image c.images j in
     let here : Holds c.images (a + k) j = (holds.0, true-is_in i.base i.size (a + k) (omega (arith, low)) (omega (arith, end, fits))) in
     given c (a + k) m j (holder_is c (a + k) j all here) (omega (arith, end, fits))
     ∙ ap (λ (bytes : List ℕ). Ok bytes) (window_bytes c (a + k) (suc m))
@@ -161,7 +161,7 @@ ends c all a (suc n) none some =
     let there = lies_where c a n none in
     let end = there.1.inside in
     let room = all.room there.0 in
-    let limit = limit_le (image_of c.images there.0).magic in
+    let limit = limit_le (nth_image c.images there.0).magic in
     omega (arith, end, room, limit)
 
 -- lines of bytes that are the same at each address are the same

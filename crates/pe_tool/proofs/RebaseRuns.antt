@@ -8,7 +8,7 @@ use Rattle.pe_head.specs.HeaderFaults.{head_tests}
 use Rattle.pe_layout.specs.SectionFaults.{layout_tests}
 use Rattle.pe_write.specs.Rebase.{rebased}
 use Rattle.pe_write.specs.RebaseFaults.{rebase_tests}
-use Rattle.pe_write.specs.declared.error.WriteError.{WriteError}
+use Rattle.pe_view.specs.declared.refusal.Refusal.{Refusal}
 use Rattle.pe_text.specs.declared.outcome.Outcome.{Outcome}
 use Rattle.pe_text.specs.declared.outcome.ToolError.{ToolError}
 use Rattle.pe_text.specs.declared.outcome.ToolError.TheVariants.{Read, Write, Memory}
@@ -71,7 +71,7 @@ module _ (base : ℕ) (given given' : List ℕ) (ended : Bool) where
           is_all = subst (λ (xs : List ℕ). take wrote.0.0 bytes ++ drop wrote.0.0 bytes ≡ xs) is (take-append-drop wrote.0.0 bytes)
 
 -- want of memory comes of no empty file
-pub some_bytes : (file : List ℕ) {V : Type 0} (result : Result V WriteError) → ((fault : Fault) → first_standing (layout_tests 0 file) ≡ Some fault → result ≡ Err (WriteError.Fault fault)) → result ≡ Err WriteError.Memory → 0 < length file
+pub some_bytes : (file : List ℕ) {V : Type 0} (result : Result V Refusal) → ((fault : Fault) → first_standing (layout_tests 0 file) ≡ Some fault → result ≡ Err (Refusal.Fault fault)) → result ≡ Err Refusal.Memory → 0 < length file
 unfolding head_tests
 some_bytes [] result early is = let fault : Fault = record { number = 2; image = 0; place = File 0 } in let e = early fault refl in absurd cc
 some_bytes (x ∷ xs) result early is = omega arith

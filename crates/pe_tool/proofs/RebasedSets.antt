@@ -5,7 +5,7 @@ use Rattle.std.proofs.lemmas.Option.{same_Some}
 use Rattle.pe_head.specs.Head.{head_of}
 use Rattle.pe_head.specs.declared.headers.Headers.{Headers}
 use Rattle.pe_head.specs.declared.optional.Magic.{Magic}
-use Rattle.pe_layout.specs.Image.{Image, image_of_file}
+use Rattle.pe_layout.specs.Image.{LaidOut, image_of_file}
 use Rattle.pe_tables.specs.Exports.{Exports}
 use Rattle.pe_tables.specs.Imports.{Import}
 use Rattle.pe_tables.specs.Relocated.{in_field, relocated, relocated_by}
@@ -17,7 +17,7 @@ use Rattle.pe_write.specs.Rebase.{IsFree, rebased_head}
 use Rattle.pe_tool.specs.RebasedSet.{ReadsAlike, IsElsewhere}
 use Rattle.pe_tool.proofs.Exchanging.{exchanged, IsAlike, alike_exchanged, defined_exchanged}
 
-same_module : (name : List ℕ) (base : ℕ) (image : Image) (m m' : Magic) (x x' : Exports) (y y' : List Import) (z z' : List Fixup) → m ≡ m' → x ≡ x' → y ≡ y' → z ≡ z'
+same_module : (name : List ℕ) (base : ℕ) (image : LaidOut) (m m' : Magic) (x x' : Exports) (y y' : List Import) (z z' : List Fixup) → m ≡ m' → x ≡ x' → y ≡ y' → z ≡ z'
     → (let a : Module = record { name = name; base = base; magic = m; image = image; exports = x; imports = y; fixups = z } in a)
     ≡ record { name = name; base = base; magic = m'; image = image; exports = x'; imports = y'; fixups = z' }
 same_module name base image m m' x x' y y' z z' p q r s = rw (p, q, r, s) refl
@@ -31,7 +31,7 @@ module_at n zero j (x ∷ es) e is at =
 module_at n (suc k) j (x ∷ es) e is at = module_at (n + 1) k j es e (omega arith) at
 
 -- the images of a set with one entry for another
-modules_set : (n k j : ℕ) (es : List Entry) (e e' : Entry) (i : Image) → j ≡ n + k → slice_get es k ≡ Some e → module_of j e' ≡ record (module_of j e) { image = i }
+modules_set : (n k j : ℕ) (es : List Entry) (e e' : Entry) (i : LaidOut) → j ≡ n + k → slice_get es k ≡ Some e → module_of j e' ≡ record (module_of j e) { image = i }
     → modules_from n (slice_set es k e') ≡ exchanged k i (modules_from n es)
 modules_set n k j [] e e' i is at same = absurd cc
 modules_set n zero j (x ∷ es) e e' i is at same =

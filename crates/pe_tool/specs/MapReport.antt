@@ -12,7 +12,7 @@ use Rattle.pe_set.specs.declared.binding.Binding.{Binding}
 use Rattle.pe_set.specs.declared.error.MapError.{MapError}
 use Rattle.pe_set.specs.declared.error.MapError.TheVariants as errors
 use Rattle.pe_set.specs.declared.entry.Policy.{Policy}
-use Rattle.pe_space.specs.Content.{Image, image_of, window_at, base_in, size_in}
+use Rattle.pe_space.specs.Content.{SpaceImage, nth_image, window_at, base_in, size_in}
 use Rattle.pe_space.specs.SetContent.{content_of, defined_byte}
 use Rattle.pe_text.specs.declared.outcome.Outcome.{Outcome}
 use Rattle.pe_text.specs.declared.outcome.Outcome.TheVariants.{Done, Refused}
@@ -69,8 +69,8 @@ map_text s window =
 
 -- ---- what is refused
 -- image j has so many bytes from an address in it on
-abbrev pub HasRoom : List Image → ℕ → ℕ → ℕ → Type 0
-HasRoom images j address room = address + room ≡ (image_of images j).base + (image_of images j).size
+abbrev pub HasRoom : List SpaceImage → ℕ → ℕ → ℕ → Type 0
+HasRoom images j address room = address + room ≡ (nth_image images j).base + (nth_image images j).size
 
 abbrev pub refusal_of : {X : Type 0} → Result X Fault → Option Fault
 refusal_of (Ok x) = None

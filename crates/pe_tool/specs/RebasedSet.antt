@@ -2,7 +2,7 @@
 use Rattle.std.specs.Prelude.{◌≡◌, ◌-◌, ◌%◌, ◌≤◌, ℕ, List, Some, None, slice_get, slice_set}
 use Rattle.pe_view.specs.Faults.{first_standing}
 use Rattle.pe_head.specs.Head.{head_of}
-use Rattle.pe_layout.specs.Image.{Image, image_of_file}
+use Rattle.pe_layout.specs.Image.{LaidOut, image_of_file}
 use Rattle.pe_tables.specs.Exports.{exports_of}
 use Rattle.pe_tables.specs.Imports.{imports_of}
 use Rattle.pe_tables.specs.Fixups.{fixups_of}
@@ -11,7 +11,7 @@ use Rattle.pe_write.specs.Rebase.{IsFree, rebased}
 use Rattle.pe_write.specs.RebaseFaults.{rebase_tests}
 
 -- the tables of g read as those of i
-pub record ReadsAlike (i g : Image) : Type 0 where
+pub record ReadsAlike (i g : LaidOut) : Type 0 where
   pub exports : exports_of g ≡ exports_of i
   pub imports : imports_of g ≡ imports_of i
   pub fixups : fixups_of g ≡ fixups_of i
