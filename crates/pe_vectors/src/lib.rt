@@ -1,13 +1,13 @@
-//! What tests of several crates share, and the tests that run several crates over it.
+//! What tests of several crates share.
 //!
-//! Small image files with known bytes are made field by field at the offsets of "PE Format". One of them, [`vr`], is rich: each
+//! Small image files with known bytes are written down piece by piece at the offsets of "PE Format". One of them, VR, is rich: each
 //! field that its dump shows has a value of its own, and each kind of text bytes that are escaped. So a dump that shows one value
 //! for another, or a byte as it stands, differs from the one that is written down. Another, [`vf`], is a chain of as many
-//! forwarders as are asked for. A builder uses none of the other crates, so that what they read is told apart from what they
-//! wrote:
+//! forwarders as are asked for. None of the other crates has a part in them, so that what these read is told apart from what was
+//! written:
 //!
 //! ```text
-//! let file = v1(alloc)?;
+//! let file = file_of(alloc, Vector::V1)?;
 //! assert_eq!(file.len(), 0x400);
 //! ```
 //!
@@ -24,7 +24,6 @@
 //! ```
 #![tactic(auto)]
 
-mod builder;
 mod devices;
 pub mod engines;
 pub mod files;
@@ -35,7 +34,4 @@ pub mod objects;
 pub mod same;
 
 pub use devices::{StepReader, StepWriter};
-pub use images::{v1, v2, v3, va, vb, vc, vd, vf, vr, vs};
-
-#[cfg(test)]
-mod tests;
+pub use images::vf;
