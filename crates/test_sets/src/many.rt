@@ -16,11 +16,7 @@ fn names_of(alloc: Global, count: usize) -> Option<Vec<String>> {
 }
 
 /// The set of one file under these names, each 0x10000 above the one before.
-fn repeated<'a>(
-    alloc: Global,
-    names: &'a [String],
-    file: &'a [u8],
-) -> Option<Vec<SetEntry<'a>>> {
+fn repeated<'a>(alloc: Global, names: &'a [String], file: &'a [u8]) -> Option<Vec<SetEntry<'a>>> {
     let mut set = Vec::new(alloc);
     for (index, name) in names.iter().enumerate() {
         let entry = SetEntry {

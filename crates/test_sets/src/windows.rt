@@ -12,7 +12,9 @@ pub(crate) fn agree_in(alloc: Global, both: &Both, address: u64, len: usize) -> 
     let mut others = vec![in alloc; 0xee; len].ok()?;
     let answer = both.mapped.window(address, bytes.as_mut_slice());
     let other = both.filed.window(address, others.as_mut_slice());
-    Some(answer == other && bytes == others && both.mapped.byte(address) == both.filed.byte(address))
+    Some(
+        answer == other && bytes == others && both.mapped.byte(address) == both.filed.byte(address),
+    )
 }
 
 /// How many of the windows of up to 12 bytes from each of 16 addresses on are the same in both spaces.
@@ -64,23 +66,34 @@ pub(crate) fn whole<S: Space>(alloc: Global, space: &S, image: u16) -> Option<Ve
     Some(bytes)
 }
 
-/// Prints how many bytes the window of each whole image of a set has, which are the same in both spaces and one by one, and
-/// that a window of one byte more is refused.
+/// Whether a space refuses a window of one byte more than an image has, and leaves its buffer.
+fn refuses_longer<S: Space>(alloc: Global, space: &S, image: u16) -> Option<bool> {
+    let base = space.base_of(image)?;
+    let len = (space.size_of(image)? as usize).checked_add(1)?;
+    let mut longer = vec![in alloc; 0xee; len].ok()?;
+    let is_refused = space.window(base, longer.as_mut_slice()).is_err();
+    Some(is_refused && longer.iter().all(|byte| *byte == 0xee))
+}
+
+/// Prints the base and the size of an image, whose bytes are the same in both spaces.
+fn print_image<R: Print + AllocGlobal>(rt: &R, both: &Both, image: u16) -> Option<()> {
+    let bytes = whole(rt.alloc(), &both.mapped, image)?;
+    if bytes != whole(rt.alloc(), &both.filed, image)? {
+        return None;
+    }
+    let is_refused = refuses_longer(rt.alloc(), &both.mapped, image)?
+        && refuses_longer(rt.alloc(), &both.filed, image)?;
+    let (base, len) = (both.filed.base_of(image)?, bytes.len());
+    println!(rt; "image {image} base {base:#x} size {len:#x} longer refused {is_refused}").ok()
+}
+
+/// Prints the base and the size of each image of a set, whose window has the bytes that stand there one by one.
 pub(crate) fn print_whole<R: Files + Print + AllocGlobal>(rt: &R, words: &str) -> Option<()> {
     let case = read_set(rt, words)?;
     let set = set_of(rt.alloc(), &case.members)?;
     let both = opened(rt.alloc(), &set, policy_of(&case))?;
     for image in 0..both.mapped.image_count() {
-        let bytes = whole(rt.alloc(), &both.mapped, image)?;
-        if bytes != whole(rt.alloc(), &both.filed, image)? {
-            return None;
-        }
-        let (base, len) = (both.filed.base_of(image)?, bytes.len());
-        let mut longer = vec![in rt.alloc(); 0xee; len.saturating_add(1)].ok()?;
-        let is_refused = both.mapped.window(base, longer.as_mut_slice()).is_err()
-            && both.filed.window(base, longer.as_mut_slice()).is_err()
-            && longer.iter().all(|byte| *byte == 0xee);
-        println!(rt; "image {image} base {base:#x} size {len:#x} longer refused {is_refused}").ok()?;
+        print_image(rt, &both, image)?;
     }
     Some(())
 }

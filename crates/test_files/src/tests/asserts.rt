@@ -7,6 +7,11 @@ pub(super) fn assert_holds(rt: &impl Abort, case: usize, holds: bool) {
     assert!(rt; holds, "in case {case:#x}");
 }
 
+/// Asserts that a number of a case is the one that it is to be.
+pub(super) fn assert_number(rt: &impl Abort, case: usize, found: u64, expected: u64) {
+    assert_eq!(rt; found, expected, "in case {case:#x}");
+}
+
 /// The bytes from an offset on, which lies inside the file.
 pub(super) fn bytes_from<'a>(rt: &impl Abort, file: &'a [u8], offset: usize) -> &'a [u8] {
     assert!(rt; offset <= file.len(), "at {offset:#x}");
