@@ -1,5 +1,5 @@
-//! A checker of sets, [`slow_first`], that judges files by plain scans, with nothing of what the other crates read and search by; and
-//! the tests that compare its answers with those of `map` and `open_space`, over malicious files and sets.
+//! A checker of sets, [`slow_first`], that judges files by plain scans, with nothing of what the other crates read and search by: its
+//! answers are compared with those of `map` and `open_space`, over malicious files and sets.
 //!
 //! ```text
 //! let first = slow_first(alloc, &set, Policy::Strict)?;
@@ -10,6 +10,3 @@
 mod slow_checker;
 
 pub use slow_checker::slow_first;
-
-#[cfg(test)]
-mod tests;

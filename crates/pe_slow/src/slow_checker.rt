@@ -26,7 +26,7 @@ use self::images::{Judged, list_image};
 use self::modules::list_searches;
 use self::names::list_names;
 use self::ordering::{Class, Faults};
-use pe_space::{MapError, Policy, SetEntry};
+use pe_set::{MapError, Policy, SetEntry};
 use std::alloc::{AllocError, Global};
 
 /// The first fault of a set, with the length of its cycle where it is 50, or `None` where none stands.

@@ -2,7 +2,7 @@
 
 ghost use Rattle.std.specs.Prelude.{◌+◌, ◌≤◌, IfOk, vec_len, length};
 
-use crate::images::{v1, v2, v3, va, vb, vc, vd, vr, vs};
+use crate::images::{made_of, put_data};
 use std::alloc::{AllocError, AllocFailed, Global};
 
 /// Why there is no file.
@@ -61,14 +61,26 @@ pub fn number(file: &[u8], offset: usize, width: usize) -> Option<u64> {
 /// One of the small files.
 #[derive(Clone, Copy, Debug)]
 pub enum Vector {
+    /// One section `.data` at 0x1000 with 16 of the 512 bytes that the file holds for it; byte i of them is i mod 256.
     V1,
+    /// V1 with a base relocation table of one field, the four bytes at 0x1008, which hold the address 0x10001008.
     V2,
+    /// V2 as PE32+: the field is the eight bytes at 0x1008, which hold the address 0x180001000.
     V3,
+    /// The module `a.dll`: it exports the name `f`, ordinal 1, as a forwarder to ordinal 7 of `b`.
     Va,
+    /// The module `b.dll`: it exports 0x1004 as ordinal 5, nothing as 6, and 0x1010 as ordinal 7 and as the name `g`.
     Vb,
+    /// A program: it imports the name `f` of `A.DLL`, whose slot is at 0x1030.
     Vc,
+    /// VC as PE32+: the slot of the import is at 0x1060.
     Vd,
+    /// The module `s.dll`: VB in 0x20000 bytes, with an import of ordinal 7 of `S.DLL`, itself, whose slot is at 0x2030.
     Vs,
+    /// The rich one: every field that its dump shows has a value of its own, every kind of text has bytes that are escaped, and
+    /// its tables, at 0x20000 and 0x30000, name RVAs over 65,535. The section of the exports has more bytes in the image than in
+    /// the file, that of the imports and base relocations fewer, and the slots of one module stand in a third one, of which the
+    /// file has none.
     Vr,
 }
 
@@ -86,20 +98,18 @@ pub const VECTORS: [Vector; 9] = [
 ];
 
 /// The bytes of a small file, at most 0x600.
-pub fn file_of(alloc: Global, vector: Vector) -> Result<Vec<u8>, AllocError>
+pub fn file_of(alloc: Global, vector: Vector) -> Result<Vec<u8>, FileError>
     ensures { IfOk result (λ file. vec_len file ≤ 0x600) }
 {
-    match vector {
-        Vector::V1 => v1(alloc),
-        Vector::V2 => v2(alloc),
-        Vector::V3 => v3(alloc),
-        Vector::Va => va(alloc),
-        Vector::Vb => vb(alloc),
-        Vector::Vc => vc(alloc),
-        Vector::Vd => vd(alloc),
-        Vector::Vs => vs(alloc),
-        Vector::Vr => vr(alloc),
+    let (len, has_data, lists) = made_of(vector);
+    let mut file = vec![in alloc; 0; len]?;
+    if has_data {
+        put_data(&mut file);
     }
+    for pieces in lists {
+        put_pieces(&mut file, pieces)?;
+    }
+    Ok(file)
 }
 
 /// A file of at most 0x600 bytes, filled up with zeros and with pieces written over it.

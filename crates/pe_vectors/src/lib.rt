@@ -1,19 +1,19 @@
-//! What tests of several crates share, and the tests that run several crates over it.
+//! What tests of several crates share.
 //!
-//! Small image files with known bytes are made field by field at the offsets of "PE Format". One of them, [`vr`], is rich: each
+//! Small image files with known bytes are written down piece by piece at the offsets of "PE Format". One of them, VR, is rich: each
 //! field that its dump shows has a value of its own, and each kind of text bytes that are escaped. So a dump that shows one value
 //! for another, or a byte as it stands, differs from the one that is written down. Another, [`vf`], is a chain of as many
-//! forwarders as are asked for. A builder uses none of the other crates, so that what they read is told apart from what they
-//! wrote:
+//! forwarders as are asked for. None of the other crates has a part in them, so that what these read is told apart from what was
+//! written:
 //!
 //! ```text
-//! let file = v1(alloc)?;
+//! let file = file_of(alloc, Vector::V1)?;
 //! assert_eq!(file.len(), 0x400);
 //! ```
 //!
 //! Over these stand pieces of bytes that are written over a file ([`files`]), sets of files ([`members`]), an object file
 //! ([`objects`]), where the fields of headers stand ([`header_fields`]), comparisons ([`same`]), a source and a sink over memory
-//! that work in steps and fail on demand, and engines that are run over these ([`engines`]).
+//! that work in steps and fail on demand.
 //!
 //! No function here stops a test: want of memory is answered, and so is a piece that does not lie in its file. A test unwraps the
 //! answer:
@@ -24,9 +24,7 @@
 //! ```
 #![tactic(auto)]
 
-mod builder;
 mod devices;
-pub mod engines;
 pub mod files;
 pub mod header_fields;
 mod images;
@@ -35,7 +33,4 @@ pub mod objects;
 pub mod same;
 
 pub use devices::{StepReader, StepWriter};
-pub use images::{v1, v2, v3, va, vb, vc, vd, vf, vr, vs};
-
-#[cfg(test)]
-mod tests;
+pub use images::vf;

@@ -8,7 +8,7 @@ use super::numbers::File;
 use super::ordering::{Faults, Phase};
 use super::plain::Image;
 use super::sections::list_sections;
-use pe_space::SetEntry;
+use pe_set::SetEntry;
 use std::alloc::{AllocError, Global};
 
 /// An image of a set that has no fault of its own.

@@ -6,7 +6,7 @@ use super::images::Judged;
 use super::imports::Import;
 use super::names::matches;
 use super::ordering::{Class, Faults, Row, rva_row};
-use pe_space::Policy;
+use pe_set::Policy;
 use std::alloc::{AllocError, Global};
 
 /// A set has no more exports: those of 256 images, each with 65,536 entries and 65,536 names.

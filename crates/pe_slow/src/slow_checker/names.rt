@@ -1,7 +1,7 @@
 //! Names of modules: when they match, and faults 41 and 42.
 
 use super::ordering::{Class, Faults, Row};
-use pe_space::SetEntry;
+use pe_set::SetEntry;
 use pe_view::Place;
 use std::alloc::AllocError;
 

@@ -1,6 +1,6 @@
 //! The order of a set's faults: their keys, and the list of those that stand.
 
-use pe_space::MapError;
+use pe_set::MapError;
 use pe_view::{Fault, Place};
 use std::alloc::{AllocError, Global};
 

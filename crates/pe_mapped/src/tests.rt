@@ -1,8 +1,0 @@
-mod asserts;
-mod bindings;
-mod both;
-mod members;
-mod moves;
-mod sets;
-mod spaces;
-mod windows;

@@ -1,0 +1,43 @@
+//! Files, and what words change in them.
+
+use crate::numbers::number_of;
+use std::alloc::Global;
+use std::fs;
+use std::rt::Files;
+
+/// The most bytes that a word gives a file.
+const MOST: u64 = 0x1_0000;
+
+/// Writes bytes over a file, from an offset on; `None` where they do not lie in it.
+fn put(file: &mut [u8], offset: u64, bytes: &[u8]) -> Option<()> {
+    let start = usize::try_from(offset).ok()?;
+    let field = file.get_mut(start..)?.get_mut(..bytes.len())?;
+    field.copy_from_slice(bytes);
+    Some(())
+}
+
+/// Changes a file as a word says: `len=` and a number of bytes cuts it, or fills it up with zeros; an offset, `=` and digits in
+/// pairs writes bytes over it. `None` where the word says neither, where the bytes do not lie in the file, or where memory is
+/// wanted.
+pub fn edit(alloc: Global, file: &mut Vec<u8>, word: &str) -> Option<()> {
+    let (place, digits) = word.split_once("=")?;
+    if place == "len" {
+        let len = number_of(digits)?;
+        return match usize::try_from(len) {
+            Ok(len) if len as u64 <= MOST => file.resize(len, 0).ok(),
+            _ => None,
+        };
+    }
+    let bytes = hex::decode(alloc, digits).ok()?;
+    put(file, number_of(place)?, &bytes)
+}
+
+/// The file that the first word names, changed as the others say; `None` also where it cannot be read.
+pub fn edited_file<R: Files + AllocGlobal>(rt: &R, words: &str) -> Option<Vec<u8>> {
+    let mut words = words.split(" ");
+    let mut file = fs::read(rt, words.next()?).ok()?;
+    for word in words {
+        edit(rt.alloc(), &mut file, word)?;
+    }
+    Some(file)
+}

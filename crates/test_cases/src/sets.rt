@@ -1,0 +1,90 @@
+//! Sets of files.
+
+use crate::edits::edit;
+use crate::numbers::{bytes_of, number_of};
+use pe_set::{Policy, SetEntry};
+use std::alloc::Global;
+use std::fs;
+use std::rt::Files;
+
+/// A file of a set, under the name of its module, and where it stands.
+#[derive(Drop)]
+pub struct Member {
+    pub name: Vec<u8>,
+    pub file: Vec<u8>,
+    pub base: u64,
+}
+
+/// A set as a case has it.
+#[derive(Drop)]
+pub struct SetCase<'a> {
+    pub members: Vec<Member>,
+    /// Whether imports from modules that are not in the set are left.
+    pub is_known: bool,
+    /// The words that say something else.
+    pub others: Vec<&'a str>,
+}
+
+/// The file that a word puts into a set.
+fn read_member<R: Files + AllocGlobal>(rt: &R, base: &str, named: &str) -> Option<Member> {
+    let (name, path) = named.split_once("=")?;
+    Some(Member {
+        name: bytes_of(rt.alloc(), name)?,
+        file: fs::read(rt, path).ok()?,
+        base: number_of(base)?,
+    })
+}
+
+/// Adds what a word says.
+fn add_word<'a, R: Files + AllocGlobal>(
+    rt: &R,
+    set: &mut SetCase<'a>,
+    word: &'a str,
+) -> Option<()> {
+    let Some((place, value)) = word.split_once("=") else {
+        return set.others.push(word).ok();
+    };
+    if value.contains("=") {
+        return set.members.push(read_member(rt, place, value)?).ok();
+    }
+    edit(rt.alloc(), &mut set.members.last_mut()?.file, word)
+}
+
+/// The set that words make, or `None` where one of them cannot be read.
+pub fn read_set<'a, R: Files + AllocGlobal>(rt: &R, words: &'a str) -> Option<SetCase<'a>> {
+    let mut set = SetCase {
+        members: Vec::new(rt.alloc()),
+        is_known: false,
+        others: Vec::new(rt.alloc()),
+    };
+    for word in words.split_ascii_whitespace() {
+        match word {
+            "--known" => set.is_known = true,
+            _ => add_word(rt, &mut set, word)?,
+        }
+    }
+    Some(set)
+}
+
+/// How imports from modules that are not in the set of a case are judged.
+pub fn policy_of(case: &SetCase) -> Policy {
+    if case.is_known {
+        Policy::Known
+    } else {
+        Policy::Strict
+    }
+}
+
+/// The set of these files, which it borrows; `None` where memory is wanted.
+pub fn set_of(alloc: Global, members: &[Member]) -> Option<Vec<SetEntry<'_>>> {
+    let mut set = Vec::new(alloc);
+    for member in members {
+        let entry = SetEntry {
+            name: &member.name,
+            file: &member.file,
+            base: member.base,
+        };
+        set.push(entry).ok()?;
+    }
+    Some(set)
+}

@@ -1,0 +1,14 @@
+mod asserts;
+mod counted;
+mod cycles;
+mod devices;
+mod engines;
+mod images_written;
+mod o1;
+mod objects;
+mod objects_written;
+mod outcome;
+mod plans;
+mod rebased;
+mod refusals;
+mod runs;

@@ -1,0 +1,69 @@
+//! The engines that read one file, run over devices that work in steps and fail.
+
+ghost use Rattle.std.specs.Prelude.{◌≡◌, ◌<◌};
+
+use pe_tool::{Outcome, ToolError, check, dump, dump_object};
+use pe_vectors::{StepReader, StepWriter};
+use std::alloc::{AllocError, Allocator, Global};
+
+/// An engine that reads one file and writes a text.
+#[derive(Clone, Copy)]
+pub(super) enum Engine {
+    Check,
+    Dump,
+    Object,
+}
+
+/// How the reader and the writer of a run work: the most bytes a call, and the read and the write that fail.
+#[derive(Clone, Copy)]
+pub(super) struct Devices {
+    pub step: usize,
+    pub failing_read: Option<u64>,
+    pub failing_write: Option<u64>,
+}
+
+/// Devices of which no call fails.
+pub(super) fn steps_of(step: usize) -> Devices
+    ensures { result.step ≡ step }
+{
+    Devices {
+        step,
+        failing_read: None,
+        failing_write: None,
+    }
+}
+
+/// What an engine answered, and the writer with what it wrote.
+pub(super) type Answered = (Result<Outcome, ToolError>, StepWriter);
+
+/// Runs an engine over an allocator's memory; the writer's own, of 0x2000 bytes, may be refused.
+pub(super) fn run_over<A: Allocator + Copy>(
+    alloc: Global,
+    memory: A,
+    engine: Engine,
+    file: &[u8],
+    devices: Devices,
+) -> Result<Answered, AllocError>
+    requires { 0 < devices.step }
+{
+    let mut reader = StepReader::new(file, devices.step, devices.failing_read);
+    let mut writer = StepWriter::new(alloc, 0x2000, devices.step, devices.failing_write)?;
+    let answer = match engine {
+        Engine::Check => check(memory, &mut reader, &mut writer),
+        Engine::Dump => dump(memory, &mut reader, &mut writer),
+        Engine::Object => dump_object(memory, &mut reader, &mut writer),
+    };
+    Ok((answer, writer))
+}
+
+/// Runs an engine with ample memory.
+pub(super) fn run(
+    alloc: Global,
+    engine: Engine,
+    file: &[u8],
+    devices: Devices,
+) -> Result<Answered, AllocError>
+    requires { 0 < devices.step }
+{
+    run_over(alloc, alloc, engine, file, devices)
+}
