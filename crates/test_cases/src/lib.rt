@@ -18,4 +18,4 @@ mod sets;
 pub use edits::{edit, edited_file};
 pub use fault_line::FaultLine;
 pub use numbers::{bytes_of, number_of};
-pub use sets::{Member, SetCase, policy_of, read_set, set_of};
+pub use sets::{Member, SetCase, read_set, set_of};

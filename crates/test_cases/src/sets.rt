@@ -19,8 +19,8 @@ pub struct Member {
 #[derive(Drop)]
 pub struct SetCase<'a> {
     pub members: Vec<Member>,
-    /// Whether imports from modules that are not in the set are left.
-    pub is_known: bool,
+    /// What becomes of imports from modules that are not in the set.
+    pub policy: Policy,
     /// The words that say something else.
     pub others: Vec<&'a str>,
 }
@@ -54,25 +54,16 @@ fn add_word<'a, R: Files + AllocGlobal>(
 pub fn read_set<'a, R: Files + AllocGlobal>(rt: &R, words: &'a str) -> Option<SetCase<'a>> {
     let mut set = SetCase {
         members: Vec::new(rt.alloc()),
-        is_known: false,
+        policy: Policy::Strict,
         others: Vec::new(rt.alloc()),
     };
     for word in words.split_ascii_whitespace() {
         match word {
-            "--known" => set.is_known = true,
+            "--known" => set.policy = Policy::Known,
             _ => add_word(rt, &mut set, word)?,
         }
     }
     Some(set)
-}
-
-/// How imports from modules that are not in the set of a case are judged.
-pub fn policy_of(case: &SetCase) -> Policy {
-    if case.is_known {
-        Policy::Known
-    } else {
-        Policy::Strict
-    }
 }
 
 /// The set of these files, which it borrows; `None` where memory is wanted.

@@ -4,7 +4,7 @@ use crate::both::{first_error, opened, print_error};
 use pe_space::{Command, Policy, Reply, SetEntry, Space, run};
 use std::alloc::Global;
 use std::rt::Files;
-use test_cases::{FaultLine, number_of, policy_of, read_set, set_of};
+use test_cases::{FaultLine, SetCase, number_of, read_set, set_of};
 
 /// The address and the count of a window, which words give with `:` between them.
 fn window_of(word: &str) -> Option<(u64, u32)> {
@@ -12,13 +12,10 @@ fn window_of(word: &str) -> Option<(u64, u32)> {
     Some((number_of(address)?, u32::from_str_radix(count, 10).ok()?))
 }
 
-/// The image and the base of a move.
-fn move_of(word: &str) -> Option<Command> {
+/// The image and the base of a move, which words give in the same way.
+pub(crate) fn move_of(word: &str) -> Option<(u16, u64)> {
     let (image, base) = word.split_once(":")?;
-    Some(Command::Move {
-        image: u16::from_str_radix(image, 10).ok()?,
-        base: number_of(base)?,
-    })
+    Some((u16::from_str_radix(image, 10).ok()?, number_of(base)?))
 }
 
 /// The command of a word.
@@ -27,7 +24,10 @@ fn command_of(word: &str) -> Option<Command> {
     match kind {
         "byte" => Some(Command::Byte(number_of(rest)?)),
         "base" => Some(Command::Base(u16::from_str_radix(rest, 10).ok()?)),
-        "move" => move_of(rest),
+        "move" => {
+            let (image, base) = move_of(rest)?;
+            Some(Command::Move { image, base })
+        }
         "window" => {
             let (address, count) = window_of(rest)?;
             Some(Command::Window { address, count })
@@ -110,16 +110,24 @@ pub(crate) fn print_answers<R: Print + AllocGlobal>(
 
 /// Prints the first error of the set that words make, or what the commands among them answer.
 pub(crate) fn print_replies<R: Files + Print + AllocGlobal>(rt: &R, words: &str) -> Option<()> {
-    let case = read_set(rt, words)?;
-    let set = set_of(rt.alloc(), &case.members)?;
-    print_answers(rt, &set, policy_of(&case), &case.others)
+    let SetCase {
+        members,
+        policy,
+        others,
+    } = read_set(rt, words)?;
+    let set = set_of(rt.alloc(), &members)?;
+    print_answers(rt, &set, policy, &others)
 }
 
 /// Prints the bindings of the set that words make, which are the same in both spaces.
 pub(crate) fn print_bindings<R: Files + Print + AllocGlobal>(rt: &R, words: &str) -> Option<()> {
-    let case = read_set(rt, words)?;
-    let set = set_of(rt.alloc(), &case.members)?;
-    let both = opened(rt.alloc(), &set, policy_of(&case))?;
+    let SetCase {
+        members,
+        policy,
+        others: _,
+    } = read_set(rt, words)?;
+    let set = set_of(rt.alloc(), &members)?;
+    let both = opened(rt.alloc(), &set, policy)?;
     if *both.mapped.bindings() != *both.filed.bindings() {
         return None;
     }
@@ -143,10 +151,14 @@ fn buffer_of<S: Space>(space: &S, (address, count): (u64, u32)) -> Option<(bool,
 
 /// Prints the buffers of windows of both spaces of the set that words make.
 pub(crate) fn print_buffers<R: Files + Print + AllocGlobal>(rt: &R, words: &str) -> Option<()> {
-    let case = read_set(rt, words)?;
-    let set = set_of(rt.alloc(), &case.members)?;
-    let both = opened(rt.alloc(), &set, policy_of(&case))?;
-    for word in &case.others {
+    let SetCase {
+        members,
+        policy,
+        others,
+    } = read_set(rt, words)?;
+    let set = set_of(rt.alloc(), &members)?;
+    let both = opened(rt.alloc(), &set, policy)?;
+    for word in &others {
         let window = window_of(word)?;
         let (is_granted, buffer) = buffer_of(&both.mapped, window)?;
         if buffer_of(&both.filed, window)? != (is_granted, buffer) {

@@ -5,7 +5,7 @@ use pe_slow::slow_first;
 use pe_space::{Policy, SetEntry};
 use std::alloc::Global;
 use std::rt::Files;
-use test_cases::{edited_file, number_of, policy_of, read_set, set_of};
+use test_cases::{SetCase, edited_file, number_of, read_set, set_of};
 
 /// Whether all agree in a set of one file.
 fn agree_in_file(alloc: Global, file: &[u8], base: u64) -> bool {
@@ -60,9 +60,13 @@ pub(crate) fn print_changed<R: Files + Print + AllocGlobal>(rt: &R, words: &str)
 
 /// Prints what the slow checker alone answers of the set that words make.
 pub(crate) fn print_slow<R: Files + Print + AllocGlobal>(rt: &R, words: &str) -> Option<()> {
-    let case = read_set(rt, words)?;
-    let set = set_of(rt.alloc(), &case.members)?;
-    match slow_first(rt.alloc(), &set, policy_of(&case)).ok()? {
+    let SetCase {
+        members,
+        policy,
+        others: _,
+    } = read_set(rt, words)?;
+    let set = set_of(rt.alloc(), &members)?;
+    match slow_first(rt.alloc(), &set, policy).ok()? {
         Some(error) => print_error(rt, error),
         None => println!(rt; "no fault").ok(),
     }

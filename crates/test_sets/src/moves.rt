@@ -1,11 +1,12 @@
 //! Moves of images in both spaces of a set.
 
 use crate::both::{Both, opened};
+use crate::commands::move_of;
 use crate::windows::{agree_in, whole};
 use pe_space::Space;
 use std::alloc::Global;
 use std::rt::Files;
-use test_cases::{number_of, policy_of, read_set, set_of};
+use test_cases::{SetCase, read_set, set_of};
 
 /// The bytes of all images of a space.
 fn all_bytes<S: Space>(alloc: Global, space: &S) -> Option<Vec<Vec<u8>>> {
@@ -27,11 +28,14 @@ fn returns<S: Space>(alloc: Global, space: &mut S, image: u16, away: u64) -> Opt
 
 /// Prints whether a move there and back gives every byte of before, in both spaces.
 pub(crate) fn print_return<R: Files + Print + AllocGlobal>(rt: &R, words: &str) -> Option<()> {
-    let case = read_set(rt, words)?;
-    let set = set_of(rt.alloc(), &case.members)?;
-    let (image, away) = case.others.first()?.split_once(":")?;
-    let (image, away) = (u16::from_str_radix(image, 10).ok()?, number_of(away)?);
-    let mut both = opened(rt.alloc(), &set, policy_of(&case))?;
+    let SetCase {
+        members,
+        policy,
+        others,
+    } = read_set(rt, words)?;
+    let set = set_of(rt.alloc(), &members)?;
+    let (image, away) = move_of(others.first()?)?;
+    let mut both = opened(rt.alloc(), &set, policy)?;
     let mapped = returns(rt.alloc(), &mut both.mapped, image, away)?;
     let filed = returns(rt.alloc(), &mut both.filed, image, away)?;
     println!(rt; "as before {mapped} {filed}").ok()
@@ -59,9 +63,13 @@ fn step(alloc: Global, both: &mut Both, state: &mut u64) -> Option<bool> {
 
 /// Prints how many of 400 windows and moves are answered the same by both spaces of a set.
 pub(crate) fn print_random<R: Files + Print + AllocGlobal>(rt: &R, words: &str) -> Option<()> {
-    let case = read_set(rt, words)?;
-    let set = set_of(rt.alloc(), &case.members)?;
-    let mut both = opened(rt.alloc(), &set, policy_of(&case))?;
+    let SetCase {
+        members,
+        policy,
+        others: _,
+    } = read_set(rt, words)?;
+    let set = set_of(rt.alloc(), &members)?;
+    let mut both = opened(rt.alloc(), &set, policy)?;
     let (mut state, mut same) = (1, 0_u32);
     for _ in 0..400_u32 {
         if step(rt.alloc(), &mut both, &mut state)? {

@@ -1,10 +1,11 @@
 //! Windows of both spaces of a set, which have to be the same.
 
 use crate::both::{Both, opened};
+use crate::commands::move_of;
 use pe_space::Space;
 use std::alloc::Global;
 use std::rt::Files;
-use test_cases::{number_of, policy_of, read_set, set_of};
+use test_cases::{SetCase, number_of, read_set, set_of};
 
 /// Whether both spaces answer the same of a window, and leave the same bytes in a buffer.
 pub(crate) fn agree_in(alloc: Global, both: &Both, address: u64, len: usize) -> Option<bool> {
@@ -30,25 +31,29 @@ fn count_same(alloc: Global, both: &Both, first: u64) -> Option<u32> {
     Some(same)
 }
 
+/// Moves an image of both spaces, where the word is an image and a base; else prints how many windows are the same that begin at
+/// the address of the word, and up to 15 bytes behind it.
+fn print_edge<R: Print + AllocGlobal>(rt: &R, both: &mut Both, word: &str) -> Option<()> {
+    if let Some((image, base)) = move_of(word) {
+        let moved = both.mapped.move_image(image, base).is_ok();
+        let other = both.filed.move_image(image, base).is_ok();
+        return println!(rt; "moved {moved} {other}").ok();
+    }
+    let same = count_same(rt.alloc(), both, number_of(word)?)?;
+    println!(rt; "{same} windows are the same").ok()
+}
+
 /// Prints how many of the windows around addresses are the same in both spaces of a set.
 pub(crate) fn print_edges<R: Files + Print + AllocGlobal>(rt: &R, words: &str) -> Option<()> {
-    let case = read_set(rt, words)?;
-    let set = set_of(rt.alloc(), &case.members)?;
-    let mut both = opened(rt.alloc(), &set, policy_of(&case))?;
-    for word in &case.others {
-        match word.split_once(":") {
-            Some((image, base)) => {
-                let image = u16::from_str_radix(image, 10).ok()?;
-                let base = number_of(base)?;
-                let moved = both.mapped.move_image(image, base).is_ok();
-                let other = both.filed.move_image(image, base).is_ok();
-                println!(rt; "moved {moved} {other}").ok()?;
-            }
-            None => {
-                let same = count_same(rt.alloc(), &both, number_of(word)?)?;
-                println!(rt; "{same} windows are the same").ok()?;
-            }
-        }
+    let SetCase {
+        members,
+        policy,
+        others,
+    } = read_set(rt, words)?;
+    let set = set_of(rt.alloc(), &members)?;
+    let mut both = opened(rt.alloc(), &set, policy)?;
+    for word in &others {
+        print_edge(rt, &mut both, word)?;
     }
     Some(())
 }
@@ -89,9 +94,13 @@ fn print_image<R: Print + AllocGlobal>(rt: &R, both: &Both, image: u16) -> Optio
 
 /// Prints the base and the size of each image of a set, whose window has the bytes that stand there one by one.
 pub(crate) fn print_whole<R: Files + Print + AllocGlobal>(rt: &R, words: &str) -> Option<()> {
-    let case = read_set(rt, words)?;
-    let set = set_of(rt.alloc(), &case.members)?;
-    let both = opened(rt.alloc(), &set, policy_of(&case))?;
+    let SetCase {
+        members,
+        policy,
+        others: _,
+    } = read_set(rt, words)?;
+    let set = set_of(rt.alloc(), &members)?;
+    let both = opened(rt.alloc(), &set, policy)?;
     for image in 0..both.mapped.image_count() {
         print_image(rt, &both, image)?;
     }

@@ -10,7 +10,10 @@ fn difference(old: &[u8], new: &[u8], from: usize) -> Option<(usize, usize)> {
     let mut pairs = old.iter().zip(new).skip(from);
     let start = from.checked_add(pairs.position(|(old, new)| old != new)?)?;
     let same = pairs.position(|(old, new)| old == new);
-    let end = same.map_or(old.len(), |count| start.saturating_add(1).saturating_add(count));
+    let end = same.map_or(
+        old.len(),
+        |count| start.saturating_add(1).saturating_add(count),
+    );
     Some((start, end))
 }
 
@@ -29,10 +32,7 @@ fn print_differences<R: Print + AllocGlobal>(rt: &R, old: &[u8], new: &[u8]) -> 
 }
 
 /// The file that words name and change, and the new one, whose line and status are printed. The first word is the base.
-fn rebase_file<R: Files + Print + AllocGlobal>(
-    rt: &R,
-    words: &str,
-) -> Option<(Vec<u8>, Vec<u8>)> {
+fn rebase_file<R: Files + Print + AllocGlobal>(rt: &R, words: &str) -> Option<(Vec<u8>, Vec<u8>)> {
     let (base, words) = words.split_once(" ")?;
     let old = edited_file(rt, words)?;
     let base = number_of(base)?;

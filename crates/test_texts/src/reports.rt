@@ -3,7 +3,7 @@
 use pe_tool::{Counted, map_report, status};
 use std::rt::Files;
 use std::str;
-use test_cases::{number_of, policy_of, read_set, set_of};
+use test_cases::{SetCase, number_of, read_set, set_of};
 
 /// The window of a word: its address, `:`, and how many bytes it has.
 fn window_of(word: &str) -> Option<(u64, u32)> {
@@ -13,15 +13,19 @@ fn window_of(word: &str) -> Option<(u64, u32)> {
 
 /// Prints the report of the set that words make, with the window that another word asks for, and its status.
 pub(crate) fn print_report<R: Files + Print + AllocGlobal>(rt: &R, words: &str) -> Option<()> {
-    let case = read_set(rt, words)?;
-    let set = set_of(rt.alloc(), &case.members)?;
-    let window = match case.others.first() {
+    let SetCase {
+        members,
+        policy,
+        others,
+    } = read_set(rt, words)?;
+    let set = set_of(rt.alloc(), &members)?;
+    let window = match others.first() {
         Some(word) => Some(window_of(word)?),
         None => None,
     };
     let mut text = Vec::new(rt.alloc());
     let mut writer = Counted::new(&mut text);
-    let answer = map_report(rt.alloc(), &set, policy_of(&case), window, &mut writer);
+    let answer = map_report(rt.alloc(), &set, policy, window, &mut writer);
     print!(rt; "{}", str::from_utf8(&text).ok()?).ok()?;
     println!(rt; "status {}", status(&answer)).ok()
 }

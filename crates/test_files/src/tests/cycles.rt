@@ -6,7 +6,7 @@ use pe_head::Directory;
 use pe_slow::slow_first;
 use pe_space::{MapError, Policy, SetEntry, Space, map, open_space};
 use pe_tool::{Outcome, map_report};
-use pe_vectors::files::{Vector, file_of, put_pieces};
+use pe_vectors::files::{Vector, file_of, push_number, put, put_pieces};
 use pe_vectors::members::fault_of;
 use pe_vectors::{StepWriter, vf};
 use pe_view::Place;
@@ -20,25 +20,18 @@ const ADDRESSES: u32 = 0x1028;
 /// The RVA for which an ordinal of a library stands that is no forwarder: its headers have it.
 const EXPORT: u32 = 0x10;
 
-/// Adds a number of 4 bytes.
-fn push_number(rt: &impl Abort, table: &mut Vec<u8>, number: u32) {
-    table
-        .extend_from_slice(&number.to_le_bytes())
-        .expect(rt, "memory");
-}
-
 /// The export table of a library whose ordinals count from 0: each stands for the forwarder of its text, or, where that is empty,
 /// for [`EXPORT`].
 fn export_table(rt: &impl Abort, alloc: Global, texts: &[String]) -> Vec<u8> {
     let count = u32::try_from(texts.len()).expect(rt, "a count");
     let mut table = Vec::new(alloc);
     for field in [0, 0, 0, 0, 0, count, 0, ADDRESSES, 0, 0] {
-        push_number(rt, &mut table, field);
+        push_number(&mut table, field).expect(rt, "memory");
     }
     let mut rva = ADDRESSES.wrapping_add(count.wrapping_mul(4));
     for text in texts {
         let value = if text.is_empty() { EXPORT } else { rva };
-        push_number(rt, &mut table, value);
+        push_number(&mut table, value).expect(rt, "memory");
         let len = u32::try_from(text.len()).expect(rt, "a length");
         rva = rva.wrapping_add(len).wrapping_add(1);
     }
@@ -82,13 +75,9 @@ fn looped(rt: &impl Abort, alloc: Global, tail: u32, length: u32) -> Vec<String>
 /// VC with an import of an ordinal of `F.DLL`.
 fn program(rt: &impl Abort, alloc: Global, ordinal: u8) -> Vec<u8> {
     let mut file = file_of(alloc, Vector::Vc).expect(rt, "memory");
-    put_pieces(
-        &mut file,
-        &[(0x240, b"F"), (0x228, &[0x00, 0x00, 0x00, 0x80])],
-    )
-    .expect(rt, "pieces in the file");
-    assert!(rt; file.len() > 0x228);
-    file[0x228] = ordinal;
+    assert!(rt; file.len() == 0x400);
+    put(&mut file, 0x240, b"F");
+    put(&mut file, 0x228, &[ordinal, 0x00, 0x00, 0x80]);
     file
 }
 

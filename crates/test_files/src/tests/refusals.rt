@@ -10,9 +10,12 @@ use bumpalo::Bump;
 use coff_object::{Object, ObjectError, Symbol, read_object, write_object};
 use pe_image::read_image;
 use pe_layout::Layout;
-use pe_set::{Module, judge};
+use pe_set::{Binding, Module, judge};
 use pe_space::{Command, MapError, MappedSpace, Policy, SetEntry, Space, map, open_space, run};
-use pe_tables::{TableError, ascending, encode_fixups, read_exports, read_fixups, read_imports};
+use pe_tables::{
+    Fixup, FixupKind, Import, Key, TableError, Target, ascending, encode_fixups, read_exports,
+    read_fixups, read_imports,
+};
 use pe_tool::{Outcome, ToolError, map_report, read_whole, rebase};
 use pe_vectors::files::{Vector, file_of};
 use pe_vectors::members::{A, B, C, files_of, names_of, repeated, set_of};
@@ -65,69 +68,94 @@ enum Call {
     Rebase,
 }
 
-/// The layout of a file that has none of its faults.
-fn layout_of<'a>(rt: &impl Abort, file: &'a [u8]) -> Layout<'a> {
-    Layout::new(View::new(file), 0).expect(rt, "a layout")
-}
+/// What VB exports by ordinal, and by name.
+const ORDINALS: &[(u64, Target)] = &[(5, Target::Rva(0x1004)), (7, Target::Rva(0x1010))];
 
-fn exports(rt: &impl Abort, alloc: Global, arena: &Bump) -> Answer {
-    let file = file_of(alloc, Vector::Vb).expect(rt, "memory");
-    let layout = layout_of(rt, &file);
-    let expected = read_exports(alloc, &layout).expect(rt, "exports");
-    match read_exports(arena, &layout) {
+const NAMES: &[(&[u8], Target)] = &[(b"g", Target::Rva(0x1010))];
+
+fn exports(layout: &Layout, arena: &Bump) -> Answer {
+    match read_exports(arena, layout) {
         Ok(found) => {
-            right_if(
-                same_ordinals(found.ordinals(), expected.ordinals())
-                    && same_names(found.names(), expected.names()),
-            )
+            right_if(same_ordinals(found.ordinals(), ORDINALS) && same_names(found.names(), NAMES))
         }
         Err(TableError::Memory) => Answer::Memory,
         Err(_) => Answer::Wrong,
     }
 }
 
-fn imports(rt: &impl Abort, alloc: Global, arena: &Bump) -> Answer {
-    let file = file_of(alloc, Vector::Vc).expect(rt, "memory");
-    let layout = layout_of(rt, &file);
-    let expected = read_imports(alloc, &layout).expect(rt, "imports");
-    match read_imports(arena, &layout) {
-        Ok(found) => right_if(same_imports(&found, &expected)),
+/// What VC imports.
+const IMPORTS: &[Import] = &[Import {
+    module: b"A.DLL",
+    key: Key::Name(b"f"),
+    slot: 0x1030,
+}];
+
+fn imports(layout: &Layout, arena: &Bump) -> Answer {
+    match read_imports(arena, layout) {
+        Ok(found) => right_if(same_imports(&found, IMPORTS)),
         Err(TableError::Memory) => Answer::Memory,
         Err(_) => Answer::Wrong,
     }
 }
 
-fn fixups(rt: &impl Abort, alloc: Global, arena: &Bump) -> Answer {
-    let file = file_of(alloc, Vector::V2).expect(rt, "memory");
-    let layout = layout_of(rt, &file);
-    let expected = read_fixups(alloc, &layout, &[]).expect(rt, "fixups");
-    match read_fixups(arena, &layout, &[]) {
-        Ok(found) => right_if(*found.as_slice() == *expected.as_slice()),
+/// The fixup of V2.
+const FIXUPS: &[Fixup] = &[Fixup {
+    entry: 0x2008,
+    field: 0x1008,
+    kind: FixupKind::Bits32,
+}];
+
+fn fixups(layout: &Layout, arena: &Bump) -> Answer {
+    match read_fixups(arena, layout, &[]) {
+        Ok(found) => right_if(*found.as_slice() == *FIXUPS),
         Err(TableError::Memory) => Answer::Memory,
         Err(_) => Answer::Wrong,
     }
 }
 
-/// The table of V2's fixups is that of its file, at 0x400.
+/// A table of a file that is read, over the memory of an arena.
+fn table(rt: &impl Abort, alloc: Global, arena: &Bump, call: Call) -> Answer {
+    let vector = match call {
+        Call::Exports => Vector::Vb,
+        Call::Imports => Vector::Vc,
+        _ => Vector::V2,
+    };
+    let file = file_of(alloc, vector).expect(rt, "memory");
+    let Ok(layout) = Layout::new(View::new(&file), 0) else {
+        return Answer::Wrong;
+    };
+    match call {
+        Call::Exports => exports(&layout, arena),
+        Call::Imports => imports(&layout, arena),
+        _ => fixups(&layout, arena),
+    }
+}
+
+/// The table of V2's fixup is that of its file, at 0x400.
 fn encoding(rt: &impl Abort, alloc: Global, arena: &Bump) -> Answer {
     let file = file_of(alloc, Vector::V2).expect(rt, "memory");
-    let fixups = read_fixups(alloc, &layout_of(rt, &file), &[]).expect(rt, "fixups");
-    assert!(rt; ascending(&fixups));
-    match encode_fixups(arena, &fixups) {
+    assert!(rt; ascending(FIXUPS));
+    match encode_fixups(arena, FIXUPS) {
         Ok(table) => right_if(file.get(0x400..0x40c) == Some(table.as_slice())),
         Err(_) => Answer::Memory,
     }
 }
 
+/// What VS imports.
+const OWN_IMPORTS: &[Import] = &[Import {
+    module: b"S.DLL",
+    key: Key::Ordinal(7),
+    slot: 0x2030,
+}];
+
 fn image(rt: &impl Abort, alloc: Global, arena: &Bump) -> Answer {
     let file = file_of(alloc, Vector::Vs).expect(rt, "memory");
-    let expected = read_image(alloc, &file, 7).expect(rt, "an image");
     match read_image(arena, &file, 7) {
         Ok(found) => {
             right_if(
-                same_names(found.exports.names(), expected.exports.names())
-                    && same_imports(&found.imports, &expected.imports)
-                    && *found.fixups.as_slice() == *expected.fixups.as_slice(),
+                same_names(found.exports.names(), NAMES)
+                    && same_imports(&found.imports, OWN_IMPORTS)
+                    && found.fixups.is_empty(),
             )
         }
         Err(TableError::Memory) => Answer::Memory,
@@ -135,22 +163,48 @@ fn image(rt: &impl Abort, alloc: Global, arena: &Bump) -> Answer {
     }
 }
 
-/// Whether two lists of modules stand at the same bases, and have the same exports and imports.
-fn same_modules(found: &[Module<'_, &Bump>], expected: &[Module<'_, Global>]) -> bool {
-    if found.len() != expected.len() {
+/// What the images of A, B and C export by name, and import.
+const MODULES: &[(&[(&[u8], Target)], &[Import])] = &[
+    (
+        &[(
+            b"f",
+            Target::Forward {
+                module: b"b",
+                key: Key::Ordinal(7),
+            },
+        )],
+        &[],
+    ),
+    (NAMES, &[]),
+    (&[], IMPORTS),
+];
+
+/// Whether modules are those of A, B and C at their bases.
+fn are_modules(found: &[Module<'_, &Bump>]) -> bool {
+    if found.len() != MODULES.len() {
         return false;
     }
+    let bases = [A.base, B.base, C.base];
     for index in 0..found.len() {
-        let (module, other) = (&found[index], &expected[index]);
-        if module.base != other.base
-            || !same_imports(&module.image.imports, &other.image.imports)
-            || !same_names(module.image.exports.names(), other.image.exports.names())
+        let module = &found[index];
+        let (names, imports) = MODULES[index];
+        if bases.get(index) != Some(&module.base)
+            || !same_names(module.image.exports.names(), names)
+            || !same_imports(&module.image.imports, imports)
         {
             return false;
         }
     }
     true
 }
+
+/// The binding of the slot of C to ordinal 7 of B.
+const BINDINGS: &[Binding] = &[Binding {
+    image: 2,
+    slot: 0x1030,
+    exporter: 1,
+    rva: 0x1010,
+}];
 
 /// Whether two spaces have the same bindings, and an image the same base and bytes in both.
 fn same_image<S: Space>(
@@ -177,17 +231,13 @@ fn same_space<S: Space>(rt: &impl Abort, space: &S, other: &MappedSpace<Global>)
         && same_image(rt, space, other, 2)
 }
 
-/// What an accepted set binds, and each module's base and imports.
+/// What an accepted set binds, and each module's base, exports and imports.
 fn judging(rt: &impl Abort, alloc: Global, arena: &Bump) -> Answer {
     let files = files_of(alloc, &[A, B, C]).expect(rt, "files");
     let set = set_of(alloc, &[A, B, C], &files).expect(rt, "memory");
-    let expected = judge(alloc, &set, Policy::Strict).expect(rt, "an accepted set");
     match judge(arena, &set, Policy::Strict) {
         Ok(found) => {
-            right_if(
-                *found.bindings.as_slice() == *expected.bindings.as_slice()
-                    && same_modules(&found.modules, &expected.modules),
-            )
+            right_if(*found.bindings.as_slice() == *BINDINGS && are_modules(&found.modules))
         }
         Err(MapError::Memory) => Answer::Memory,
         Err(_) => Answer::Wrong,
@@ -349,9 +399,7 @@ fn rebase_engine(rt: &impl Abort, alloc: Global, arena: &Bump) -> Answer {
 /// Runs a call over an arena.
 fn answer_of(rt: &impl Abort, alloc: Global, arena: &Bump, call: Call) -> Answer {
     match call {
-        Call::Exports => exports(rt, alloc, arena),
-        Call::Imports => imports(rt, alloc, arena),
-        Call::Fixups => fixups(rt, alloc, arena),
+        Call::Exports | Call::Imports | Call::Fixups => table(rt, alloc, arena, call),
         Call::Encoding => encoding(rt, alloc, arena),
         Call::Image => image(rt, alloc, arena),
         Call::Judge => judging(rt, alloc, arena),

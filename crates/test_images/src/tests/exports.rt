@@ -1,8 +1,8 @@
 //! What `pe_tables` reads of the largest export table, and what it finds there by ordinal and by name.
 
-use super::files::{assert_holds, assert_number, layout_of, push_number, with_data};
+use super::files::{assert_holds, assert_number, layout_of, with_data};
 use pe_tables::{Exports, Target, read_exports};
-use pe_vectors::files::Piece;
+use pe_vectors::files::{Piece, push_number};
 use std::alloc::Global;
 use std::process::Abort;
 
@@ -42,7 +42,7 @@ const TEXTS: u32 = ENTRIES + 2 * MOST;
 /// Adds as many numbers of 4 bytes, each a step above the one before.
 fn push_column(rt: &impl Abort, table: &mut Vec<u8>, first: u32, step: u32) {
     for index in 0..MOST {
-        push_number(rt, table, first.wrapping_add(step.wrapping_mul(index)));
+        push_number(table, first.wrapping_add(step.wrapping_mul(index))).expect(rt, "memory");
     }
 }
 
@@ -71,7 +71,7 @@ fn push_texts(rt: &impl Abort, alloc: Global, table: &mut Vec<u8>) {
 fn largest_table(rt: &impl Abort, alloc: Global) -> Vec<u8> {
     let mut table = Vec::new(alloc);
     for field in [0, 0, 0, 0, 1, MOST, MOST, ADDRESSES, POINTERS, ENTRIES] {
-        push_number(rt, &mut table, field);
+        push_number(&mut table, field).expect(rt, "memory");
     }
     push_column(rt, &mut table, 0x10_0000, 1);
     push_column(rt, &mut table, TEXTS, 5);

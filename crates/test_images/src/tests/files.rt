@@ -36,13 +36,6 @@ pub(super) fn with_data(rt: &impl Abort, alloc: Global, pieces: &[Piece], data: 
     file
 }
 
-/// Adds a number of 4 bytes.
-pub(super) fn push_number(rt: &impl Abort, table: &mut Vec<u8>, number: u32) {
-    table
-        .extend_from_slice(&number.to_le_bytes())
-        .expect(rt, "memory");
-}
-
 /// The image number that tests of faults hand in.
 pub(super) const IMAGE: u16 = 3;
 

@@ -1,9 +1,8 @@
 //! What `pe_tables` reads of the largest import table, and of one that is larger.
 
-use super::files::{
-    assert_holds, assert_number, assert_refused, layout_of, push_number, with_data,
-};
+use super::files::{assert_holds, assert_number, assert_refused, layout_of, with_data};
 use pe_tables::{Import, Key, read_imports};
+use pe_vectors::files::push_number;
 use std::alloc::Global;
 use std::process::Abort;
 
@@ -14,12 +13,12 @@ const MOST: u32 = 1_048_576;
 fn many_imports(rt: &impl Abort, alloc: Global, count: u32) -> Vec<u8> {
     let mut table = Vec::new(alloc);
     for field in [0x1030, 0, 0, 0x1028, 0x80_0000, 0, 0, 0, 0, 0, 0x61, 0] {
-        push_number(rt, &mut table, field);
+        push_number(&mut table, field).expect(rt, "memory");
     }
     for _ in 0..count {
-        push_number(rt, &mut table, 0x8000_0001);
+        push_number(&mut table, 0x8000_0001).expect(rt, "memory");
     }
-    push_number(rt, &mut table, 0);
+    push_number(&mut table, 0).expect(rt, "memory");
     table
 }
 
