@@ -1,7 +1,7 @@
 //! The directories: which of an image's tables there are, and where.
 
 use super::numbers::ByteSource;
-use super::plain::Image;
+use super::plain::PlainImage;
 
 /// The directory of the export table.
 pub(super) const EXPORT: u32 = 0;
@@ -28,7 +28,7 @@ impl Directory {
 
 /// The directory of an index. One that the headers do not hold is absent, and so is one whose RVA is 0; that of the base
 /// relocation table also where its Size is 0.
-pub(super) fn find_directory(image: &Image, index: u32) -> Option<Directory> {
+pub(super) fn find_directory(image: &PlainImage, index: u32) -> Option<Directory> {
     if index >= image.headers.directories() {
         return None;
     }

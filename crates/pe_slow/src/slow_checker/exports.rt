@@ -4,7 +4,7 @@ use super::directories::{Directory, EXPORT, find_directory};
 use super::forwarders::{Forwarder, Wanted, split_forwarder};
 use super::numbers::ByteSource;
 use super::ordering::{Faults, Phase, Row, rva_row};
-use super::plain::Image;
+use super::plain::PlainImage;
 use std::alloc::{AllocError, Global};
 
 /// The entries of an address table, and the names, that there are at most.
@@ -32,7 +32,7 @@ struct ExportTable {
 }
 
 /// The export table of an image, where its directory is there. What lies past the image is read as 0.
-fn export_table(image: &Image) -> Option<ExportTable> {
+fn export_table(image: &PlainImage) -> Option<ExportTable> {
     let directory = find_directory(image, EXPORT)?;
     let x = directory.rva as u64;
     Some(ExportTable {
@@ -64,7 +64,7 @@ impl ExportTable {
 
     /// Where the directory has the RVA of the first table that is not empty and not in the image: 28 for the addresses, 32 for the
     /// names, 36 for the ordinals.
-    fn table_outside(&self, image: &Image) -> Option<u32> {
+    fn table_outside(&self, image: &PlainImage) -> Option<u32> {
         let tables = [
             (28, self.address_table, 4, self.address_table_entries),
             (32, self.name_pointers, 4, self.number_of_name_pointers),
@@ -90,7 +90,7 @@ impl ExportTable {
     }
 
     /// The rows of the directory. Where it does not lie in the image, it has no fields.
-    fn directory_rows(&self, image: &Image) -> [Row; 3] {
+    fn directory_rows(&self, image: &PlainImage) -> [Row; 3] {
         let x = self.directory.rva as u64;
         let is_inside = image.holds(x, 40);
         let outside = self.table_outside(image);
@@ -111,7 +111,12 @@ impl ExportTable {
     }
 
     /// The rows of a name.
-    fn name_rows(&self, alloc: Global, image: &Image, index: u32) -> Result<[Row; 2], AllocError> {
+    fn name_rows(
+        &self,
+        alloc: Global,
+        image: &PlainImage,
+        index: u32,
+    ) -> Result<[Row; 2], AllocError> {
         let pointer = self.pointer_entry(index);
         let entry = self.ordinal_entry(index);
         let text = image.text(alloc, image.u32_at(pointer) as u64)?;
@@ -126,7 +131,7 @@ impl ExportTable {
     fn address_rows(
         &self,
         alloc: Global,
-        image: &Image,
+        image: &PlainImage,
         index: u32,
     ) -> Result<[Row; 2], AllocError> {
         let entry = self.address_entry(index);
@@ -144,7 +149,7 @@ impl ExportTable {
     fn index_of(
         &self,
         alloc: Global,
-        image: &Image,
+        image: &PlainImage,
         wanted: &Wanted,
     ) -> Result<Option<u32>, AllocError> {
         match wanted {
@@ -167,7 +172,7 @@ impl ExportTable {
     fn index_of_name(
         &self,
         alloc: Global,
-        image: &Image,
+        image: &PlainImage,
         name: &[u8],
     ) -> Result<Option<u32>, AllocError> {
         for index in 0..self.number_of_name_pointers {
@@ -185,7 +190,11 @@ impl ExportTable {
 }
 
 /// The forwarder whose text is at an RVA, where there is a text of its form.
-fn forwarder_at(alloc: Global, image: &Image, rva: u32) -> Result<Option<Forwarder>, AllocError> {
+fn forwarder_at(
+    alloc: Global,
+    image: &PlainImage,
+    rva: u32,
+) -> Result<Option<Forwarder>, AllocError> {
     match image.text(alloc, rva as u64)? {
         None => Ok(None),
         Some(text) => split_forwarder(alloc, text.as_slice()),
@@ -195,7 +204,7 @@ fn forwarder_at(alloc: Global, image: &Image, rva: u32) -> Result<Option<Forward
 /// Lists the faults of the export table's first record that has one, and tells whether there is one.
 pub(super) fn list_exports(
     alloc: Global,
-    image: &Image,
+    image: &PlainImage,
     faults: &mut Faults,
 ) -> Result<bool, AllocError> {
     faults.begin_phase(Phase::Exports);
@@ -216,7 +225,7 @@ pub(super) fn list_exports(
 /// Lists the faults of the address table's first entry that has one, and tells whether there is one.
 fn list_addresses(
     alloc: Global,
-    image: &Image,
+    image: &PlainImage,
     table: &ExportTable,
     faults: &mut Faults,
 ) -> Result<bool, AllocError> {
@@ -231,7 +240,7 @@ fn list_addresses(
 /// What an image exports; `None` where it does not.
 pub(super) fn target_of(
     alloc: Global,
-    image: &Image,
+    image: &PlainImage,
     wanted: &Wanted,
 ) -> Result<Option<Target>, AllocError> {
     let Some(table) = export_table(image) else {

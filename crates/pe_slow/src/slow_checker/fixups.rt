@@ -5,7 +5,7 @@ use super::imports::{Import, overlaps_slot};
 use super::numbers::ByteSource;
 use super::ordering::{Faults, Phase, Row, rva_row};
 use super::overlaps::Span;
-use super::plain::Image;
+use super::plain::PlainImage;
 use std::alloc::{AllocError, Global};
 
 /// The bytes of a block before its entries.
@@ -21,7 +21,7 @@ struct Block {
 
 impl Block {
     /// The block at an RVA.
-    fn at(image: &Image, rva: u32) -> Block {
+    fn at(image: &PlainImage, rva: u32) -> Block {
         Block {
             rva,
             page_rva: image.u32_at(rva as u64),
@@ -53,7 +53,7 @@ impl Block {
     }
 
     /// The index of an entry from one on such that all entries between are 0: those of which the file has no byte.
-    fn next_in_file(&self, image: &Image, index: u64) -> u64 {
+    fn next_in_file(&self, image: &PlainImage, index: u64) -> u64 {
         let place = image.next_in_file(self.entry(index));
         index.max(place.saturating_sub(self.entry(0)) / 2)
     }
@@ -71,7 +71,7 @@ enum Entry {
 }
 
 /// The entry of a block at an RVA.
-fn entry_at(image: &Image, block: &Block, rva: u64) -> Entry {
+fn entry_at(image: &PlainImage, block: &Block, rva: u64) -> Entry {
     let number = image.u16_at(rva);
     let start = block.page_rva as u64 + (number & 0xfff) as u64;
     match number >> 12 {
@@ -85,7 +85,7 @@ fn entry_at(image: &Image, block: &Block, rva: u64) -> Entry {
 
 /// The rows of the entry at an RVA.
 fn entry_rows(
-    image: &Image,
+    image: &PlainImage,
     rva: u64,
     entry: Entry,
     imports: &[Import],
@@ -109,7 +109,7 @@ fn entry_rows(
 /// Lists the faults of the base relocation table's first record that has one, and tells whether there is one.
 pub(super) fn list_fixups(
     alloc: Global,
-    image: &Image,
+    image: &PlainImage,
     imports: &[Import],
     faults: &mut Faults,
 ) -> Result<bool, AllocError> {
@@ -129,7 +129,7 @@ pub(super) fn list_fixups(
 /// where fewer than 8 bytes of the directory remain, or at a BlockSize of 0.
 fn list_blocks(
     alloc: Global,
-    image: &Image,
+    image: &PlainImage,
     first: u32,
     end: u64,
     imports: &[Import],
@@ -162,7 +162,7 @@ fn list_blocks(
 /// Adds the fields of a block, and lists the faults of its first entry that has one; tells whether there is one. Entries of which
 /// the file has no byte are ABSOLUTE and have none, so the walk goes past them at once.
 fn list_entries(
-    image: &Image,
+    image: &PlainImage,
     block: &Block,
     imports: &[Import],
     fields: &mut Vec<Span>,

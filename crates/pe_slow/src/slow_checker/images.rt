@@ -6,7 +6,7 @@ use super::headers::Headers;
 use super::imports::{Import, list_imports};
 use super::numbers::File;
 use super::ordering::{Faults, Phase};
-use super::plain::Image;
+use super::plain::PlainImage;
 use super::sections::list_sections;
 use pe_set::SetEntry;
 use std::alloc::{AllocError, Global};
@@ -15,7 +15,7 @@ use std::alloc::{AllocError, Global};
 #[derive(Drop)]
 pub(super) struct Judged<'a> {
     pub entry: SetEntry<'a>,
-    pub image: Image<'a>,
+    pub image: PlainImage<'a>,
     pub imports: Vec<Import>,
 }
 
@@ -50,7 +50,7 @@ fn laid_out<'a>(
     alloc: Global,
     file: File<'a>,
     faults: &mut Faults,
-) -> Result<Option<Image<'a>>, AllocError> {
+) -> Result<Option<PlainImage<'a>>, AllocError> {
     faults.begin_phase(Phase::Headers);
     let headers = Headers::of(file);
     if faults.record(&headers.rows(file))? {
@@ -59,7 +59,7 @@ fn laid_out<'a>(
     let Some(sections) = list_sections(alloc, file, &headers, faults)? else {
         return Ok(None);
     };
-    Ok(Some(Image {
+    Ok(Some(PlainImage {
         file,
         headers,
         sections,

@@ -5,7 +5,7 @@ use super::forwarders::Wanted;
 use super::numbers::ByteSource;
 use super::ordering::{Faults, Phase, Row, rva_row};
 use super::overlaps::Span;
-use super::plain::Image;
+use super::plain::PlainImage;
 use std::alloc::{AllocError, Global};
 
 /// The imports that an image has at most.
@@ -24,13 +24,13 @@ pub(super) struct Import {
 
 impl Import {
     /// The name of its module, which the image has where it has no fault.
-    pub fn module(&self, alloc: Global, image: &Image) -> Result<Vec<u8>, AllocError> {
+    pub fn module(&self, alloc: Global, image: &PlainImage) -> Result<Vec<u8>, AllocError> {
         let name = image.text(alloc, self.module as u64)?;
         Ok(name.unwrap_or(Vec::new(alloc)))
     }
 
     /// The export that it looks up, whose name the image has where it has no fault.
-    pub fn wanted(&self, alloc: Global, image: &Image) -> Result<Wanted, AllocError> {
+    pub fn wanted(&self, alloc: Global, image: &PlainImage) -> Result<Wanted, AllocError> {
         if is_ordinal(image, self.entry) {
             return Ok(Wanted::Ordinal((self.entry & 0xffff) as u16));
         }
@@ -40,7 +40,7 @@ impl Import {
 }
 
 /// Whether the top bit of a lookup entry says that it holds an ordinal.
-fn is_ordinal(image: &Image, entry: u64) -> bool {
+fn is_ordinal(image: &PlainImage, entry: u64) -> bool {
     let top = if image.headers.is_plus() {
         1 << 63
     } else {
@@ -66,7 +66,7 @@ struct Descriptor {
 
 impl Descriptor {
     /// The descriptor at an RVA. What lies past the image is read as 0.
-    fn at(image: &Image, rva: u64) -> Descriptor {
+    fn at(image: &PlainImage, rva: u64) -> Descriptor {
         Descriptor {
             rva,
             lookup_table: image.u32_at(rva),
@@ -82,7 +82,7 @@ impl Descriptor {
     }
 
     /// The rows of the descriptor; one that ends the list has no fields but those.
-    fn rows(&self, alloc: Global, image: &Image) -> Result<[Row; 3], AllocError> {
+    fn rows(&self, alloc: Global, image: &PlainImage) -> Result<[Row; 3], AllocError> {
         let is_inside = image.holds(self.rva, DESCRIPTOR_SIZE);
         let is_read = is_inside && !self.is_last();
         let name = image.text(alloc, self.name as u64)?;
@@ -95,7 +95,7 @@ impl Descriptor {
     }
 
     /// The RVA of an entry of its lookup table, which is the address table where there is none apart.
-    fn lookup_entry(&self, image: &Image, index: u64) -> u64 {
+    fn lookup_entry(&self, image: &PlainImage, index: u64) -> u64 {
         let table = if self.lookup_table == 0 {
             self.address_table
         } else {
@@ -105,7 +105,7 @@ impl Descriptor {
     }
 
     /// The slot of an entry.
-    fn slot(&self, image: &Image, index: u64) -> Span {
+    fn slot(&self, image: &PlainImage, index: u64) -> Span {
         let width = image.width();
         Span {
             start: (self.address_table as u64).saturating_add(index.saturating_mul(width)),
@@ -115,7 +115,7 @@ impl Descriptor {
 }
 
 /// The lookup entry at an RVA; 0 past the image.
-fn entry_at(image: &Image, rva: u64) -> u64 {
+fn entry_at(image: &PlainImage, rva: u64) -> u64 {
     if image.headers.is_plus() {
         image.u64_at(rva)
     } else {
@@ -126,7 +126,7 @@ fn entry_at(image: &Image, rva: u64) -> u64 {
 /// The imports of an image, in their order. They are `None` where a record has a fault; the first one's are listed.
 pub(super) fn list_imports(
     alloc: Global,
-    image: &Image,
+    image: &PlainImage,
     faults: &mut Faults,
 ) -> Result<Option<Vec<Import>>, AllocError> {
     faults.begin_phase(Phase::Imports);
@@ -154,7 +154,7 @@ pub(super) fn list_imports(
 /// is one.
 fn list_lookup_table(
     alloc: Global,
-    image: &Image,
+    image: &PlainImage,
     descriptor: &Descriptor,
     imports: &mut Vec<Import>,
     faults: &mut Faults,
@@ -181,7 +181,7 @@ fn list_lookup_table(
 /// The rows of the lookup entry at an RVA; the one of 0, which ends the table, has no slot and no name.
 fn entry_rows(
     alloc: Global,
-    image: &Image,
+    image: &PlainImage,
     rva: u64,
     slot: Span,
     earlier: &[Import],

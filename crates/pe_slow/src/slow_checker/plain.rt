@@ -7,13 +7,13 @@ use std::alloc::{AllocError, Global};
 
 /// An image without a fault in its headers and sections.
 #[derive(Drop)]
-pub(super) struct Image<'a> {
+pub(super) struct PlainImage<'a> {
     pub file: File<'a>,
     pub headers: Headers,
     pub sections: Vec<Section>,
 }
 
-impl ByteSource for Image<'_> {
+impl ByteSource for PlainImage<'_> {
     /// The byte at an RVA: the file's in the headers and in a section's raw bytes, else 0.
     fn byte(&self, rva: u64) -> u8 {
         if rva < self.headers.size_of_headers as u64 {
@@ -30,7 +30,7 @@ impl ByteSource for Image<'_> {
     }
 }
 
-impl Image<'_> {
+impl PlainImage<'_> {
     /// Whether the image holds this many bytes from an RVA on.
     pub fn holds(&self, rva: u64, len: u64) -> bool {
         let size = self.headers.size_of_image as u64;
