@@ -32,11 +32,25 @@ pub type Piece = (usize, &'static [u8]);
 /// Writes pieces over a file's bytes, one after another, up to the first that does not lie in the file.
 pub fn put_pieces(file: &mut [u8], pieces: &[Piece]) -> Result<(), FileError> {
     for (offset, bytes) in pieces {
-        if *offset > file.len() || bytes.len() > file.len() - *offset {
-            return Err(FileError::Outside(*offset));
-        }
-        put(file, *offset, bytes);
+        put_inside(file, *offset, bytes)?;
     }
+    Ok(())
+}
+
+/// Writes lists of pieces over a file's bytes.
+fn put_lists(file: &mut [u8], lists: &[&[Piece]]) -> Result<(), FileError> {
+    for pieces in lists {
+        put_pieces(file, pieces)?;
+    }
+    Ok(())
+}
+
+/// Writes bytes at a file offset, or answers that they do not lie in the file.
+pub(crate) fn put_inside(file: &mut [u8], offset: usize, bytes: &[u8]) -> Result<(), FileError> {
+    if offset > file.len() || bytes.len() > file.len() - offset {
+        return Err(FileError::Outside(offset));
+    }
+    put(file, offset, bytes);
     Ok(())
 }
 
@@ -111,9 +125,7 @@ pub fn file_of(alloc: Global, vector: Vector) -> Result<Vec<u8>, FileError>
     if has_data {
         put_data(&mut file);
     }
-    for pieces in lists {
-        put_pieces(&mut file, pieces)?;
-    }
+    put_lists(&mut file, lists)?;
     Ok(file)
 }
 

@@ -2,7 +2,7 @@
 
 ghost use Rattle.std.specs.Prelude.{◌≡◌, ◌≤◌, IfOk, vec_len};
 
-use crate::files::{FileError, Piece, Vector, put, put_pieces};
+use crate::files::{FileError, Piece, Vector, put_inside, put_pieces};
 use std::alloc::Global;
 
 /// The headers that V1, V2, VA and VB begin with, and VC and VS but for the fields that they change.
@@ -378,21 +378,26 @@ pub fn vf(alloc: Global, forwarders: u32) -> Result<Vec<u8>, FileError>
     let mut file = vec![in alloc; 0; 0x800]?;
     put_pieces(&mut file, PE32_HEADERS)?;
     put_pieces(&mut file, CHAINED)?;
-    put(&mut file, 0x234, &(forwarders + 1).to_le_bytes());
-    for index in 0..forwarders {
-        put(
-            &mut file,
-            0x248 + 4 * index as usize,
-            &(0x1200 + 8 * index).to_le_bytes(),
-        );
-        put(&mut file, 0x400 + 8 * index as usize, &forwarder(index + 2));
-    }
-    put(
-        &mut file,
-        0x248 + 4 * forwarders as usize,
-        &0x1004_u32.to_le_bytes(),
-    );
+    put_forwarders(&mut file, forwarders)?;
     Ok(file)
+}
+
+/// Writes the number of entries of a chain of so many forwarders, its entries, and the texts of the forwarders.
+fn put_forwarders(file: &mut [u8], forwarders: u32) -> Result<(), FileError>
+    requires { forwarders ≤ 65 }
+{
+    put_inside(file, 0x234, &(forwarders + 1).to_le_bytes())?;
+    for index in 0..forwarders {
+        let number = index as usize;
+        put_inside(
+            file,
+            0x248 + 4 * number,
+            &(0x1200 + 8 * index).to_le_bytes(),
+        )?;
+        put_inside(file, 0x400 + 8 * number, &forwarder(index + 2))?;
+    }
+    let last = 0x248 + 4 * forwarders as usize;
+    put_inside(file, last, &0x1004_u32.to_le_bytes())
 }
 
 /// The text of a forwarder to an ordinal of `f`.

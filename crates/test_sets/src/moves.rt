@@ -26,7 +26,7 @@ fn returns<S: Space>(alloc: Global, space: &mut S, image: u16, away: u64) -> Opt
     Some(all_bytes(alloc, space)? == before)
 }
 
-/// Prints whether a move there and back gives every byte of before, in both spaces.
+/// Prints whether moves there and back give every byte of before, in both spaces.
 pub(crate) fn print_return<R: Files + Print + AllocGlobal>(rt: &R, words: &str) -> Option<()> {
     let SetCase {
         members,
@@ -34,11 +34,14 @@ pub(crate) fn print_return<R: Files + Print + AllocGlobal>(rt: &R, words: &str) 
         others,
     } = read_set(rt, words)?;
     let set = set_of(rt.alloc(), &members)?;
-    let (image, away) = move_of(others.first()?)?;
     let mut both = opened(rt.alloc(), &set, policy)?;
-    let mapped = returns(rt.alloc(), &mut both.mapped, image, away)?;
-    let filed = returns(rt.alloc(), &mut both.filed, image, away)?;
-    println!(rt; "as before {mapped} {filed}").ok()
+    for word in &others {
+        let (image, away) = move_of(word)?;
+        let mapped = returns(rt.alloc(), &mut both.mapped, image, away)?;
+        let filed = returns(rt.alloc(), &mut both.filed, image, away)?;
+        println!(rt; "as before {mapped} {filed}").ok()?;
+    }
+    Some(())
 }
 
 /// The next of a sequence of numbers that look random.

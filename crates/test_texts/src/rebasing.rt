@@ -1,6 +1,7 @@
 //! Files at other bases.
 
 use pe_tool::{Counted, rebase, status};
+use std::alloc::Global;
 use std::rt::Files;
 use std::str;
 use test_cases::{edited_file, number_of};
@@ -31,29 +32,42 @@ fn print_differences<R: Print + AllocGlobal>(rt: &R, old: &[u8], new: &[u8]) -> 
     Some(())
 }
 
+/// Writes the file that is to stand at a base, and the line of that, and answers the status.
+fn write_rebased(
+    alloc: Global,
+    old: &[u8],
+    base: u64,
+    new: &mut Vec<u8>,
+    line: &mut Vec<u8>,
+) -> u8 {
+    let mut reader = Counted::new(old);
+    let mut file = Counted::new(new);
+    let mut writer = Counted::new(line);
+    status(&rebase(alloc, &mut reader, base, &mut file, &mut writer))
+}
+
 /// The file that words name and change, and the new one, whose line and status are printed. The first word is the base.
-fn rebase_file<R: Files + Print + AllocGlobal>(rt: &R, words: &str) -> Option<(Vec<u8>, Vec<u8>)> {
+fn rebased_files<R: Files + Print + AllocGlobal>(
+    rt: &R,
+    words: &str,
+) -> Option<(Vec<u8>, Vec<u8>)> {
     let (base, words) = words.split_once(" ")?;
     let old = edited_file(rt, words)?;
-    let base = number_of(base)?;
     let (mut new, mut line) = (Vec::new(rt.alloc()), Vec::new(rt.alloc()));
-    let mut reader = Counted::new(old.as_slice());
-    let mut file = Counted::new(&mut new);
-    let mut writer = Counted::new(&mut line);
-    let answer = rebase(rt.alloc(), &mut reader, base, &mut file, &mut writer);
+    let status = write_rebased(rt.alloc(), &old, number_of(base)?, &mut new, &mut line);
     print!(rt; "{}", str::from_utf8(&line).ok()?).ok()?;
-    println!(rt; "status {} length {:#x}", status(&answer), new.len()).ok()?;
+    println!(rt; "status {status} length {:#x}", new.len()).ok()?;
     Some((old, new))
 }
 
 /// Prints the line of `rebase`, its status and how long the new file is.
 pub(crate) fn print_rebase<R: Files + Print + AllocGlobal>(rt: &R, words: &str) -> Option<()> {
-    let _ = rebase_file(rt, words)?;
+    let _ = rebased_files(rt, words)?;
     Some(())
 }
 
 /// Prints the same, and what differs in the new file.
 pub(crate) fn print_rebased<R: Files + Print + AllocGlobal>(rt: &R, words: &str) -> Option<()> {
-    let (old, new) = rebase_file(rt, words)?;
+    let (old, new) = rebased_files(rt, words)?;
     print_differences(rt, &old, &new)
 }

@@ -1,6 +1,7 @@
 //! Reports of mapped sets.
 
-use pe_tool::{Counted, map_report, status};
+use pe_tool::{Counted, Policy, SetEntry, map_report, status};
+use std::alloc::Global;
 use std::rt::Files;
 use std::str;
 use test_cases::{SetCase, number_of, read_set, set_of};
@@ -11,6 +12,18 @@ fn window_of(word: &str) -> Option<(u64, u32)> {
     Some((number_of(address)?, u32::from_str_radix(count, 10).ok()?))
 }
 
+/// Writes the report of a set, and answers its status.
+fn write_report(
+    alloc: Global,
+    set: &[SetEntry],
+    policy: Policy,
+    window: Option<(u64, u32)>,
+    text: &mut Vec<u8>,
+) -> u8 {
+    let mut writer = Counted::new(text);
+    status(&map_report(alloc, set, policy, window, &mut writer))
+}
+
 /// Prints the report of the set that words make, with the window that another word asks for, and its status.
 pub(crate) fn print_report<R: Files + Print + AllocGlobal>(rt: &R, words: &str) -> Option<()> {
     let SetCase {
@@ -19,13 +32,12 @@ pub(crate) fn print_report<R: Files + Print + AllocGlobal>(rt: &R, words: &str) 
         others,
     } = read_set(rt, words)?;
     let set = set_of(rt.alloc(), &members)?;
-    let window = match others.first() {
-        Some(word) => Some(window_of(word)?),
-        None => None,
-    };
+    let mut window = None;
+    for word in &others {
+        window = Some(window_of(word)?);
+    }
     let mut text = Vec::new(rt.alloc());
-    let mut writer = Counted::new(&mut text);
-    let answer = map_report(rt.alloc(), &set, policy, window, &mut writer);
+    let status = write_report(rt.alloc(), &set, policy, window, &mut text);
     print!(rt; "{}", str::from_utf8(&text).ok()?).ok()?;
-    println!(rt; "status {}", status(&answer)).ok()
+    println!(rt; "status {status}").ok()
 }
