@@ -26,7 +26,15 @@ fn returns<S: Space>(alloc: Global, space: &mut S, image: u16, away: u64) -> Opt
     Some(all_bytes(alloc, space)? == before)
 }
 
-/// Prints whether moves there and back give every byte of before, in both spaces.
+/// Prints whether the move of a word, and the one back, give every byte of before, in both spaces.
+fn print_returned<R: Print + AllocGlobal>(rt: &R, both: &mut Both, word: &str) -> Option<()> {
+    let (image, away) = move_of(word)?;
+    let mapped = returns(rt.alloc(), &mut both.mapped, image, away)?;
+    let filed = returns(rt.alloc(), &mut both.filed, image, away)?;
+    println!(rt; "as before {mapped} {filed}").ok()
+}
+
+/// Prints the same of each move that words name, in the set that the others make.
 pub(crate) fn print_return<R: Files + Print + AllocGlobal>(rt: &R, words: &str) -> Option<()> {
     let SetCase {
         members,
@@ -36,10 +44,7 @@ pub(crate) fn print_return<R: Files + Print + AllocGlobal>(rt: &R, words: &str) 
     let set = set_of(rt.alloc(), &members)?;
     let mut both = opened(rt.alloc(), &set, policy)?;
     for word in &others {
-        let (image, away) = move_of(word)?;
-        let mapped = returns(rt.alloc(), &mut both.mapped, image, away)?;
-        let filed = returns(rt.alloc(), &mut both.filed, image, away)?;
-        println!(rt; "as before {mapped} {filed}").ok()?;
+        print_returned(rt, &mut both, word)?;
     }
     Some(())
 }
