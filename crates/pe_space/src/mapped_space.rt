@@ -36,11 +36,7 @@ impl<A: Allocator> Model for MappedSpace<A> {
 }
 
 /// Writes an address into the slot of a binding.
-fn put_address<A: Allocator + Copy>(
-    images: &mut [MappedImage<A>],
-    binding: &Binding,
-    address: u64,
-)
+fn put_address<A: Allocator + Copy>(images: &mut [MappedImage<A>], binding: &Binding, address: u64)
     requires { IsSlot (images_of images.old) binding.now }
     ensures images { images_of images.new ≡ images_of images.old }
     ensures memories { memories_of images.new ≡ put_slot (images_of images.old) binding.now address (memories_of images.old) }
