@@ -39,25 +39,6 @@ pub const C: Member = Member {
     base: 0x40_0000,
 };
 
-/// V1 at its ImageBase, under the name of [`A`], as are [`RELOCATED`] and [`WIDE`]: no two of them stand in one set.
-pub const PLAIN: Member = Member {
-    vector: Vector::V1,
-    ..A
-};
-
-/// V2 at its ImageBase.
-pub const RELOCATED: Member = Member {
-    vector: Vector::V2,
-    ..A
-};
-
-/// V3 at its ImageBase.
-pub const WIDE: Member = Member {
-    vector: Vector::V3,
-    base: 0x1_8000_0000,
-    ..A
-};
-
 /// The files of a set, each filled up with zeros to 0x600 bytes.
 pub fn files_of(alloc: Global, members: &[Member]) -> Result<Vec<Vec<u8>>, FileError> {
     let mut files = Vec::new(alloc);

@@ -1,7 +1,5 @@
 //! The object file O1.
 
-use crate::files::{FileError, Piece, put_pieces};
-
 /// O1: for AMD64, a section `.text$long` with one relocation, and four symbols.
 pub const O1: &[u8; 191] = &[
     // the COFF header
@@ -32,10 +30,3 @@ pub const O1: &[u8; 191] = &[
     0x19, 0x00, 0x00, 0x00, 0x2e, 0x74, 0x65, 0x78, 0x74, 0x24, 0x6c, 0x6f, 0x6e, 0x67, 0x00, 0x61,
     0x62, 0x63, 0x64, 0x65, 0x66, 0x67, 0x68, 0x69, 0x00,
 ];
-
-/// O1 with pieces written over it.
-pub fn changed(pieces: &[Piece]) -> Result<[u8; 191], FileError> {
-    let mut file = *O1;
-    put_pieces(&mut file, pieces)?;
-    Ok(file)
-}
