@@ -92,7 +92,22 @@ fn print_image<R: Print + AllocGlobal>(rt: &R, both: &Both, image: u16) -> Optio
     println!(rt; "image {image} base {base:#x} size {len:#x} longer refused {is_refused}").ok()
 }
 
-/// Prints the base and the size of each image of a set, whose window has the bytes that stand there one by one.
+/// Prints how many images both spaces have, and whether no number past them has a size.
+fn print_count<R: Print>(rt: &R, both: &Both) -> Option<()> {
+    let count = both.mapped.image_count();
+    if both.filed.image_count() != count {
+        return None;
+    }
+    let mut has_size = false;
+    for number in [count, 257, u16::MAX] {
+        let sizes = (both.mapped.size_of(number), both.filed.size_of(number));
+        has_size = has_size || sizes != (None, None);
+    }
+    println!(rt; "images {count} size past them {has_size}").ok()
+}
+
+/// Prints the base and the size of each image of a set, whose window has the bytes that stand there one by one, and how many
+/// there are.
 pub(crate) fn print_whole<R: Files + Print + AllocGlobal>(rt: &R, words: &str) -> Option<()> {
     let SetCase {
         members,
@@ -104,5 +119,5 @@ pub(crate) fn print_whole<R: Files + Print + AllocGlobal>(rt: &R, words: &str) -
     for image in 0..both.mapped.image_count() {
         print_image(rt, &both, image)?;
     }
-    Some(())
+    print_count(rt, &both)
 }
