@@ -13,7 +13,7 @@ use pe_view::View;
 
 /// The fields of the headers, each read by its offset, in a file that holds the whole optional header up to its
 /// directories.
-#[derive(Clone, Copy, Debug)]
+#[derive(Clone, Copy)]
 pub(crate) struct Fields<'a> {
     view: View<'a>,
     offset: u32,

@@ -1,4 +1,4 @@
-ghost use Rattle.std.specs.Prelude.{◌≡◌, ◌+◌, ◌≤◌, ◌^◌, ◌⊎◌, None, IsTrue};
+ghost use Rattle.std.specs.Prelude.{◌≡◌, ◌+◌, ◌≤◌, ◌^◌, ◌⊎◌, ◌==◌, ◌&&◌, ◌||◌, None, IsTrue};
 ghost use Rattle.pe_view.specs.View.{size_of};
 ghost use Rattle.pe_view.specs.Faults.{first_standing};
 ghost use Rattle.pe_layout.specs.SectionFaults.{placing_tests};
@@ -109,11 +109,17 @@ impl<'a> Layout<'a> {
         ensures { result ≡ (image_of self.now).directory index }
     {
         let directory = *self.headers.directories.as_slice().get(index)?;
-        if directory.rva == 0
-            || (index == directory_index::BASE_RELOCATION && directory.size == 0)
-        {
+        if is_absent(index, directory) {
             return None;
         }
         Some(directory)
     }
+}
+
+/// Whether the table of a directory that the headers hold is absent: its RVA is 0, or it is that of base relocations and its
+/// Size is 0.
+fn is_absent(index: usize, directory: Directory) -> bool
+    ensures { result ≡ (directory.rva == 0 || (index == 5 && directory.size == 0)) }
+{
+    directory.rva == 0 || (index == directory_index::BASE_RELOCATION && directory.size == 0)
 }

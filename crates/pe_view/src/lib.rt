@@ -19,6 +19,3 @@ mod view;
 pub use fault::{Fault, Place};
 pub use refusal::Refusal;
 pub use view::View;
-
-#[cfg(test)]
-mod tests;

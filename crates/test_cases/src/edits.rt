@@ -19,7 +19,7 @@ fn put(file: &mut [u8], offset: u64, bytes: &[u8]) -> Option<()> {
 /// Changes a file as a word says: `len=` and a number of bytes cuts it, or fills it up with zeros; an offset, `=` and digits in
 /// pairs writes bytes over it. `None` where the word says neither, where the bytes do not lie in the file, or where memory is
 /// wanted.
-pub fn edit(alloc: Global, file: &mut Vec<u8>, word: &str) -> Option<()> {
+pub(crate) fn edit(alloc: Global, file: &mut Vec<u8>, word: &str) -> Option<()> {
     let (place, digits) = word.split_once("=")?;
     if place == "len" {
         let len = number_of(digits)?;
@@ -33,7 +33,7 @@ pub fn edit(alloc: Global, file: &mut Vec<u8>, word: &str) -> Option<()> {
 }
 
 /// The file that the first word names, changed as the others say; `None` also where it cannot be read.
-pub fn edited_file<R: Files + AllocGlobal>(rt: &R, words: &str) -> Option<Vec<u8>> {
+pub(crate) fn edited_file<R: Files + AllocGlobal>(rt: &R, words: &str) -> Option<Vec<u8>> {
     let mut words = words.split(" ");
     let mut file = fs::read(rt, words.next()?).ok()?;
     for word in words {

@@ -5,7 +5,7 @@ use std::fmt::{self, Display};
 
 /// A fault with its number, its image and its place.
 #[derive(Clone, Copy)]
-pub struct FaultLine(pub Fault);
+pub(crate) struct FaultLine(pub Fault);
 
 impl Display for FaultLine {
     fn fmt<W: fmt::Write>(&self, f: &mut fmt::Formatter<W>) -> fmt::Result {

@@ -3,13 +3,13 @@
 use std::alloc::Global;
 
 /// The number that hexadecimal digits give, with or without `0x` before them.
-pub fn number_of(word: &str) -> Option<u64> {
+pub(crate) fn number_of(word: &str) -> Option<u64> {
     let digits = word.strip_prefix("0x").unwrap_or(word);
     u64::from_str_radix(digits, 16).ok()
 }
 
 /// The bytes of a text in which `\x` and two hexadecimal digits stand for a byte; `None` also where memory is wanted.
-pub fn bytes_of(alloc: Global, text: &str) -> Option<Vec<u8>> {
+pub(crate) fn bytes_of(alloc: Global, text: &str) -> Option<Vec<u8>> {
     let mut bytes = Vec::new(alloc);
     for (index, part) in text.split("\\x").enumerate() {
         let mut rest = part;

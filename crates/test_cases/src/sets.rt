@@ -9,7 +9,7 @@ use std::rt::Files;
 
 /// A file of a set, under the name of its module, and where it stands.
 #[derive(Drop)]
-pub struct Member {
+pub(crate) struct Member {
     pub name: Vec<u8>,
     pub file: Vec<u8>,
     pub base: u64,
@@ -17,7 +17,7 @@ pub struct Member {
 
 /// A set as a case has it.
 #[derive(Drop)]
-pub struct SetCase<'a> {
+pub(crate) struct SetCase<'a> {
     pub members: Vec<Member>,
     /// What becomes of imports from modules that are not in the set.
     pub policy: Policy,
@@ -51,7 +51,7 @@ fn add_word<'a, R: Files + AllocGlobal>(
 }
 
 /// The set that words make, or `None` where one of them cannot be read.
-pub fn read_set<'a, R: Files + AllocGlobal>(rt: &R, words: &'a str) -> Option<SetCase<'a>> {
+pub(crate) fn read_set<'a, R: Files + AllocGlobal>(rt: &R, words: &'a str) -> Option<SetCase<'a>> {
     let mut set = SetCase {
         members: Vec::new(rt.alloc()),
         policy: Policy::Strict,
@@ -67,7 +67,7 @@ pub fn read_set<'a, R: Files + AllocGlobal>(rt: &R, words: &'a str) -> Option<Se
 }
 
 /// The set of these files, which it borrows; `None` where memory is wanted.
-pub fn set_of(alloc: Global, members: &[Member]) -> Option<Vec<SetEntry<'_>>> {
+pub(crate) fn set_of(alloc: Global, members: &[Member]) -> Option<Vec<SetEntry<'_>>> {
     let mut set = Vec::new(alloc);
     for member in members {
         let entry = SetEntry {

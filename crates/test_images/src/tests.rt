@@ -5,4 +5,5 @@ mod head;
 mod images;
 mod imports;
 mod layout;
+mod view;
 mod whole;

@@ -1,5 +1,5 @@
 -- One more run is written.
-use Rattle.std.proofs.Common.{length-take, length-drop, arith}
+use Rattle.std.proofs.Common.{length-take, length-drop, arith, rules}
 use Rattle.pe_layout.specs.Layout.{image_of}
 use Rattle.pe_layout.proofs.Runs.{fill_step}
 use Rattle.pe_layout.proofs.layout.Layout.fill.Goals as goal
@@ -13,3 +13,7 @@ loop-done-preserved c =
       omega arith,
       fill_step (image_of c.args.self.now).byte c.args.rva c.loop-done.done c.fill_run-done.result c.args.buffer.now c.loop-done.buffer c.fill_run-done.new.buffer (omega arith) c.loop-done.invariant.1 c.fill_run-done.ensures.filled,
     )
+
+pub returns-then-rva-size-clause-unchanged : goal.returns-then-rva-size-clause-unchanged
+unfolding image_of
+returns-then-rva-size-clause-unchanged c = search rules

@@ -1,0 +1,11 @@
+use Rattle.std.proofs.Common.{rules}
+use Rattle.pe_tables.proofs.fixups.read_entry.Goals as goal
+
+pub returns-then-meets-2 : goal.returns-then-meets-2
+returns-then-meets-2 c = search rules
+
+pub add-requires-clause-apart : goal.add-requires-clause-apart
+add-requires-clause-apart c = search rules
+
+pub returns : goal.returns
+returns c = search rules

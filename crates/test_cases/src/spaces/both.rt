@@ -1,0 +1,53 @@
+//! One set as both spaces, that in memory and that over files.
+
+use crate::fault_line::FaultLine;
+use pe_slow::slow_first;
+use pe_space::{FileSpace, MapError, MappedSpace, Policy, SetEntry, map, open_space};
+use std::alloc::Global;
+
+/// The two spaces of a set.
+#[derive(Drop)]
+pub(crate) struct Both<'a> {
+    pub mapped: MappedSpace<Global>,
+    pub filed: FileSpace<'a, Global>,
+}
+
+/// The first error of a set, where both spaces and the slow checker agree in it.
+pub(crate) fn first_error<'a>(
+    alloc: Global,
+    set: &'a [SetEntry<'a>],
+    policy: Policy,
+) -> Option<Option<MapError>> {
+    let error = slow_first(alloc, set, policy).ok()?;
+    if map(alloc, set, policy).err() == error && open_space(alloc, set, policy).err() == error {
+        Some(error)
+    } else {
+        None
+    }
+}
+
+/// The spaces of a set that has no fault.
+pub(crate) fn opened<'a>(
+    alloc: Global,
+    set: &'a [SetEntry<'a>],
+    policy: Policy,
+) -> Option<Both<'a>> {
+    let Ok(mapped) = map(alloc, set, policy) else {
+        return None;
+    };
+    let Ok(filed) = open_space(alloc, set, policy) else {
+        return None;
+    };
+    Some(Both { mapped, filed })
+}
+
+/// Prints an error of a set.
+pub(crate) fn print_error<R: Print>(rt: &R, error: MapError) -> Option<()> {
+    match error {
+        MapError::Fault(fault) => println!(rt; "{}", FaultLine(fault)).ok(),
+        MapError::Cycle { fault, length } => {
+            println!(rt; "{} cycle {length}", FaultLine(fault)).ok()
+        }
+        MapError::Memory => None,
+    }
+}

@@ -1,0 +1,124 @@
+//! Windows of both spaces of a set, which have to be the same.
+
+use crate::numbers::number_of;
+use crate::sets::{SetCase, read_set, set_of};
+use crate::spaces::both::{Both, opened};
+use crate::spaces::commands::move_of;
+use pe_space::Space;
+use std::alloc::Global;
+use std::rt::Files;
+
+/// Whether both spaces answer the same of a window, and leave the same bytes in a buffer.
+pub(crate) fn agree_in(alloc: Global, both: &Both, address: u64, len: usize) -> Option<bool> {
+    let mut bytes = vec![in alloc; 0xee; len].ok()?;
+    let mut others = vec![in alloc; 0xee; len].ok()?;
+    let answer = both.mapped.window(address, bytes.as_mut_slice());
+    let other = both.filed.window(address, others.as_mut_slice());
+    Some(
+        answer == other && bytes == others && both.mapped.byte(address) == both.filed.byte(address),
+    )
+}
+
+/// How many of the windows of up to 12 bytes from each of 16 addresses on are the same in both spaces.
+fn count_same(alloc: Global, both: &Both, first: u64) -> Option<u32> {
+    let mut same = 0_u32;
+    for offset in 0..16_u64 {
+        for len in 0..=12_usize {
+            if agree_in(alloc, both, first.wrapping_add(offset), len)? {
+                same = same.saturating_add(1);
+            }
+        }
+    }
+    Some(same)
+}
+
+/// Moves an image of both spaces, where the word is an image and a base; else prints how many windows are the same that begin at
+/// the address of the word, and up to 15 bytes behind it.
+fn print_edge<R: Print + AllocGlobal>(rt: &R, both: &mut Both, word: &str) -> Option<()> {
+    if let Some((image, base)) = move_of(word) {
+        let moved = both.mapped.move_image(image, base).is_ok();
+        let other = both.filed.move_image(image, base).is_ok();
+        return println!(rt; "moved {moved} {other}").ok();
+    }
+    let same = count_same(rt.alloc(), both, number_of(word)?)?;
+    println!(rt; "{same} windows are the same").ok()
+}
+
+/// Prints how many of the windows around addresses are the same in both spaces of a set.
+pub(crate) fn print_edges<R: Files + Print + AllocGlobal>(rt: &R, words: &str) -> Option<()> {
+    let SetCase {
+        members,
+        policy,
+        others,
+    } = read_set(rt, words)?;
+    let set = set_of(rt.alloc(), &members)?;
+    let mut both = opened(rt.alloc(), &set, policy)?;
+    for word in &others {
+        print_edge(rt, &mut both, word)?;
+    }
+    Some(())
+}
+
+/// The bytes of an image of a space, which are those that stand at its addresses one by one.
+pub(crate) fn whole<S: Space>(alloc: Global, space: &S, image: u16) -> Option<Vec<u8>> {
+    let base = space.base_of(image)?;
+    let mut bytes = vec![in alloc; 0; space.size_of(image)? as usize].ok()?;
+    space.window(base, bytes.as_mut_slice()).ok()?;
+    for (rva, byte) in bytes.iter().enumerate() {
+        if space.byte(base.wrapping_add(rva as u64)) != Some(*byte) {
+            return None;
+        }
+    }
+    Some(bytes)
+}
+
+/// Whether a space refuses a window of one byte more than an image has, and leaves its buffer.
+fn refuses_longer<S: Space>(alloc: Global, space: &S, image: u16) -> Option<bool> {
+    let base = space.base_of(image)?;
+    let len = (space.size_of(image)? as usize).checked_add(1)?;
+    let mut longer = vec![in alloc; 0xee; len].ok()?;
+    let is_refused = space.window(base, longer.as_mut_slice()).is_err();
+    Some(is_refused && longer.iter().all(|byte| *byte == 0xee))
+}
+
+/// Prints the base and the size of an image, whose bytes are the same in both spaces.
+fn print_image<R: Print + AllocGlobal>(rt: &R, both: &Both, image: u16) -> Option<()> {
+    let bytes = whole(rt.alloc(), &both.mapped, image)?;
+    if bytes != whole(rt.alloc(), &both.filed, image)? {
+        return None;
+    }
+    let is_refused = refuses_longer(rt.alloc(), &both.mapped, image)?
+        && refuses_longer(rt.alloc(), &both.filed, image)?;
+    let (base, len) = (both.filed.base_of(image)?, bytes.len());
+    println!(rt; "image {image} base {base:#x} size {len:#x} longer refused {is_refused}").ok()
+}
+
+/// Prints how many images both spaces have, and whether no number past them has a size.
+fn print_count<R: Print>(rt: &R, both: &Both) -> Option<()> {
+    let count = both.mapped.image_count();
+    if both.filed.image_count() != count {
+        return None;
+    }
+    let mut has_size = false;
+    for number in [count, 257, u16::MAX] {
+        let sizes = (both.mapped.size_of(number), both.filed.size_of(number));
+        has_size = has_size || sizes != (None, None);
+    }
+    println!(rt; "images {count} size past them {has_size}").ok()
+}
+
+/// Prints the base and the size of each image of a set, whose window has the bytes that stand there one by one, and how many
+/// there are.
+pub(crate) fn print_whole<R: Files + Print + AllocGlobal>(rt: &R, words: &str) -> Option<()> {
+    let SetCase {
+        members,
+        policy,
+        others: _,
+    } = read_set(rt, words)?;
+    let set = set_of(rt.alloc(), &members)?;
+    let both = opened(rt.alloc(), &set, policy)?;
+    for image in 0..both.mapped.image_count() {
+        print_image(rt, &both, image)?;
+    }
+    print_count(rt, &both)
+}

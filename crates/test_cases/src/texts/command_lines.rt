@@ -1,0 +1,75 @@
+//! Command lines, and what they ask for.
+
+use crate::numbers::bytes_of;
+use pe_tool::{Job, MapFile, Policy, WordsError, parse_words};
+use std::alloc::Global;
+use std::str;
+
+/// What a command line asks for. `''` stands for an empty word.
+fn parse(alloc: Global, line: &str) -> Option<Result<Job, WordsError>> {
+    let mut words = Vec::new(alloc);
+    for word in line.split_ascii_whitespace() {
+        let word = if word == "''" { "" } else { word };
+        words.push(String::from_str(alloc, word).ok()?).ok()?;
+    }
+    Some(parse_words(alloc, &words))
+}
+
+/// Prints what `map` is to map.
+fn print_map<R: Print>(
+    rt: &R,
+    policy: Policy,
+    window: Option<(u64, u32)>,
+    files: &[MapFile],
+) -> Option<()> {
+    println!(rt; "map {policy:?}").ok()?;
+    if let Some((address, count)) = window {
+        println!(rt; "window {address:#x} count {count}").ok()?;
+    }
+    for file in files {
+        println!(rt; "file {:#x} {} {}", file.base, file.path, file.name).ok()?;
+    }
+    Some(())
+}
+
+/// Prints a job.
+fn print_job<R: Print>(rt: &R, job: &Job) -> Option<()> {
+    match job {
+        Job::Check { file } => println!(rt; "check {file}").ok(),
+        Job::Dump { file } => println!(rt; "dump {file}").ok(),
+        Job::Object { file } => println!(rt; "object {file}").ok(),
+        Job::Map {
+            policy,
+            window,
+            files,
+        } => print_map(rt, *policy, *window, files),
+        Job::Rebase {
+            base,
+            source,
+            target,
+        } => println!(rt; "rebase {base:#x} {source} {target}").ok(),
+    }
+}
+
+/// Prints what a command line asks for: its job, or the text that is told.
+pub(crate) fn print_words<R: Print + AllocGlobal>(rt: &R, line: &str) -> Option<()> {
+    match parse(rt.alloc(), line)? {
+        Ok(job) => print_job(rt, &job),
+        Err(WordsError::Bad(text)) => print!(rt; "bad\n{text}").ok(),
+        Err(WordsError::Help(text)) => print!(rt; "help\n{text}").ok(),
+        Err(WordsError::Memory) => None,
+    }
+}
+
+/// Prints how a command line is told, and whether its text has a part, which stands behind ` has `.
+pub(crate) fn print_has<R: Print + AllocGlobal>(rt: &R, line: &str) -> Option<()> {
+    let (line, part) = line.split_once(" has ")?;
+    let part = bytes_of(rt.alloc(), part)?;
+    let part = str::from_utf8(&part).ok()?;
+    match parse(rt.alloc(), line)? {
+        Ok(job) => print_job(rt, &job),
+        Err(WordsError::Bad(text)) => println!(rt; "bad {}", text.contains(part)).ok(),
+        Err(WordsError::Help(text)) => println!(rt; "help {}", text.contains(part)).ok(),
+        Err(WordsError::Memory) => None,
+    }
+}

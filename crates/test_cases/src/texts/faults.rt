@@ -1,0 +1,47 @@
+//! Words of faults, and of what first bytes show.
+
+use crate::numbers::number_of;
+use pe_tool::{FaultText, fault_words, file_kind};
+use pe_view::{Fault, Place};
+
+/// The place that a word and a number name.
+fn place_of(word: &str, number: u64) -> Option<Place> {
+    match word {
+        "file" => Some(Place::File(number)),
+        "rva" => Some(Place::Rva(u32::try_from(number).ok()?)),
+        "address" => Some(Place::Address(number)),
+        "item" => Some(Place::Item(u32::try_from(number).ok()?)),
+        _ => None,
+    }
+}
+
+/// Prints a fault in words with its place: the words are its number, and the kind and the number of its place.
+pub(crate) fn print_fault<R: Print>(rt: &R, words: &str) -> Option<()> {
+    let (number, place) = words.split_once(" ")?;
+    let (kind, digits) = place.split_once(" ")?;
+    let text = FaultText(Fault {
+        number: u16::from_str_radix(number, 10).ok()?,
+        image: 0,
+        place: place_of(kind, number_of(digits)?)?,
+    });
+    println!(rt; "{text}").ok()
+}
+
+/// Prints the words of each number that belongs to a fault.
+pub(crate) fn print_words_of_faults<R: Print>(rt: &R) -> Option<()> {
+    for number in 0..=u16::MAX {
+        if let Some(words) = fault_words(number) {
+            println!(rt; "{number} {}: {}", words.subject, words.rule).ok()?;
+        }
+    }
+    Some(())
+}
+
+/// Prints what first bytes, in hexadecimal digits, show a file to be.
+pub(crate) fn print_kind<R: Print + AllocGlobal>(rt: &R, digits: &str) -> Option<()> {
+    let first = hex::decode(rt.alloc(), digits).ok()?;
+    match file_kind(&first) {
+        Some(kind) => println!(rt; "{kind}").ok(),
+        None => println!(rt; "nothing").ok(),
+    }
+}
