@@ -233,17 +233,22 @@ fn push_strings<A: Allocator + Copy>(
     strings.push_bytes(bytes)
 }
 
-/// PointerToSymbolTable of an object whose symbol table begins at a place.
-fn symbols_pointer<A: Allocator + Copy>(
-    object: &Object<A>,
-    strings: &StringTable<A>,
-    start: u32,
-) -> u32
-    requires { texts_in strings.now ≡ strings_of (object_view object.now) }
-    ensures { result ≡ (if has_strings (object_view object.now) then start else 0) }
+/// Where the bodies of an object's sections begin in its written form: behind the section table.
+fn bodies_start<A: Allocator + Copy>(object: &Object<A>) -> u32
+    requires { IsWritable (object_view object.now) }
+    ensures { result ≡ bodies_start (object_view object.now) }
+{
+    20 + object.optional.len() as u32 + 40 * object.sections.as_slice().len() as u32
+}
+
+/// PointerToSymbolTable of an object.
+fn symbols_pointer<A: Allocator + Copy>(object: &Object<A>, strings: &StringTable<A>) -> u32
+    requires texts { texts_in strings.now ≡ strings_of (object_view object.now) }
+    requires form { IsWritable (object_view object.now) }
+    ensures { result ≡ (if has_strings (object_view object.now) then symbols_start (object_view object.now) else 0) }
 {
     if has_strings(object, strings) {
-        start
+        bodies_start(object) + bodies_size(object.sections.as_slice()) as u32
     } else {
         0
     }
@@ -280,13 +285,14 @@ fn push_headers<A: Allocator + Copy>(
     ensures bytes { OnOk result (bytes.new.items ≡ bytes.old.items ++ coff_header (object_view object.now) ++ (object_view object.now).optional
         ++ section_table (texts_in places.now.strings) (bodies_start (object_view object.now)) (object_view object.now).sections) }
 {
-    let sections = object.sections.as_slice();
-    let start = 20 + object.optional.len() as u32 + 40 * sections.len() as u32;
-    let end = start + bodies_size(sections) as u32;
-    push_coff_header(bytes, object, symbols_pointer(object, &places.strings, end))?;
+    push_coff_header(bytes, object, symbols_pointer(object, &places.strings))?;
     bytes.extend_from_slice(object.optional)?;
-    push_table(bytes, places, start, sections)?;
-    Ok(())
+    push_table(
+        bytes,
+        places,
+        bodies_start(object),
+        object.sections.as_slice(),
+    )
 }
 
 /// Adds the bodies of sections, the symbols and the string table of an object that no fault refuses.

@@ -10,7 +10,7 @@ use Rattle.pe_tables.specs.Exports.{Exports}
 use Rattle.pe_tables.specs.Imports.{Import}
 use Rattle.pe_tables.specs.declared.fixups.Fixup.{Fixup}
 use Rattle.pe_lines.specs.Format.{format_name}
-use Rattle.pe_lines.specs.HeaderFields.{coff_fields, standard_fields, base_of_data_fields, windows_fields}
+use Rattle.pe_text.specs.HeaderFields.{coff_fields, standard_fields, base_of_data_fields, windows_fields}
 use Rattle.pe_lines.specs.TableLines.{export_lines, import_line, fixup_line}
 use Rattle.pe_text.specs.Field.{field_line}
 use Rattle.pe_text.specs.MachineLine.{machine_line}

@@ -7,8 +7,8 @@ pub use Rattle.pe_tables.specs.Imports
 pub use Rattle.pe_tables.specs.Key
 pub use Rattle.pe_image.specs.ImageTests
 pub use Rattle.pe_text.specs.Engine
+pub use Rattle.pe_text.specs.HeaderFields
 pub mod Dump
 pub mod Format
-pub mod HeaderFields
 pub mod Reports
 pub mod TableLines

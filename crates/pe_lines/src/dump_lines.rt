@@ -6,17 +6,19 @@ ghost use Rattle.pe_tables.specs.ExportsView.{exports_view};
 ghost use Rattle.pe_tables.specs.ImportView.{import_view};
 ghost use Rattle.pe_text.specs.TextWriter.{IsReady, Adds};
 ghost use Rattle.pe_text.specs.Field.{field_line};
-ghost use Rattle.pe_lines.specs.HeaderFields.{base_of_data_fields};
+ghost use Rattle.pe_text.specs.HeaderFields.{base_of_data_fields};
 ghost use Rattle.pe_text.specs.Text.{numbered};
 ghost use Rattle.pe_lines.specs.Dump.{format_line, pe_offset_line, directory_line, name_of, section_line, field_lines, dump_text};
 
 use crate::format::format_name;
-use crate::header_fields::{coff_fields, standard_fields, windows_fields};
 use crate::table_lines::{write_exports, write_fixups, write_imports};
 use pe_head::{Directory, Headers, Magic, SectionHeader};
 use pe_image::Image;
 use pe_text::Part::{Decimal, Hex8, Quoted, Text};
-use pe_text::{Field, Sink, TextWriter, write_fields, write_machine, write_parts};
+use pe_text::{
+    Field, Sink, TextWriter, coff_fields, standard_fields, windows_fields, write_fields,
+    write_machine, write_parts,
+};
 use pe_view::View;
 use std::alloc::Allocator;
 

@@ -13,7 +13,6 @@
 mod dump_lines;
 mod engine;
 mod format;
-mod header_fields;
 mod table_lines;
 
 pub use engine::{check, dump};

@@ -7,6 +7,7 @@ pub mod FaultLine
 pub mod FaultWords
 pub mod Field
 pub mod FileKind
+pub mod HeaderFields
 pub mod MachineLine
 pub mod Outcome
 pub mod Part

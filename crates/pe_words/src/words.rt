@@ -71,6 +71,38 @@ fn rebase_job<P: Copy>(alloc: Global, found: &ArgMatches<'_>) -> Result<Job<P>, 
     }
 }
 
+/// What is told where a command is none of the program's: clap refuses all such words before.
+fn no_command(alloc: Global) -> WordsError {
+    match String::from_str(alloc, "error: no command\n") {
+        Ok(text) => WordsError::Bad(text),
+        Err(_) => WordsError::Memory,
+    }
+}
+
+/// What the words of a command ask for.
+fn job_of<P: Copy>(
+    alloc: Global,
+    name: &str,
+    found: &ArgMatches<'_>,
+    strict: P,
+    known: P,
+) -> Result<Job<P>, WordsError> {
+    match name {
+        "check" => Ok(Job::Check {
+            file: file_of(alloc, found, "FILE")?,
+        }),
+        "dump" => Ok(Job::Dump {
+            file: file_of(alloc, found, "FILE")?,
+        }),
+        "object" => Ok(Job::Object {
+            file: file_of(alloc, found, "FILE")?,
+        }),
+        "map" => map_job(alloc, found, strict, known),
+        "rebase" => rebase_job(alloc, found),
+        _ => Err(no_command(alloc)),
+    }
+}
+
 /// What the words after the program's name ask for. The policy of `map` is `known` where a word says so, else `strict`.
 ///
 /// `Bad` and `Help` hold clap's own text, or one of its form. `Memory` comes only where an allocation was refused.
@@ -85,18 +117,7 @@ pub fn parse_words<P: Copy>(
         Err(error) => return Err(refusal(alloc, error)),
     };
     match found.subcommand() {
-        Some(("check", inner)) => Ok(Job::Check {
-            file: file_of(alloc, inner, "FILE")?,
-        }),
-        Some(("dump", inner)) => Ok(Job::Dump {
-            file: file_of(alloc, inner, "FILE")?,
-        }),
-        Some(("object", inner)) => Ok(Job::Object {
-            file: file_of(alloc, inner, "FILE")?,
-        }),
-        Some(("map", inner)) => map_job(alloc, inner, strict, known),
-        Some(("rebase", inner)) => rebase_job(alloc, inner),
-        // clap has refused all other words
-        _ => Err(WordsError::Bad(String::from_str(alloc, "error: no command\n")?)),
+        Some((name, inner)) => job_of(alloc, name, inner, strict, known),
+        None => Err(no_command(alloc)),
     }
 }

@@ -73,6 +73,14 @@ fn optional_size(magic: Magic) -> u16
     magic.fixed_size() as u16 + 128
 }
 
+/// NumberOfSections.
+fn number_of_sections<P: Allocator>(plan: &Plan<'_, P>) -> u16
+    requires { length plan.now.sections.items ≤ 96 }
+    ensures { result ≡ length plan.now.sections.items }
+{
+    plan.sections.len() as u16
+}
+
 /// Adds the COFF header.
 fn push_coff_header<A: Allocator, P: Allocator>(
     bytes: &mut Vec<u8, A>,
@@ -83,7 +91,7 @@ fn push_coff_header<A: Allocator, P: Allocator>(
     ensures bytes { OnOk result (bytes.new.items ≡ bytes.old.items ++ rows_bytes (coff_rows plan.now)) }
 {
     push_u16(bytes, plan.machine)?;
-    push_u16(bytes, plan.sections.len() as u16)?;
+    push_u16(bytes, number_of_sections(plan))?;
     push_u32(bytes, plan.time_stamp)?;
     push_u32(bytes, 0)?;
     push_u32(bytes, 0)?;

@@ -1,0 +1,4 @@
+mod asserts;
+mod files;
+mod images;
+mod program;

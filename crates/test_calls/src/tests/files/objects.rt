@@ -1,0 +1,130 @@
+//! What `coff_object` reads of object files.
+
+use super::o1::{list, o1, same_object};
+use crate::tests::asserts::assert_holds;
+use coff_object::{Aux, Object, Symbol, SymbolSection, read_object};
+use pe_vectors::objects::O1;
+use std::alloc::Global;
+use std::process::Abort;
+
+#[test]
+fn o1_is_read(rt: HostRuntime) {
+    let alloc = rt.alloc();
+    let object = read_object(alloc, O1).expect(&rt, "an object");
+    assert!(&rt; same_object(&object, &o1(&rt, alloc, b".text$long")));
+}
+
+#[test]
+fn a_header_alone_holds_nothing(rt: HostRuntime) {
+    let object = read_object(rt.alloc(), &[0; 20]).expect(&rt, "an object");
+    assert!(&rt; object.sections.is_empty() && object.symbols.is_empty());
+}
+
+/// The bytes of an auxiliary record, which differ.
+const RECORD: &[u8; 18] = &[
+    0x81, 0x82, 0x83, 0x84, 0x85, 0x86, 0x87, 0x88, 0x89, 0x8a, 0x8b, 0x8c, 0x8d, 0x8e, 0x8f, 0x90,
+    0x91, 0x92,
+];
+
+/// Class, type and section of a symbol, and the shape of its auxiliary record.
+type Shape = (u8, u16, SymbolSection, Aux<'static>);
+
+/// The record of a function.
+const FUNCTION: Aux<'static> = Aux::Function {
+    tag_index: 0x8483_8281,
+    total_size: 0x8887_8685,
+    pointer_to_linenumber: 0x8c8b_8a89,
+    pointer_to_next_function: 0x908f_8e8d,
+};
+
+/// A record without a shape.
+const RAW: Aux<'static> = Aux::Raw { bytes: RECORD };
+
+/// Every shape, and symbols that are nearly of it.
+const SHAPES: &[Shape] = &[
+    (2, 0x20, SymbolSection::Section(1), FUNCTION),
+    (2, 0x20, SymbolSection::Undefined, RAW),
+    (2, 0x20, SymbolSection::Absolute, RAW),
+    (2, 0x20, SymbolSection::Debug, RAW),
+    (2, 0x21, SymbolSection::Section(1), RAW),
+    (2, 0x120, SymbolSection::Section(1), RAW),
+    (
+        101,
+        0,
+        SymbolSection::Section(1),
+        Aux::Lines {
+            line: 0x8685,
+            next: 0x908f_8e8d,
+        },
+    ),
+    (
+        105,
+        0x20,
+        SymbolSection::Undefined,
+        Aux::Weak {
+            tag_index: 0x8483_8281,
+            search: 0x8887_8685,
+        },
+    ),
+    (103, 0, SymbolSection::Debug, Aux::File { name: RECORD }),
+    (
+        3,
+        0,
+        SymbolSection::Section(1),
+        Aux::Section {
+            length: 0x8483_8281,
+            relocations: 0x8685,
+            line_numbers: 0x8887,
+            checksum: 0x8c8b_8a89,
+            number: 0x8e8d,
+            selection: 0x8f,
+        },
+    ),
+    (0, 0x20, SymbolSection::Section(1), RAW),
+    (104, 0, SymbolSection::Section(1), RAW),
+];
+
+/// An object with one symbol, which has these auxiliary records.
+fn with_aux(
+    rt: &impl Abort,
+    alloc: Global,
+    shape: Shape,
+    aux: &'static [u8],
+) -> Object<'static, Global> {
+    let symbol = Symbol {
+        name: b"s",
+        value: 0,
+        section: shape.2,
+        kind: shape.1,
+        class: shape.0,
+        aux,
+    };
+    Object {
+        machine: 0x8664,
+        time_stamp: 0,
+        characteristics: 0,
+        optional: b"",
+        sections: Vec::new(alloc),
+        symbols: list(rt, alloc, [symbol]),
+    }
+}
+
+#[test]
+fn an_auxiliary_record_has_the_shape_of_its_symbol(rt: HostRuntime) {
+    for (index, shape) in SHAPES.iter().enumerate() {
+        let object = with_aux(&rt, rt.alloc(), *shape, RECORD);
+        assert_holds(&rt, index, object.aux_view(0, 0) == Some(shape.3));
+        assert_holds(&rt, index, object.aux_view(0, 1).is_none());
+        assert_holds(&rt, index, object.aux_view(1, 0).is_none());
+    }
+}
+
+#[test]
+fn each_auxiliary_record_of_a_symbol_has_its_place(rt: HostRuntime) {
+    let aux = b"a.c\x00............../b.h\x00..............x";
+    let object = with_aux(&rt, rt.alloc(), (103, 0, SymbolSection::Debug, RAW), aux);
+    assert!(&rt; object.aux_view(0, 0) == Some(Aux::File { name: b"a.c" }));
+    assert!(&rt; object.aux_view(0, 1) == Some(Aux::File { name: b"/b.h" }));
+    assert!(&rt; object.aux_view(0, 2).is_none());
+    assert!(&rt; object.aux_view(0, usize::MAX).is_none());
+}

@@ -1,0 +1,11 @@
+//! The tests of one image.
+
+mod cases;
+mod chains;
+mod exports;
+mod fixups;
+mod head;
+mod imports;
+mod layout;
+mod view;
+mod whole;

@@ -1,9 +1,0 @@
-mod exports;
-mod files;
-mod fixups;
-mod head;
-mod images;
-mod imports;
-mod layout;
-mod view;
-mod whole;
