@@ -15,7 +15,7 @@ use std::alloc::{AllocError, Allocator};
 use std::hash::{BuildHasherDefault, FoldHasher};
 
 /// How the search for what a key of a module stands for ends.
-#[derive(Clone, Copy, Debug, PartialEq, Eq)]
+#[derive(Clone, Copy)]
 pub(crate) enum Resolution {
     /// It stands for what is at this RVA of an image of the set.
     Bound {

@@ -23,7 +23,7 @@ Example:
   end";
 
 /// What `map` is asked for.
-#[derive(Debug, Drop)]
+#[derive(Drop)]
 pub(crate) struct MapWords {
     /// Whether slots of modules that are not among the files are left as they stand.
     pub is_known: bool,
