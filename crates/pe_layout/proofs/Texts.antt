@@ -1,7 +1,8 @@
 -- The texts of an image are parts of its file.
-use Rattle.std.proofs.Common.{◌≡◌, ℕ, zero, suc, ◌+◌, ◌-◌, ◌<◌, ◌≤◌, Bool, true, false, cond, List, [], ◌++◌, length, Option, Some, None, refl, sym, ap, ◌∙◌, arith}
-use Rattle.std.specs.Prelude.{nat_lt, nat_le, replicate, option_map, IsSome, IfSome}
-use Rattle.std.proofs.lemmas.Bool.{lt-ltb, le-ltb, le-leb, lt-leb, ltb-true, ltb-false}
+use Rattle.std.proofs.Common.{◌≡◌, ℕ, zero, suc, ◌+◌, ◌-◌, ◌<◌, ◌≤◌, Bool, true, false, cond, List, [], ◌++◌, length, Option, Some, None, refl, sym, ap, ◌∙◌, arith, inl, inr}
+use Rattle.std.specs.Prelude.{nat_lt, nat_le, replicate, option_map, IsSome, IfSome, if◌then◌else◌}
+use Rattle.std.specs.Option.{option_or}
+use Rattle.std.proofs.lemmas.Bool.{lt-ltb, le-ltb, le-leb, lt-leb, ltb-true, ltb-false, cases_lt}
 use Rattle.pe_view.specs.Number.{part}
 use Rattle.pe_view.specs.Text.{zero_ended, text_between}
 use Rattle.pe_head.specs.declared.section.SectionHeader.{SectionHeader}
@@ -72,6 +73,14 @@ with_zeros_some bytes (suc n) lt = refl
 
 pub with_zeros_none : (bytes : List ℕ) (n : ℕ) → n ≡ 0 → with_zeros None bytes n ≡ None
 with_zeros_none bytes n none = rw none refl
+
+-- a text that ends in zeros, if any follow
+pub or_zeros : (t : Option (List ℕ)) (bytes : List ℕ) (less more : ℕ) → option_or t (if nat_lt less more then Some bytes else None) ≡ with_zeros t bytes (more - less)
+or_zeros (Some text) bytes less more = refl
+or_zeros None bytes less more = elim (cases_lt less more) [
+  | inl lt ↦ (let some : nat_lt less more ≡ true = lt-ltb _ _ lt in rw some (sym (with_zeros_some bytes (more - less) (omega (arith, lt)))))
+  | inr le ↦ (let none : nat_lt less more ≡ false = le-ltb _ _ le in rw none (sym (with_zeros_none bytes (more - less) (omega (arith, le)))))
+]
 
 -- a value that is there
 pub some_value : {X : Type 0} (view : X → List ℕ) (o : Option X) (bytes : List ℕ) → IsSome o → IfSome o (λ x. view x ≡ bytes) → option_map view o ≡ Some bytes

@@ -2,6 +2,7 @@ pub use Rattle.pe_view.specs.Faults
 pub use Rattle.pe_view.specs.FirstStanding
 pub use Rattle.pe_view.specs.Number
 pub use Rattle.pe_view.specs.Text
+pub use Rattle.pe_view.specs.TextEnds
 pub use Rattle.pe_view.specs.View
 pub use Rattle.pe_head.specs.Head
 pub use Rattle.pe_head.specs.HeaderFaults
@@ -15,3 +16,4 @@ pub mod Plain
 pub mod Run
 pub mod SectionFaults
 pub mod Sections
+pub mod Span

@@ -1,6 +1,7 @@
 //! An image laid out in memory: which byte stands at which RVA, and which zero-ended text.
 //!
-//! A [`Layout`] borrows the file and holds its headers. It copies nothing and takes no memory:
+//! A [`Layout`] borrows the file and holds its headers. It copies nothing and takes no memory, but for what
+//! [`Layout::text_at`] remembers of texts:
 //!
 //! ```text
 //! let layout = Layout::new(View::new(file), 0)?;
@@ -18,3 +19,4 @@ mod text;
 
 pub use layout::Layout;
 pub use locate::Located;
+pub use text::Text;

@@ -1,53 +1,130 @@
-ghost use Rattle.std.specs.Prelude.{◌≡◌, ◌≤◌, option_map, Some};
+ghost use Rattle.std.specs.Prelude.{◌≡◌, ◌≤◌, IfSome, option_map, option_and_then, Some};
 ghost use Rattle.pe_view.specs.View.{size_of};
+ghost use Rattle.pe_view.specs.Text.{text_between};
+ghost use Rattle.pe_view.specs.TextEnds.{AreEndsOf};
 ghost use Rattle.pe_layout.specs.Sections.{IsInSection};
 ghost use Rattle.pe_layout.specs.PieceText.{section_text};
+ghost use Rattle.pe_layout.specs.Span.{span_text, IsSpan, IsTextOf};
 ghost use Rattle.pe_layout.specs.Layout.{headers_of, file_of, image_of};
 
 use crate::fill::{Run, rest_of};
 use crate::layout::Layout;
 use crate::locate::Spot;
 use pe_head::SectionHeader;
+use pe_view::TextEnds;
+use std::alloc::Allocator;
+
+/// A zero-ended text of an image, as a slice of the file.
+#[derive(Clone, Copy, Debug)]
+pub struct Text<'a> {
+    /// Its bytes, without its zero byte.
+    pub bytes: &'a [u8],
+    /// The file offset at which they end. That of an empty text tells nothing.
+    pub end: u64,
+}
+
+/// The bytes of the file among which a text ends.
+#[derive(Clone, Copy)]
+struct Span {
+    /// The file offset at which the text begins.
+    start: u64,
+    /// The file offset up to which the piece has bytes of the file.
+    end: u64,
+    /// Whether zeros stand behind these, which end the text at the latest.
+    zeros_follow: bool,
+}
+
+/// An empty text.
+const EMPTY: Span = Span {
+    start: 0,
+    end: 0,
+    zeros_follow: true,
+};
 
 impl<'a> Layout<'a> {
-    /// The text at an RVA of a section, where a zero byte of its raw data or its zero fill ends it.
-    fn section_text(&self, section: &SectionHeader, rva: u32) -> Option<&'a [u8]>
+    /// The span of the text at an RVA of a section, which its zero fill ends at the latest.
+    fn section_span(&self, section: &SectionHeader, rva: u32) -> Span
         requires behind { (headers_of self.now).size_of_headers ≤ rva }
         requires found { IsInSection (headers_of self.now) (size_of self.now.view) rva section.now }
-        ensures { option_map (λ text. text.now) result ≡ section_text (headers_of self.now) (file_of self.now) rva (Some section.now) }
+        ensures inside { IsSpan (size_of self.now.view) result }
+        ensures text { span_text (file_of self.now) result ≡ section_text (headers_of self.now) (file_of self.now) rva (Some section.now) }
     {
         let rawlen = section.rawlen();
-        let raw_end = u64::from(section.pointer_to_raw_data) + u64::from(rawlen);
         match rest_of(section, rva) {
-            Run::Zeros { len: _ } => Some(&[]),
-            Run::Raw { file, len } => match self.view.until_zero(file, raw_end) {
-                Some(text) => Some(text),
-                None if rawlen < section.extent() => self.view.slice(file, u64::from(len)),
-                None => None,
+            Run::Zeros { len: _ } => EMPTY,
+            Run::Raw { file, len: _ } => Span {
+                start: file,
+                end: u64::from(section.pointer_to_raw_data) + u64::from(rawlen),
+                zeros_follow: rawlen < section.extent(),
             },
         }
     }
 
-    /// The zero-ended text at an RVA, without its zero byte, as a slice of the file.
-    ///
-    /// A text ends inside the piece in which it begins, else there is `None`; in a gap and in zero fill it is empty; past
-    /// the image there is none.
+    /// The span of the text at an RVA of the image.
     #[tactic(auto, unfolding(crate::specs::Layout::image_of))]
-    pub fn name_at(&self, rva: u32) -> Option<&'a [u8]>
-        ensures { option_map (λ text. text.now) result ≡ (image_of self.now).text rva }
+    fn span_at(&self, rva: u32) -> Option<Span>
+        ensures inside { IfSome result (IsSpan (size_of self.now.view)) }
+        ensures text { option_and_then (span_text (file_of self.now)) result ≡ (image_of self.now).text rva }
     {
         let header_bytes = self.headers.size_of_headers;
         if rva >= self.headers.size_of_image {
             return None;
         }
         if rva < header_bytes {
-            return self
-                .view
-                .until_zero(u64::from(rva), u64::from(header_bytes));
+            return Some(Span {
+                start: u64::from(rva),
+                end: u64::from(header_bytes),
+                zeros_follow: false,
+            });
         }
         match self.spot(rva) {
-            Spot::Gap { end: _ } => Some(&[]),
-            Spot::Section { index: _, section } => self.section_text(section, rva),
+            Spot::Gap { end: _ } => Some(EMPTY),
+            Spot::Section { index: _, section } => Some(self.section_span(section, rva)),
         }
+    }
+
+    /// The text of a span, by the bytes before its first zero byte.
+    fn text_of(&self, span: Span, ended: Option<&'a [u8]>) -> Option<Text<'a>>
+        requires inside { IsSpan (size_of self.now.view) span }
+        requires ended { option_map (λ bytes. bytes.now) ended ≡ text_between (file_of self.now) span.start span.end }
+        ensures text { option_map (λ text. text.bytes.now) result ≡ span_text (file_of self.now) span }
+        ensures place { IfSome result (IsTextOf (file_of self.now)) }
+    {
+        pe_view::laws::texts_are_parts();
+        match ended {
+            Some(bytes) => Some(Text {
+                bytes,
+                end: span.start + bytes.len() as u64,
+            }),
+            None if span.zeros_follow => Some(Text {
+                bytes: self.view.slice(span.start, span.end - span.start)?,
+                end: span.end,
+            }),
+            None => None,
+        }
+    }
+
+    /// The zero-ended text at an RVA, without its zero byte, as a slice of the file.
+    ///
+    /// A text ends inside the piece in which it begins, else there is `None`; in a gap and in zero fill it is empty; past
+    /// the image there is none. The text is searched for its zero byte; [`Layout::text_at`] is for many texts.
+    pub fn name_at(&self, rva: u32) -> Option<&'a [u8]>
+        ensures { option_map (λ text. text.now) result ≡ (image_of self.now).text rva }
+    {
+        let span = self.span_at(rva)?;
+        let text = self.text_of(span, self.view.until_zero(span.start, span.end))?;
+        Some(text.bytes)
+    }
+
+    /// The zero-ended text at an RVA, as [`Layout::name_at`] answers it, where many texts are asked for that may have bytes
+    /// in common: what is known of their ends is handed in, and what is found is added to it.
+    pub fn text_at<A: Allocator + Copy>(&self, ends: &mut TextEnds<A>, rva: u32) -> Option<Text<'a>>
+        requires { AreEndsOf (file_of self.now) ends.old }
+        ensures text { option_map (λ text. text.bytes.now) result ≡ (image_of self.now).text rva }
+        ensures place { IfSome result (IsTextOf (file_of self.now)) }
+        ensures known { AreEndsOf (file_of self.now) ends.new }
+    {
+        let span = self.span_at(rva)?;
+        self.text_of(span, ends.until_zero(self.view, span.start, span.end))
     }
 }

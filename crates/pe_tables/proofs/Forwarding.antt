@@ -29,7 +29,7 @@ pub record AreSides (text front back : List ℕ) : Type 0 where
   pub parts : text ≡ front ++ 46 ∷ back
   pub no_dot : All (λ (byte : ℕ). byte ≢ 46) back
 
-sides : (text front back : List ℕ) → at_last_dot text ≡ Some (front, back) → AreSides text front back
+pub sides : (text front back : List ℕ) → at_last_dot text ≡ Some (front, back) → AreSides text front back
 sides [] front back is = absurd cc
 sides (byte ∷ bytes) front back is = by (sides bytes) (at_last_dot bytes) refl is
   where

@@ -13,6 +13,7 @@ pub mod ExportRows
 pub mod FewExports
 pub mod Fields
 pub mod FixupPlaces
+pub mod ForwarderEndings
 pub mod Forwarding
 pub mod Holding
 pub mod ImportOrder

@@ -1,5 +1,6 @@
 pub use Rattle.pe_layout.specs.Image
 pub use Rattle.pe_layout.specs.Layout
+pub use Rattle.pe_layout.specs.Span
 pub mod Encoded
 pub mod ExportFaults
 pub mod ExportPlaces
@@ -11,6 +12,7 @@ pub mod FixupPlaces
 pub mod FixupReading
 pub mod Fixups
 pub mod Forwarder
+pub mod Forwarders
 pub mod Import
 pub mod ImportFaults
 pub mod ImportPlaces

@@ -1,22 +1,26 @@
 ghost use Rattle.std.specs.Prelude.{◌≡◌, ◌<◌, None, Some, IsOk, IsErrOf, option_map, map, All, AllPairs, []};
 ghost use Rattle.std.specs.List.{filter_map, range_with_len};
-ghost use Rattle.pe_layout.specs.Layout.{image_of};
+ghost use Rattle.pe_layout.specs.Layout.{file_of, image_of};
 ghost use Rattle.pe_view.specs.Faults.{AnswersOrWants};
+ghost use Rattle.pe_view.specs.TextEnds.{AreEndsOf};
 ghost use Rattle.pe_tables.specs.Key.{target_view};
 ghost use Rattle.pe_tables.specs.Exports.{entry, target_of, named, names_of, by_entry, exports_of};
 ghost use Rattle.pe_tables.specs.ExportFaults.{IsInside, each_tests, name_tests, entry_tests, export_tests, HasRows};
 ghost use Rattle.pe_tables.specs.ExportsView.{name_view, ordinal_view, exports_view};
 ghost use Rattle.pe_tables.specs.NameIndex.{IsIndexOf};
+ghost use Rattle.pe_tables.specs.Forwarders.{AreForwardersOf};
 ghost use Rattle.pe_view.specs.declared.refusal.Refusal.{Refusal};
 
 use crate::error::{TableError, fault_at};
 use crate::export_lookup::{Exports, target_by_ordinal};
 use crate::export_table::{Table, read_table};
-use crate::forwarder::{forwarder_at, is_forwarder};
+use crate::forwarder::is_forwarder;
+use crate::forwarders::Forwarders;
 use crate::key::Target;
 use crate::name_index::NameIndex;
 use pe_head::{Directory, directory_index};
 use pe_layout::Layout;
+use pe_view::TextEnds;
 use std::alloc::Allocator;
 
 /// A name of the name pointer table.
@@ -29,14 +33,21 @@ pub(crate) struct Name<'a> {
 }
 
 /// Reads name `index`, unless fault 19 or 20 stands of it.
-fn read_name<'a>(layout: &Layout<'a>, table: &Table, index: u32) -> Result<Name<'a>, TableError>
+fn read_name<'a, A: Allocator + Copy>(
+    ends: &mut TextEnds<A>,
+    layout: &Layout<'a>,
+    table: &Table,
+    index: u32,
+) -> Result<Name<'a>, TableError>
+    requires known { AreEndsOf (file_of layout.now) ends.old }
     requires inside { IsInside (image_of layout.now) table.now }
     requires within { index < table.now.name_count }
-    ensures { AnswersOrWants (name_tests (image_of layout.now) table.now index)
+    ensures known { AreEndsOf (file_of layout.now) ends.new }
+    ensures exact { AnswersOrWants (name_tests (image_of layout.now) table.now index)
         (λ name. (Some (name_view name) ≡ named (image_of layout.now) table.now index) × (name.entry < table.now.entry_count)) result }
 {
     let pointer = table.names + 4 * index;
-    let Some(text) = layout.name_at(layout.u32_at(pointer).unwrap()) else {
+    let Some(text) = layout.text_at(ends, layout.u32_at(pointer).unwrap()) else {
         return Err(fault_at(19, layout, pointer));
     };
     let rva = table.ordinals + 2 * index;
@@ -44,7 +55,10 @@ fn read_name<'a>(layout: &Layout<'a>, table: &Table, index: u32) -> Result<Name<
     if entry >= table.entry_count {
         return Err(fault_at(20, layout, rva));
     }
-    Ok(Name { text, entry })
+    Ok(Name {
+        text: text.bytes,
+        entry,
+    })
 }
 
 /// Reads the names, in the order of the name pointer table, unless fault 19 or 20 stands of one.
@@ -58,36 +72,47 @@ fn read_names<'a, A: Allocator + Copy>(
         (λ names. (map name_view names.items ≡ names_of (image_of layout.now) table.now) × All (λ name. name.entry < table.now.entry_count) names.items) result }
 {
     let mut names = Vec::with_capacity(alloc, table.name_count as usize)?;
+    let mut ends = TextEnds::new(alloc);
     for index in 0..table.name_count {
-        names.push(read_name(layout, table, index)?)?;
+        names.push(read_name(&mut ends, layout, table, index)?)?;
     }
     Ok(names)
 }
 
 /// What a value of the address table exports: nothing where it is 0, or where it is that of a forwarder which has no
 /// text or not a forwarder's form.
-fn target_of<'a>(layout: &Layout<'a>, directory: Directory, value: u32) -> Option<Target<'a>>
-    ensures { option_map target_view result ≡ target_of (image_of layout.now) directory value }
+fn target_of<'a, A: Allocator + Copy>(
+    forwarders: &mut Forwarders<'a, A>,
+    layout: &Layout<'a>,
+    directory: Directory,
+    value: u32,
+) -> Option<Target<'a>>
+    requires { AreForwardersOf (file_of layout.now) forwarders.old }
+    ensures known { AreForwardersOf (file_of layout.now) forwarders.new }
+    ensures target { option_map target_view result ≡ target_of (image_of layout.now) directory value }
 {
     if value == 0 {
         None
     } else if is_forwarder(directory, value) {
-        forwarder_at(layout, value)
+        forwarders.get(layout, value)
     } else {
         Some(Target::Rva(value))
     }
 }
 
 /// Reads entry `index` of the address table, unless fault 21 or 22 stands of it.
-fn read_entry<'a>(
+fn read_entry<'a, A: Allocator + Copy>(
+    forwarders: &mut Forwarders<'a, A>,
     layout: &Layout<'a>,
     directory: Directory,
     table: &Table,
     index: u32,
 ) -> Result<Option<Target<'a>>, TableError>
+    requires known { AreForwardersOf (file_of layout.now) forwarders.old }
     requires inside { IsInside (image_of layout.now) table.now }
     requires within { index < table.now.entry_count }
-    ensures { AnswersOrWants (entry_tests (image_of layout.now) directory table.now index)
+    ensures known { AreForwardersOf (file_of layout.now) forwarders.new }
+    ensures exact { AnswersOrWants (entry_tests (image_of layout.now) directory table.now index)
         (λ target. option_map target_view target ≡ target_of (image_of layout.now) directory (entry (image_of layout.now) table.now index)) result }
 {
     let rva = table.addresses + 4 * index;
@@ -98,7 +123,7 @@ fn read_entry<'a>(
     if !is_forwarder(directory, value) && value >= layout.size() {
         return Err(fault_at(21, layout, rva));
     }
-    match target_of(layout, directory, value) {
+    match target_of(forwarders, layout, directory, value) {
         Some(target) => Ok(Some(target)),
         None => Err(fault_at(22, layout, rva)),
     }
@@ -117,8 +142,9 @@ fn read_ordinals<'a, A: Allocator + Copy>(
         × AllPairs (λ export later. export.0 < later.0) ordinals.items) result }
 {
     let mut ordinals = Vec::with_capacity(alloc, table.entry_count as usize)?;
+    let mut forwarders = Forwarders::new(alloc);
     for index in 0..table.entry_count {
-        let Some(target) = read_entry(layout, directory, table, index)? else {
+        let Some(target) = read_entry(&mut forwarders, layout, directory, table, index)? else {
             continue;
         };
         ordinals.push((u64::from(table.ordinal_base) + u64::from(index), target))?;

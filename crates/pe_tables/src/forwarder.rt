@@ -1,12 +1,10 @@
 ghost use Rattle.std.specs.Prelude.{◌≡◌, option_map};
-ghost use Rattle.pe_layout.specs.Layout.{image_of};
 ghost use Rattle.pe_tables.specs.Key.{Ordinal, key_view, target_view};
-ghost use Rattle.pe_tables.specs.Forwarder.{is_forwarder, ordinal_key, key_of, at_last_dot, forwarder_of, forwarder_at};
+ghost use Rattle.pe_tables.specs.Forwarder.{is_forwarder, ordinal_key, key_of, at_last_dot, forwarder_of};
 
 use crate::key::{Key, Target};
 use bstr::ByteSlice;
 use pe_head::Directory;
-use pe_layout::Layout;
 
 /// Whether an address is that of a forwarder's text: it lies in the export directory itself.
 pub(crate) fn is_forwarder(directory: Directory, rva: u32) -> bool
@@ -57,7 +55,7 @@ fn at_last_dot<'a>(text: &'a [u8]) -> Option<(&'a [u8], &'a [u8])>
 }
 
 /// The forwarder that a text names: a module and a key, on the two sides of the last dot.
-fn forwarder_of<'a>(text: &'a [u8]) -> Option<Target<'a>>
+pub(crate) fn forwarder_of<'a>(text: &'a [u8]) -> Option<Target<'a>>
     ensures { option_map target_view result ≡ forwarder_of text.now }
 {
     let (module, key) = at_last_dot(text)?;
@@ -66,11 +64,4 @@ fn forwarder_of<'a>(text: &'a [u8]) -> Option<Target<'a>>
     }
     let key = key_of(key)?;
     Some(Target::Forward { module, key })
-}
-
-/// The forwarder whose text stands at an RVA.
-pub(crate) fn forwarder_at<'a>(layout: &Layout<'a>, rva: u32) -> Option<Target<'a>>
-    ensures { option_map target_view result ≡ forwarder_at (image_of layout.now) rva }
-{
-    forwarder_of(layout.name_at(rva)?)
 }

@@ -1,9 +1,10 @@
 ghost use Rattle.std.specs.Prelude.{◌≡◌, ◌≢◌, ◌+◌, ◌≤◌, ◌^◌, ◌<◌, [], ◌∷◌, None, IsTrue, IsOk, IsErrOf, OnOk, map, not, option_to_list};
 ghost use Rattle.std.specs.List.{filter_map, flat_map};
-ghost use Rattle.pe_layout.specs.Layout.{image_of};
+ghost use Rattle.pe_layout.specs.Layout.{file_of, image_of};
 ghost use Rattle.pe_layout.specs.Image.{number_at};
 ghost use Rattle.pe_tables.specs.TableFaults.{goes_past};
 ghost use Rattle.pe_view.specs.Faults.{AnswersOrWants};
+ghost use Rattle.pe_view.specs.TextEnds.{AreEndsOf};
 ghost use Rattle.pe_tables.specs.Imports.{is_null, ends_list, descriptor_at, descriptors_of, lookup_at, lookup_table, lookups_of, ends_table, is_ordinal, key_of, import_of, module_of, imports_in, imports_at, imports_of};
 ghost use Rattle.pe_tables.specs.ImportFaults.{key_tests, slot_tests, lookup_tests, lookups_tests, module_tests, descriptor_tests, descriptors_tests, import_tests};
 ghost use Rattle.pe_tables.specs.ImportView.{import_view};
@@ -17,6 +18,7 @@ use crate::key::Key;
 use crate::ranges::Ranges;
 use pe_head::directory_index;
 use pe_layout::Layout;
+use pe_view::TextEnds;
 use std::alloc::{AllocError, Allocator};
 
 /// How many imports an image may have.
@@ -96,20 +98,27 @@ fn is_ordinal(layout: &Layout, value: u64) -> bool
 
 /// By what the lookup entry at an RVA with this value names an export, unless fault 27 or 28 stands. The hint before a name
 /// is not read.
-fn read_key<'a>(layout: &Layout<'a>, rva: u32, value: u64) -> Result<Key<'a>, TableError>
+fn read_key<'a, A: Allocator + Copy>(
+    ends: &mut TextEnds<A>,
+    layout: &Layout<'a>,
+    rva: u32,
+    value: u64,
+) -> Result<Key<'a>, TableError>
+    requires { AreEndsOf (file_of layout.now) ends.old }
+    ensures known { AreEndsOf (file_of layout.now) ends.new }
     ensures exact { AnswersOrWants (key_tests (image_of layout.now) rva value) (λ key. key_view key ≡ key_of (image_of layout.now) value) result }
     ensures no_memory { result ≢ Err Refusal.Memory }
 {
     if is_ordinal(layout, value) {
         return Ok(Key::Ordinal((value % 0x1_0000) as u16));
     }
-    let Some(name) = layout.name_at((value % 0x8000_0000) as u32 + 2) else {
+    let Some(name) = layout.text_at(ends, (value % 0x8000_0000) as u32 + 2) else {
         return Err(fault_at(27, layout, rva));
     };
     if value >> 31 != 0 {
         return Err(fault_at(28, layout, rva));
     }
-    Ok(Key::Name(name))
+    Ok(Key::Name(name.bytes))
 }
 
 /// Asks faults 29 to 31 of the slot of the lookup entry at an RVA.
@@ -139,13 +148,16 @@ fn check_slot<A: Allocator + Copy>(
 /// Reads the lookup entry at an RVA, with the slot beside it, unless one of faults 26 to 31 stands, and tells whether the
 /// table goes on behind it.
 fn read_lookup<'a, A: Allocator + Copy>(
+    ends: &mut TextEnds<A>,
     layout: &Layout<'a>,
     found: &mut FoundImports<'a, A>,
     module: &'a [u8],
     rva: u32,
     slot: u32,
 ) -> Result<bool, TableError>
-    requires { IsIndexed (image_of layout.now).slot_width found.old }
+    requires known { AreEndsOf (file_of layout.now) ends.old }
+    requires indexed { IsIndexed (image_of layout.now).slot_width found.old }
+    ensures known { AreEndsOf (file_of layout.now) ends.new }
     ensures exact { AnswersOrWants (lookup_tests (image_of layout.now) (read_of found.old) (lookup_at (image_of layout.now) rva slot))
         (λ goes_on. (goes_on ≡ not (ends_table (image_of layout.now) (lookup_at (image_of layout.now) rva slot)))
         × Reads (image_of layout.now).slot_width found.old found.new (option_to_list (import_of (image_of layout.now) «module».entry.now (lookup_at (image_of layout.now) rva slot)))) result }
@@ -159,7 +171,7 @@ fn read_lookup<'a, A: Allocator + Copy>(
     if value == 0 {
         return Ok(false);
     }
-    let key = read_key(layout, rva, value)?;
+    let key = read_key(ends, layout, rva, value)?;
     check_slot(layout, found, rva, slot)?;
     found.add(Import { module, key, slot }, width)?;
     Ok(true)
@@ -167,12 +179,15 @@ fn read_lookup<'a, A: Allocator + Copy>(
 
 /// Reads the lookup entries of a descriptor that names this module, unless one of faults 26 to 31 stands of one.
 fn read_lookups<'a, A: Allocator + Copy>(
+    ends: &mut TextEnds<A>,
     layout: &Layout<'a>,
     found: &mut FoundImports<'a, A>,
     module: &'a [u8],
     descriptor: Descriptor,
 ) -> Result<(), TableError>
-    requires { IsIndexed (image_of layout.now).slot_width found.old }
+    requires known { AreEndsOf (file_of layout.now) ends.old }
+    requires indexed { IsIndexed (image_of layout.now).slot_width found.old }
+    ensures known { AreEndsOf (file_of layout.now) ends.new }
     ensures exact { AnswersOrWants (lookups_tests (image_of layout.now) «module».entry.now (read_of found.old) (lookups_of (image_of layout.now) descriptor))
         (λ _. Reads (image_of layout.now).slot_width found.old found.new (filter_map (import_of (image_of layout.now) «module».entry.now) (lookups_of (image_of layout.now) descriptor))) result }
     ensures memory { IsErrOf result Refusal.Memory → IsTrue (goes_past 31 (lookups_tests (image_of layout.now) «module».entry.now (read_of found.old) (lookups_of (image_of layout.now) descriptor))) }
@@ -180,7 +195,7 @@ fn read_lookups<'a, A: Allocator + Copy>(
     let width = layout.slot_width();
     let mut rva = descriptor.lookup_table();
     let mut slot = descriptor.addresses;
-    while read_lookup(layout, found, module, rva, slot)? {
+    while read_lookup(ends, layout, found, module, rva, slot)? {
         rva += width;
         slot += width;
     }
@@ -203,28 +218,37 @@ fn descriptor_at(layout: &Layout, rva: u32) -> Descriptor
 }
 
 /// The name of the module that a descriptor names, unless fault 25 or 32 stands.
-fn module_name<'a>(layout: &Layout<'a>, descriptor: Descriptor) -> Result<&'a [u8], TableError>
-    requires { descriptor.rva + 20 < 2 ^ 32 }
+fn module_name<'a, A: Allocator + Copy>(
+    ends: &mut TextEnds<A>,
+    layout: &Layout<'a>,
+    descriptor: Descriptor,
+) -> Result<&'a [u8], TableError>
+    requires known { AreEndsOf (file_of layout.now) ends.old }
+    requires small { descriptor.rva + 20 < 2 ^ 32 }
+    ensures known { AreEndsOf (file_of layout.now) ends.new }
     ensures exact { AnswersOrWants (module_tests (image_of layout.now) descriptor) (λ name. name.now ≡ module_of (image_of layout.now) descriptor) result }
     ensures no_memory { result ≢ Err Refusal.Memory }
 {
-    let Some(name) = layout.name_at(descriptor.name) else {
+    let Some(name) = layout.text_at(ends, descriptor.name) else {
         return Err(fault_at(25, layout, descriptor.rva + 12));
     };
     if descriptor.lookup == 0 && descriptor.time_stamp != 0 {
         return Err(fault_at(32, layout, descriptor.rva));
     }
-    Ok(name)
+    Ok(name.bytes)
 }
 
 /// Reads the descriptor at an RVA and its lookup entries, unless one of faults 24 to 32 stands, and tells whether the list
 /// goes on behind it.
 fn read_descriptor<'a, A: Allocator + Copy>(
+    ends: &mut TextEnds<A>,
     layout: &Layout<'a>,
     found: &mut FoundImports<'a, A>,
     rva: u32,
 ) -> Result<bool, TableError>
-    requires { IsIndexed (image_of layout.now).slot_width found.old }
+    requires known { AreEndsOf (file_of layout.now) ends.old }
+    requires indexed { IsIndexed (image_of layout.now).slot_width found.old }
+    ensures known { AreEndsOf (file_of layout.now) ends.new }
     ensures exact { AnswersOrWants (descriptor_tests (image_of layout.now) (read_of found.old) (descriptor_at (image_of layout.now) rva))
         (λ goes_on. (goes_on ≡ not (ends_list (image_of layout.now) (descriptor_at (image_of layout.now) rva)))
         × Reads (image_of layout.now).slot_width found.old found.new (imports_in (image_of layout.now) (descriptor_at (image_of layout.now) rva))) result }
@@ -237,25 +261,28 @@ fn read_descriptor<'a, A: Allocator + Copy>(
     if descriptor.is_null() {
         return Ok(false);
     }
-    let module = module_name(layout, descriptor)?;
-    read_lookups(layout, found, module, descriptor)?;
+    let module = module_name(ends, layout, descriptor)?;
+    read_lookups(ends, layout, found, module, descriptor)?;
     Ok(true)
 }
 
 /// Reads the descriptors from an RVA on, unless one of faults 24 to 32 stands of one.
 fn read_descriptors<'a, A: Allocator + Copy>(
+    ends: &mut TextEnds<A>,
     layout: &Layout<'a>,
     found: &mut FoundImports<'a, A>,
     start: u32,
 ) -> Result<(), TableError>
+    requires known { AreEndsOf (file_of layout.now) ends.old }
     requires indexed { IsIndexed (image_of layout.now).slot_width found.old }
     requires none { read_of found.old ≡ [] }
+    ensures known { AreEndsOf (file_of layout.now) ends.new }
     ensures exact { AnswersOrWants (descriptors_tests (image_of layout.now) [] (descriptors_of (image_of layout.now) start))
         (λ _. read_of found.new ≡ flat_map (imports_in (image_of layout.now)) (descriptors_of (image_of layout.now) start)) result }
     ensures memory { IsErrOf result Refusal.Memory → IsTrue (goes_past 31 (descriptors_tests (image_of layout.now) [] (descriptors_of (image_of layout.now) start))) }
 {
     let mut rva = start;
-    while read_descriptor(layout, found, rva)? {
+    while read_descriptor(ends, layout, found, rva)? {
         rva += 20;
     }
     Ok(())
@@ -264,7 +291,8 @@ fn read_descriptors<'a, A: Allocator + Copy>(
 /// The imports of an image, in the order of its import table, or the first of faults 24 to 32.
 ///
 /// Each borrows its texts from the file. An image without the table has no imports, and then no memory is taken; nor is any
-/// before a lookup entry, with its slot, was found to be an import without a fault. The directory's Size is not used.
+/// before a lookup entry, with its slot, was found to be an import without a fault, but to remember where long texts end. The
+/// directory's Size is not used.
 /// ("PE Format", The .idata Section.)
 pub fn read_imports<'a, A: Allocator + Copy>(
     alloc: A,
@@ -281,7 +309,8 @@ pub fn read_imports<'a, A: Allocator + Copy>(
         imports: Vec::new(alloc),
         slots: Ranges::new(alloc),
     };
-    read_descriptors(layout, &mut found, directory.rva)?;
+    let mut ends = TextEnds::new(alloc);
+    read_descriptors(&mut ends, layout, &mut found, directory.rva)?;
     let FoundImports { imports, slots: _ } = found;
     Ok(imports)
 }

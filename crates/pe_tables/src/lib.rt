@@ -19,6 +19,7 @@ mod export_table;
 mod exports;
 mod fixups;
 mod forwarder;
+mod forwarders;
 mod import;
 mod imports;
 mod key;

@@ -70,6 +70,9 @@ fn others_meet<A: Allocator>(others: &BTreeMap<u32, u32, A>, start: u32, len: u3
     requires small { start + len < 2 ^ 32 }
     ensures { result ≡ meets_any start len others.now.entries }
 {
+    if others.is_empty() {
+        return false;
+    }
     let mut before = others.range(..start + len);
     match before.next_back() {
         Some((last, last_len)) => ends_behind(*last, *last_len, start),

@@ -1,3 +1,4 @@
 pub mod Numbers
 pub mod Standing
 pub mod Texts
+pub mod Zeros

@@ -2,4 +2,5 @@ pub mod Faults
 pub mod FirstStanding
 pub mod Number
 pub mod Text
+pub mod TextEnds
 pub mod View

@@ -3,7 +3,8 @@
 ghost use Rattle.std.specs.Prelude.{◌≡◌, ℕ, ◌+◌, ◌<◌, ◌≤◌, List, length, drop, None, Some, ◌↔◌};
 ghost use Rattle.byteorder.specs.Endian.{little_number};
 ghost use Rattle.pe_view.specs.declared.fault.Fault.{Fault};
-ghost use Rattle.pe_view.specs.Number.{num, byte_of, digit};
+ghost use Rattle.pe_view.specs.Number.{num, byte_of, digit, part};
+ghost use Rattle.pe_view.specs.Text.{text_between};
 ghost use Rattle.pe_view.specs.Faults.{Test, first_standing, IsFirstStanding, NoneStands};
 
 /// The number at an offset is byteorder's little-endian number of the bytes from there on.
@@ -14,6 +15,11 @@ pub fn num_is_little_endian()
 /// The digits of the number at a place are the bytes from there on.
 pub fn digits_are_bytes()
     ensures { (byte : ℕ → ℕ) (place width k : ℕ) → ((i : ℕ) → byte i < 256) → k < width → digit (num byte place width) k ≡ byte (place + k) }
+{}
+
+/// The text between two offsets of a file ends before the second one, and has the file's bytes from the first one on.
+pub fn texts_are_parts()
+    ensures { (file : List ℕ) (offset end : ℕ) (text : List ℕ) → text_between file offset end ≡ Some text → (offset + length text < end) × (text ≡ part file offset (length text)) }
 {}
 
 /// The first fault of a table is that of a test that stands, and none before it does.

@@ -1,8 +1,8 @@
 //! Bounded views of a file's bytes, and the faults by which a file is refused.
 //!
 //! A [`View`] reads numbers, byte ranges and zero-ended texts at file offsets and answers `None` for whatever passes the
-//! end of the file; a [`Fault`] says which rule of the format a file breaks, in which image, and where; a [`Refusal`] is a fault,
-//! or want of memory:
+//! end of the file; [`TextEnds`] remembers where texts end, for many that may share their bytes; a [`Fault`] says which rule
+//! of the format a file breaks, in which image, and where; a [`Refusal`] is a fault, or want of memory:
 //!
 //! ```text
 //! let view = View::new(b"MZ\x90\x00");
@@ -14,8 +14,10 @@
 mod fault;
 pub mod laws;
 mod refusal;
+mod text_ends;
 mod view;
 
 pub use fault::{Fault, Place};
 pub use refusal::Refusal;
+pub use text_ends::TextEnds;
 pub use view::View;

@@ -7,5 +7,6 @@ mod fixups;
 mod head;
 mod imports;
 mod layout;
+mod texts;
 mod view;
 mod whole;

@@ -5,7 +5,7 @@ use Rattle.std.specs.Prelude.{map, option_to_list}
 use Rattle.std.specs.List.{filter_map, range_with_len}
 use Rattle.std.proofs.lemmas.List.Elements.{All-push}
 use Rattle.std.proofs.lemmas.Result.{err_from_is_err_and}
-use Rattle.pe_layout.specs.Layout.{image_of}
+use Rattle.pe_layout.specs.Layout.{file_of, image_of}
 use Rattle.pe_tables.specs.Exports.{named}
 use Rattle.pe_tables.specs.ExportFaults.{each_tests, name_tests}
 use Rattle.pe_tables.specs.ExportsView.{name_view}
@@ -22,6 +22,7 @@ loop-index-init g c =
       bound = omega arith;
       tests = each-none (name_tests (image_of c.args.layout.now) c.args.table.now);
       names = ap (map name_view) empty;
+      known = c.new-ends.ensures (file_of c.args.layout.now);
       within = λ k d lt. absurd (omega arith);
     }
 
@@ -32,7 +33,7 @@ returns-in_err-read_name g c =
     rw (p.1, p.2)
     (refuses-whole (tests c.loop-index.index) (each_tests tests c.args.table.now.name_count)
     (λ y some. each-in tests c.loop-index.index c.loop-index.invariant.tests c.args.table.now.name_count y c.loop-index-test.true some)
-    c.in_err-read_name.field-0.0 c.in_err-read_name.ensures)
+    c.in_err-read_name.field-0.0 c.in_err-read_name.ensures.exact)
 
 pub loop-index-preserved : goal.loop-index-preserved
 loop-index-preserved g c =
@@ -41,7 +42,7 @@ loop-index-preserved g c =
     let k : ℕ = c.loop-index.index in
     let before = c.loop-index.names.items in
     let name : Name = c.in_ok-read_name.field-0 in
-    let read = c.in_ok-read_name.ensures in
+    let read = c.in_ok-read_name.ensures.exact in
     let lt : k < t.name_count = c.loop-index-test.true in
     let pushed : c.push.new.self.items ≡ before ++ name ∷ [] = c.in_ok-push.ensures.items in
     record {
@@ -52,5 +53,6 @@ loop-index-preserved g c =
           ∙ ap (λ (ns : List (List ℕ × ℕ)). ns ++ name_view name ∷ []) c.loop-index.invariant.names
           ∙ ap (λ (o : Option (List ℕ × ℕ)). filter_map (named i t) (range_with_len 0 k) ++ option_to_list o) read.1.0
           ∙ sym (given-push (named i t) k);
+      known = c.read_name.ensures.known;
       within = rw pushed (All-push (λ (n : Name). n.entry < t.entry_count) before name c.loop-index.invariant.within read.1.1);
     }

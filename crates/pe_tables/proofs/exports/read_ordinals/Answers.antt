@@ -6,7 +6,7 @@ use Rattle.std.proofs.lemmas.List.{map-append}
 use Rattle.std.proofs.lemmas.List.Elements.{All-push}
 use Rattle.std.proofs.lemmas.List.Quantifiers.{all_pairs_push}
 use Rattle.std.proofs.lemmas.Result.{err_from_is_err_and}
-use Rattle.pe_layout.specs.Layout.{image_of}
+use Rattle.pe_layout.specs.Layout.{file_of, image_of}
 use Rattle.pe_tables.specs.Key as spec
 use Rattle.pe_tables.specs.Exports.{by_entry, entry, target_of}
 use Rattle.pe_tables.specs.ExportFaults.{each_tests, entry_tests}
@@ -24,6 +24,7 @@ loop-index-init g c =
       bound = omega arith;
       tests = each-none (entry_tests (image_of c.args.layout.now) c.args.directory c.args.table.now);
       ordinals = ap (map ordinal_view) empty;
+      known = c.new-forwarders.ensures (file_of c.args.layout.now);
       below = λ k d lt. absurd (omega arith);
       ascending = λ k j d lt inside. absurd (omega arith);
     }
@@ -35,7 +36,7 @@ returns-in_err-target g c =
     rw (p.1, p.2)
     (refuses-whole (tests c.loop-index.index) (each_tests tests c.args.table.now.entry_count)
     (λ y some. each-in tests c.loop-index.index c.loop-index.invariant.tests c.args.table.now.entry_count y c.loop-index-test.true some)
-    c.in_err-target.field-0.0 c.in_err-target.ensures)
+    c.in_err-target.field-0.0 c.in_err-target.ensures.exact)
 
 pub loop-index-preserved-in_default : goal.loop-index-preserved-in_default
 loop-index-preserved-in_default g c =
@@ -44,7 +45,7 @@ loop-index-preserved-in_default g c =
     let t = c.args.table.now in
     let k : ℕ = c.loop-index.index in
     let before : List (ℕ × Target) = c.loop-index.ordinals.items in
-    let read = c.in_ok-target.ensures in
+    let read = c.in_ok-target.ensures.exact in
     let nothing : target_of i d (entry i t k) ≡ None = sym read.1 ∙ ap (option_map spec.target_view) c.in_default.is in
     let lt : k < t.entry_count = c.loop-index-test.true in
     record {
@@ -54,6 +55,7 @@ loop-index-preserved-in_default g c =
           c.loop-index.invariant.ordinals ∙ sym (append-nil (filter_map (by_entry i d t) (range_with_len 0 k)))
           ∙ ap (λ (o : Option spec.Target). filter_map (by_entry i d t) (range_with_len 0 k) ++ option_to_list (option_map (λ target. (t.ordinal_base + k, target)) o)) (sym nothing)
           ∙ sym (given-push (by_entry i d t) k);
+      known = c.read_entry.ensures.known;
       below = λ j e inside. let lower = c.loop-index.invariant.below j e inside in omega arith;
       ascending = c.loop-index.invariant.ascending;
     }
@@ -65,7 +67,7 @@ loop-index-preserved g c =
     let t = c.args.table.now in
     let k : ℕ = c.loop-index.index in
     let before : List (ℕ × Target) = c.loop-index.ordinals.items in
-    let read = c.in_ok-target.ensures in
+    let read = c.in_ok-target.ensures.exact in
     let target : Target = c.in-Some.target in
     let exported : target_of i d (entry i t k) ≡ Some (spec.target_view target) = sym read.1 ∙ ap (option_map spec.target_view) c.in-Some.is in
     let lt : k < t.entry_count = c.loop-index-test.true in
@@ -81,6 +83,7 @@ loop-index-preserved g c =
           ∙ ap (λ (es : List (ℕ × spec.Target)). es ++ (t.ordinal_base + k, spec.target_view target) ∷ []) c.loop-index.invariant.ordinals
           ∙ ap (λ (o : Option spec.Target). filter_map (by_entry i d t) (range_with_len 0 k) ++ option_to_list (option_map (λ target. (t.ordinal_base + k, target)) o)) (sym exported)
           ∙ sym (given-push (by_entry i d t) k);
+      known = c.read_entry.ensures.known;
       below = rw pushed (All-push (λ (e : ℕ × Target). e.0 < t.ordinal_base + (k + 1)) before (t.ordinal_base + k, target) (λ j e inside. let lower = c.loop-index.invariant.below j e inside in omega arith) (omega arith));
       ascending = rw pushed (all_pairs_push (λ (e later : ℕ × Target). e.0 < later.0) before (t.ordinal_base + k, target) c.loop-index.invariant.ascending (λ j e inside. c.loop-index.invariant.below j e inside));
     }

@@ -23,6 +23,7 @@ loop-rva-init g c =
     let none = c.requires.none in
     let same : descriptors_from (i.size - start) i start ≡ descriptors_of i start = descriptors-enough i (i.size - start) i.size start (omega arith) (omega arith) in
     record {
+      known = c.requires.known;
       indexed = c.requires.indexed;
       tests =
           ap (λ (found : List Import). first_standing (descriptors_tests i found (descriptors_from (i.size - start) i start))) none
@@ -72,6 +73,7 @@ loop-rva-preserved g c =
     let step : descriptors_from (i.size - rva) i rva ≡ descriptor_at i rva ∷ left = descriptors-step i rva goes in
     let more : read_of c.read_descriptor.new.found ≡ before ++ imports_in i (descriptor_at i rva) = c.in_ok-read_descriptor.ensures.exact.1.1.imports in
     record {
+      known = c.read_descriptor.ensures.known;
       indexed = c.in_ok-read_descriptor.ensures.exact.1.1.indexed;
       tests =
           ap (λ (found : List Import). first_standing (descriptors_tests i found left)) more

@@ -2,7 +2,8 @@ use Rattle.std.proofs.Common.{◌≡◌, ◌-◌, ◌++◌, []}
 use Rattle.std.specs.Prelude.{IsTrue}
 use Rattle.std.specs.List.{flat_map}
 use Rattle.pe_view.specs.Faults.{first_standing}
-use Rattle.pe_layout.specs.Layout.{image_of}
+use Rattle.pe_view.specs.TextEnds.{AreEndsOf}
+use Rattle.pe_layout.specs.Layout.{file_of, image_of}
 use Rattle.pe_tables.specs.Imports.{descriptors_from, descriptors_of, imports_in}
 use Rattle.pe_tables.specs.ImportFaults.{descriptors_tests}
 use Rattle.pe_tables.specs.TableFaults.{goes_past}
@@ -14,6 +15,7 @@ invariant-loop-rva g l =
     let i = image_of l.layout in
     let left = descriptors_from (i.size - l.rva) i l.rva in
     record {
+      known : AreEndsOf (file_of l.layout) l.ends;
       indexed : IsIndexed i.slot_width l.found;
       tests : first_standing (descriptors_tests i (read_of l.found) left) ≡ first_standing (descriptors_tests i [] (descriptors_of i l.start));
       past : IsTrue (goes_past 31 (descriptors_tests i (read_of l.found) left)) → IsTrue (goes_past 31 (descriptors_tests i [] (descriptors_of i l.start)));

@@ -29,7 +29,8 @@ loop-rva-init g c =
     lookups-enough i (omega arith) (i.size - rva) i.size rva d.addresses (omega arith) (omega arith)
     ∙ ap (λ (n : ℕ). lookups_from i.size i n d.addresses) c.lookup_table-rva.ensures in
     record {
-      indexed = c.requires;
+      known = c.requires.known;
+      indexed = c.requires.indexed;
       tests = ap (λ (ls : List Lookup). first_standing (lookups_tests i name (read_of c.args.found.now) ls)) same;
       past = subst (λ (ls : List Lookup). IsTrue (goes_past 31 (lookups_tests i name (read_of c.args.found.now) ls))) same;
       imports = ap (λ (ls : List Lookup). read_of c.args.found.now ++ filter_map (import_of i name) ls) same;
@@ -90,6 +91,7 @@ loop-rva-preserved g c =
     let at : lookups_from (i.size - (rva + c.slot_width-width.result)) i (rva + c.slot_width-width.result) (slot + c.slot_width-width.result) ≡ left =
     ap (λ (n : ℕ). lookups_from (i.size - (rva + n)) i (rva + n) (slot + n)) width in
     record {
+      known = c.read_lookup.ensures.known;
       indexed = c.in_ok-read_lookup.ensures.exact.1.1.indexed;
       tests =
           ap (λ (ls : List Lookup). first_standing (lookups_tests i name (read_of c.read_lookup.new.found) ls)) at

@@ -1,0 +1,17 @@
+-- The bytes that are left of the headers.
+use Rattle.std.proofs.Common.{◌≡◌, ◌∙◌, Option, None, Some, List, ℕ, refl}
+use Rattle.std.specs.Option.{option_or}
+use Rattle.pe_layout.specs.Layout.{file_of, image_of}
+use Rattle.pe_layout.proofs.Texts.{header_text}
+use Rattle.pe_layout.proofs.layout.Layout.span_at.Goals as goal
+
+or_none : (t : Option (List ℕ)) → option_or t None ≡ t
+or_none None = refl
+or_none (Some text) = refl
+
+pub returns-then-rva-header_bytes-clause-text : goal.returns-then-rva-header_bytes-clause-text
+unfolding image_of
+returns-then-rva-header_bytes-clause-text c =
+    let l = c.args.self.now in
+    rw (c.from.ensures, c.from-then-rva-header_bytes.ensures)
+    (or_none _ ∙ header_text l.headers (file_of l) c.args.rva l.headers_held l.headers_inside c.if-rva-header_bytes.true)

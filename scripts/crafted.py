@@ -1,0 +1,92 @@
+#!/usr/bin/env python3
+"""Makes images whose tables share their texts: crafted.py FOLDER SIZE writes one file of each kind into the folder.
+
+SIZE is the length of the shared text in bytes, 1048576 for the largest files that the format allows; the numbers of entries
+are in proportion. So a file of a SIZE four times as large is four times as large.
+"""
+
+import os
+import struct
+import sys
+
+BASE = 0x1000
+HEADERS = 0x200
+
+
+def image(data, directories):
+    """An image of one section with these bytes at RVA 0x1000; a directory is its index, its RVA and its size."""
+    size = (BASE + len(data) + 0xFFF) & ~0xFFF
+    dos = b"MZ" + bytes(58) + struct.pack("<I", 64)
+    coff = struct.pack("<HHIIIHH", 0x14C, 1, 0, 0, 0, 224, 0x2102)
+    optional = struct.pack("<HBBIIIIII", 0x10B, 14, 0, 0, 0, 0, 0, 0, 0)
+    optional += struct.pack("<IIIHHHHHHIIIIHHIIIIII", 0x10000000, 0x1000, 0x200, 6, 0, 0, 0, 6, 0, 0,
+                            size, HEADERS, 0, 2, 0, 0x100000, 0x1000, 0x100000, 0x1000, 0, 16)
+    table = [(0, 0)] * 16
+    for index, rva, length in directories:
+        table[index] = (rva, length)
+    optional += b"".join(struct.pack("<II", *entry) for entry in table)
+    section = struct.pack("<8sIIIIIIHHI", b".data", len(data), BASE, len(data), HEADERS, 0, 0, 0, 0, 0xC0000040)
+    return (dos + b"PE\0\0" + coff + optional + section).ljust(HEADERS, b"\0") + data
+
+
+def exports(names, texts, addresses, inside=False):
+    """An export table: the offsets of its names in the texts, and its addresses, in the texts where they are inside."""
+    entries = BASE + 40
+    pointers = entries + 4 * len(addresses)
+    ordinals = pointers + 4 * len(names)
+    place = ordinals + 2 * len(names)
+    directory = struct.pack("<IIHHIIIIIII", 0, 0, 0, 0, place, 1, len(addresses), len(names), entries, pointers, ordinals)
+    data = directory
+    data += struct.pack(f"<{len(addresses)}I", *(place + a if inside else a for a in addresses))
+    data += struct.pack(f"<{len(names)}I", *(place + name for name in names))
+    data += struct.pack(f"<{len(names)}H", *([0] * len(names)))
+    data += texts
+    return image(data, [(0, BASE, len(data) if inside else 40)])
+
+
+def imports(modules, lookups, texts):
+    """An import table: for each module the offset of its name in the texts, and of its imports' names."""
+    descriptors = BASE
+    tables = descriptors + 20 * (len(modules) + 1)
+    slots = tables + 4 * sum(len(some) + 1 for some in lookups)
+    place = slots + 4 * sum(len(some) + 1 for some in lookups)
+    heads, entries = [], []
+    for name, some in zip(modules, lookups):
+        heads.append(struct.pack("<IIIII", tables + 4 * len(entries), 0, 0, place + name, slots + 4 * len(entries)))
+        entries += [place + text for text in some] + [0]
+    data = b"".join(heads) + bytes(20)
+    data += struct.pack(f"<{len(entries)}I", *entries) * 2
+    return image(data + texts, [(1, BASE, 20 * (len(modules) + 1))])
+
+
+def kinds(size):
+    """The kinds of files, by name."""
+    count = size // 16
+    text = b"a" * (size - 1) + b"\0"
+    other = b"b" + b"a" * (size - 2) + b"\0"
+    forwarder = b"a" * (size // 2) + b"." + b"b" * (size // 2) + b"\0"
+    ordinal = b"a." + b"#" + b"0" * size + b"1\0"
+    yield "names_one", lambda: exports([0] * count, text, [16])
+    yield "names_two", lambda: exports([0, size] * (count // 2), text * 2, [16])
+    yield "names_ends", lambda: exports(list(range(count)), text, [16])
+    yield "names_ends_down", lambda: exports(list(range(count - 1, -1, -1)), text, [16])
+    yield "names_ends_of_two", lambda: exports([o for k in range(count // 2) for o in (k, size + k)], text * 2, [16])
+    yield "names_ends_of_others", lambda: exports([o for k in range(1, count // 2) for o in (k, size + k)], text + other, [16])
+    yield "imports_one", lambda: imports([0], [[2] * (16 * count)], b"m\0" + bytes(2) + text)
+    yield "imports_ends", lambda: imports([0], [list(range(2 + 16 * count - 2, 2, -1))], b"m\0" + bytes(2) + text)
+    yield "imports_module", lambda: imports([4] * (65000 * count // 65536), [[0]] * (65000 * count // 65536), b"\0\0m\0" + text)
+    yield "forwarders_one", lambda: exports([], forwarder, [0] * count, inside=True)
+    yield "forwarders_ends", lambda: exports([], forwarder, list(range(min(count, size // 2 - 1), 0, -1)), inside=True)
+    yield "forwarders_ordinal", lambda: exports([], ordinal, [0] * count, inside=True)
+
+
+def main():
+    folder, size = sys.argv[1], int(sys.argv[2])
+    os.makedirs(folder, exist_ok=True)
+    for name, make in kinds(size):
+        with open(os.path.join(folder, f"{name}.dll"), "wb") as file:
+            file.write(make())
+
+
+if __name__ == "__main__":
+    main()
