@@ -1,10 +1,12 @@
 //! Long texts, of which many may end alike: where they end, and the forwarders that they are.
 
+ghost use Rattle.std.specs.Prelude.{◌<◌, ◌*◌};
+
 use super::cases::{assert_refused, layout_of, with_data};
 use crate::tests::asserts::{assert_holds, assert_number};
 use linked_list_allocator::LocalHeap;
 use pe_tables::{Exports, Key, Target, read_exports};
-use pe_vectors::files::{Piece, push_number};
+use pe_vectors::files::{Piece, push_number, put};
 use pe_view::{TextEnds, View};
 use std::alloc::{Allocator, Global};
 use std::process::Abort;
@@ -76,17 +78,30 @@ fn is_text(found: Option<&[u8]>, expected: Option<(usize, u8)>) -> bool {
     }
 }
 
+/// Place `index` of the places below a count, and then of the same in the other order.
+fn there_and_back(index: usize, count: usize) -> usize
+    requires { index < 2 * count }
+    ensures { result < count }
+{
+    if index < count {
+        index
+    } else {
+        count - 1 - (index - count)
+    }
+}
+
 /// Asks for all texts, in this order and in the other one, with what was found before.
 fn assert_runs<A: Allocator + Copy>(rt: &impl Abort, alloc: A, file: &[u8]) {
     let view = View::new(file);
     let mut ends = TextEnds::new(alloc);
-    for (offset, end, text) in RUNS.iter().chain(RUNS.iter().rev()) {
-        let found = ends.until_zero(view, *offset, *end);
-        assert_holds(rt, *offset as usize, is_text(found, *text));
+    for index in 0..2 * RUNS.len() {
+        let (offset, end, text) = RUNS[there_and_back(index, RUNS.len())];
+        let found = ends.until_zero(view, offset, end);
+        assert_holds(rt, offset as usize, is_text(found, text));
         assert_holds(
             rt,
-            *end as usize,
-            is_text(view.until_zero(*offset, *end), *text),
+            end as usize,
+            is_text(view.until_zero(offset, end), text),
         );
     }
 }
@@ -115,7 +130,8 @@ fn two_texts(rt: &impl Abort, alloc: Global) -> Vec<u8> {
     push_bytes(rt, &mut data, b'b', 2727);
     let mut file = with_data(rt, alloc, &[], &data);
     // VirtualSize
-    file[0x141] += 1;
+    assert!(rt; file.len() == 0xf00);
+    put(&mut file, 0x141, &[0x0e]);
     file
 }
 
@@ -135,14 +151,15 @@ fn a_text_of_an_image_ends_where_its_like_does(rt: HostRuntime) {
     let file = two_texts(&rt, rt.alloc());
     let layout = layout_of(&rt, &file);
     let mut ends = TextEnds::new(rt.alloc());
-    for (rva, len, letter, end) in IMAGE_TEXTS.iter().chain(IMAGE_TEXTS) {
-        let text = layout.text_at(&mut ends, *rva).expect(&rt, "a text");
+    for index in 0..2 * IMAGE_TEXTS.len() {
+        let (rva, len, letter, end) = IMAGE_TEXTS[there_and_back(index, IMAGE_TEXTS.len())];
+        let text = layout.text_at(&mut ends, rva).expect(&rt, "a text");
         assert_holds(
             &rt,
-            *rva as usize,
-            is_text(Some(text.bytes), Some((*len, *letter))),
+            rva as usize,
+            is_text(Some(text.bytes), Some((len, letter))),
         );
-        assert_number(&rt, *rva as usize, text.end, *end);
+        assert_number(&rt, rva as usize, text.end, end);
     }
 }
 
