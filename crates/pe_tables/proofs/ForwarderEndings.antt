@@ -97,7 +97,7 @@ module_short text module_name key p =
     omega (arith, size)
 
 -- ---- parts of a file before one end
-part_drop : (file : List ℕ) (end len less : ℕ) → len ≤ end → less ≤ len → drop (len - less) (part_before file end len) ≡ part_before file end less
+pub part_drop : (file : List ℕ) (end len less : ℕ) → len ≤ end → less ≤ len → drop (len - less) (part_before file end len) ≡ part_before file end less
 part_drop file end len less inside le =
     let size : len ≡ len - less + less = omega (arith, le) in
     let there : end - len + (len - less) ≡ end - less = omega (arith, le, inside) in
@@ -140,7 +140,7 @@ ending_dot file end text module_name key p le is =
     ∙ dot_first text module_name p.back p.dot
 
 -- ---- what is remembered
-equal_only : (o : Ordering) → is_eq o ≡ true → o ≡ Equal
+pub equal_only : (o : Ordering) → is_eq o ≡ true → o ≡ Equal
 equal_only Less is = absurd cc
 equal_only Equal is = refl
 equal_only Greater is = absurd cc

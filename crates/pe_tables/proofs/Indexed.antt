@@ -3,7 +3,6 @@ use Rattle.std.proofs.Common.{◌≡◌, ℕ, Bool, true, false, List, [], ◌�
 use Rattle.std.specs.Borrow.{Bor}
 use Rattle.std.specs.Prelude.{map, option_map, option_and_then, option_to_list, is_some, if◌then◌else◌}
 use Rattle.std.specs.List.{filter_map, find}
-use Rattle.std.specs.Map.{lookup}
 use Rattle.std.specs.Str.{bytes_eq}
 use Rattle.std.proofs.lemmas.Bool.{cases_Bool}
 use Rattle.std.proofs.lemmas.List.{map-append, take_more}
@@ -48,7 +47,7 @@ module _ {A : Type 0} (f : ℕ → Option Target) (ns : List Named) (old new : N
             ap (map export_view) same.exports ∙ indexed.exports
             ∙ ap (filter_map export) (sym (append-nil (first_of_each ns)) ∙ ap (λ (b : Bool). first_of_each ns ++ behind b name) (sym there) ∙ sym (first-push ns name));
         targets = λ other.
-            ap (λ es. view_held (lookup (λ key. bytes_eq other key.now) es)) same.targets ∙ indexed.targets other
+            ap view_held (same.targets other) ∙ indexed.targets other
             ∙ ap (option_map (λ (n : Named). f n.1)) (sym (find-known ns name there other));
       }
 
@@ -102,9 +101,9 @@ searchable f ns index indexed = λ text.
 
 -- the next name of a list
 pub index-step : {A : Type 0} (f : ℕ → Option Target) (names : List Name) (k : ℕ) (d : Name) (old new : NameIndex A) (target : Option code.Target) → k < length names
-    → option_map target_view target ≡ f (get_or names k d).entry → Learns old new (get_or names k d).text target (held old (get_or names k d).text.now)
+    → option_map target_view target ≡ f (get_or names k d).entry → Learns old new (get_or names k d).text.bytes target (held old (get_or names k d).text.bytes.now)
     → IsIndexOf f (map name_view (take k names)) old → IsIndexOf f (map name_view (take (k + 1) names)) new
 index-step f names k d old new target lt is learns indexed =
     let name : Name = get_or names k d in
     let more : map name_view (take (k + 1) names) ≡ map name_view (take k names) ++ name_view name ∷ [] = ap (map name_view) (take_more names k d lt) ∙ map-append name_view (take k names) (name ∷ []) in
-    subst (λ (ns : List Named). IsIndexOf f ns new) (sym more) (index-learns f (map name_view (take k names)) old new name.text target name.entry is learns indexed)
+    subst (λ (ns : List Named). IsIndexOf f ns new) (sym more) (index-learns f (map name_view (take k names)) old new name.text.bytes target name.entry is learns indexed)

@@ -21,6 +21,8 @@ pub mod ImportPlaces
 pub mod ImportRows
 pub mod Indexed
 pub mod LastDot
+pub mod LongPaths
+pub mod LongTexts
 pub mod Lookups
 pub mod Meeting
 pub mod NameOrder

@@ -13,10 +13,10 @@ use Rattle.std.proofs.lemmas.Bool.{true≢false}
 use Rattle.std.proofs.lemmas.Map.Text.{is_eq-slice_cmp}
 use Rattle.std.proofs.lemmas.Slice.Eq.{bytes_eq-Decides}
 
-abbrev Text : Type 0
+abbrev pub Text : Type 0
 Text = Bor (List ℕ)
 
-abbrev compare : Text → Text → Ordering
+abbrev pub compare : Text → Text → Ordering
 compare a b = slice_cmp nat_cmp a.now b.now
 
 -- an entry is found by the comparison exactly where its text is the same

@@ -1,5 +1,6 @@
 -- The exports that have been read, with texts as their bytes.
-use Rattle.std.specs.Prelude.{ℕ, List, map}
+use Rattle.std.specs.Prelude.{ℕ, ◌<◌, List, map}
+use Rattle.pe_layout.specs.Span.{IsTextOf}
 use Rattle.pe_tables.specs.Key.{Target, target_view}
 use Rattle.pe_tables.specs.Exports as table
 use Rattle.pe_tables.specs.NameIndex.{export_view}
@@ -9,7 +10,12 @@ use Rattle.pe_tables.specs.declared.export_lookup.Exports as code_exports
 
 -- a name, and the index of the entry that it exports
 abbrev pub name_view : code_name.Name → List ℕ × ℕ
-name_view name = (name.text.now, name.entry)
+name_view name = (name.text.bytes.now, name.entry)
+
+-- a text of the file, and an entry of those of the table
+pub record IsNameOf (file : List ℕ) (entry_count : ℕ) (name : code_name.Name) : Type 0 where
+  pub text : IsTextOf file name.text
+  pub inside : name.entry < entry_count
 
 abbrev pub ordinal_view : ℕ × code_target.Target → ℕ × Target
 ordinal_view pair = (pair.0, target_view pair.1)

@@ -21,6 +21,7 @@ pub mod ImportView
 pub mod Imports
 pub mod Key
 pub mod NameIndex
+pub mod LongTexts
 pub mod Patch
 pub mod Patched
 pub mod Ranges

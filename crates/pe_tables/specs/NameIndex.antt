@@ -1,5 +1,5 @@
 -- What has been read of the names of an export table.
-use Rattle.std.specs.Prelude.{◌≡◌, ℕ, List, ◌++◌, map, Option, Some, None, if◌then◌else◌, option_map, option_and_then, option_to_list}
+use Rattle.std.specs.Prelude.{◌≡◌, ℕ, List, ◌++◌, length, nat_lt, map, Option, Some, None, if◌then◌else◌, option_map, option_and_then, option_to_list}
 use Rattle.std.specs.Borrow.{Bor}
 use Rattle.std.specs.List.{filter_map, find}
 use Rattle.std.specs.Str.{bytes_eq}
@@ -7,12 +7,13 @@ use Rattle.pe_tables.specs.Key.{Target, target_view}
 use Rattle.pe_tables.specs.Exports.{first_of_each}
 use Rattle.pe_tables.specs.TextMap.{found}
 use Rattle.pe_tables.specs.TextMapView.{entries_in}
+use Rattle.pe_tables.specs.LongTexts.{long_held}
 use Rattle.pe_tables.specs.declared.key.Target as code_target
 use Rattle.pe_tables.specs.declared.name_index.NameIndex.{NameIndex}
 
 -- what is held for a text
 abbrev pub held : {A : Type 0} → NameIndex A → List ℕ → Option (Option code_target.Target)
-held index text = found text (entries_in index.targets)
+held index text = if nat_lt (length text) 256 then found text (entries_in index.short) else long_held index.long.nodes.items text
 
 abbrev pub export_view : Bor (List ℕ) × code_target.Target → List ℕ × Target
 export_view pair = (pair.0.now, target_view pair.1)
@@ -24,7 +25,7 @@ pub record Gains {A : Type 0} (old new : NameIndex A) (text : Bor (List ℕ)) (t
 
 -- a text that was held changes nothing
 pub record Stays {A : Type 0} (old new : NameIndex A) : Type 0 where
-  pub targets : entries_in new.targets ≡ entries_in old.targets
+  pub targets : (other : List ℕ) → held new other ≡ held old other
   pub exports : new.exports.items ≡ old.exports.items
 
 -- a name was added, by what was held for its text

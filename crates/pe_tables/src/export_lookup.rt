@@ -73,7 +73,7 @@ impl<'a, A: Allocator + Copy> Exports<'a, A> {
     pub fn by_name(&self, name: &[u8]) -> Option<Target<'a>>
         ensures { option_map target_view result ≡ target_at (exports_view self.now) (Name name.now) }
     {
-        self.names.targets.get(name)?
+        self.names.get(name)?
     }
 
     /// The exports by ordinal, in the order of the export address table.

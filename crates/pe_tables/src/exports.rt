@@ -6,7 +6,7 @@ ghost use Rattle.pe_view.specs.TextEnds.{AreEndsOf};
 ghost use Rattle.pe_tables.specs.Key.{target_view};
 ghost use Rattle.pe_tables.specs.Exports.{entry, target_of, named, names_of, by_entry, exports_of};
 ghost use Rattle.pe_tables.specs.ExportFaults.{IsInside, each_tests, name_tests, entry_tests, export_tests, HasRows};
-ghost use Rattle.pe_tables.specs.ExportsView.{name_view, ordinal_view, exports_view};
+ghost use Rattle.pe_tables.specs.ExportsView.{name_view, ordinal_view, exports_view, IsNameOf};
 ghost use Rattle.pe_tables.specs.NameIndex.{IsIndexOf};
 ghost use Rattle.pe_tables.specs.Forwarders.{AreForwardersOf};
 ghost use Rattle.pe_view.specs.declared.refusal.Refusal.{Refusal};
@@ -19,7 +19,7 @@ use crate::forwarders::Forwarders;
 use crate::key::Target;
 use crate::name_index::NameIndex;
 use pe_head::{Directory, directory_index};
-use pe_layout::Layout;
+use pe_layout::{Layout, Text};
 use pe_view::TextEnds;
 use std::alloc::Allocator;
 
@@ -27,7 +27,7 @@ use std::alloc::Allocator;
 #[derive(Clone, Copy)]
 pub(crate) struct Name<'a> {
     /// Its text.
-    pub text: &'a [u8],
+    pub text: Text<'a>,
     /// The index of the address table's entry that it exports, without the ordinal base.
     pub entry: u32,
 }
@@ -44,7 +44,7 @@ fn read_name<'a, A: Allocator + Copy>(
     requires within { index < table.now.name_count }
     ensures known { AreEndsOf (file_of layout.now) ends.new }
     ensures exact { AnswersOrWants (name_tests (image_of layout.now) table.now index)
-        (λ name. (Some (name_view name) ≡ named (image_of layout.now) table.now index) × (name.entry < table.now.entry_count)) result }
+        (λ name. (Some (name_view name) ≡ named (image_of layout.now) table.now index) × IsNameOf (file_of layout.now) table.now.entry_count name) result }
 {
     let pointer = table.names + 4 * index;
     let Some(text) = layout.text_at(ends, layout.u32_at(pointer).unwrap()) else {
@@ -55,10 +55,7 @@ fn read_name<'a, A: Allocator + Copy>(
     if entry >= table.entry_count {
         return Err(fault_at(20, layout, rva));
     }
-    Ok(Name {
-        text: text.bytes,
-        entry,
-    })
+    Ok(Name { text, entry })
 }
 
 /// Reads the names, in the order of the name pointer table, unless fault 19 or 20 stands of one.
@@ -69,7 +66,7 @@ fn read_names<'a, A: Allocator + Copy>(
 ) -> Result<Vec<Name<'a>, A>, TableError>
     requires { IsInside (image_of layout.now) table.now }
     ensures { AnswersOrWants (each_tests (name_tests (image_of layout.now) table.now) table.now.name_count)
-        (λ names. (map name_view names.items ≡ names_of (image_of layout.now) table.now) × All (λ name. name.entry < table.now.entry_count) names.items) result }
+        (λ names. (map name_view names.items ≡ names_of (image_of layout.now) table.now) × All (IsNameOf (file_of layout.now) table.now.entry_count) names.items) result }
 {
     let mut names = Vec::with_capacity(alloc, table.name_count as usize)?;
     let mut ends = TextEnds::new(alloc);
@@ -161,7 +158,7 @@ fn read_entries<'a, A: Allocator + Copy>(
     names: &[Name<'a>],
 ) -> Result<Exports<'a, A>, TableError>
     requires inside { IsInside (image_of layout.now) table.now }
-    requires within { All (λ name. name.entry < table.now.entry_count) names.now }
+    requires within { All (IsNameOf (file_of layout.now) table.now.entry_count) names.now }
     ensures { AnswersOrWants (each_tests (entry_tests (image_of layout.now) directory table.now) table.now.entry_count)
         (λ exports. (map ordinal_view exports.ordinals.items ≡ filter_map (by_entry (image_of layout.now) directory table.now) (range_with_len 0 table.now.entry_count))
         × IsIndexOf (λ index. target_of (image_of layout.now) directory (entry (image_of layout.now) table.now index)) (map name_view names.now) exports.names) result }
@@ -170,7 +167,7 @@ fn read_entries<'a, A: Allocator + Copy>(
     let mut index = NameIndex::new(alloc);
     for name in names {
         let ordinal = u64::from(table.ordinal_base) + u64::from(name.entry);
-        index.add(name.text, target_by_ordinal(&ordinals, ordinal))?;
+        index.add(layout, name.text, target_by_ordinal(&ordinals, ordinal))?;
     }
     Ok(Exports {
         ordinals,

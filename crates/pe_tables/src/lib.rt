@@ -24,6 +24,7 @@ mod import;
 mod imports;
 mod key;
 pub mod laws;
+mod long_texts;
 mod name_index;
 mod ranges;
 mod text_map;

@@ -1,9 +1,14 @@
-ghost use Rattle.std.specs.Prelude.{◌≡◌, [], OnOk};
+ghost use Rattle.std.specs.Prelude.{◌≡◌, ◌<◌, ◌&&◌, ℕ, List, length, [], None, Some, OnOk, IfOk, is_none, if◌then◌else◌};
+ghost use Rattle.std.specs.Str.{bytes_eq};
+ghost use Rattle.pe_layout.specs.Layout.{file_of};
+ghost use Rattle.pe_layout.specs.Span.{IsTextOf};
+ghost use Rattle.pe_tables.specs.LongTexts.{AreLongTextsOf};
 ghost use Rattle.pe_tables.specs.NameIndex.{held, Learns};
-ghost use Rattle.pe_tables.specs.TextMapView.{entries_in};
 
 use crate::key::Target;
+use crate::long_texts::{BLOCK, LongTexts};
 use crate::text_map::TextMap;
+use pe_layout::{Layout, Text};
 use std::alloc::{AllocError, Allocator};
 
 /// The exports of an image by name.
@@ -11,32 +16,89 @@ use std::alloc::{AllocError, Allocator};
 pub(crate) struct NameIndex<'a, A: Allocator> {
     /// Each text that exports something, where it stands first.
     pub exports: Vec<(&'a [u8], Target<'a>), A>,
-    /// What each text exports, also where that is nothing.
-    pub targets: TextMap<'a, A>,
+    /// What each text of less than a block exports, also where that is nothing.
+    pub short: TextMap<'a, A>,
+    /// The same of each other text.
+    pub long: LongTexts<'a, A>,
 }
 
 impl<'a, A: Allocator + Copy> NameIndex<'a, A> {
-    /// No names.
+    /// No names. No memory is taken.
     pub fn new(alloc: A) -> NameIndex<'a, A>
         ensures exports { result.exports.items ≡ [] }
-        ensures targets { entries_in result.targets ≡ [] }
+        ensures held { (text : List ℕ) → held result text ≡ None }
+        ensures known { (file : List ℕ) → AreLongTextsOf file result.long }
     {
         NameIndex {
             exports: Vec::new(alloc),
-            targets: TextMap::new(alloc),
+            short: TextMap::new(alloc),
+            long: LongTexts::new(alloc),
         }
     }
 
-    /// Adds a name that exports the target, unless the text stands there already.
-    pub fn add(&mut self, text: &'a [u8], target: Option<Target<'a>>) -> Result<(), AllocError>
-        ensures { OnOk result (Learns self.old self.new text.entry target.entry (held self.old text.now)) }
+    /// What a text exports, if it is there.
+    pub fn get(&self, text: &[u8]) -> Option<Option<Target<'a>>>
+        ensures { result ≡ held self.now text.now }
     {
-        if self.targets.get(text).is_some() {
+        if text.len() < BLOCK {
+            self.short.get(text)
+        } else {
+            self.long.get(text)
+        }
+    }
+
+    /// Holds what a text of less than a block exports, unless it is there, and tells whether it is new.
+    fn hold_short(&mut self, text: &'a [u8], target: Option<Target<'a>>) -> Result<bool, AllocError>
+        requires { length text.now < 256 }
+        ensures held { IfOk result (λ is_new. (is_new ≡ is_none (held self.old text.entry.now))
+            × ((other : List ℕ) → held self.new other ≡ (if is_new && bytes_eq other text.entry.now then Some target.entry else held self.old other))) }
+        ensures exports { self.new.exports ≡ self.old.exports }
+        ensures long { self.new.long ≡ self.old.long }
+    {
+        if self.short.get(text).is_some() {
+            return Ok(false);
+        }
+        self.short.insert(text, target)?;
+        Ok(true)
+    }
+
+    /// Holds what a text of this layout's file exports, unless it is there, and tells whether it is new.
+    fn hold(
+        &mut self,
+        layout: &Layout<'a>,
+        text: Text<'a>,
+        target: Option<Target<'a>>,
+    ) -> Result<bool, AllocError>
+        requires known { AreLongTextsOf (file_of layout.now) self.old.long }
+        requires text { IsTextOf (file_of layout.now) text }
+        ensures known { OnOk result (AreLongTextsOf (file_of layout.now) self.new.long) }
+        ensures held { IfOk result (λ is_new. (is_new ≡ is_none (held self.old text.entry.bytes.now))
+            × ((other : List ℕ) → held self.new other ≡ (if is_new && bytes_eq other text.entry.bytes.now then Some target.entry else held self.old other))) }
+        ensures exports { self.new.exports ≡ self.old.exports }
+    {
+        if text.bytes.len() < BLOCK {
+            return self.hold_short(text.bytes, target);
+        }
+        self.long.add(layout, text, target)
+    }
+
+    /// Adds a name of this layout's file that exports the target, unless the text stands there already.
+    pub fn add(
+        &mut self,
+        layout: &Layout<'a>,
+        text: Text<'a>,
+        target: Option<Target<'a>>,
+    ) -> Result<(), AllocError>
+        requires known { AreLongTextsOf (file_of layout.now) self.old.long }
+        requires text { IsTextOf (file_of layout.now) text }
+        ensures known { OnOk result (AreLongTextsOf (file_of layout.now) self.new.long) }
+        ensures learns { OnOk result (Learns self.old self.new text.entry.bytes target.entry (held self.old text.entry.bytes.now)) }
+    {
+        if !self.hold(layout, text, target)? {
             return Ok(());
         }
-        self.targets.insert(text, target)?;
         if let Some(target) = target {
-            self.exports.push((text, target))?;
+            self.exports.push((text.bytes, target))?;
         }
         Ok(())
     }

@@ -5,12 +5,12 @@ use Rattle.std.specs.Prelude.{◌==◌, map, option_map}
 use Rattle.std.specs.List.{find, filter_map, range_with_len}
 use Rattle.pe_head.specs.declared.directory.Directory.{Directory}
 use Rattle.pe_layout.specs.Image.{LaidOut}
-use Rattle.pe_layout.specs.Layout.{image_of}
+use Rattle.pe_layout.specs.Layout.{file_of, image_of}
 use Rattle.pe_tables.specs.Key as spec
 use Rattle.pe_tables.specs.Key.{target_view}
 use Rattle.pe_tables.specs.Exports.{entry, target_of, by_entry}
 use Rattle.pe_tables.specs.ExportsView.{name_view, ordinal_view}
-use Rattle.pe_tables.specs.NameIndex.{IsIndexOf}
+use Rattle.pe_tables.specs.NameIndex.{IsIndexOf, export_view}
 use Rattle.pe_tables.specs.declared.exports.Name.{Name}
 use Rattle.pe_tables.specs.declared.export_table.Table.{Table}
 use Rattle.pe_tables.specs.declared.key.Target.{Target}
@@ -21,7 +21,7 @@ use Rattle.pe_tables.proofs.exports.read_entries.Goals as goal
 
 -- a name, for a list of them to be read by
 abbrev no_name : Name
-no_name = record { text = record { ref_ptr = (0, 0); now = [] }; entry = 0 }
+no_name = record { text = record { bytes = record { ref_ptr = (0, 0); now = [] }; end = 0 }; entry = 0 }
 
 -- what is found under the ordinal of an entry is what the entry exports
 exported_by : (i : LaidOut) (d : Directory) (t : Table) (ordinals : List (ℕ × Target)) (k : ℕ) (result : Option Target) → k < t.entry_count
@@ -31,6 +31,16 @@ exported_by i d t ordinals k result within listed is =
     ap (option_map target_view) is ∙ found_mapped (t.ordinal_base + k) target_view ordinals
     ∙ ap (λ (es : List (ℕ × spec.Target)). option_map (λ (e : ℕ × spec.Target). e.1) (find (λ (e : ℕ × spec.Target). e.0 == t.ordinal_base + k) es)) listed
     ∙ of_entry (λ (k : ℕ). target_of i d (entry i t k)) t.ordinal_base 0 t.entry_count k (omega arith) (omega arith)
+
+pub loop-name-init : goal.loop-name-init
+loop-name-init g c =
+    record {
+      known = c.new-index.ensures.known (file_of c.args.layout.now);
+      names = record {
+        exports = ap (map export_view) c.new-index.ensures.exports;
+        targets = λ text. ap (option_map (option_map target_view)) (c.new-index.ensures.held text);
+      };
+    }
 
 pub loop-name-preserved : goal.loop-name-preserved
 loop-name-preserved g c =
@@ -46,16 +56,22 @@ loop-name-preserved g c =
     ∙ ap (λ (n : ℕ). option_map (λ (e : ℕ × Target). e.1) (find (λ (e : ℕ × Target). e.0 == n + c.from-in-loop-name.result) c.deref.result.now)) base
     ∙ ap (λ (n : ℕ). option_map (λ (e : ℕ × Target). e.1) (find (λ (e : ℕ × Target). e.0 == t.ordinal_base + n) c.deref.result.now)) own
     ∙ ap (λ (es : List (ℕ × Target)). option_map (λ (e : ℕ × Target). e.1) (find (λ (e : ℕ × Target). e.0 == t.ordinal_base + k) es)) c.deref.ensures.value in
-    index-step (λ (k : ℕ). target_of i d (entry i t k)) c.args.names.now index no_name c.loop-name.index c.add.new.self c.target_by_ordinal.result c.loop-name-test.true
-    (exported_by i d t ordinals k c.target_by_ordinal.result (c.requires.within index no_name c.loop-name-test.true) c.in_ok-ordinals.ensures.1.0 found)
-    c.in_ok-add.ensures c.loop-name.invariant
+    record {
+      known = c.in_ok-add.ensures.known;
+      names = index-step (λ (k : ℕ). target_of i d (entry i t k)) c.args.names.now index no_name c.loop-name.index c.add.new.self c.target_by_ordinal.result c.loop-name-test.true
+          (exported_by i d t ordinals k c.target_by_ordinal.result (c.requires.within index no_name c.loop-name-test.true).inside c.in_ok-ordinals.ensures.1.0 found)
+          c.in_ok-add.ensures.learns c.loop-name.invariant.names;
+    }
+
+pub add-requires-clause-text : goal.add-requires-clause-text
+add-requires-clause-text g c = (c.requires.within c.loop-name.name-index no_name c.loop-name-test.true).text
 
 -- all names are in the index
 pub invariant_of-result-clause-searchable : goal.invariant_of-result-clause-searchable
 invariant_of-result-clause-searchable g c =
     let i = image_of c.args.layout.now in
     let t = c.args.table.now in
-    searchable (λ (k : ℕ). target_of i c.args.directory (entry i t k)) (map name_view (take c.loop-name.name-index c.args.names.now)) c.loop-name.index c.loop-name.invariant
+    searchable (λ (k : ℕ). target_of i c.args.directory (entry i t k)) (map name_view (take c.loop-name.name-index c.args.names.now)) c.loop-name.index c.loop-name.invariant.names
 
 pub returns : goal.returns
 returns g c =
@@ -65,6 +81,6 @@ returns g c =
       c.in_ok-ordinals.ensures.0,
       (
         c.in_ok-ordinals.ensures.1.0,
-        subst (λ (ns : List Name). IsIndexOf (λ (k : ℕ). target_of i c.args.directory (entry i t k)) (map name_view ns) c.loop-name.index) all c.loop-name.invariant,
+        subst (λ (ns : List Name). IsIndexOf (λ (k : ℕ). target_of i c.args.directory (entry i t k)) (map name_view ns) c.loop-name.index) all c.loop-name.invariant.names,
       ),
     )

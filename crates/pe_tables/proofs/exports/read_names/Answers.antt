@@ -8,7 +8,7 @@ use Rattle.std.proofs.lemmas.Result.{err_from_is_err_and}
 use Rattle.pe_layout.specs.Layout.{file_of, image_of}
 use Rattle.pe_tables.specs.Exports.{named}
 use Rattle.pe_tables.specs.ExportFaults.{each_tests, name_tests}
-use Rattle.pe_tables.specs.ExportsView.{name_view}
+use Rattle.pe_tables.specs.ExportsView.{name_view, IsNameOf}
 use Rattle.pe_tables.specs.declared.exports.Name.{Name}
 use Rattle.pe_tables.proofs.Each.{each-none, each-more, each-in, given-push}
 use Rattle.pe_tables.proofs.Refusing.{refuses-whole}
@@ -54,5 +54,5 @@ loop-index-preserved g c =
           ∙ ap (λ (o : Option (List ℕ × ℕ)). filter_map (named i t) (range_with_len 0 k) ++ option_to_list o) read.1.0
           ∙ sym (given-push (named i t) k);
       known = c.read_name.ensures.known;
-      within = rw pushed (All-push (λ (n : Name). n.entry < t.entry_count) before name c.loop-index.invariant.within read.1.1);
+      within = rw pushed (All-push (IsNameOf (file_of c.args.layout.now) t.entry_count) before name c.loop-index.invariant.within read.1.1);
     }

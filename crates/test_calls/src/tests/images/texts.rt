@@ -264,3 +264,129 @@ fn a_text_from_the_last_dot_on_is_no_forwarder(rt: HostRuntime) {
         assert_refused(&rt, start as usize, error, (22, 0x1028 + 4 * 4));
     }
 }
+
+/// Pieces of the texts of names: a byte, and how many of it. There are five texts: 600 `a`, the same once more, and three that
+/// have one `b` among 600 bytes: the first, the last, the one in the middle.
+const NAME_TEXTS: &[(u8, usize)] = &[
+    (b'a', 600),
+    (0, 1),
+    (b'a', 600),
+    (0, 1),
+    (b'b', 1),
+    (b'a', 599),
+    (0, 1),
+    (b'a', 599),
+    (b'b', 1),
+    (0, 1),
+    (b'a', 300),
+    (b'b', 1),
+    (b'a', 299),
+    (0, 1),
+];
+
+/// Where names begin in these texts, each of which exports an entry of its own; and the pieces of a name that stands first.
+const NAMES: &[(u32, Option<&[(u8, usize)]>)] = &[
+    (300, Some(&[(b'a', 300)])),
+    (0, Some(&[(b'a', 600)])),
+    (601, None),
+    (901, None),
+    (1202, Some(&[(b'b', 1), (b'a', 599)])),
+    (1203, Some(&[(b'a', 599)])),
+    (1803, Some(&[(b'a', 599), (b'b', 1)])),
+    (2404, Some(&[(b'a', 300), (b'b', 1), (b'a', 299)])),
+    (2705, Some(&[(b'a', 299)])),
+    (345, Some(&[(b'a', 255)])),
+    (344, Some(&[(b'a', 256)])),
+    (945, None),
+    (946, None),
+    (1804, Some(&[(b'a', 598), (b'b', 1)])),
+];
+
+/// The pieces of texts that no name has.
+const NO_NAMES: &[&[(u8, usize)]] = &[
+    &[],
+    &[(b'a', 254)],
+    &[(b'a', 257)],
+    &[(b'a', 601)],
+    &[(b'a', 856)],
+    &[(b'b', 1), (b'a', 299)],
+    &[(b'b', 600)],
+    &[(b'a', 300), (b'c', 1), (b'a', 299)],
+    &[(0, 1), (b'a', 600)],
+];
+
+/// A text of these pieces.
+fn text_of(rt: &impl Abort, alloc: Global, pieces: &[(u8, usize)]) -> Vec<u8> {
+    let mut text = Vec::new(alloc);
+    for (byte, count) in pieces {
+        push_bytes(rt, &mut text, *byte, *count);
+    }
+    text
+}
+
+/// The image whose export table has the names, where name `index` exports the RVA 0x10 + `index`.
+fn named(rt: &impl Abort, alloc: Global) -> Vec<u8> {
+    let count = NAMES.len() as u32;
+    let texts = 0x1028 + 10 * count;
+    let mut data = Vec::new(alloc);
+    for field in [
+        0,
+        0,
+        0,
+        0,
+        1,
+        count,
+        count,
+        0x1028,
+        0x1028 + 4 * count,
+        0x1028 + 8 * count,
+    ] {
+        push_number(&mut data, field).expect(rt, "memory");
+    }
+    for index in 0..count {
+        push_number(&mut data, 0x10 + index).expect(rt, "memory");
+    }
+    for (start, _) in NAMES {
+        push_number(&mut data, texts + *start).expect(rt, "memory");
+    }
+    for index in 0..count {
+        data.extend_from_slice(&(index as u16).to_le_bytes())
+            .expect(rt, "memory");
+    }
+    data.extend_from_slice(&text_of(rt, alloc, NAME_TEXTS))
+        .expect(rt, "memory");
+    with_data(
+        rt,
+        alloc,
+        &[(0x91, &[0x40]), (0xb9, &[0x10]), (0xbc, &[0x28])],
+        &data,
+    )
+}
+
+#[test]
+fn names_that_end_alike_are_found_where_they_stand_first(rt: HostRuntime) {
+    let file = named(&rt, rt.alloc());
+    let exports = read_exports(rt.alloc(), &layout_of(&rt, &file)).expect(&rt, "exports");
+    let mut listed = exports.names().iter();
+    for (index, (_, name)) in NAMES.iter().enumerate() {
+        let Some(pieces) = name else {
+            continue;
+        };
+        let text = text_of(&rt, rt.alloc(), pieces);
+        let target = Target::Rva(0x10 + index as u32);
+        assert_holds(&rt, index, exports.by_name(&text) == Some(target));
+        let (found, exported) = listed.next().expect(&rt, "a name");
+        assert_holds(&rt, index, *found == text.as_slice() && *exported == target);
+    }
+    assert_holds(&rt, NAMES.len(), listed.next().is_none());
+}
+
+#[test]
+fn a_text_that_no_name_has_exports_nothing(rt: HostRuntime) {
+    let file = named(&rt, rt.alloc());
+    let exports = read_exports(rt.alloc(), &layout_of(&rt, &file)).expect(&rt, "exports");
+    for (case, pieces) in NO_NAMES.iter().enumerate() {
+        let text = text_of(&rt, rt.alloc(), pieces);
+        assert_holds(&rt, case, exports.by_name(&text).is_none());
+    }
+}

@@ -1,0 +1,252 @@
+ghost use Rattle.std.specs.Prelude.{◌≡◌, ◌+◌, ◌-◌, ◌*◌, ◌/◌, ◌≤◌, ◌<◌, ℕ, List, None, Some, length, OnOk, IfOk, slice_range, slice_index_or, max, is_none, ◌∷◌, ◌++◌, ◌==◌, ◌&&◌, [], if◌then◌else◌};
+ghost use Rattle.std.specs.Str.{bytes_eq};
+ghost use Rattle.pe_layout.specs.Layout.{file_of};
+ghost use Rattle.pe_layout.specs.Span.{IsTextOf};
+ghost use Rattle.pe_tables.specs.LongTexts.{longer, held_at, node_of, block, front, long_held, IsTrie, Grows, Leads, IsPath, AreLongTextsOf};
+
+use crate::key::Target;
+use pe_layout::{Layout, Text};
+use std::alloc::{AllocError, Allocator};
+use std::collections::BTreeMap;
+
+/// How many bytes a block has.
+pub(crate) const BLOCK: usize = 256;
+
+/// Texts whose last blocks are the same.
+#[derive(Drop)]
+pub(crate) struct Node<'a, A: Allocator> {
+    /// The nodes of one block more, by this block.
+    pub longer: BTreeMap<&'a [u8], usize, A>,
+    /// What the texts export that have less than a block before these blocks, by these bytes.
+    pub targets: BTreeMap<&'a [u8], Option<Target<'a>>, A>,
+}
+
+/// What each of some texts exports, or that it exports nothing, by the text; for long texts, of which many may end alike.
+///
+/// A text is told by its blocks of 256 bytes, counted from its end, and by the bytes before them.
+#[derive(Drop)]
+pub(crate) struct LongTexts<'a, A: Allocator> {
+    alloc: A,
+    /// The first is that of no block.
+    pub nodes: Vec<Node<'a, A>, A>,
+    /// The nodes to which the last blocks lead of the longest text that was entered of those with one end, one block after the
+    /// other, by the file offset of the end.
+    pub paths: BTreeMap<u64, Vec<usize, A>, A>,
+}
+
+/// The bytes before the blocks of a text.
+fn front(text: &[u8]) -> &[u8]
+    ensures { result.now ≡ front text.now }
+{
+    &text[..text.len() % BLOCK]
+}
+
+/// Block `index` of a text, counted from its end.
+fn block(text: &[u8], index: usize) -> &[u8]
+    requires { 256 * (index + 1) ≤ length text.now }
+    ensures { result.now ≡ block text.now index }
+{
+    let end = text.len() - BLOCK * index;
+    &text[end - BLOCK..end]
+}
+
+/// The node to which a path leads.
+fn last_node(path: &[usize]) -> usize
+    ensures { result ≡ slice_index_or (0 ∷ path.now) (length path.now) 0 }
+{
+    match path.last() {
+        Some(node) => *node,
+        None => 0,
+    }
+}
+
+impl<'a, A: Allocator + Copy> LongTexts<'a, A> {
+    /// The node of one block more than a node has, where there is one.
+    fn longer(&self, node: usize, block: &[u8]) -> Option<usize>
+        ensures { result ≡ longer self.now.nodes.items node block.now }
+    {
+        self.nodes.get(node)?.longer.get(block).copied()
+    }
+
+    /// What a text exports whose blocks lead to a node and which begins with these bytes, if it is there.
+    fn held_at(&self, node: usize, front: &[u8]) -> Option<Option<Target<'a>>>
+        ensures { result ≡ held_at self.now.nodes.items node front.now }
+    {
+        self.nodes.get(node)?.targets.get(front).copied()
+    }
+
+    /// The node to which the blocks of a text lead.
+    fn node_of(&self, text: &[u8]) -> Option<usize>
+        ensures { result ≡ node_of self.now.nodes.items text.now (length text.now / 256) }
+    {
+        let mut node = 0;
+        for index in 0..text.len() / BLOCK {
+            node = self.longer(node, block(text, index))?;
+        }
+        Some(node)
+    }
+
+    /// What a text exports, if it is there.
+    pub fn get(&self, text: &[u8]) -> Option<Option<Target<'a>>>
+        ensures { result ≡ long_held self.now.nodes.items text.now }
+    {
+        self.held_at(self.node_of(text)?, front(text))
+    }
+
+    /// No texts. No memory is taken.
+    pub fn new(alloc: A) -> LongTexts<'a, A>
+        ensures nodes { result.nodes.items ≡ [] }
+        ensures known { (file : List ℕ) → AreLongTextsOf file result }
+    {
+        LongTexts {
+            alloc,
+            nodes: Vec::new(alloc),
+            paths: BTreeMap::new(alloc),
+        }
+    }
+
+    /// Adds a node to which nothing leads.
+    fn add_node(&mut self) -> Result<(), AllocError>
+        ensures same { OnOk result ((n : ℕ) (bytes : List ℕ) → (longer self.new.nodes.items n bytes ≡ longer self.old.nodes.items n bytes) × (held_at self.new.nodes.items n bytes ≡ held_at self.old.nodes.items n bytes)) }
+        ensures count { OnOk result (length self.new.nodes.items ≡ length self.old.nodes.items + 1) }
+        ensures paths { self.new.paths ≡ self.old.paths }
+    {
+        let node = Node {
+            longer: BTreeMap::new(self.alloc),
+            targets: BTreeMap::new(self.alloc),
+        };
+        self.nodes.push(node)?;
+        Ok(())
+    }
+
+    /// Makes a node the one of one block more than another one has, in place of the one before.
+    fn link(&mut self, node: usize, block: &'a [u8], next: usize) -> Result<(), AllocError>
+        requires { node < length self.old.nodes.items }
+        ensures links { OnOk result ((n : ℕ) (bytes : List ℕ) → longer self.new.nodes.items n bytes ≡ (if n == node && bytes_eq bytes block.now then Some next else longer self.old.nodes.items n bytes)) }
+        ensures targets { OnOk result ((n : ℕ) (bytes : List ℕ) → held_at self.new.nodes.items n bytes ≡ held_at self.old.nodes.items n bytes) }
+        ensures count { OnOk result (length self.new.nodes.items ≡ length self.old.nodes.items) }
+        ensures paths { self.new.paths ≡ self.old.paths }
+    {
+        self.nodes[node].longer.insert(block, next)?;
+        Ok(())
+    }
+
+    /// The node of one block more than a node has, which is made where there is none.
+    fn reach(&mut self, node: usize, block: &'a [u8]) -> Result<usize, AllocError>
+        requires trie { IsTrie self.old.nodes.items }
+        requires inside { node < length self.old.nodes.items }
+        ensures trie { OnOk result (IsTrie self.new.nodes.items) }
+        ensures grows { OnOk result (Grows self.old.nodes.items self.new.nodes.items) }
+        ensures reached { IfOk result (λ next. longer self.new.nodes.items node block.now ≡ Some next) }
+        ensures paths { self.new.paths ≡ self.old.paths }
+    {
+        if let Some(next) = self.longer(node, block) {
+            return Ok(next);
+        }
+        let next = self.nodes.len();
+        self.add_node()?;
+        self.link(node, block, next)?;
+        Ok(next)
+    }
+
+    /// Says what the text exports whose blocks lead to a node and which begins with these bytes.
+    fn set_target(
+        &mut self,
+        node: usize,
+        front: &'a [u8],
+        target: Option<Target<'a>>,
+    ) -> Result<(), AllocError>
+        requires { node < length self.old.nodes.items }
+        ensures links { OnOk result ((n : ℕ) (bytes : List ℕ) → longer self.new.nodes.items n bytes ≡ longer self.old.nodes.items n bytes) }
+        ensures targets { OnOk result ((n : ℕ) (bytes : List ℕ) → held_at self.new.nodes.items n bytes ≡ (if n == node && bytes_eq bytes front.now then Some target.entry else held_at self.old.nodes.items n bytes)) }
+        ensures count { OnOk result (length self.new.nodes.items ≡ length self.old.nodes.items) }
+        ensures paths { self.new.paths ≡ self.old.paths }
+    {
+        self.nodes[node].targets.insert(front, target)?;
+        Ok(())
+    }
+
+    /// Goes on with the path of a text's blocks to its last one, from where it is known.
+    fn follow(&mut self, text: &'a [u8], path: &mut Vec<usize, A>) -> Result<(), AllocError>
+        requires trie { IsTrie self.old.nodes.items }
+        requires root { 0 < length self.old.nodes.items }
+        requires leads { Leads self.old.nodes.items text.now path.old.items }
+        ensures trie { OnOk result (IsTrie self.new.nodes.items) }
+        ensures grows { OnOk result (Grows self.old.nodes.items self.new.nodes.items) }
+        ensures leads { OnOk result (Leads self.new.nodes.items text.entry.now path.new.items) }
+        ensures whole { OnOk result (length text.entry.now / 256 ≤ length path.new.items) }
+        ensures goes_on { OnOk result ((more : List ℕ) × (path.new.items ≡ path.old.items ++ more)) }
+        ensures paths { self.new.paths ≡ self.old.paths }
+        ensures needed { OnOk result (length path.new.items ≤ max (length path.old.items) (length text.entry.now / 256)) }
+    {
+        while path.len() < text.len() / BLOCK {
+            let next = self.reach(last_node(path), block(text, path.len()))?;
+            path.push(next)?;
+        }
+        Ok(())
+    }
+
+    /// Sees to it that the node of no block is there.
+    fn make_root(&mut self) -> Result<(), AllocError>
+        ensures root { OnOk result (0 < length self.new.nodes.items) }
+        ensures grows { OnOk result (Grows self.old.nodes.items self.new.nodes.items) }
+        ensures trie { OnOk result (IsTrie self.old.nodes.items → IsTrie self.new.nodes.items) }
+        ensures paths { self.new.paths ≡ self.old.paths }
+    {
+        if self.nodes.is_empty() {
+            self.add_node()?;
+        }
+        Ok(())
+    }
+
+    /// The path of the longest text with this end that was entered, which is taken out.
+    fn take_path(&mut self, end: u64) -> Vec<usize, A>
+        ensures nodes { self.new.nodes ≡ self.old.nodes }
+        ensures path { (file : List ℕ) → AreLongTextsOf file self.old → IsPath self.old.nodes.items file end result.items }
+        ensures known { (file : List ℕ) → AreLongTextsOf file self.old → AreLongTextsOf file self.new }
+    {
+        match self.paths.remove(&end) {
+            Some(path) => path,
+            None => Vec::new(self.alloc),
+        }
+    }
+
+    /// Enters the blocks of a text of this layout's file, and tells to which node they lead.
+    fn enter(&mut self, _layout: &Layout<'a>, text: Text<'a>) -> Result<usize, AllocError>
+        requires known { AreLongTextsOf (file_of _layout.now) self.old }
+        requires text { IsTextOf (file_of _layout.now) text }
+        ensures known { OnOk result (AreLongTextsOf (file_of _layout.now) self.new) }
+        ensures grows { OnOk result (Grows self.old.nodes.items self.new.nodes.items) }
+        ensures node { IfOk result (λ node. node_of self.new.nodes.items text.entry.bytes.now (length text.entry.bytes.now / 256) ≡ Some node) }
+        ensures inside { IfOk result (λ node. node < length self.new.nodes.items) }
+    {
+        self.make_root()?;
+        let mut path = self.take_path(text.end);
+        self.follow(text.bytes, &mut path)?;
+        let node = last_node(&path[..text.bytes.len() / BLOCK]);
+        self.paths.insert(text.end, path)?;
+        Ok(node)
+    }
+
+    /// Adds a text of this layout's file, unless it is there, and tells whether it is new.
+    pub fn add(
+        &mut self,
+        layout: &Layout<'a>,
+        text: Text<'a>,
+        target: Option<Target<'a>>,
+    ) -> Result<bool, AllocError>
+        requires known { AreLongTextsOf (file_of layout.now) self.old }
+        requires text { IsTextOf (file_of layout.now) text }
+        ensures known { OnOk result (AreLongTextsOf (file_of layout.now) self.new) }
+        ensures held { IfOk result (λ is_new. (is_new ≡ is_none (long_held self.old.nodes.items text.entry.bytes.now))
+            × ((other : List ℕ) → long_held self.new.nodes.items other ≡ (if is_new && bytes_eq other text.entry.bytes.now then Some target.entry else long_held self.old.nodes.items other))) }
+    {
+        let node = self.enter(layout, text)?;
+        let front = front(text.bytes);
+        if self.held_at(node, front).is_some() {
+            return Ok(false);
+        }
+        self.set_target(node, front, target)?;
+        Ok(true)
+    }
+}
