@@ -1,5 +1,5 @@
 -- Lines as the definitions give them, written out.
-use Rattle.std.proofs.Common.{◌≡◌, ℕ, [], ◌∷◌, refl, codes}
+use Rattle.std.proofs.Common.{◌≡◌, [], ◌∷◌, refl, codes}
 use Rattle.std.specs.Fmt.{digits}
 use Rattle.pe_view.specs.declared.fault.Place.TheVariants.{File, Rva, Address, Item}
 use Rattle.pe_text.specs.FaultLine.{place_text, fault_words, fault_line, cycle_line}

@@ -1,5 +1,7 @@
 -- The digits of a number, and how many it needs.
-use Rattle.std.proofs.Common.{ℕ, zero, suc, ◌≡◌, ◌+◌, ◌*◌, ◌/◌, ◌%◌, ◌^◌, ◌-◌, ◌<◌, ◌≤◌, List, [], ◌∷◌, ◌++◌, append_assoc, append-nil, refl, arith, sym, ◌∙◌, ap}
+use Rattle.std.proofs.Common.{ℕ, zero, suc, ◌≡◌, ◌+◌, ◌*◌, ◌/◌, ◌%◌, ◌^◌, ◌-◌, ◌<◌, ◌≤◌, List, length, drop, refl, arith, sym, ◌∙◌, ap}
+use Rattle.std.proofs.Math.ListN.{set}
+use Rattle.std.proofs.lemmas.Grind.{drop-set_at}
 use Rattle.std.proofs.Math.Nat.{pow-succ', lt-mul-div-succ, div-eq_of_lt}
 use Rattle.std.proofs.lemmas.Nat.{pow-add, pow_pos}
 use Rattle.std.proofs.lemmas.Bool.{lt-ltb, le-ltb}
@@ -33,17 +35,13 @@ width_from-more more k n ne = rw (le-ltb n (16 ^ k) (passes k n ne)) refl
 pub width_from-next : (k n : ℕ) → k < 16 → (n / 2 ^ (4 * k) ≡ 0 → ⊥) → width_from (16 - (k + 1)) (k + 1) n ≡ width_from (16 - k) k n
 width_from-next k n below ne = let e : 16 - k ≡ suc (16 - (k + 1)) = omega arith in rw e (sym (width_from-more (16 - (k + 1)) k n ne))
 
--- the first digit of k, and the others
-hex-first : (k n : ℕ) → 0 < k → hex k n ≡ glyph (n / 16 ^ (k - 1) % 16) ∷ hex (k - 1) n
+-- one more digit stands before those at the end
+pub hex-before : (k n digit : ℕ) (digits : List ℕ) → k < 16 → length digits ≡ 16 → digit ≡ glyph (n / 2 ^ (4 * k) % 16) → drop (16 - k) digits ≡ hex k n
+    → drop (16 - (k + 1)) (set digits (15 - k) digit) ≡ hex (k + 1) n
 unfolding hex
-hex-first k n some = let e : k ≡ suc (k - 1) = omega arith in ap (λ (j : ℕ). hex j n) e
-
--- one more digit is written
-pub hex-next : (k n digit : ℕ) (written all : List ℕ) → 0 < k → digit ≡ glyph (n / 2 ^ (4 * (k - 1)) % 16) → written ++ hex k n ≡ all
-    → (written ++ digit ∷ []) ++ hex (k - 1) n ≡ all
-hex-next k n digit written all some d e = rw (append_assoc, d, shift-digits (k - 1), ← hex-first k n some) e
-
--- all digits are written
-pub hex-end : (written all : List ℕ) (n : ℕ) → written ++ hex 0 n ≡ all → written ≡ all
-unfolding hex
-hex-end written all n e = sym (append-nil written) ∙ e
+hex-before k n digit digits below long d e =
+    let one : 16 - (k + 1) ≡ 15 - k = omega arith in
+    let next : 15 - k + 1 ≡ 16 - k = omega arith in
+    let more : k + 1 ≡ suc k = omega arith in
+    drop-set_at digits (15 - k) (16 - (k + 1)) digit one (omega arith)
+    ∙ rw (next, e, d, shift-digits k) (ap (λ (j : ℕ). hex j n) (sym more))

@@ -1,5 +1,8 @@
-ghost use Rattle.std.specs.Prelude.{◌≡◌, ◌≤◌, ◌<◌};
-ghost use Rattle.pe_text.specs.Text.{glyph, hex_8_width};
+ghost use Rattle.std.specs.Prelude.{◌≡◌, ◌-◌, ◌≤◌, ◌<◌, drop};
+ghost use Rattle.pe_text.specs.Text.{glyph, hex, hex_8_width};
+
+/// The most hexadecimal digits that a number has.
+pub(crate) const DIGITS: usize = 16;
 
 /// A hexadecimal digit, in lower case.
 pub(crate) fn hex_digit(digit: u8) -> u8
@@ -11,6 +14,18 @@ pub(crate) fn hex_digit(digit: u8) -> u8
     } else {
         b'a' - 10 + digit
     }
+}
+
+/// The last `width` hexadecimal digits of a number, at the end of these bytes.
+pub(crate) fn hex_digits(width: usize, number: u64) -> [u8; DIGITS]
+    requires { width ≤ 16 }
+    ensures { drop (16 - width) result ≡ hex width number }
+{
+    let mut digits = [b'0'; DIGITS];
+    for place in 0..width {
+        digits[DIGITS - 1 - place] = hex_digit(((number >> (4 * place)) % 16) as u8);
+    }
+    digits
 }
 
 /// How many hexadecimal digits show the number, if there are to be 8 at least.

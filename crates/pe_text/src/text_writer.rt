@@ -3,7 +3,7 @@ ghost use Rattle.pe_text.specs.TextWriter.{WritesAll, Finishes};
 ghost use Rattle.pe_text.specs.Text.{hex, hex_8, is_plain, escaped, quoted};
 
 use crate::device::{Failed, Sink};
-use crate::digits::{hex_digit, hex_width};
+use crate::digits::{DIGITS, hex_digits, hex_width};
 use arrayvec::ArrayVec;
 use itoa::Buffer;
 
@@ -115,8 +115,20 @@ impl<'w, W: Sink> TextWriter<'w, W> {
         self.held.push(byte);
     }
 
-    /// Adds these bytes.
+    /// Adds these bytes, at once where there is room for all.
+    #[inline]
     pub fn text(&mut self, bytes: &[u8])
+        requires { IsReady W.failures self.old }
+        ensures { Adds W.taken W.failures self.old self.new bytes.now }
+    {
+        match self.held.try_extend_from_slice(bytes) {
+            Ok(()) => {}
+            Err(_) => self.text_in_parts(bytes),
+        }
+    }
+
+    /// Adds these bytes, as many at once as there is room for.
+    fn text_in_parts(&mut self, bytes: &[u8])
         requires { IsReady W.failures self.old }
         ensures { Adds W.taken W.failures self.old self.new bytes.now }
     {
@@ -141,11 +153,8 @@ impl<'w, W: Sink> TextWriter<'w, W> {
         requires width { width ≤ 16 }
         ensures { Adds W.taken W.failures self.old self.new (hex width number) }
     {
-        let mut left = width;
-        while left > 0 {
-            left -= 1;
-            self.byte(hex_digit(((number >> (4 * left)) % 16) as u8));
-        }
+        let digits = hex_digits(width as usize, number);
+        self.text(&digits[DIGITS - width as usize..]);
     }
 
     /// Adds a number in 8 hexadecimal digits, or in more where it needs them.

@@ -1,9 +1,6 @@
-use Rattle.std.proofs.Common.{ℕ, arith, length-drop, length-take}
-use Rattle.pe_text.proofs.Adding.{part-then}
+use Rattle.std.proofs.Common.{refl}
+use Rattle.pe_text.proofs.Adding.{Adds-held}
 use Rattle.pe_text.proofs.text_writer.TextWriter.text.Goals as goal
 
-pub loop-at-preserved : goal.loop-at-preserved
-loop-at-preserved g c = record {
-  within = omega (arith, length-take {A = ℕ}, length-drop {A = ℕ}, c.hold-at.ensures.fits);
-  adds = part-then _ _ _ c.loop-at.invariant.adds c.hold-at.ensures.adds;
-}
+pub returns-in-Ok : goal.returns-in-Ok
+returns-in-Ok g c = Adds-held g.W.Sink.taken g.W.Sink.failures _ _ _ c.requires refl c.in-Ok.ensures.ok refl

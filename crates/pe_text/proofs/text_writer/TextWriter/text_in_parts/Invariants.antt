@@ -1,6 +1,6 @@
 use Rattle.std.proofs.Common.{take, length, ◌≤◌, ◌-◌}
 use Rattle.pe_text.specs.TextWriter.{Adds}
-use Rattle.pe_text.proofs.text_writer.TextWriter.text.Given as goal
+use Rattle.pe_text.proofs.text_writer.TextWriter.text_in_parts.Given as goal
 
 abbrev pub invariant-loop-at : goal.invariant-loop-at
 invariant-loop-at g l = record {
