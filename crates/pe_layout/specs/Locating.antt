@@ -19,6 +19,14 @@ located h r =
     if nat_le h.size_of_image r then Outside
     else (if nat_lt r h.size_of_headers then Header r else located_in r (section_index h r) (section_of h r))
 
+-- where the file holds the byte that stands there, if it does
+abbrev pub file_offset : Located → Option ℕ
+file_offset (Header offset) = Some offset
+file_offset (Raw k offset) = Some offset
+file_offset (Zero k) = None
+file_offset Gap = None
+file_offset Outside = None
+
 -- the byte that stands there, where the RVA is the image's
 abbrev pub located_byte : List ℕ → Located → Option ℕ
 located_byte file (Header offset) = Some (byte_of file offset)

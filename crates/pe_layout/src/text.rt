@@ -1,10 +1,11 @@
-ghost use Rattle.std.specs.Prelude.{◌≡◌, ◌≤◌, IfSome, option_map, option_and_then, Some};
+ghost use Rattle.std.specs.Prelude.{◌≡◌, ◌+◌, ◌≤◌, ℕ, IfSome, length, option_map, option_and_then, Some};
 ghost use Rattle.pe_view.specs.View.{size_of};
 ghost use Rattle.pe_view.specs.Text.{text_between};
 ghost use Rattle.pe_view.specs.TextEnds.{AreEndsOf};
 ghost use Rattle.pe_layout.specs.Sections.{IsInSection};
 ghost use Rattle.pe_layout.specs.PieceText.{section_text};
 ghost use Rattle.pe_layout.specs.Span.{span_text, IsSpan, IsTextOf};
+ghost use Rattle.pe_layout.specs.Locating.{file_offset, located, located_in};
 ghost use Rattle.pe_layout.specs.Layout.{headers_of, file_of, image_of};
 
 use crate::fill::{Run, rest_of};
@@ -19,7 +20,7 @@ use std::alloc::Allocator;
 pub struct Text<'a> {
     /// Its bytes, without its zero byte.
     pub bytes: &'a [u8],
-    /// The file offset at which they end. That of an empty text tells nothing.
+    /// The file offset at which they end. That of an empty text in a gap or in zero fill tells nothing.
     pub end: u64,
 }
 
@@ -47,6 +48,7 @@ impl<'a> Layout<'a> {
         requires behind { (headers_of self.now).size_of_headers ≤ rva }
         requires found { IsInSection (headers_of self.now) (size_of self.now.view) rva section.now }
         ensures inside { IsSpan (size_of self.now.view) result }
+        ensures starts { (offset : ℕ) → file_offset (located_in rva (Some 0) (Some section.now)) ≡ Some offset → result.start ≡ offset }
         ensures text { span_text (file_of self.now) result ≡ section_text (headers_of self.now) (file_of self.now) rva (Some section.now) }
     {
         let rawlen = section.rawlen();
@@ -64,6 +66,7 @@ impl<'a> Layout<'a> {
     #[tactic(auto, unfolding(crate::specs::Layout::image_of))]
     fn span_at(&self, rva: u32) -> Option<Span>
         ensures inside { IfSome result (IsSpan (size_of self.now.view)) }
+        ensures starts { IfSome result (λ span. (offset : ℕ) → file_offset (located (headers_of self.now) rva) ≡ Some offset → span.start ≡ offset) }
         ensures text { option_and_then (span_text (file_of self.now)) result ≡ (image_of self.now).text rva }
     {
         let header_bytes = self.headers.size_of_headers;
@@ -89,6 +92,7 @@ impl<'a> Layout<'a> {
         requires ended { option_map (λ bytes. bytes.now) ended ≡ text_between (file_of self.now) span.start span.end }
         ensures text { option_map (λ text. text.bytes.now) result ≡ span_text (file_of self.now) span }
         ensures place { IfSome result (IsTextOf (file_of self.now)) }
+        ensures starts { IfSome result (λ text. text.end ≡ span.start + length text.bytes.now) }
     {
         pe_view::laws::texts_are_parts();
         match ended {
@@ -122,6 +126,7 @@ impl<'a> Layout<'a> {
         requires { AreEndsOf (file_of self.now) ends.old }
         ensures text { option_map (λ text. text.bytes.now) result ≡ (image_of self.now).text rva }
         ensures place { IfSome result (IsTextOf (file_of self.now)) }
+        ensures starts { IfSome result (λ text. (offset : ℕ) → file_offset (located (headers_of self.now) rva) ≡ Some offset → text.end ≡ offset + length text.bytes.now) }
         ensures known { AreEndsOf (file_of self.now) ends.new }
     {
         let span = self.span_at(rva)?;

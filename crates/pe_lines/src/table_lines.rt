@@ -8,8 +8,7 @@ ghost use Rattle.pe_text.specs.TextWriter.{IsReady, Adds};
 ghost use Rattle.pe_lines.specs.TableLines.{key_text, target_text, ordinal_line, name_line, export_lines, import_line, kind_text, fixup_line};
 
 use pe_tables::{Exports, Fixup, FixupKind, Import, Key, Target};
-use pe_text::Part::{Hex8, Text};
-use pe_text::{Sink, TextWriter, write_parts};
+use pe_text::{Sink, TextWriter};
 use std::alloc::Allocator;
 
 /// Adds `#` and an ordinal, or a quoted name.
@@ -144,16 +143,11 @@ fn write_fixup<W: Sink>(line: &mut TextWriter<W>, fixup: &Fixup)
     requires { IsReady W.failures line.old }
     ensures { Adds W.taken W.failures line.old line.new (fixup_line fixup.now) }
 {
-    write_parts(
-        line,
-        &[
-            Text(b"fixup 0x"),
-            Hex8(fixup.field as u64),
-            Text(b" "),
-            Text(kind_text(fixup.kind)),
-            Text(b"\n"),
-        ],
-    );
+    line.text(b"fixup 0x");
+    line.hex(8, fixup.field as u64);
+    line.text(b" ");
+    line.text(kind_text(fixup.kind));
+    line.text(b"\n");
 }
 
 /// Adds a line for each fixup.

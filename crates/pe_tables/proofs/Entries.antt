@@ -63,16 +63,17 @@ entries-end i slots f n k before le = ap (λ es. first_standing (entries_tests i
 pub fixups-end : (f : ℕ → Entry) (n k : ℕ) (before : List Fixup) → n ≤ k → before ++ filter_map fixup_of (drop k (map f (range_with_len 0 n))) ≡ before
 fixups-end f n k before le = ap (λ es. before ++ filter_map fixup_of es) (drop-given-end f n k le) ∙ append-nil before
 
--- the number in two bytes of an image that stand apart
+-- the number in bytes of an image that stand apart
 byte_of_part : (i : LaidOut) (rva n k : ℕ) (bytes : List ℕ) → bytes ≡ bytes_at i rva n → k < n → byte_of bytes k ≡ i.byte (rva + k)
 byte_of_part i rva n k bytes is lt = ap (λ (bs : List ℕ). byte_of bs k) is ∙ get_or-map-range_with_len i.byte rva n k (rva + k) 0 lt refl
 
-pub number_of_part : (i : LaidOut) (rva n k : ℕ) (bytes : List ℕ) → bytes ≡ bytes_at i rva n → k + 2 ≤ n → num (byte_of bytes) k 2 ≡ number_at 2 i (rva + k)
-number_of_part i rva n k bytes is le =
+pub number_of_part : (i : LaidOut) (rva n : ℕ) (bytes : List ℕ) → bytes ≡ bytes_at i rva n → (width k : ℕ) → k + width ≤ n → num (byte_of bytes) k width ≡ number_at width i (rva + k)
+number_of_part i rva n bytes is zero k le = refl
+number_of_part i rva n bytes is (suc width) k le =
     let at : rva + (k + 1) ≡ rva + k + 1 = omega arith in
-    let low = byte_of_part i rva n k bytes is (omega arith) in
-    let high : byte_of bytes (k + 1) ≡ i.byte (rva + k + 1) = byte_of_part i rva n (k + 1) bytes is (omega arith) ∙ ap i.byte at in
-    rw (low, high) refl
+    let low = byte_of_part i rva n k bytes is (omega (arith, le)) in
+    let rest : num (byte_of bytes) (k + 1) width ≡ num i.byte (rva + k + 1) width = number_of_part i rva n bytes is width (k + 1) (omega (arith, le)) ∙ ap (λ (r : ℕ). num i.byte r width) at in
+    rw (low, rest) refl
 
 -- entries in two parts
 entries-split : (i : LaidOut) (slots : List (ℕ × ℕ)) (before : List Fixup) (xs ys : List Entry)

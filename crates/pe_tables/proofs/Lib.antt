@@ -35,6 +35,7 @@ pub mod Past
 pub mod Patching
 pub mod Refusing
 pub mod Rising
+pub mod RisingFields
 pub mod Rows
 pub mod Runs
 pub mod Search

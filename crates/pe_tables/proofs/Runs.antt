@@ -26,6 +26,13 @@ starts_below run last rva ascending some is below = λ k d lt. elim (cases_eq k 
   | inr other ↦ (let pair = ascending k (length run - 1) d (omega arith) (omega arith) in let start : last.0 ≡ (get_or run (length run - 1) d).0 = ap (λ (r : ℕ × ℕ). r.0) (is d) in let less = pair.0 in omega arith)
 ]
 
+-- the first range starts first
+pub starts_behind : (run : List (ℕ × ℕ)) (first : ℕ × ℕ) (rva : ℕ) → IsAscending run → ((d : ℕ × ℕ) → first ≡ get_or run 0 d) → rva ≤ first.0 → All (λ range. rva ≤ range.0) run
+starts_behind run first rva ascending is behind = λ k d lt. elim (cases_eq k 0) [
+  | inl same ↦ (let here : first ≡ get_or run k d = is d ∙ ap (λ (i : ℕ). get_or run i d) (sym same) in rw (← here) behind)
+  | inr other ↦ (let pair = ascending 0 k d (omega arith) lt in let start : first.0 ≡ (get_or run 0 d).0 = ap (λ (r : ℕ × ℕ). r.0) (is d) in let less = pair.0 in omega arith)
+]
+
 pub last_starts_below : (run : List (ℕ × ℕ)) (last : ℕ × ℕ) (rva : ℕ) → 0 < length run → ((d : ℕ × ℕ) → last ≡ get_or run (length run - 1) d) → All (λ range. range.0 < rva) run → last.0 < rva
 last_starts_below run last rva some is below =
     let less : (get_or run (length run - 1) last).0 < rva = below (length run - 1) last (omega arith) in

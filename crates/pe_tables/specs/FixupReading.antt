@@ -1,14 +1,36 @@
 -- What has been read of a base relocation table.
-use Rattle.std.specs.Prelude.{◌≡◌, List, ◌++◌, map}
-use Rattle.pe_tables.specs.Ranges.{SameRanges}
+use Rattle.std.specs.Prelude.{◌≡◌, ℕ, ◌≤◌, List, ◌++◌, Option, None, Some, map, All, AllPairs, MatchOption, ⊤}
+use Rattle.pe_tables.specs.Ranges.{FitsBeside, Gains, SameRanges, range_end}
 use Rattle.pe_tables.specs.RangesView.{ranges_in}
 use Rattle.pe_tables.specs.Fixups.{range_of}
 use Rattle.pe_tables.specs.declared.fixups.Fixup.{Fixup}
-use Rattle.pe_tables.specs.declared.fixups.FoundFixups.{FoundFixups}
+use Rattle.pe_tables.specs.declared.ranges.Ranges.{Ranges}
+use Rattle.pe_tables.specs.declared.found_fixups.FoundFixups.{FoundFixups}
 
--- the ranges are those of the fixups
-abbrev pub IsIndexed : {A : Type 0} → FoundFixups A → Type 0
-IsIndexed found = SameRanges (ranges_in found.fields) (map range_of found.fixups.items)
+-- no field ends behind this RVA
+abbrev pub EndAt : ℕ → List Fixup → Type 0
+EndAt end fixups = All (λ (f : Fixup). range_end (range_of f) ≤ end) fixups
+
+-- each field begins behind those before it
+abbrev pub AreRising : List Fixup → Type 0
+AreRising fixups = AllPairs (λ (f later : Fixup). range_end (range_of f) ≤ later.field) fixups
+
+-- a range fits beside those that are there
+abbrev pub FitsBesideAny : {A : Type 0} → ℕ → ℕ → Option (Ranges A) → Type 0
+FitsBesideAny start len fields = MatchOption fields ⊤ (λ ranges. All (FitsBeside start len) (ranges_in ranges))
+
+-- the ranges that were there are there with one more
+abbrev pub GainsAny : {A : Type 0} → Option (Ranges A) → Option (Ranges A) → ℕ × ℕ → Type 0
+GainsAny {A} old new range = MatchOption old (new ≡ None) (λ ranges. (more : Ranges A) × (new ≡ Some more) × Gains (ranges_in ranges) (ranges_in more) range)
+
+-- the fixups' fields rise, or their ranges are there
+pub record IsIndexed {A : Type 0} (found : FoundFixups A) : Type 0 where
+  pub ends : EndAt found.end found.fixups.items
+  pub fields : MatchOption found.fields (AreRising found.fixups.items) (λ fields. SameRanges (ranges_in fields) (map range_of found.fixups.items))
+
+-- a field that begins here can be told from the others
+abbrev pub Tells : {A : Type 0} → FoundFixups A → ℕ → Type 0
+Tells found field = found.fields ≡ None → found.end ≤ field
 
 -- some more fixups have been read
 pub record Reads {A : Type 0} (old new : FoundFixups A) (more : List Fixup) : Type 0 where

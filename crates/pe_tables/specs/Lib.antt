@@ -31,3 +31,4 @@ pub mod Standing
 pub mod TableFaults
 pub mod TextMap
 pub mod TextMapView
+pub mod Window

@@ -9,6 +9,7 @@ ghost use Rattle.pe_tables.specs.ExportFaults.{IsInside, each_tests, name_tests,
 ghost use Rattle.pe_tables.specs.ExportsView.{name_view, ordinal_view, exports_view, IsNameOf};
 ghost use Rattle.pe_tables.specs.NameIndex.{IsIndexOf};
 ghost use Rattle.pe_tables.specs.Forwarders.{AreForwardersOf};
+ghost use Rattle.pe_tables.specs.Window.{IsWindowOf};
 ghost use Rattle.pe_view.specs.declared.refusal.Refusal.{Refusal};
 
 use crate::error::{TableError, fault_at};
@@ -18,6 +19,7 @@ use crate::forwarder::is_forwarder;
 use crate::forwarders::Forwarders;
 use crate::key::Target;
 use crate::name_index::NameIndex;
+use crate::window::Window;
 use pe_head::{Directory, directory_index};
 use pe_layout::{Layout, Text};
 use pe_view::TextEnds;
@@ -35,23 +37,29 @@ pub(crate) struct Name<'a> {
 /// Reads name `index`, unless fault 19 or 20 stands of it.
 fn read_name<'a, A: Allocator + Copy>(
     ends: &mut TextEnds<A>,
+    pointers: &mut Window,
+    ordinals: &mut Window,
     layout: &Layout<'a>,
     table: &Table,
     index: u32,
 ) -> Result<Name<'a>, TableError>
     requires known { AreEndsOf (file_of layout.now) ends.old }
+    requires pointers { IsWindowOf (image_of layout.now) pointers.old }
+    requires ordinals { IsWindowOf (image_of layout.now) ordinals.old }
     requires inside { IsInside (image_of layout.now) table.now }
     requires within { index < table.now.name_count }
     ensures known { AreEndsOf (file_of layout.now) ends.new }
+    ensures pointers { IsWindowOf (image_of layout.now) pointers.new }
+    ensures ordinals { IsWindowOf (image_of layout.now) ordinals.new }
     ensures exact { AnswersOrWants (name_tests (image_of layout.now) table.now index)
         (λ name. (Some (name_view name) ≡ named (image_of layout.now) table.now index) × IsNameOf (file_of layout.now) table.now.entry_count name) result }
 {
     let pointer = table.names + 4 * index;
-    let Some(text) = layout.text_at(ends, layout.u32_at(pointer).unwrap()) else {
+    let Some(text) = layout.text_at(ends, pointers.u32_at(layout, pointer)) else {
         return Err(fault_at(19, layout, pointer));
     };
     let rva = table.ordinals + 2 * index;
-    let entry = u32::from(layout.u16_at(rva).unwrap());
+    let entry = u32::from(ordinals.u16_at(layout, rva));
     if entry >= table.entry_count {
         return Err(fault_at(20, layout, rva));
     }
@@ -70,8 +78,18 @@ fn read_names<'a, A: Allocator + Copy>(
 {
     let mut names = Vec::with_capacity(alloc, table.name_count as usize)?;
     let mut ends = TextEnds::new(alloc);
+    let mut pointers = Window::new();
+    let mut ordinals = Window::new();
     for index in 0..table.name_count {
-        names.push(read_name(&mut ends, layout, table, index)?)?;
+        let name = read_name(
+            &mut ends,
+            &mut pointers,
+            &mut ordinals,
+            layout,
+            table,
+            index,
+        )?;
+        names.push(name)?;
     }
     Ok(names)
 }
@@ -100,20 +118,23 @@ fn target_of<'a, A: Allocator + Copy>(
 /// Reads entry `index` of the address table, unless fault 21 or 22 stands of it.
 fn read_entry<'a, A: Allocator + Copy>(
     forwarders: &mut Forwarders<'a, A>,
+    addresses: &mut Window,
     layout: &Layout<'a>,
     directory: Directory,
     table: &Table,
     index: u32,
 ) -> Result<Option<Target<'a>>, TableError>
     requires known { AreForwardersOf (file_of layout.now) forwarders.old }
+    requires addresses { IsWindowOf (image_of layout.now) addresses.old }
     requires inside { IsInside (image_of layout.now) table.now }
     requires within { index < table.now.entry_count }
     ensures known { AreForwardersOf (file_of layout.now) forwarders.new }
+    ensures addresses { IsWindowOf (image_of layout.now) addresses.new }
     ensures exact { AnswersOrWants (entry_tests (image_of layout.now) directory table.now index)
         (λ target. option_map target_view target ≡ target_of (image_of layout.now) directory (entry (image_of layout.now) table.now index)) result }
 {
     let rva = table.addresses + 4 * index;
-    let value = layout.u32_at(rva).unwrap();
+    let value = addresses.u32_at(layout, rva);
     if value == 0 {
         return Ok(None);
     }
@@ -140,8 +161,17 @@ fn read_ordinals<'a, A: Allocator + Copy>(
 {
     let mut ordinals = Vec::with_capacity(alloc, table.entry_count as usize)?;
     let mut forwarders = Forwarders::new(alloc);
+    let mut addresses = Window::new();
     for index in 0..table.entry_count {
-        let Some(target) = read_entry(&mut forwarders, layout, directory, table, index)? else {
+        let target = read_entry(
+            &mut forwarders,
+            &mut addresses,
+            layout,
+            directory,
+            table,
+            index,
+        )?;
+        let Some(target) = target else {
             continue;
         };
         ordinals.push((u64::from(table.ordinal_base) + u64::from(index), target))?;

@@ -16,6 +16,7 @@ ghost use Rattle.pe_tables.specs.FirstBlock.{FirstBlock};
 ghost use Rattle.pe_view.specs.declared.refusal.Refusal.{Refusal};
 
 use crate::error::{TableError, fault_at};
+use crate::found_fixups::FoundFixups;
 use crate::import::Import;
 use crate::ranges::Ranges;
 use pe_head::{Directory, directory_index};
@@ -89,26 +90,6 @@ pub struct Fixup {
     pub kind: FixupKind,
 }
 
-/// The fixups that have been read, and the bytes of their fields.
-#[derive(Drop)]
-pub(crate) struct FoundFixups<A: Allocator> {
-    pub fixups: Vec<Fixup, A>,
-    pub fields: Ranges<A>,
-}
-
-impl<A: Allocator + Copy> FoundFixups<A> {
-    /// Adds a fixup whose field meets no other.
-    fn add(&mut self, fixup: Fixup) -> Result<(), AllocError>
-        requires indexed { IsIndexed self.old }
-        requires apart { meets_any fixup.field (width_of fixup.kind) (map range_of self.old.fixups.items) ≡ false }
-        ensures { OnOk result (Reads self.old self.new (fixup ∷ [])) }
-    {
-        self.fields.add(fixup.field, fixup.kind.width())?;
-        self.fixups.push(fixup)?;
-        Ok(())
-    }
-}
-
 /// The bytes of the imports' slots, of `width` bytes each.
 fn slot_ranges<A: Allocator + Copy>(
     alloc: A,
@@ -151,7 +132,7 @@ fn read_entry<A: Allocator + Copy>(
         return Err(fault_at(36, layout, rva));
     }
     let field = field as u32;
-    if found.fields.meets(field, kind.width()) {
+    if found.meets(field, kind.width())? {
         return Err(fault_at(37, layout, rva));
     }
     if slots.meets(field, kind.width()) {
@@ -327,11 +308,7 @@ pub fn read_fixups<A: Allocator + Copy>(
         return Ok(Vec::new(alloc));
     }
     let slots = slot_ranges(alloc, imports, layout.slot_width())?;
-    let mut found = FoundFixups {
-        fixups: Vec::new(alloc),
-        fields: Ranges::new(alloc),
-    };
+    let mut found = FoundFixups::new(alloc);
     read_blocks(layout, &slots, &mut found, directory)?;
-    let FoundFixups { fixups, fields: _ } = found;
-    Ok(fixups)
+    Ok(found.fixups)
 }

@@ -20,6 +20,7 @@ mod exports;
 mod fixups;
 mod forwarder;
 mod forwarders;
+mod found_fixups;
 mod import;
 mod imports;
 mod key;
@@ -28,6 +29,7 @@ mod long_texts;
 mod name_index;
 mod ranges;
 mod text_map;
+mod window;
 
 pub use bytes::{shift_32, shift_64, shift_field, shift_high, shift_low, write_low};
 pub use encode::{ascending, encode_fixups};

@@ -28,7 +28,18 @@ fn all_below(run: &[(u32, u32)], rva: u32) -> bool
     }
 }
 
-/// How many ranges of a run start below an RVA.
+/// Whether no range of a run starts below an RVA, which the first one tells.
+fn none_below(run: &[(u32, u32)], rva: u32) -> bool
+    requires { IsAscending run.now }
+    ensures { IsTrue result → All (λ range. rva ≤ range.0) run.now }
+{
+    match run.first() {
+        Some(first) => rva <= first.0,
+        None => true,
+    }
+}
+
+/// How many ranges of a run start below an RVA: most RVAs are asked for in front of all ranges, or behind them.
 fn count_below(run: &[(u32, u32)], rva: u32) -> usize
     requires { IsAscending run.now }
     ensures within { result ≤ length run.now }
@@ -36,6 +47,8 @@ fn count_below(run: &[(u32, u32)], rva: u32) -> usize
 {
     if all_below(run, rva) {
         run.len()
+    } else if none_below(run, rva) {
+        0
     } else {
         run.partition_point(|range| range.0 < rva)
     }

@@ -23,17 +23,19 @@ loop-index-init g c =
       tests = each-none (name_tests (image_of c.args.layout.now) c.args.table.now);
       names = ap (map name_view) empty;
       known = c.new-ends.ensures (file_of c.args.layout.now);
+      pointers = c.new-pointers.ensures (image_of c.args.layout.now);
+      ordinals = c.new-ordinals.ensures (image_of c.args.layout.now);
       within = λ k d lt. absurd (omega arith);
     }
 
-pub returns-in_err-read_name : goal.returns-in_err-read_name
-returns-in_err-read_name g c =
+pub returns-in_err-name : goal.returns-in_err-name
+returns-in_err-name g c =
     let tests = name_tests (image_of c.args.layout.now) c.args.table.now in
-    let p = err_from_is_err_and c.from_residual-in_err-read_name.result c.from_residual-in_err-read_name.ensures.1 in
+    let p = err_from_is_err_and c.from_residual-in_err-name.result c.from_residual-in_err-name.ensures.1 in
     rw (p.1, p.2)
     (refuses-whole (tests c.loop-index.index) (each_tests tests c.args.table.now.name_count)
     (λ y some. each-in tests c.loop-index.index c.loop-index.invariant.tests c.args.table.now.name_count y c.loop-index-test.true some)
-    c.in_err-read_name.field-0.0 c.in_err-read_name.ensures.exact)
+    c.in_err-name.field-0.0 c.in_err-name.ensures.exact)
 
 pub loop-index-preserved : goal.loop-index-preserved
 loop-index-preserved g c =
@@ -41,8 +43,8 @@ loop-index-preserved g c =
     let t = c.args.table.now in
     let k : ℕ = c.loop-index.index in
     let before = c.loop-index.names.items in
-    let name : Name = c.in_ok-read_name.field-0 in
-    let read = c.in_ok-read_name.ensures.exact in
+    let name : Name = c.in_ok-name.name in
+    let read = c.in_ok-name.ensures.exact in
     let lt : k < t.name_count = c.loop-index-test.true in
     let pushed : c.push.new.self.items ≡ before ++ name ∷ [] = c.in_ok-push.ensures.items in
     record {
@@ -54,5 +56,7 @@ loop-index-preserved g c =
           ∙ ap (λ (o : Option (List ℕ × ℕ)). filter_map (named i t) (range_with_len 0 k) ++ option_to_list o) read.1.0
           ∙ sym (given-push (named i t) k);
       known = c.read_name.ensures.known;
+      pointers = c.read_name.ensures.pointers;
+      ordinals = c.read_name.ensures.ordinals;
       within = rw pushed (All-push (IsNameOf (file_of c.args.layout.now) t.entry_count) before name c.loop-index.invariant.within read.1.1);
     }

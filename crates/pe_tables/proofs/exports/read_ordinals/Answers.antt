@@ -25,6 +25,7 @@ loop-index-init g c =
       tests = each-none (entry_tests (image_of c.args.layout.now) c.args.directory c.args.table.now);
       ordinals = ap (map ordinal_view) empty;
       known = c.new-forwarders.ensures (file_of c.args.layout.now);
+      addresses = c.new-addresses.ensures (image_of c.args.layout.now);
       below = λ k d lt. absurd (omega arith);
       ascending = λ k j d lt inside. absurd (omega arith);
     }
@@ -56,6 +57,7 @@ loop-index-preserved-in_default g c =
           ∙ ap (λ (o : Option spec.Target). filter_map (by_entry i d t) (range_with_len 0 k) ++ option_to_list (option_map (λ target. (t.ordinal_base + k, target)) o)) (sym nothing)
           ∙ sym (given-push (by_entry i d t) k);
       known = c.read_entry.ensures.known;
+      addresses = c.read_entry.ensures.addresses;
       below = λ j e inside. let lower = c.loop-index.invariant.below j e inside in omega arith;
       ascending = c.loop-index.invariant.ascending;
     }
@@ -84,6 +86,7 @@ loop-index-preserved g c =
           ∙ ap (λ (o : Option spec.Target). filter_map (by_entry i d t) (range_with_len 0 k) ++ option_to_list (option_map (λ target. (t.ordinal_base + k, target)) o)) (sym exported)
           ∙ sym (given-push (by_entry i d t) k);
       known = c.read_entry.ensures.known;
+      addresses = c.read_entry.ensures.addresses;
       below = rw pushed (All-push (λ (e : ℕ × Target). e.0 < t.ordinal_base + (k + 1)) before (t.ordinal_base + k, target) (λ j e inside. let lower = c.loop-index.invariant.below j e inside in omega arith) (omega arith));
       ascending = rw pushed (all_pairs_push (λ (e later : ℕ × Target). e.0 < later.0) before (t.ordinal_base + k, target) c.loop-index.invariant.ascending (λ j e inside. c.loop-index.invariant.below j e inside));
     }

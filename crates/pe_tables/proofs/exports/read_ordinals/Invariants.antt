@@ -7,6 +7,7 @@ use Rattle.pe_tables.specs.Exports.{by_entry}
 use Rattle.pe_tables.specs.ExportFaults.{each_tests, entry_tests}
 use Rattle.pe_tables.specs.ExportsView.{ordinal_view}
 use Rattle.pe_tables.specs.Forwarders.{AreForwardersOf}
+use Rattle.pe_tables.specs.Window.{IsWindowOf}
 use Rattle.pe_tables.proofs.exports.read_ordinals.Given as goal
 
 abbrev pub invariant-loop-index : goal.invariant-loop-index
@@ -15,6 +16,7 @@ invariant-loop-index g l = record {
   tests : first_standing (each_tests (entry_tests (image_of l.layout) l.directory l.table) l.index) ≡ None;
   ordinals : map ordinal_view l.ordinals.items ≡ filter_map (by_entry (image_of l.layout) l.directory l.table) (range_with_len 0 l.index);
   known : AreForwardersOf (file_of l.layout) l.forwarders;
+  addresses : IsWindowOf (image_of l.layout) l.addresses;
   below : All (λ export. export.0 < l.table.ordinal_base + l.index) l.ordinals.items;
   ascending : AllPairs (λ export later. export.0 < later.0) l.ordinals.items;
 }

@@ -24,7 +24,7 @@ read_entry-requires-clause-value g c =
     let len : c.len.result ≡ n = c.len.ensures in
     let lt : k < n / 2 = rw len at c.loop-index-test.true in
     (rw c.unwrap-entry.ensures at c.u16_at.ensures).1 ∙ ap (λ (m : ℕ). num (byte_of (bytes_of c.args.bytes)) (2 * m) 2) from
-    ∙ number_of_part i c.args.rva n (2 * k) (bytes_of c.args.bytes) c.requires.bytes (omega arith)
+    ∙ number_of_part i c.args.rva n (bytes_of c.args.bytes) c.requires.bytes 2 (2 * k) (omega arith)
 
 pub returns-in_err-read_entry : goal.returns-in_err-read_entry
 returns-in_err-read_entry g c =

@@ -2,7 +2,7 @@
 use Rattle.std.proofs.Common.{◌≡◌, ℕ, arith, rules, inl, inr}
 use Rattle.std.specs.Prelude.{nat_lt}
 use Rattle.std.specs.List.Sorted.{IsPartitionedBy}
-use Rattle.std.proofs.lemmas.Bool.{cases_lt, ltb-true, lt-ltb}
+use Rattle.std.proofs.lemmas.Bool.{cases_lt, le-ltb, ltb-true, lt-ltb}
 use Rattle.std.proofs.lemmas.List.Sorted.{IsPartitionPoint-from_clause}
 use Rattle.pe_tables.proofs.Runs.{filter-front}
 use Rattle.pe_tables.proofs.ranges.count_below.Goals as goal
@@ -13,8 +13,14 @@ returns-then-all_below-clause-these c =
     (λ i d lt within. let less = c.all_below.ensures.0 c.if-all_below.true i d within in lt-ltb _ _ less)
     (λ i d le within. absurd (omega arith))
 
-pub returns-else-all_below-clause-these : goal.returns-else-all_below-clause-these
-returns-else-all_below-clause-these c =
+pub returns-then-none_below-clause-these : goal.returns-then-none_below-clause-these
+returns-then-none_below-clause-these c =
+    filter-front (λ (range : ℕ × ℕ). nat_lt range.0 c.args.rva) c.args.run.now 0
+    (λ i d lt within. absurd (omega (arith, lt)))
+    (λ i d le within. let behind = c.none_below.ensures c.if-none_below.true i d within in le-ltb _ _ behind)
+
+pub returns-else-none_below-clause-these : goal.returns-else-none_below-clause-these
+returns-else-none_below-clause-these c =
     let parted : IsPartitionedBy (λ (x : ℕ × ℕ). nat_lt x.0 c.args.rva) c.args.run.now = λ i j d le below test. (let b = ltb-true _ _ test in elim (cases_lt i j) [
       | inl less ↦ (let a = c.requires i j d less below in let first = a.0 in lt-ltb _ _ (omega arith))
       | inr not_less ↦ (let same : j ≡ i = omega arith in rw same at test)
