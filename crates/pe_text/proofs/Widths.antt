@@ -1,10 +1,14 @@
 -- The digits of a number, and how many it needs.
-use Rattle.std.proofs.Common.{ℕ, zero, suc, ◌≡◌, ◌+◌, ◌*◌, ◌/◌, ◌%◌, ◌^◌, ◌-◌, ◌<◌, ◌≤◌, List, length, drop, refl, arith, sym, ◌∙◌, ap}
+use Rattle.std.proofs.Common.{ℕ, zero, suc, ◌≡◌, ◌+◌, ◌*◌, ◌/◌, ◌%◌, ◌^◌, ◌-◌, ◌<◌, ◌≤◌, List, length, drop, get_or, refl, arith, sym, ◌∙◌, ap, Bool, inl, inr}
+use Rattle.std.specs.Prelude.{◌==◌, codes}
+use Rattle.std.specs.List.{range_with_len}
+use Rattle.std.proofs.lemmas.List.FromFn.{get_or-range_with_len}
+use Rattle.std.proofs.lemmas.List.Folds.{list_all_at}
 use Rattle.std.proofs.Math.ListN.{set}
 use Rattle.std.proofs.lemmas.Grind.{drop-set_at}
 use Rattle.std.proofs.Math.Nat.{pow-succ', lt-mul-div-succ, div-eq_of_lt}
 use Rattle.std.proofs.lemmas.Nat.{pow-add, pow_pos}
-use Rattle.std.proofs.lemmas.Bool.{lt-ltb, le-ltb}
+use Rattle.std.proofs.lemmas.Bool.{cases_Bool, eqb-true, lt-ltb, le-ltb}
 use Rattle.pe_text.specs.Text.{glyph, hex, width_from}
 
 -- a shift by four bits a digit
@@ -45,3 +49,16 @@ hex-before k n digit digits below long d e =
     let more : k + 1 ≡ suc k = omega arith in
     drop-set_at digits (15 - k) (16 - (k + 1)) digit one (omega arith)
     ∙ rw (next, e, d, shift-digits k) (ap (λ (j : ℕ). hex j n) (sym more))
+
+-- the list of digits has each in its place
+is_listed : ℕ → Bool
+is_listed d = get_or (codes "0123456789abcdef") d 0 == glyph d
+
+pub glyphs : (d : ℕ) → d < 16 → get_or (codes "0123456789abcdef") d 0 ≡ glyph d
+unfolding is_listed
+glyphs d below =
+    let at : get_or (range_with_len 0 16) d 0 ≡ d = get_or-range_with_len 0 16 d 0 below ∙ omega arith in
+    elim (cases_Bool (is_listed (get_or (range_with_len 0 16) d 0))) [
+      | inl listed ↦ eqb-true _ _ (rw at at listed)
+      | inr other ↦ (let none = list_all_at is_listed (range_with_len 0 16) d 0 below other in absurd cc)
+    ]

@@ -4,16 +4,15 @@ ghost use Rattle.pe_text.specs.Text.{glyph, hex, hex_8_width};
 /// The most hexadecimal digits that a number has.
 pub(crate) const DIGITS: usize = 16;
 
+/// The hexadecimal digits, in lower case.
+const GLYPHS: [u8; 16] = *b"0123456789abcdef";
+
 /// A hexadecimal digit, in lower case.
-pub(crate) fn hex_digit(digit: u8) -> u8
+fn hex_digit(digit: u8) -> u8
     requires { digit < 16 }
     ensures { result ≡ glyph digit }
 {
-    if digit < 10 {
-        b'0' + digit
-    } else {
-        b'a' - 10 + digit
-    }
+    GLYPHS[digit as usize]
 }
 
 /// The last `width` hexadecimal digits of a number, at the end of these bytes.
