@@ -14,6 +14,7 @@ pub mod Exporting
 pub mod Faultless
 pub mod Gathered
 pub mod Images
+pub mod LongNames
 pub mod Magics
 pub mod ModuleRead
 pub mod Moving

@@ -12,7 +12,7 @@ use Rattle.pe_tables.specs.Key.{Key, Target, Rva, Forward}
 use Rattle.pe_tables.specs.Exports.{target_at}
 use Rattle.pe_set.specs.Set.{Module, named, forwarded_name}
 use Rattle.pe_set.specs.Search.{target_in, from_target, from_image, resolve_in, stand_at, onward, step, steps, steps_to, same_stand, pairs_of}
-use Rattle.pe_set.specs.NamesView.{lowered}
+use Rattle.pe_set.specs.NamesView.{lowered, FoundAlike}
 use Rattle.pe_set.specs.SetView.{module_view, modules_view}
 use Rattle.pe_set.specs.declared.reading.Module as code_module
 use Rattle.pe_set.specs.declared.search.Resolution.TheVariants.{Bound, Missing, Unknown}
@@ -62,11 +62,12 @@ module _ (s : List Module) (name : List ℕ) (key : Key) (n : ℕ) where
     stand_step to next is = ap (λ o. steps s n (option_and_then (step s) (option_map (λ i. (i, key)) o))) here ∙ ap (λ t. steps s n (onward s t)) is
 
 -- the number that the names give is that of the image
-pub named_in : {A : Type 0} (ms : List (code_module.Module A)) (names : List (List ℕ)) (buffer name : List ℕ) → names ≡ lowered (modules_view ms) → buffer ≡ str_to_ascii_lowercase name
-    → position (λ other. bytes_eq buffer other) names ≡ named (modules_view ms) name
-named_in ms names buffer name is low =
-    ap (λ ns. position (λ other. bytes_eq buffer other) ns) is
-    ∙ ap (λ b. position (λ other. bytes_eq b other) (lowered (modules_view ms))) low
+pub named_in : {A : Type 0} (ms : List (code_module.Module A)) (names : List (List ℕ)) (text buffer name : List ℕ) → names ≡ lowered (modules_view ms) → text ≡ buffer → FoundAlike names buffer (str_to_ascii_lowercase name)
+    → position (λ other. bytes_eq text other) names ≡ named (modules_view ms) name
+named_in ms names text buffer name is same alike =
+    ap (λ b. position (λ other. bytes_eq b other) names) same
+    ∙ alike
+    ∙ ap (λ ns. position (λ other. bytes_eq (str_to_ascii_lowercase name) other) ns) is
     ∙ position-map (λ other. bytes_eq (str_to_ascii_lowercase name) other) (λ (m : Module). str_to_ascii_lowercase m.name) (modules_view ms)
 
 -- what the image of a number exports
@@ -81,9 +82,9 @@ pub names_count : {A : Type 0} (ms : List (code_module.Module A)) (names : List 
 names_count ms names is = ap length is ∙ length-map (modules_view ms) (λ (m : Module). str_to_ascii_lowercase m.name) ∙ length-map ms module_view
 
 -- ---- where a search stands
-module _ {A : Type 0} (ms : List (code_module.Module A)) (names : List (List ℕ)) (buffer name : List ℕ) (is : names ≡ lowered (modules_view ms)) (low : buffer ≡ str_to_ascii_lowercase name) where
-  pub standing_is : (key : Key) → option_map (λ i. (i, key)) (position (λ other. bytes_eq buffer other) names) ≡ stand_at (modules_view ms) name key
-  standing_is key = ap (option_map (λ i. (i, key))) (named_in ms names buffer name is low)
+module _ {A : Type 0} (ms : List (code_module.Module A)) (names : List (List ℕ)) (text buffer name : List ℕ) (is : names ≡ lowered (modules_view ms)) (same : text ≡ buffer) (alike : FoundAlike names buffer (str_to_ascii_lowercase name)) where
+  pub standing_is : (key : Key) → option_map (λ i. (i, key)) (position (λ other. bytes_eq text other) names) ≡ stand_at (modules_view ms) name key
+  standing_is key = ap (option_map (λ i. (i, key))) (named_in ms names text buffer name is same alike)
 
 pub step_is : (s : List Module) (p : ℕ × Key) (t : Option Target) → target_in s p.1 p.0 ≡ t → step s p ≡ onward s t
 step_is s p t is = ap (onward s) is

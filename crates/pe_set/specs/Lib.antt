@@ -5,6 +5,7 @@ pub use Rattle.pe_tables.specs.Imports
 pub use Rattle.pe_tables.specs.TableFaults
 pub mod Bindings
 pub mod BoundImports
+pub mod NameLengths
 pub mod NamesView
 pub mod Numbered
 pub mod Placement

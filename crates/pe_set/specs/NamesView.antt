@@ -1,9 +1,9 @@
 -- The names by which images are found.
-use Rattle.std.specs.Prelude.{◌≡◌, ℕ, List, map, take, slice_get, Some, false}
+use Rattle.std.specs.Prelude.{◌≡◌, ℕ, List, map, take, position, slice_get, Some, false}
 use Rattle.std.specs.List.{list_any}
-use Rattle.std.specs.Str.{str_to_ascii_lowercase}
+use Rattle.std.specs.Str.{bytes_eq, str_to_ascii_lowercase}
 use Rattle.pe_set.specs.Set.{Module, same_name}
-use Rattle.pe_set.specs.declared.search.Names.{Names}
+use Rattle.pe_set.specs.declared.module_names.Names.{Names}
 
 -- as they are held, in lower case
 abbrev pub names_in : {A : Type 0} → Names A → List (List ℕ)
@@ -16,3 +16,7 @@ lowered s = map (λ (m : Module). str_to_ascii_lowercase m.name) s
 -- no image has the name of an earlier one
 abbrev pub AreDistinct : List Module → Type 0
 AreDistinct s = (i : ℕ) (m : Module) → slice_get s i ≡ Some m → list_any (λ (before : Module). same_name m.name before.name) (take i s) ≡ false
+
+-- two texts are the same name of these, or neither is one
+abbrev pub FoundAlike : List (List ℕ) → List ℕ → List ℕ → Type 0
+FoundAlike names text other = position (λ name. bytes_eq text name) names ≡ position (λ name. bytes_eq other name) names

@@ -10,8 +10,9 @@ ghost use Rattle.std.specs.Prelude.{map};
 
 use crate::entry::Policy;
 use crate::error::{MapError, fault};
+use crate::module_names::Names;
 use crate::reading::Module;
-use crate::search::{Names, Resolution, count_exports, resolve};
+use crate::search::{Resolution, count_exports, resolve};
 use pe_tables::Import;
 use pe_view::{Fault, Place};
 use std::alloc::Allocator;

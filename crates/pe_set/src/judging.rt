@@ -8,10 +8,10 @@ use crate::binding::{Binding, bind};
 use crate::entry::{Policy, SetEntry};
 use crate::error::MapError;
 use crate::laws::sets_export_little;
+use crate::module_names::Names;
 use crate::names::check_names;
 use crate::placing::check_places;
 use crate::reading::{Module, read_modules};
-use crate::search::Names;
 use std::alloc::Allocator;
 
 /// The images of a set in which no fault stands, and what their imports are bound to.

@@ -19,6 +19,7 @@ mod entry;
 mod error;
 mod judging;
 pub mod laws;
+mod module_names;
 mod names;
 mod placement;
 mod placing;

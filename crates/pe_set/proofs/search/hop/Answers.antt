@@ -16,7 +16,7 @@ returns-in_ok-forward_into-in-Some-Forward-clause-hop g c =
     let next : Key = key_view c.in-Some-Forward.key in
     let found = target_is ms c.index-modules-from.result p.0 p.1 (option_map target_view c.target.result) c.requires.within c.index-modules-from.is c.target.ensures ∙ ap (option_map target_view) (c.in-Some-Forward.is ∙ ap (λ t. Some t) c.in-Some-Forward.field-0-is) in
     c.stand.ensures.stand
-    ∙ standing_is ms (names_in c.args.names.now) c.as_slice.result.now (forwarded_name to) c.requires.named (c.as_slice.ensures.value ∙ c.in_ok-forward_into-in-Some-Forward.ensures) next
+    ∙ standing_is ms (names_in c.args.names.now) c.as_slice.result.now c.forward_into.new.buffer.items (forwarded_name to) c.requires.named c.as_slice.ensures.value c.in_ok-forward_into-in-Some-Forward.ensures next
     ∙ sym (step_is (modules_view ms) p _ found)
 
 pub returns-in_ok-forward_into-in-Some-Forward-clause-within : goal.returns-in_ok-forward_into-in-Some-Forward-clause-within

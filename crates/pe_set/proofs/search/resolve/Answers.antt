@@ -39,7 +39,7 @@ loop-hops-init g c =
     record {
       name = name;
       few = omega arith;
-      lower = c.in_ok-lower_into.ensures;
+      alike = c.in_ok-name_into.ensures;
       rest = ap (λ k. resolve_in k s name key) all;
       at = ap (λ k. steps s k (stand_at s name key)) all;
     }
@@ -72,7 +72,7 @@ returns-in_default g c =
     let n : ℕ = c.loop-hops.hops in
     let import : List ℕ = c.args.import.now.«module».now in
     let wanted : Key = key_view c.args.import.now.key in
-    let none = sym (named_in c.args.modules.now (names_in c.args.names.now) c.as_slice.result.now name c.requires.named (c.as_slice.ensures.value ∙ c.loop-hops.invariant.lower)) ∙ sym c.number.ensures.number ∙ c.in_default.is in
+    let none = sym (named_in c.args.modules.now (names_in c.args.names.now) c.as_slice.result.now c.loop-hops.buffer.items name c.requires.named c.as_slice.ensures.value c.loop-hops.invariant.alike) ∙ sym c.number.ensures.number ∙ c.in_default.is in
     ended_at s import wanted exports Missing c.requires.counted
     (sym c.loop-hops.invariant.rest ∙ ap (λ k. resolve_in k s name key) (left n exports c.loop-hops-test.true) ∙ resolve_missing s name key (exports - n) none)
 
@@ -83,7 +83,7 @@ returns-in-None g c =
     let name = c.loop-hops.invariant.name in
     let key : Key = key_view c.loop-hops.key in
     let i : ℕ = c.in-Some.image in
-    let here = sym (named_in ms (names_in c.args.names.now) c.as_slice.result.now name c.requires.named (c.as_slice.ensures.value ∙ c.loop-hops.invariant.lower)) ∙ sym c.number.ensures.number ∙ c.in-Some.is in
+    let here = sym (named_in ms (names_in c.args.names.now) c.as_slice.result.now c.loop-hops.buffer.items name c.requires.named c.as_slice.ensures.value c.loop-hops.invariant.alike) ∙ sym c.number.ensures.number ∙ c.in-Some.is in
     let within = c.in-Some.ensures.within in
     let count = names_count ms (names_in c.args.names.now) c.requires.named in
     let lacks = target_is ms c.index-modules-image.result i key (option_map target_view c.target.result) (omega arith) c.index-modules-image.is c.target.ensures ∙ ap (option_map target_view) c.in-None.is in
@@ -99,7 +99,7 @@ returns-in-Some-Rva g c =
     let name = c.loop-hops.invariant.name in
     let key : Key = key_view c.loop-hops.key in
     let i : ℕ = c.in-Some.image in
-    let here = sym (named_in ms (names_in c.args.names.now) c.as_slice.result.now name c.requires.named (c.as_slice.ensures.value ∙ c.loop-hops.invariant.lower)) ∙ sym c.number.ensures.number ∙ c.in-Some.is in
+    let here = sym (named_in ms (names_in c.args.names.now) c.as_slice.result.now c.loop-hops.buffer.items name c.requires.named c.as_slice.ensures.value c.loop-hops.invariant.alike) ∙ sym c.number.ensures.number ∙ c.in-Some.is in
     let within = c.in-Some.ensures.within in
     let count = names_count ms (names_in c.args.names.now) c.requires.named in
     let found = target_is ms c.index-modules-image.result i key (option_map target_view c.target.result) (omega arith) c.index-modules-image.is c.target.ensures ∙ ap (option_map target_view) (c.in-Some-Rva.is ∙ ap (λ t. Some t) c.in-Some-Rva.field-0-is) in
@@ -115,7 +115,7 @@ loop-hops-preserved g c =
     let name = c.loop-hops.invariant.name in
     let key : Key = key_view c.loop-hops.key in
     let i : ℕ = c.in-Some.image in
-    let here = sym (named_in ms (names_in c.args.names.now) c.as_slice.result.now name c.requires.named (c.as_slice.ensures.value ∙ c.loop-hops.invariant.lower)) ∙ sym c.number.ensures.number ∙ c.in-Some.is in
+    let here = sym (named_in ms (names_in c.args.names.now) c.as_slice.result.now c.loop-hops.buffer.items name c.requires.named c.as_slice.ensures.value c.loop-hops.invariant.alike) ∙ sym c.number.ensures.number ∙ c.in-Some.is in
     let within = c.in-Some.ensures.within in
     let count = names_count ms (names_in c.args.names.now) c.requires.named in
     let to = c.in-Some-Forward.«module».now in
@@ -128,7 +128,7 @@ loop-hops-preserved g c =
     record {
       name = forwarded_name to;
       few = omega (arith, lt);
-      lower = c.in_ok-forward_into-in-Some-Forward.ensures;
+      alike = c.in_ok-forward_into-in-Some-Forward.ensures;
       rest = ap (λ k. resolve_in k s (forwarded_name to) next) fewer
           ∙ sym (resolve_hop s name key (exports - n) i here to next found) ∙ sym (ap (λ k. resolve_in k s name key) (left n exports lt)) ∙ c.loop-hops.invariant.rest;
       at = ap (λ k. steps s k (stand_at s (forwarded_name to) next)) fewer
@@ -145,7 +145,7 @@ returns g c =
     let key : Key = key_view c.loop-hops.key in
     let over = c.loop-hops-test.false in
     let none : exports + 1 - n ≡ 0 = omega (arith, over) in
-    let start = c.stand-start.ensures.stand ∙ standing_is ms (names_in c.args.names.now) c.as_slice-2.result.now name c.requires.named (c.as_slice-2.ensures.value ∙ c.loop-hops.invariant.lower) key in
+    let start = c.stand-start.ensures.stand ∙ standing_is ms (names_in c.args.names.now) c.as_slice-2.result.now c.loop-hops.buffer.items name c.requires.named c.as_slice-2.ensures.value c.loop-hops.invariant.alike key in
     not_ended s c.args.import.now.«module».now (key_view c.args.import.now.key) exports c.in_ok-length.length c.requires.counted
     (sym c.loop-hops.invariant.rest ∙ ap (λ k. resolve_in k s name key) none)
     (c.in_ok-length.ensures ∙ ap (cycle_at exports s) (start ∙ sym (ap (λ k. steps s k (stand_at s name key)) none) ∙ c.loop-hops.invariant.at))

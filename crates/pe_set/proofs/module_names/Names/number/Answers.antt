@@ -3,7 +3,7 @@ use Rattle.std.specs.Prelude.{IfSome}
 use Rattle.std.specs.Str.{bytes_eq}
 use Rattle.std.proofs.lemmas.List.{length-map}
 use Rattle.pe_set.proofs.Searching.{position-map}
-use Rattle.pe_set.proofs.search.Names.number.Goals as goal
+use Rattle.pe_set.proofs.module_names.Names.number.Goals as goal
 
 pub returns-clause-number : goal.returns-clause-number
 returns-clause-number g c = c.get_index_of.ensures.index ∙ sym (position-map (λ other. bytes_eq c.args.name.now other) (λ name. name.items) c.args.self.now.names.keys)

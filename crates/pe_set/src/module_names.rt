@@ -1,0 +1,94 @@
+ghost use Rattle.std.specs.Prelude.{◌≡◌, ◌+◌, ◌<◌, ◌≤◌, length, bytes_eq, map, position, IsOk, IfOk, IfSome, OnOk, take};
+ghost use Rattle.std.specs.Str.{str_to_ascii_lowercase};
+ghost use Rattle.pe_set.specs.Set.{forwarded_name};
+ghost use Rattle.pe_set.specs.SetView.{modules_view};
+ghost use Rattle.pe_set.specs.NameLengths.{AreWithin};
+
+use crate::reading::Module;
+use indexmap::IndexSet;
+use std::alloc::{AllocError, Allocator};
+use std::hash::{BuildHasherDefault, FoldHasher};
+
+/// The names of a set's images, in lower case, by which their numbers are found.
+#[derive(Drop)]
+pub(crate) struct Names<A: Allocator> {
+    pub names: IndexSet<Vec<u8, A>, BuildHasherDefault<FoldHasher>, A>,
+    /// How many bytes the longest name has.
+    pub longest: usize,
+    ghost none_longer: { AreWithin longest (map (λ name. name.items) names.keys) },
+}
+
+/// Puts a name in lower case into the buffer.
+fn lower_into<A: Allocator + Copy>(buffer: &mut Vec<u8, A>, name: &[u8]) -> Result<(), AllocError>
+    ensures { OnOk result (buffer.new.items ≡ str_to_ascii_lowercase name.now) }
+{
+    buffer.clear();
+    buffer.extend_from_slice(name)?;
+    buffer.as_mut_slice().make_ascii_lowercase();
+    Ok(())
+}
+
+/// Puts the name of the module that a forwarder names into the buffer, in lower case: `.dll` is added to a name without a dot.
+fn forward_into<A: Allocator + Copy>(buffer: &mut Vec<u8, A>, name: &[u8]) -> Result<(), AllocError>
+    ensures { OnOk result (buffer.new.items ≡ str_to_ascii_lowercase (forwarded_name name.now)) }
+{
+    lower_into(buffer, name)?;
+    if !name.contains(&b'.') {
+        buffer.extend_from_slice(b".dll")?;
+    }
+    Ok(())
+}
+
+impl<A: Allocator + Copy> Names<A> {
+    ghost use Rattle.pe_set.specs.NamesView.{names_in, lowered, AreDistinct, FoundAlike};
+
+    /// The names of images, no two of which match.
+    pub fn new(alloc: A, modules: &[Module<A>]) -> Result<Names<A>, AllocError>
+        requires { AreDistinct (modules_view modules.now) }
+        ensures names { IfOk result (λ names. names_in names ≡ lowered (modules_view modules.now)) }
+        ensures empty { length modules.now ≡ 0 → IsOk result }
+    {
+        let mut names = IndexSet::with_capacity(alloc, modules.len())?;
+        let mut longest: usize = 0;
+        for module in modules {
+            let mut name = Vec::new(alloc);
+            lower_into(&mut name, module.name)?;
+            longest = longest.max(module.name.len());
+            names.insert(name)?;
+        }
+        Ok(Names { names, longest })
+    }
+
+    /// As much of a name as is looked up: one that is longer than each name of the set is none of them, and so is its beginning
+    /// of one byte more than these have.
+    fn beginning<'n>(&self, name: &'n [u8]) -> &'n [u8]
+        ensures { result.now ≡ take (self.now.longest + 1) name.now }
+    {
+        &name[..name.len().min(self.longest.saturating_add(1))]
+    }
+
+    /// Puts the name of a module into the buffer, in lower case, as far as it is looked up.
+    pub fn name_into(&self, buffer: &mut Vec<u8, A>, name: &[u8]) -> Result<(), AllocError>
+        ensures { OnOk result (FoundAlike (names_in self.now) buffer.new.items (str_to_ascii_lowercase name.now)) }
+    {
+        lower_into(buffer, self.beginning(name))?;
+        Ok(())
+    }
+
+    /// Puts the name of the module that a forwarder names into the buffer, in lower case, as far as it is looked up: `.dll` is
+    /// added to a name without a dot.
+    pub fn forward_into(&self, buffer: &mut Vec<u8, A>, name: &[u8]) -> Result<(), AllocError>
+        ensures { OnOk result (FoundAlike (names_in self.now) buffer.new.items (str_to_ascii_lowercase (forwarded_name name.now))) }
+    {
+        forward_into(buffer, self.beginning(name))?;
+        Ok(())
+    }
+
+    /// The number of the image with a name, which is in lower case.
+    pub fn number(&self, name: &[u8]) -> Option<usize>
+        ensures number { result ≡ position (λ other. bytes_eq name.now other) (names_in self.now) }
+        ensures within { IfSome result (λ number. number < length (names_in self.now)) }
+    {
+        self.names.get_index_of(name)
+    }
+}
