@@ -20,8 +20,8 @@ pub mod ImportReading
 pub mod ImportView
 pub mod Imports
 pub mod Key
-pub mod NameIndex
 pub mod LongTexts
+pub mod NameIndex
 pub mod Patch
 pub mod Patched
 pub mod Ranges

@@ -53,13 +53,13 @@ module _ {W : Type 0} (taken : W → List ℕ) (failures : W → ℕ) where
         (beginning-more start _ _ _ s.0 w.0.1, rw f (w.1 ∙ ap (λ (m : ℕ). m + 1) s'.0, part-taken (taken a.writer.now) (taken b.writer.now) a.held.items t w.0.0 w.0.1 s'.1));
   }
 
-  -- nothing is written after a failure
-  pub Adds-failed : (a b : TextWriter W) → a.failed ≡ true → b.writer ≡ a.writer → b.failed ≡ a.failed → Adds taken failures a b []
+  -- nothing is written after a failure, whatever the text goes on with
+  pub Adds-failed : (a b : TextWriter W) (bytes : List ℕ) → a.failed ≡ true → b.writer ≡ a.writer → b.failed ≡ a.failed → Adds taken failures a b bytes
   unfolding Stands
-  Adds-failed a b failed w f = record {
+  Adds-failed a b bytes failed w f = record {
     same = rw w refl;
     ready = λ no. cc;
-    text = λ start t n s. let s' = rw failed at s in rw (f, failed, append-nil, w) s';
+    text = λ start t n s. let more = rw failed at (held-more a.failed (taken a.writer.now) a.held.items bytes t (failures a.writer.now) n s.1) in rw (f, failed, w) (s.0, more);
   }
 
   -- after the last write, where one has failed

@@ -1,4 +1,4 @@
-ghost use Rattle.std.specs.Prelude.{◌≡◌, ◌-◌, ◌^◌, ◌<◌, ◌≤◌, length, take, slice_index_or, [], ◌∷◌, decimal, flat_map, ℕ, List, true, false};
+ghost use Rattle.std.specs.Prelude.{◌≡◌, ◌-◌, ◌^◌, ◌<◌, ◌≤◌, length, take, slice_index_or, [], decimal, flat_map, ℕ, List, true, false};
 ghost use Rattle.pe_text.specs.TextWriter.{WritesAll, Finishes};
 ghost use Rattle.pe_text.specs.Text.{hex, hex_8, is_plain, escaped, quoted};
 
@@ -106,15 +106,6 @@ impl<'w, W: Sink> TextWriter<'w, W> {
         count
     }
 
-    /// Adds a byte.
-    pub fn byte(&mut self, byte: u8)
-        requires { IsReady W.failures self.old }
-        ensures { Adds W.taken W.failures self.old self.new (byte ∷ []) }
-    {
-        self.make_room();
-        self.held.push(byte);
-    }
-
     /// Adds these bytes, at once where there is room for all.
     #[inline]
     pub fn text(&mut self, bytes: &[u8])
@@ -193,11 +184,14 @@ impl<'w, W: Sink> TextWriter<'w, W> {
         plain
     }
 
-    /// Adds the bytes of a quoted text.
+    /// Adds the bytes of a quoted text. After a write that failed they are not looked at: texts may be long, and many.
     fn all_escaped(&mut self, bytes: &[u8])
         requires { IsReady W.failures self.old }
         ensures { Adds W.taken W.failures self.old self.new (flat_map escaped bytes.now) }
     {
+        if self.failed {
+            return;
+        }
         let mut at = 0;
         while at < bytes.len() {
             at += self.some_escaped(&bytes[at..]);

@@ -1,4 +1,4 @@
-use Rattle.std.proofs.Common.{refl}
+use Rattle.std.proofs.Common.{[], refl}
 use Rattle.pe_text.proofs.Adding.{Adds-written, Adds-failed}
 use Rattle.pe_text.proofs.text_writer.TextWriter.flush.Goals as goal
 
@@ -8,4 +8,4 @@ returns-clause-adds g c =
     (rw c.as_slice.ensures.value at c.write_all-result.ensures)
 
 pub returns-then-self-clause-adds : goal.returns-then-self-clause-adds
-returns-then-self-clause-adds g c = Adds-failed g.W.Sink.taken g.W.Sink.failures _ _ c.if-self.true refl refl
+returns-then-self-clause-adds g c = Adds-failed g.W.Sink.taken g.W.Sink.failures _ _ [] c.if-self.true refl refl
