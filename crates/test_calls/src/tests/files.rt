@@ -5,6 +5,7 @@ mod cycles;
 mod devices;
 mod engines;
 mod images_written;
+mod long_names;
 mod o1;
 mod objects;
 mod objects_written;

@@ -45,7 +45,7 @@ fn export_table(rt: &impl Abort, alloc: Global, texts: &[String]) -> Vec<u8> {
 }
 
 /// A library with these forwarders.
-fn library(rt: &impl Abort, alloc: Global, texts: &[String]) -> Vec<u8> {
+pub(super) fn library(rt: &impl Abort, alloc: Global, texts: &[String]) -> Vec<u8> {
     let table = export_table(rt, alloc, texts);
     let size = u32::try_from(table.len()).expect(rt, "a size");
     let mut plan = bare_plan(alloc, &VB);
@@ -160,7 +160,12 @@ fn the_last_forwarder_of_a_chain_may_lead_back(rt: HostRuntime) {
 }
 
 /// The bytes of the program's slot, of an accepted set: in both spaces the same.
-fn slot_of<'a>(rt: &impl Abort, alloc: Global, set: &'a [SetEntry<'a>], policy: Policy) -> [u8; 4] {
+pub(super) fn slot_of<'a>(
+    rt: &impl Abort,
+    alloc: Global,
+    set: &'a [SetEntry<'a>],
+    policy: Policy,
+) -> [u8; 4] {
     let mapped = map(alloc, set, policy).expect(rt, "a space");
     let opened = open_space(alloc, set, policy).expect(rt, "a space over files");
     let (mut slot, mut other) = ([0; 4], [0xee; 4]);

@@ -3,6 +3,7 @@
 
 ghost use Rattle.std.specs.Prelude.{◌<◌};
 
+use super::cycles::library;
 use super::engines::{Answered, Devices, Engine, run, steps_of};
 use crate::tests::asserts::assert_holds;
 use pe_tool::{Outcome, Policy, SetEntry, ToolError, check, map_report, status};
@@ -137,6 +138,28 @@ fn each_read_and_each_write_that_fails_is_told(rt: HostRuntime) {
             assert_reads_fail(&rt, rt.alloc(), work, step);
             assert_writes_fail(&rt, rt.alloc(), work, step);
         }
+    }
+}
+
+/// A library with two forwarders whose texts have over 2,000 bytes, more than a writer holds.
+fn long_texts(rt: &impl Abort, alloc: Global) -> Vec<u8> {
+    let mut texts = Vec::new(alloc);
+    for count in [2_100, 2_500] {
+        let module = "m".repeat(alloc, count).expect(rt, "memory");
+        let text = format!(in alloc; "{module}.#0").expect(rt, "memory");
+        texts.push(text).expect(rt, "memory");
+    }
+    library(rt, alloc, &texts)
+}
+
+#[test]
+fn a_write_that_fails_beneath_a_long_text_is_told(rt: HostRuntime) {
+    let file = long_texts(&rt, rt.alloc());
+    let (_, whole) = run(rt.alloc(), Engine::Dump, &file, steps_of(64)).expect(&rt, "memory");
+    assert!(rt; whole.taken().len() > 4_600);
+    for step in [64, 4096] {
+        assert!(rt; step > 0);
+        assert_writes_fail(&rt, rt.alloc(), Work::File(Engine::Dump, &file), step);
     }
 }
 
