@@ -9,6 +9,7 @@ use Rattle.pe_set.specs.Set.{Module, named, forwarded_name}
 use Rattle.pe_set.specs.Search.{target_in, from_target, from_image, resolve_in, stand_at, onward, step, steps, stands, pairs_of, same_key, same_stand, steps_to, cycle_at, cycle_length, ended, resolve}
 use Rattle.pe_set.specs.SearchEnds.{Repeats, IsCycle}
 use Rattle.pe_set.specs.declared.search.Resolution.{Resolution}
+use Rattle.pe_set.specs.declared.search.Resolution.TheVariants.{Endless}
 use Rattle.pe_set.proofs.Pigeons.{pigeons}
 use Rattle.pe_set.proofs.PairNumbers.{pair_number, number_in, number_same}
 
@@ -24,7 +25,7 @@ pub steps_add : (s : List Module) (a b : ℕ) (p : Option Stand) → steps s (a 
 steps_add s zero b p = let e : 0 + b ≡ b = omega arith in ap (λ n. steps s n p) e
 steps_add s (suc a) b p = let e : suc a + b ≡ suc (a + b) = omega arith in ap (λ n. steps s n p) e ∙ steps_add s a b (option_and_then (step s) p)
 
-steps_none : (s : List Module) (n : ℕ) → steps s n None ≡ None
+pub steps_none : (s : List Module) (n : ℕ) → steps s n None ≡ None
 steps_none s zero = refl
 steps_none s (suc n) = steps_none s n
 
@@ -72,7 +73,7 @@ module _ (s : List Module) (n : ℕ) (later : (name : List ℕ) (key : Key) (p :
   on_image key p None at = let none = steps_none s n in absurd cc
   on_image key p (Some i) at = on_target i key p (target_in s key i) refl at
 
-goes_on : (s : List Module) (n : ℕ) (name : List ℕ) (key : Key) (p : Stand) → stands s name key n ≡ Some p → resolve_in n s name key ≡ None
+pub goes_on : (s : List Module) (n : ℕ) (name : List ℕ) (key : Key) (p : Stand) → stands s name key n ≡ Some p → resolve_in n s name key ≡ None
 goes_on s zero name key p at = refl
 goes_on s (suc n) name key p at = on_image s n (goes_on s n) key p (named s name) at
 
@@ -109,7 +110,7 @@ one_end s (suc a) zero name key end end' is is' = absurd cc
 one_end s (suc a) (suc b) name key end end' is is' = one_image s a b end end' (λ name key is is'. one_end s a b name key end end' is is') key (named s name) is is'
 
 -- ---- among as many hops as there are pairs, and one, it stands somewhere twice
-abbrev number_of : List Module → Option Stand → ℕ
+abbrev pub number_of : List Module → Option Stand → ℕ
 number_of s None = 0
 number_of s (Some p) = pair_number s p.0 p.1
 
@@ -213,11 +214,11 @@ same_stand_is p (Some q) is =
 stand_is_same : (p : Stand) → same_stand p (Some p) ≡ true
 stand_is_same p = and_from (p.0 == p.0) (same_key p.1 p.1) (eq-eqb p.0 p.0 refl) (key_is_same p.1)
 
-abbrev times : ℕ → ℕ → ℕ
+abbrev pub times : ℕ → ℕ → ℕ
 times zero length = 0
 times (suc n) length = length + times n length
 
-times_more : (n length : ℕ) → 0 < length → n ≤ times n length
+pub times_more : (n length : ℕ) → 0 < length → n ≤ times n length
 times_more zero length above = omega arith
 times_more (suc n) length above = let more = times_more n length above in omega (arith, more, above)
 
@@ -244,7 +245,7 @@ module _ (s : List Module) (p : Stand) where
   returns_at n zero q above is le = absurd (omega (arith, above))
   returns_at n (suc k) q above is le = returns n k q is le
 
-  round : (length : ℕ) → steps s length (Some p) ≡ Some p → (n : ℕ) → steps s (times n length) (Some p) ≡ Some p
+  pub round : (length : ℕ) → steps s length (Some p) ≡ Some p → (n : ℕ) → steps s (times n length) (Some p) ≡ Some p
   round length is zero = refl
   round length is (suc n) = steps_add s length (times n length) (Some p) ∙ ap (steps s (times n length)) is ∙ round length is n
 
@@ -309,3 +310,12 @@ cycle_is s name key none =
 pub resolve_ended : (s : List Module) (name : List ℕ) (key : Key) (n : ℕ) (end : Resolution) → resolve_in n s name key ≡ Some end → resolve s name key ≡ end
 unfolding resolve
 resolve_ended s name key n end is = ap (ended (cycle_length s name key)) (soon s name key n end (resolve_in (suc (pairs_of s)) s name key) refl is)
+
+-- one that is resolved to an end that it comes to has ended soon
+ended_is_by : (length : ℕ) (end : Resolution) (o : Option Resolution) → end ≡ ended length o → ((n : ℕ) → end ≡ Endless n → ⊥) → o ≡ Some end
+ended_is_by length end None is not = absurd (not length is)
+ended_is_by length end (Some other) is not = ap (λ r. Some r) (sym is)
+
+pub ended_is : (s : List Module) (name : List ℕ) (key : Key) (end : Resolution) → end ≡ resolve s name key → ((n : ℕ) → end ≡ Endless n → ⊥) → resolve_in (suc (pairs_of s)) s name key ≡ Some end
+unfolding resolve
+ended_is s name key end is not = ended_is_by (cycle_length s name key) end (resolve_in (suc (pairs_of s)) s name key) is not

@@ -9,6 +9,7 @@ pub mod Cycles
 pub mod Defaults
 pub mod Distinct
 pub mod Ending
+pub mod EndsKnown
 pub mod Errors
 pub mod Exporting
 pub mod Faultless
@@ -20,10 +21,15 @@ pub mod ModuleRead
 pub mod Moving
 pub mod NameRows
 pub mod PairNumbers
+pub mod Pathing
 pub mod Pigeons
 pub mod PlaceRows
 pub mod Places
+pub mod Pushed
+pub mod Returning
 pub mod Searching
 pub mod SetRows
 pub mod Soundness
+pub mod Standings
 pub mod Staying
+pub mod Walking

@@ -1,5 +1,5 @@
 -- A name that is longer than each name of a set is none of them, and so is its beginning that is.
-use Rattle.std.proofs.Common.{◌≡◌, ◌∙◌, ℕ, ◌+◌, ◌<◌, ◌≤◌, Bool, false, List, [], ◌∷◌, ◌++◌, length, get_or, take, map, None, refl, sym, ap, arith, inl, inr, length-take}
+use Rattle.std.proofs.Common.{◌≡◌, ◌∙◌, ℕ, ◌<◌, ◌≤◌, false, List, [], ◌∷◌, ◌++◌, length, get_or, take, None, refl, sym, ap, arith, inl, inr, length-take}
 use Rattle.std.specs.Prelude.{◌==◌, max, position}
 use Rattle.std.specs.List.{list_any}
 use Rattle.std.specs.Char.{to_ascii_lowercase}

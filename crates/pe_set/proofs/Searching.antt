@@ -1,18 +1,20 @@
 -- What an image that has been read is, and how a search goes on from it.
-use Rattle.std.proofs.Common.{◌≡◌, ◌∙◌, ◌<◌, ◌+◌, ℕ, zero, suc, List, [], ◌∷◌, Bool, true, false, not, cond, length, map, drop, get_or, Option, None, Some, refl, sym, ap}
+use Rattle.std.proofs.Common.{◌≡◌, ◌∙◌, ◌<◌, ◌+◌, ℕ, zero, suc, List, [], ◌∷◌, Bool, true, false, not, cond, length, map, drop, get_or, Option, None, Some, refl, sym, ap, arith}
 use Rattle.std.specs.Prelude.{option_map, nat_lt, position, ◌||◌}
 use Rattle.std.specs.List.{list_any, position_or_len, prefix_len}
 use Rattle.std.specs.Str.{bytes_eq, str_to_ascii_lowercase}
 use Rattle.std.specs.Option.{option_and_then}
+use Rattle.std.proofs.lemmas.Slice.Eq.{bytes_eq-Decides}
 use Rattle.std.proofs.lemmas.Option.{slice_get-map, slice_get_read}
 use Rattle.std.proofs.lemmas.List.{length-map}
+use Rattle.std.proofs.lemmas.List.Quantifiers.{position-Some}
 use Rattle.pe_tables.specs.ExportsView.{exports_view}
 use Rattle.pe_tables.specs.ImportView.{import_view}
 use Rattle.pe_tables.specs.Key.{Key, Target, Rva, Forward}
 use Rattle.pe_tables.specs.Exports.{target_at}
 use Rattle.pe_set.specs.Set.{Module, named, forwarded_name}
 use Rattle.pe_set.specs.Search.{target_in, from_target, from_image, resolve_in, stand_at, onward, step, steps, steps_to, same_stand, pairs_of}
-use Rattle.pe_set.specs.NamesView.{lowered, FoundAlike}
+use Rattle.pe_set.specs.NamesView.{lowered, found, FoundAlike}
 use Rattle.pe_set.specs.SetView.{module_view, modules_view}
 use Rattle.pe_set.specs.declared.reading.Module as code_module
 use Rattle.pe_set.specs.declared.search.Resolution.TheVariants.{Bound, Missing, Unknown}
@@ -113,3 +115,25 @@ pairs_past ms i m a b next is_a is_b =
     ap (λ (xs : List (code_module.Module _)). pairs_of (modules_view xs)) next
     ∙ ap (λ n. n + length (exports_view m.image.exports).names + pairs_of (modules_view (drop (i + 1) ms))) (sym is_a)
     ∙ ap (λ n. a + n + pairs_of (modules_view (drop (i + 1) ms))) (sym is_b)
+
+-- the number by which a name is found is that of the image
+pub found_named : {A : Type 0} (ms : List (code_module.Module A)) (names : List (List ℕ)) (name : List ℕ) → names ≡ lowered (modules_view ms) → found names name ≡ named (modules_view ms) name
+found_named ms names name is =
+    ap (λ ns. position (λ other. bytes_eq (str_to_ascii_lowercase name) other) ns) is
+    ∙ position-map (λ other. bytes_eq (str_to_ascii_lowercase name) other) (λ (m : Module). str_to_ascii_lowercase m.name) (modules_view ms)
+
+-- it is that of one of the set
+pub number_within : {A : Type 0} (ms : List (code_module.Module A)) (name : List ℕ) (i : ℕ) → named (modules_view ms) name ≡ Some i → i < length ms
+number_within ms name i is =
+    let names = lowered (modules_view ms) in
+    let lt = (position-Some (λ other. bytes_eq (str_to_ascii_lowercase name) other) names i [] (found_named ms names name refl ∙ is)).0 in
+    let count = names_count ms names refl in
+    omega (arith, lt, count)
+
+-- texts that are not told apart are the same
+not_false : (b : Bool) → not b ≡ false → b ≡ true
+not_false true is = refl
+not_false false is = absurd cc
+
+pub same_text : (a b : List ℕ) → not (bytes_eq a b) ≡ false → a ≡ b
+same_text a b is = (bytes_eq-Decides a b).0 (not_false (bytes_eq a b) is)

@@ -5,9 +5,11 @@ pub use Rattle.pe_tables.specs.Imports
 pub use Rattle.pe_tables.specs.TableFaults
 pub mod Bindings
 pub mod BoundImports
+pub mod EndsView
 pub mod NameLengths
 pub mod NamesView
 pub mod Numbered
+pub mod PathView
 pub mod Placement
 pub mod Search
 pub mod SearchEnds

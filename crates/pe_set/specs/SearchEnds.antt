@@ -2,7 +2,7 @@
 use Rattle.std.specs.Prelude.{◌≡◌, ◌<◌, ◌≤◌, ◌+◌, ℕ, zero, suc, List, Option, Some, None, option_map, option_and_then}
 use Rattle.pe_tables.specs.Key.{Key, Target, Rva, Forward}
 use Rattle.pe_set.specs.Set.{Module, named, forwarded_name}
-use Rattle.pe_set.specs.Search.{target_in}
+use Rattle.pe_set.specs.Search.{target_in, from_target, resolve_in}
 use Rattle.pe_set.specs.declared.search.Resolution.{Resolution}
 use Rattle.pe_set.specs.declared.search.Resolution.TheVariants.{Bound, Missing, Unknown, Endless}
 
@@ -72,3 +72,7 @@ EndsAs s start (Bound i rva) = (hops : ℕ) × EndsAfter s start hops (Bound i r
 EndsAs s start Missing = (hops : ℕ) × EndsAfter s start hops Missing
 EndsAs s start Unknown = (hops : ℕ) × EndsAfter s start hops Unknown
 EndsAs s start (Endless length) = IsEndless s start × IsCycle (image_after s start) length
+
+-- a search that stands at a key of an image ends in this way
+abbrev pub EndsFrom : List Module → Resolution → ℕ × Key → Type 0
+EndsFrom s end p = (n : ℕ) × (from_target (resolve_in n s) p.0 (target_in s p.1 p.0) ≡ Some end)

@@ -1,7 +1,15 @@
--- Where a search stands, as its image and key.
-use Rattle.std.specs.Prelude.{ℕ}
-use Rattle.pe_tables.specs.Key.{Key, key_view}
-use Rattle.pe_set.specs.declared.search.Standing.{Standing}
+-- Where a search stands, as it is looked up.
+use Rattle.std.specs.Prelude.{ℕ, suc, List, []}
+use Rattle.pe_tables.specs.Key.{Key, Ordinal, Name}
+use Rattle.pe_set.specs.declared.standing.Standing.{Standing}
 
-abbrev pub stand_view : Standing → ℕ × Key
-stand_view stand = (stand.image, key_view stand.key)
+-- an image's number, and a key as a number and a name
+abbrev pub Stand : Type 0
+Stand = ℕ × ℕ × List ℕ
+
+abbrev pub stand_view : Standing → Stand
+stand_view at = (at.image, at.number, at.name.now)
+
+abbrev pub stand_of : ℕ × Key → Stand
+stand_of (i, Ordinal n) = (i, suc n, [])
+stand_of (i, Name text) = (i, 0, text)

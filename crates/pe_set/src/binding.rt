@@ -1,18 +1,20 @@
-ghost use Rattle.std.specs.Prelude.{◌≡◌, ◌++◌, ◌≤◌, ◌^◌, length, IsOk};
+ghost use Rattle.std.specs.Prelude.{◌≡◌, ◌++◌, ◌≤◌, ◌^◌, length, IsOk, OnOk};
 ghost use Rattle.std.specs.List.{flat_map, filter_map};
 ghost use Rattle.pe_tables.specs.ImportView.{import_view};
 ghost use Rattle.pe_set.specs.NamesView.{names_in, lowered};
 ghost use Rattle.pe_set.specs.SetView.{modules_view};
 ghost use Rattle.pe_set.specs.Search.{pairs_of};
+ghost use Rattle.pe_set.specs.EndsView.{AreEnds};
 ghost use Rattle.pe_set.specs.Bindings.{bound_to, binding_of, bindings_of};
 ghost use Rattle.pe_set.specs.SetErrors.{SetAnswers, end_errors, import_errors, imports_errors, first_error};
 ghost use Rattle.std.specs.Prelude.{map};
 
+use crate::ends::Ends;
 use crate::entry::Policy;
 use crate::error::{MapError, fault};
 use crate::module_names::Names;
 use crate::reading::Module;
-use crate::search::{Resolution, count_exports, resolve};
+use crate::search::{Resolution, resolve};
 use pe_tables::Import;
 use pe_view::{Fault, Place};
 use std::alloc::Allocator;
@@ -66,27 +68,35 @@ fn bound(
     }
 }
 
-/// Binds the imports of image `number`, or answers the first of their faults 48 to 50, where the images have so many exports
-/// together. `buffer` has room for names while it runs.
+/// Binds the imports of image `number`, or answers the first of their faults 48 to 50. A module's name is looked up once for the
+/// imports in a row that name it. `buffer` has room for names while it runs.
 fn bind_imports<'a, A: Allocator + Copy>(
     modules: &[Module<'a, A>],
     names: &Names<A>,
-    exports: u32,
     policy: Policy,
     number: u16,
     imports: &[Import<'a>],
     bindings: &mut Vec<Binding, A>,
+    ends: &mut Ends<'a, A>,
     buffer: &mut Vec<u8, A>,
 ) -> Result<(), MapError>
     requires few { length modules.now ≤ 256 }
     requires named { names_in names.now ≡ lowered (modules_view modules.now) }
-    requires counted { exports ≡ pairs_of (modules_view modules.now) }
-    requires few_exports { exports ≤ 2 ^ 25 }
-    ensures { SetAnswers (first_error (flat_map (import_errors policy (modules_view modules.now) number) (map import_view imports.now)))
+    requires few_exports { pairs_of (modules_view modules.now) ≤ 2 ^ 25 }
+    requires known { AreEnds (modules_view modules.now) ends.old }
+    ensures known { OnOk result (AreEnds (modules_view modules.now) ends.new) }
+    ensures exact { SetAnswers (first_error (flat_map (import_errors policy (modules_view modules.now) number) (map import_view imports.now)))
         (λ _. bindings.new.items ≡ bindings.old.items ++ filter_map (binding_of (modules_view modules.now) number) (map import_view imports.now)) result }
 {
+    let mut name: &[u8] = b"";
+    let mut image = names.find(buffer, name)?;
     for import in imports {
-        let resolution = resolve(modules, names, exports, import, buffer)?;
+        let beginning = names.beginning(import.module);
+        if beginning != name {
+            name = beginning;
+            image = names.find(buffer, name)?;
+        }
+        let resolution = resolve(modules, names, import, image, ends, buffer)?;
         if let Some(binding) = bound(policy, number, import.slot, resolution)? {
             bindings.push(binding)?;
         }
@@ -108,17 +118,17 @@ pub(crate) fn bind<A: Allocator + Copy>(
     ensures empty { length modules.now ≡ 0 → IsOk result }
 {
     let mut bindings = Vec::new(alloc);
+    let mut ends = Ends::new(alloc);
     let mut buffer = Vec::new(alloc);
-    let exports = count_exports(modules);
     for (index, module) in modules.iter().enumerate() {
         bind_imports(
             modules,
             names,
-            exports,
             policy,
             index as u16,
             module.image.imports.as_slice(),
             &mut bindings,
+            &mut ends,
             &mut buffer,
         )?;
     }

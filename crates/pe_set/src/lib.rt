@@ -15,16 +15,19 @@
 #![tactic(auto)]
 
 mod binding;
+mod ends;
 mod entry;
 mod error;
 mod judging;
 pub mod laws;
 mod module_names;
 mod names;
+mod path;
 mod placement;
 mod placing;
 mod reading;
 mod search;
+mod standing;
 
 pub use binding::Binding;
 pub use entry::{Policy, SetEntry};

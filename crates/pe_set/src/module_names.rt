@@ -40,7 +40,7 @@ fn forward_into<A: Allocator + Copy>(buffer: &mut Vec<u8, A>, name: &[u8]) -> Re
 }
 
 impl<A: Allocator + Copy> Names<A> {
-    ghost use Rattle.pe_set.specs.NamesView.{names_in, lowered, AreDistinct, FoundAlike};
+    ghost use Rattle.pe_set.specs.NamesView.{names_in, lowered, found, AreDistinct, FoundAlike};
 
     /// The names of images, no two of which match.
     pub fn new(alloc: A, modules: &[Module<A>]) -> Result<Names<A>, AllocError>
@@ -61,14 +61,14 @@ impl<A: Allocator + Copy> Names<A> {
 
     /// As much of a name as is looked up: one that is longer than each name of the set is none of them, and so is its beginning
     /// of one byte more than these have.
-    fn beginning<'n>(&self, name: &'n [u8]) -> &'n [u8]
+    pub fn beginning<'n>(&self, name: &'n [u8]) -> &'n [u8]
         ensures { result.now ≡ take (self.now.longest + 1) name.now }
     {
         &name[..name.len().min(self.longest.saturating_add(1))]
     }
 
     /// Puts the name of a module into the buffer, in lower case, as far as it is looked up.
-    pub fn name_into(&self, buffer: &mut Vec<u8, A>, name: &[u8]) -> Result<(), AllocError>
+    fn name_into(&self, buffer: &mut Vec<u8, A>, name: &[u8]) -> Result<(), AllocError>
         ensures { OnOk result (FoundAlike (names_in self.now) buffer.new.items (str_to_ascii_lowercase name.now)) }
     {
         lower_into(buffer, self.beginning(name))?;
@@ -77,7 +77,7 @@ impl<A: Allocator + Copy> Names<A> {
 
     /// Puts the name of the module that a forwarder names into the buffer, in lower case, as far as it is looked up: `.dll` is
     /// added to a name without a dot.
-    pub fn forward_into(&self, buffer: &mut Vec<u8, A>, name: &[u8]) -> Result<(), AllocError>
+    fn forward_into(&self, buffer: &mut Vec<u8, A>, name: &[u8]) -> Result<(), AllocError>
         ensures { OnOk result (FoundAlike (names_in self.now) buffer.new.items (str_to_ascii_lowercase (forwarded_name name.now))) }
     {
         forward_into(buffer, self.beginning(name))?;
@@ -85,10 +85,29 @@ impl<A: Allocator + Copy> Names<A> {
     }
 
     /// The number of the image with a name, which is in lower case.
-    pub fn number(&self, name: &[u8]) -> Option<usize>
-        ensures number { result ≡ position (λ other. bytes_eq name.now other) (names_in self.now) }
-        ensures within { IfSome result (λ number. number < length (names_in self.now)) }
+    fn number(&self, name: &[u8]) -> Option<usize>
+        ensures { result ≡ position (λ other. bytes_eq name.now other) (names_in self.now) }
     {
         self.names.get_index_of(name)
+    }
+
+    /// The number of the image with a name. `buffer` has room for the name while it runs.
+    pub fn find(&self, buffer: &mut Vec<u8, A>, name: &[u8]) -> Result<Option<usize>, AllocError>
+        ensures { IfOk result (λ number. number ≡ found (names_in self.now) name.now) }
+    {
+        self.name_into(buffer, name)?;
+        Ok(self.number(buffer.as_slice()))
+    }
+
+    /// The number of the image with the name that a forwarder's module stands for. `buffer` has room for the name while it runs.
+    pub fn find_forwarded(
+        &self,
+        buffer: &mut Vec<u8, A>,
+        name: &[u8],
+    ) -> Result<Option<usize>, AllocError>
+        ensures { IfOk result (λ number. number ≡ found (names_in self.now) (forwarded_name name.now)) }
+    {
+        self.forward_into(buffer, name)?;
+        Ok(self.number(buffer.as_slice()))
     }
 }

@@ -1,4 +1,4 @@
-use Rattle.std.proofs.Common.{◌≡◌, ◌∙◌, ◌++◌, ℕ, List, map, sym, ap, subst, None, append-nil}
+use Rattle.std.proofs.Common.{◌≡◌, ◌∙◌, ◌++◌, ℕ, List, map, sym, ap, subst, None, append-nil, refl}
 use Rattle.std.specs.List.{flat_map, filter_map}
 use Rattle.std.proofs.lemmas.List.{drop_all}
 use Rattle.std.proofs.lemmas.Result.{err_from_is_err_and}
@@ -24,7 +24,7 @@ returns-in_err-bind_imports-clause-exact g c =
     let f : ℕ → Module → List MapError = (λ n (m : Module). flat_map (import_errors c.args.policy s n) m.imports) in
     let p = err_from_is_err_and c.from_residual.result c.from_residual.ensures.1 in
     let imports = ap (map import_view) c.as_slice.ensures.value ∙ sym (own_imports m) in
-    let refused = subst (λ xs. ErrorIs (first_error (flat_map (import_errors c.args.policy s i) xs)) c.in_err-bind_imports.field-0.0) imports c.in_err-bind_imports.ensures in
+    let refused = subst (λ xs. ErrorIs (first_error (flat_map (import_errors c.args.policy s i) xs)) c.in_err-bind_imports.field-0.0) imports c.in_err-bind_imports.ensures.exact in
     rw (p.1, p.2)
     (error-whole (first_error (f i (module_view m))) (first_error (numbered f 0 s))
     (errors_in module_view f ms i m (next_here ms i m c.index-modules-index.is c.loop-index-test.true) c.loop-index.invariant.rest)
@@ -39,9 +39,10 @@ loop-index-preserved g c =
     let f : ℕ → Module → List MapError = (λ n (m : Module). flat_map (import_errors c.args.policy s n) m.imports) in
     let next = next_here ms i m c.index-modules-index.is c.loop-index-test.true in
     let imports = ap (map import_view) c.as_slice.ensures.value ∙ sym (own_imports m) in
-    let none = subst (λ xs. first_error (flat_map (import_errors c.args.policy s i) xs) ≡ None) imports c.in_ok-bind_imports.ensures.0 in
-    let more = subst (λ xs. c.bind_imports.new.bindings.items ≡ c.loop-index.bindings.items ++ filter_map (binding_of s i) xs) imports c.in_ok-bind_imports.ensures.1 in
+    let none = subst (λ xs. first_error (flat_map (import_errors c.args.policy s i) xs) ≡ None) imports c.in_ok-bind_imports.ensures.exact.0 in
+    let more = subst (λ xs. c.bind_imports.new.bindings.items ≡ c.loop-index.bindings.items ++ filter_map (binding_of s i) xs) imports c.in_ok-bind_imports.ensures.exact.1 in
     record {
+      known = c.in_ok-bind_imports.ensures.known;
       rest = errors_past module_view f ms i m next c.loop-index.invariant.rest none;
       bound = gathered module_view ms i m next c.loop-index.bindings.items (numbered (bindings_in s) 0 s) (bindings_in s) c.loop-index.invariant.bound c.bind_imports.new.bindings.items more;
     }
@@ -58,3 +59,12 @@ returns-clause-exact g c =
           ∙ ap (λ xs. c.loop-index.bindings.items ++ numbered (bindings_in s) i (map module_view xs)) (sym (drop_all i ms c.loop-index-test.false))
           ∙ c.loop-index.invariant.bound,
     )
+
+pub loop-index-init : goal.loop-index-init
+loop-index-init g c =
+    let s = modules_view c.args.modules.now in
+    record {
+      known = c.new-ends.ensures s;
+      rest = refl;
+      bound = ap (λ xs. xs ++ numbered (bindings_in s) 0 s) c.new-bindings.ensures.items;
+    }

@@ -1,25 +1,29 @@
-use Rattle.std.proofs.Common.{◌∙◌, ◌++◌, ℕ, map, sym, ap, append-nil, get_or}
+use Rattle.std.proofs.Common.{◌∙◌, ◌≡◌, ◌+◌, ◌++◌, ℕ, List, Bor, arith, map, sym, ap, append-nil, get_or}
 use Rattle.std.specs.Prelude.{option_to_list}
 use Rattle.std.proofs.lemmas.Result.{err_from_is_err_and}
 use Rattle.pe_tables.specs.ImportView.{import_view}
 use Rattle.pe_set.specs.Bindings.{binding_of}
 use Rattle.pe_set.specs.SetErrors.{import_errors, first_error}
 use Rattle.pe_set.specs.SetView.{modules_view}
+use Rattle.pe_set.specs.NamesView.{names_in, found}
+use Rattle.pe_set.proofs.LongNames.{beginning_alike}
+use Rattle.pe_set.proofs.Searching.{found_named, same_text}
 use Rattle.pe_set.proofs.Asking.{next_item, gathered_some}
 use Rattle.pe_set.proofs.AskingErrors.{flat_past, flat_in, error-whole}
-use Rattle.std.specs.List.{flat_map}
+use Rattle.std.specs.List.{flat_map, filter_map}
+use Rattle.std.proofs.lemmas.List.{drop_all}
 use Rattle.pe_set.proofs.Defaults.{no_import}
 use Rattle.pe_set.proofs.binding.bind_imports.Goals as goal
-use Rattle.pe_set.proofs.binding.bind_imports.Goals.{in-Some+in_ok-push, in_default}
+use Rattle.pe_set.proofs.binding.bind_imports.Goals.{in-Some+in_ok-push, in_default, then-ne+in_ok-image-2, else-ne}
 
-pub returns-in_err-binding : goal.returns-in_err-binding
-returns-in_err-binding g c =
+pub returns-in_err-binding-clause-exact : goal.returns-in_err-binding-clause-exact
+returns-in_err-binding-clause-exact g c =
     let s = modules_view c.args.modules.now in
     let xs = c.args.imports.now in
     let i : ℕ = c.loop-import.import-index in
     let p = err_from_is_err_and c.from_residual-in_err-binding.result c.from_residual-in_err-binding.ensures.1 in
-    let found = c.in_ok-resolution.ensures in
-    let refused = rw found at c.in_err-binding.ensures in
+    let is_end = c.in_ok-resolution.ensures.exact in
+    let refused = rw is_end at c.in_err-binding.ensures in
     rw (p.1, p.2)
     (error-whole (first_error (import_errors c.args.policy s c.args.number (import_view (get_or xs i no_import)))) (first_error (flat_map (import_errors c.args.policy s c.args.number) (map import_view xs)))
     (flat_in import_view (import_errors c.args.policy s c.args.number) xs i (get_or xs i no_import) (next_item xs i no_import c.loop-import-test.true) c.loop-import.invariant.rest)
@@ -31,14 +35,44 @@ loop-import-preserved g c =
     let xs = c.args.imports.now in
     let i : ℕ = c.loop-import.import-index in
     let next = next_item xs i no_import c.loop-import-test.true in
-    let found = c.in_ok-resolution.ensures in
-    let none = rw found at c.in_ok-binding.ensures.0 in
-    let is = rw found at c.in_ok-binding.ensures.1 in
+    let is_end = c.in_ok-resolution.ensures.exact in
+    let none = rw is_end at c.in_ok-binding.ensures.0 in
+    let is = rw is_end at c.in_ok-binding.ensures.1 in
     record {
+      known = c.in_ok-resolution.ensures.known;
+      image = elim c.if-ne.branch [
+        | then-ne+in_ok-image-2 w ↦ w.image-is ∙ w.in_ok-image-2.ensures ∙ sym (ap (λ (text : Bor (List ℕ)). found (names_in c.args.names.now) text.now) w.name-is)
+        | else-ne w ↦ w.image-is ∙ c.loop-import.invariant.image ∙ sym (ap (λ (text : Bor (List ℕ)). found (names_in c.args.names.now) text.now) w.name-is)
+      ];
       rest = flat_past import_view (import_errors c.args.policy s c.args.number) xs i (get_or xs i no_import) next c.loop-import.invariant.rest none;
-      bound = gathered_some import_view xs i (get_or xs i no_import) next c.loop-import.bindings.items _ (binding_of s c.args.number) c.loop-import.invariant.bound c.match-branch-3.bindings.items
-          (elim c.match-branch-3.branch [
+      bound = gathered_some import_view xs i (get_or xs i no_import) next c.loop-import.bindings.items _ (binding_of s c.args.number) c.loop-import.invariant.bound c.match-branch-5.bindings.items
+          (elim c.match-branch-5.branch [
             | in-Some+in_ok-push w ↦ ap (λ v. v.items) w.bindings-is ∙ w.in_ok-push.ensures.items ∙ ap (λ o. c.loop-import.bindings.items ++ option_to_list o) (sym w.in-Some.is ∙ is)
             | in_default w ↦ ap (λ v. v.items) w.bindings-is ∙ sym (append-nil c.loop-import.bindings.items) ∙ ap (λ o. c.loop-import.bindings.items ++ option_to_list o) (sym w.in_default.is ∙ is)
           ]);
     }
+
+pub resolve-requires-clause-image : goal.resolve-requires-clause-image
+resolve-requires-clause-image g c =
+    let names = c.args.names.now in
+    let text : List ℕ = (get_or c.args.imports.now c.loop-import.import-index no_import).«module».now in
+    let beginning : List ℕ = c.beginning-beginning.result.now in
+    let at : c.if-ne.image ≡ found (names_in names) beginning = elim c.if-ne.branch [
+      | then-ne+in_ok-image-2 w ↦ w.image-is ∙ w.in_ok-image-2.ensures
+      | else-ne w ↦ w.image-is ∙ c.loop-import.invariant.image ∙ ap (found (names_in names)) (sym (same_text beginning c.loop-import.name.now (sym c.ne.ensures ∙ w.if-ne.false)))
+    ] in
+    at
+    ∙ ap (found (names_in names)) c.beginning-beginning.ensures
+    ∙ beginning_alike names.longest (names_in names) names.none_longer text (names.longest + 1) (omega arith)
+    ∙ found_named c.args.modules.now (names_in names) text c.requires.named
+
+pub returns-clause-exact : goal.returns-clause-exact
+returns-clause-exact g c =
+    let s = modules_view c.args.modules.now in
+    let xs = c.args.imports.now in
+    let none = drop_all c.loop-import.import-index xs c.loop-import-test.false in (
+      sym c.loop-import.invariant.rest ∙ ap (λ ys. first_error (flat_map (import_errors c.args.policy s c.args.number) (map import_view ys))) none,
+      sym (append-nil c.loop-import.bindings.items)
+          ∙ ap (λ ys. c.loop-import.bindings.items ++ filter_map (binding_of s c.args.number) (map import_view ys)) (sym none)
+          ∙ c.loop-import.invariant.bound,
+    )

@@ -316,3 +316,87 @@ fn a_space_over_files_binds_behind_1_000_hops(rt: HostRuntime) {
     assert_eq!(&rt; space.byte(0x40_1030), Some(0x10));
     assert_eq!(&rt; space.byte(0x40_1033), Some(0x20));
 }
+
+/// Three programs that import these ordinals of `F.DLL`.
+fn programs(rt: &impl Abort, alloc: Global, ordinals: [u8; 3]) -> [Vec<u8>; 3] {
+    let [first, second, third] = ordinals;
+    [
+        program(rt, alloc, first),
+        program(rt, alloc, second),
+        program(rt, alloc, third),
+    ]
+}
+
+/// The set of `f.dll` at 0x20000000 and of three programs at 0x400000, 0x500000 and 0x600000.
+fn with_programs<'a>(library: &'a [u8], programs: &'a [Vec<u8>; 3]) -> [SetEntry<'a>; 4] {
+    let [first, second, third] = programs;
+    let [library, first] = with_program(library, first);
+    [
+        library,
+        first,
+        SetEntry {
+            name: b"d.exe",
+            file: second,
+            base: 0x50_0000,
+        },
+        SetEntry {
+            name: b"e.exe",
+            file: third,
+            base: 0x60_0000,
+        },
+    ]
+}
+
+/// Asserts that the slots of three programs hold these bytes, in both spaces.
+fn assert_slots<'a>(rt: &impl Abort, alloc: Global, set: &'a [SetEntry<'a>], expected: [u8; 4]) {
+    let mapped = map(alloc, set, Policy::Known).expect(rt, "a space");
+    let opened = open_space(alloc, set, Policy::Known).expect(rt, "a space over files");
+    for address in [0x40_1030, 0x50_1030, 0x60_1030] {
+        let mut slot = [0xee; 4];
+        assert!(rt; mapped.window(address, &mut slot).is_ok());
+        assert_eq!(rt; slot, expected);
+        let mut slot = [0xee; 4];
+        assert!(rt; opened.window(address, &mut slot).is_ok());
+        assert_eq!(rt; slot, expected);
+    }
+}
+
+/// The ordinals that three programs import of one chain, each search before or behind where one before it began.
+const SHARED: [[u8; 3]; 4] = [[0, 1, 2], [2, 1, 0], [1, 1, 1], [1, 0, 4]];
+
+#[test]
+fn chains_that_share_their_tails_end_alike(rt: HostRuntime) {
+    let alloc = rt.alloc();
+    for (last, expected) in [
+        ("", [0x10, 0x00, 0x00, 0x20]),
+        ("g.#0", [0x38, 0x10, 0x00, 0x00]),
+    ] {
+        let mut texts = looped(&rt, alloc, 0, 5);
+        texts.pop();
+        texts
+            .push(format!(in alloc; "{last}").expect(&rt, "memory"))
+            .expect(&rt, "memory");
+        let exporter = library(&rt, alloc, &texts);
+        for ordinals in SHARED {
+            let importers = programs(&rt, alloc, ordinals);
+            let set = with_programs(&exporter, &importers);
+            assert_slots(&rt, alloc, &set, expected);
+        }
+    }
+}
+
+#[test]
+fn a_cycle_behind_searches_that_end_is_told(rt: HostRuntime) {
+    // 0 and 1 lead to an export, 3 to 5 lead round
+    let alloc = rt.alloc();
+    let mut texts = Vec::new(alloc);
+    for text in ["f.#1", "F.#2", "", "f.#4", "f.#5", "f.#3"] {
+        texts
+            .push(format!(in alloc; "{text}").expect(&rt, "memory"))
+            .expect(&rt, "memory");
+    }
+    let exporter = library(&rt, alloc, &texts);
+    let importers = programs(&rt, alloc, [0, 1, 4]);
+    let set = with_programs(&exporter, &importers);
+    assert_cycle(&rt, alloc, &set, cycle(3, 0x1030, 3));
+}

@@ -1,0 +1,21 @@
+use Rattle.std.proofs.Common.{◌≡◌, ◌-◌, ℕ, List, length}
+use Rattle.pe_tables.specs.Key.{key_view}
+use Rattle.pe_set.specs.Set.{named}
+use Rattle.pe_set.specs.Search.{pairs_of}
+use Rattle.pe_set.specs.SetView.{modules_view}
+use Rattle.pe_set.specs.PathView.{path_view, IsPath}
+use Rattle.pe_set.proofs.Walking.{Walked}
+use Rattle.pe_set.proofs.search.search.Given as goal
+
+-- the search has come by its path to a name and a key
+abbrev pub invariant-loop-image : goal.invariant-loop-image
+invariant-loop-image g l = record {
+  name : List ℕ;
+  here : l.image ≡ named (modules_view l.modules) name;
+  whole : IsPath l.path;
+  walked : Walked (modules_view l.modules) l.import.«module».now (key_view l.import.key) (path_view l.path) name (key_view l.key);
+}
+
+-- each forwarder of its path is an export of the set
+abbrev pub decreases-loop-image : goal.decreases-loop-image
+decreases-loop-image g l = pairs_of (modules_view l.modules) - length (path_view l.path)
