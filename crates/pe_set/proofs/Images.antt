@@ -4,8 +4,11 @@ use Rattle.std.specs.Prelude.{slice_get, option_map, All, AllPairs}
 use Rattle.std.proofs.lemmas.Option.{slice_get-map}
 use Rattle.pe_view.specs.Faults.{first_standing}
 use Rattle.pe_view.specs.FirstStanding.{none-append}
+use Rattle.pe_head.specs.Accepted.{headers_nest}
+use Rattle.pe_head.specs.Head.{head_of}
+use Rattle.pe_head.specs.HeaderFaults.{head_tests}
 use Rattle.pe_layout.specs.Image.{LaidOut, image_of_file, slot_width_of}
-use Rattle.pe_layout.specs.SectionFaults.{layout_tests}
+use Rattle.pe_layout.specs.SectionFaults.{placing_tests, layout_tests}
 use Rattle.pe_tables.specs.ExportFaults.{export_tests}
 use Rattle.pe_tables.specs.Exports.{exports_of, target_at}
 use Rattle.pe_tables.specs.FixupFaults.{fixup_tests}
@@ -75,11 +78,13 @@ module _ (laws : Laws) where
       let a = none-append (layout_tests n e.file) (export_tests i ++ (import_tests i ++ fixup_tests i slots)) none in
       let b = none-append (export_tests i) (import_tests i ++ fixup_tests i slots) a.1 in
       let d = none-append (import_tests i) (fixup_tests i slots) b.1 in
+      let head = none-append (head_tests n e.file) (placing_tests n (head_of e.file) (length e.file)) a.0 in
       let small = laws.images_small n e.file a.0 in
       let inside = laws.slots_inside i d.0 in
       let off = laws.fields_off i slots d.1 in
       record {
         image = record {
+          some = (headers_nest n e.file head.0).some;
           small = small;
           inside = laws.fields_inside i slots d.1;
           apart = laws.fields_apart i slots d.1;

@@ -9,8 +9,9 @@ use Rattle.pe_set.specs.Placement.{address_limit}
 use Rattle.pe_set.specs.Set.{Module}
 use Rattle.pe_set.specs.declared.binding.Binding.{Binding}
 
--- the fields of an image lie in it, share no byte with one another, and are few
+-- an image has bytes, and its fields lie in it, share no byte with one another, and are few
 pub record IsSoundImage (m : Module) : Type 0 where
+  pub some : 0 < m.image.size
   pub small : m.image.size ≤ 2 ^ 31
   pub inside : All (λ (f : Fixup). f.field + width_of f.kind ≤ m.image.size) m.fixups
   pub apart : AllPairs (λ (f g : Fixup). AreApart (range_of f) (range_of g)) m.fixups

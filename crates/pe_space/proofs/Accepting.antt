@@ -102,6 +102,11 @@ module _ (s : List Module) (sound : IsSound s) where
       ] in
       subst (λ (x : SpaceImage). Apart x.base x.size (nth_image images j).base (nth_image images j).size) (sym n.2) (subst (λ (x : SpaceImage). Apart n.0.base n.0.image.size x.base x.size) (sym m.2) goes)
 
+  some_at : (j : ℕ) → j < length s → 0 < (nth_image images j).size
+  some_at j lt =
+      let got = module_got s j lt in
+      subst (λ (g : SpaceImage). 0 < g.size) (sym got.2) (all_got IsSoundImage s j got.0 sound.images got.1).some
+
   pub placed : IsPlaced (laid_out s)
   unfolding laid_out
   placed =
@@ -113,6 +118,7 @@ module _ (s : List Module) (sound : IsSound s) where
         few_slots = omega (arith, slots);
         aligned = aligned_at;
         room = room_at;
+        some = λ j lt. some_at j (omega (arith, count, lt));
         apart = λ i j lt_i lt_j ne. apart_at i j (omega (arith, count, lt_i)) (omega (arith, count, lt_j)) ne;
       }
 

@@ -1,17 +1,20 @@
 -- What stands at an address, and from it on.
-use Rattle.std.proofs.Common.{◌≡◌, ℕ, zero, suc, ◌+◌, ◌-◌, ◌<◌, ◌≤◌, Bool, true, false, cond, List, [], ◌∷◌, length, map, drop, take, get_or, refl, ap, ◌∙◌, sym, subst, arith, inl, inr}
-use Rattle.std.specs.Prelude.{Option, None, Some, unwrap_or, Result, Ok, Err, nat_le}
-use Rattle.std.proofs.lemmas.Bool.{cases_eq, leb-true}
+use Rattle.std.proofs.Common.{◌≡◌, ℕ, zero, suc, ◌+◌, ◌-◌, ◌<◌, ◌≤◌, Bool, true, false, cond, List, [], ◌∷◌, length, map, drop, take, get_or, refl, ap, ◌∙◌, sym, subst, arith}
+use Rattle.std.specs.Prelude.{Option, None, Some, unwrap_or, Ok, Err, nat_le}
+use Rattle.std.proofs.lemmas.Bool.{leb-true}
 use Rattle.std.proofs.lemmas.List.{length-map, drop_more}
 use Rattle.std.proofs.lemmas.Simd.{map-map}
-use Rattle.pe_view.specs.declared.fault.Fault.{Fault}
 use Rattle.pe_set.specs.declared.binding.Binding.{Binding}
 use Rattle.pe_set.specs.Placement.{Placement, placement_at}
 use Rattle.pe_space.specs.Content.{SpaceImage, Content, placement_of, nth_image, is_in, placed_from, holder_from, byte_at, byte_held, byte_in, bytes_from, window_fault, window_image_by, window_image}
 use Rattle.pe_space.specs.Memory.{memory_of}
 use Rattle.pe_space.specs.Held.{Held, images_of, memories_of}
+use Rattle.pe_space.specs.ByBase.{IsByBase, StandApart}
 use Rattle.pe_space.specs.Placing.{IsPlaced}
+use Rattle.pe_space.specs.Tied.{Apart}
+use Rattle.pe_space.specs.declared.by_base.NumberAt.{NumberAt}
 use Rattle.pe_space.specs.Kept.{kept_content, IsKept}
+use Rattle.pe_space.proofs.Ordering.{placed_inside, placed_is}
 use Rattle.pe_space.proofs.SlotsAndFields.{is_in-true, true-is_in}
 use Rattle.pe_space.proofs.Holding.{image_read, memory_read}
 
@@ -19,41 +22,48 @@ use Rattle.pe_space.proofs.Holding.{image_read, memory_read}
 abbrev pub Holds : List SpaceImage → ℕ → ℕ → Type 0
 Holds images a k = (k < length images) × (is_in (nth_image images k).base (nth_image images k).size a ≡ true)
 
-inside_step : (n : ℕ) (image : SpaceImage) (images : List SpaceImage) (a j : ℕ) → (holder_from (n + 1) images a ≡ Some j → (k : ℕ) × (j ≡ n + 1 + k) × Holds images a k)
-    → (t : Bool) → is_in image.base image.size a ≡ t → cond t (Some n) (holder_from (n + 1) images a) ≡ Some j → (k : ℕ) × (j ≡ n + k) × Holds (image ∷ images) a k
-inside_step n image images a j more true is h = (0, (let e : n ≡ j = cc in omega arith), (omega arith, is))
-inside_step n image images a j more false is h = let m = more h in (suc m.0, (let e = m.1 in omega arith), (let lt = m.2.0 in omega arith, m.2.1))
+-- where an image of a content stands
+pub placed_at : (images : List SpaceImage) (k : ℕ) → placement_at (map placement_of images) k ≡ placement_of (nth_image images k)
+placed_at [] k = refl
+placed_at (m ∷ images) zero = refl
+placed_at (m ∷ images) (suc k) = placed_at images k
+
+-- the images of a content, as they stand
+pub stand_apart : (c : Content) → IsPlaced c → StandApart (map placement_of c.images)
+stand_apart c placed =
+    let count = length-map c.images placement_of in
+    record {
+      few = omega (arith, count, placed.few);
+      some = λ j lt. subst (λ (p : Placement). 0 < p.size) (sym (placed_at c.images j)) (placed.some j (omega (arith, lt, count)));
+      apart = λ j k lt_j lt_k ne.
+          subst (λ (p : Placement). Apart p.base p.size (placement_at (map placement_of c.images) k).base (placement_at (map placement_of c.images) k).size) (sym (placed_at c.images j))
+          (subst (λ (p : Placement). Apart (nth_image c.images j).base (nth_image c.images j).size p.base p.size) (sym (placed_at c.images k))
+          (placed.apart j k (omega (arith, lt_j, count)) (omega (arith, lt_k, count)) ne));
+    }
 
 pub holder_inside : (n : ℕ) (images : List SpaceImage) (a j : ℕ) → holder_from n images a ≡ Some j → (k : ℕ) × (j ≡ n + k) × Holds images a k
-holder_inside n [] a j h = cc
-holder_inside n (image ∷ images) a j h = inside_step n image images a j (holder_inside (n + 1) images a j) (is_in image.base image.size a) refl h
-
-some_step : (n : ℕ) (images : List SpaceImage) (a : ℕ) (t : Bool) → ((t ≡ false) → (j : ℕ) × (holder_from (n + 1) images a ≡ Some j)) → (j : ℕ) × (cond t (Some n) (holder_from (n + 1) images a) ≡ Some j)
-some_step n images a true more = (n, refl)
-some_step n images a false more = more refl
-
-holder_some : (n : ℕ) (images : List SpaceImage) (a k : ℕ) → Holds images a k → (j : ℕ) × (holder_from n images a ≡ Some j)
-holder_some n [] a k h = absurd (let lt = h.0 in omega arith)
-holder_some n (image ∷ images) a zero h = some_step n images a (is_in image.base image.size a) (λ no_hit. let is = h.1 in cc)
-holder_some n (image ∷ images) a (suc k) h = some_step n images a (is_in image.base image.size a) (λ _. holder_some (n + 1) images a k (let lt = h.0 in omega arith, h.1))
+holder_inside n images a j h =
+    let held = placed_inside n (map placement_of images) a j h in
+    let count = length-map images placement_of in
+    (held.0, held.1, (omega (arith, held.2.0, count), subst (λ (p : Placement). is_in p.base p.size a ≡ true) (placed_at images held.0) held.2.1))
 
 -- no two images hold an address
 pub holder_is : (c : Content) (a j : ℕ) → IsPlaced c → Holds c.images a j → holder_from 0 c.images a ≡ Some j
 holder_is c a j placed here =
-    let some = holder_some 0 c.images a j here in
-    let there = holder_inside 0 c.images a some.0 some.1 in
-    elim (cases_eq there.0 j) [
-      | inl same ↦ some.1 ∙ ap (λ (n : ℕ). Some n) (let e = there.1 in omega arith)
-      | inr ne ↦
-          let one = is_in-true _ _ a here.1 in
-          let other = is_in-true _ _ a there.2.1 in
-          let a0 = one.0 in let a1 = one.1 in let b0 = other.0 in let b1 = other.1 in
-          elim (placed.apart there.0 j there.2.0 here.0 ne) [ inl before ↦ absurd (omega arith) | inr after ↦ absurd (omega arith) ]
-    ]
+    let count = length-map c.images placement_of in
+    placed_is (map placement_of c.images) a j (stand_apart c placed)
+    (omega (arith, here.0, count), subst (λ (p : Placement). is_in p.base p.size a ≡ true) (sym (placed_at c.images j)) here.1)
 
 -- where the images of memories stand
 pub placed_so : (hs xs : List Held) → xs ≡ hs → map placement_of (images_of hs) ≡ map (λ (h : Held). placement_of h.image) xs
 placed_so hs xs same = map-map placement_of (λ (h : Held). h.image) hs ∙ ap (map (λ (h : Held). placement_of h.image)) (sym same)
+
+-- they are in the order of their bases, and no two are at one address
+pub kept_order : {order : List NumberAt} {slots : List Binding} (hs xs : List Held) (bs : List Binding) {lent : List NumberAt} → IsKept hs order bs slots → xs ≡ hs → lent ≡ order → IsByBase (map (λ (h : Held). placement_of h.image) xs) lent
+kept_order {order = order} hs xs bs kept same lent_is = rw lent_is (subst (λ (ps : List Placement). IsByBase ps order) (placed_so hs xs same) kept.by_base)
+
+pub kept_apart : {order : List NumberAt} {slots : List Binding} (hs xs : List Held) (bs : List Binding) → IsKept hs order bs slots → xs ≡ hs → StandApart (map (λ (h : Held). placement_of h.image) xs)
+kept_apart hs xs bs kept same = subst StandApart (placed_so hs xs same) (stand_apart (kept_content hs bs) kept.placed)
 
 -- the number that a search of them gave
 pub held_by : (hs xs : List Held) (a : ℕ) (o : Option ℕ) → xs ≡ hs → o ≡ placed_from 0 (map (λ (h : Held). placement_of h.image) xs) a → holder_from 0 (images_of hs) a ≡ o
@@ -84,7 +94,7 @@ found_at hs bs a j h found is =
     }
 
 -- a byte of the image that holds an address
-pub byte_here : (hs : List Held) (bs : List Binding) (a j : ℕ) (h : Held) → IsKept hs bs → Found hs bs a j h → (b : ℕ) → h.image.base ≤ b → b < h.image.base + h.image.size
+pub byte_here : {order : List NumberAt} {slots : List Binding} (hs : List Held) (bs : List Binding) (a j : ℕ) (h : Held) → IsKept hs order bs slots → Found hs bs a j h → (b : ℕ) → h.image.base ≤ b → b < h.image.base + h.image.size
     → byte_at (kept_content hs bs) b ≡ Some (get_or h.memory (b - h.image.base) 0)
 byte_here hs bs a j h kept found b low high =
     let c = kept_content hs bs in
@@ -96,7 +106,7 @@ byte_here hs bs a j h kept found b low high =
     ∙ ap (λ (m : SpaceImage). Some (byte_in c j (b - m.base))) (sym found.image)
     ∙ ap (λ (n : ℕ). Some n) (sym (ap (λ (m : List ℕ). get_or m (b - h.image.base) 0) found.memory ∙ kept.laid.each j (b - h.image.base) (subst (λ (m : SpaceImage). b - h.image.base < m.size) found.image small)))
 
-pub bytes_here : (hs : List Held) (bs : List Binding) (a j : ℕ) (h : Held) → IsKept hs bs → Found hs bs a j h → (n b r : ℕ) → b ≡ h.image.base + r → r + n ≤ h.image.size → h.image.size ≡ length h.memory
+pub bytes_here : {order : List NumberAt} {slots : List Binding} (hs : List Held) (bs : List Binding) (a j : ℕ) (h : Held) → IsKept hs order bs slots → Found hs bs a j h → (n b r : ℕ) → b ≡ h.image.base + r → r + n ≤ h.image.size → h.image.size ≡ length h.memory
     → bytes_from (kept_content hs bs) b n ≡ take n (drop r h.memory)
 bytes_here hs bs a j h kept found zero b r e fits len = refl
 bytes_here hs bs a j h kept found (suc n) b r e fits len =
@@ -105,14 +115,8 @@ bytes_here hs bs a j h kept found (suc n) b r e fits len =
     let more : bytes_from (kept_content hs bs) (b + 1) n ≡ take n (drop (r + 1) h.memory) = bytes_here hs bs a j h kept found n (b + 1) (r + 1) (omega arith) (omega arith) len in
     rw (first, more, drop_more h.memory r 0 (omega arith)) refl
 
-pub size_here : (hs : List Held) (bs : List Binding) (a j : ℕ) (h : Held) → IsKept hs bs → Found hs bs a j h → h.image.size ≡ length h.memory
+pub size_here : {order : List NumberAt} {slots : List Binding} (hs : List Held) (bs : List Binding) (a j : ℕ) (h : Held) → IsKept hs order bs slots → Found hs bs a j h → h.image.size ≡ length h.memory
 size_here hs bs a j h kept found = ap (λ (m : SpaceImage). m.size) found.image ∙ sym (kept.laid.lengths j) ∙ ap length (sym found.memory)
-
--- where an image of a content stands
-pub placed_at : (images : List SpaceImage) (k : ℕ) → placement_at (map placement_of images) k ≡ placement_of (nth_image images k)
-placed_at [] k = refl
-placed_at (m ∷ images) zero = refl
-placed_at (m ∷ images) (suc k) = placed_at images k
 
 -- where a window lies
 lies_step : (ps : List Placement) (a n j k : ℕ) (t : Bool) → nat_le (a + n) ((placement_at ps k).base + (placement_at ps k).size) ≡ t → cond t (Ok k) (Err (window_fault k a)) ≡ Ok j
@@ -131,9 +135,10 @@ window_lies images a n j h =
     let both = lies_by (map placement_of images) a n j (holder_from 0 images a) h in
     (both.0, subst (λ (p : Placement). a + n ≤ p.base + p.size) (placed_at images j) both.1)
 
--- what a window of memories gave
-pub window_so : (hs xs : List Held) (a n : ℕ) (o : Result ℕ Fault) → xs ≡ hs → o ≡ window_image (map (λ (h : Held). placement_of h.image) xs) a n → window_image (map placement_of (images_of hs)) a n ≡ o
-window_so hs xs a n o same is = ap (λ (ps : List Placement). window_image ps a n) (placed_so hs xs same) ∙ sym is
+pub window_place : (images : List SpaceImage) (a n j : ℕ) → window_image (map placement_of images) a n ≡ Ok j → j < length images
+window_place images a n j h =
+    let at = holder_inside 0 images a j (window_lies images a n j h).0 in
+    omega (arith, at.1, at.2.0)
 
 -- the image in which it lies
 pub found_window : (hs : List Held) (bs : List Binding) (a n j : ℕ) (h : Held) → window_image (map placement_of (images_of hs)) a n ≡ Ok j → h ≡ get_or hs j h
@@ -146,7 +151,7 @@ found_window hs bs a n j h lies is =
     (found, omega arith)
 
 -- the bytes of a window, in that image
-pub window_here : (hs : List Held) (bs : List Binding) (a n j : ℕ) (h : Held) → IsKept hs bs → Found hs bs a j h → a - h.image.base + n ≤ h.image.size
+pub window_here : {order : List NumberAt} {slots : List Binding} (hs : List Held) (bs : List Binding) (a n j : ℕ) (h : Held) → IsKept hs order bs slots → Found hs bs a j h → a - h.image.base + n ≤ h.image.size
     → bytes_from (kept_content hs bs) a n ≡ take n (drop (a - h.image.base) h.memory)
 window_here hs bs a n j h kept found fits =
     let low = found.low in

@@ -19,10 +19,9 @@ use Rattle.pe_space.specs.Tied.{Each}
 use Rattle.pe_space.proofs.Accepting.{tied, placed, fields_inside}
 use Rattle.pe_space.proofs.Addressing.{holder_is}
 use Rattle.pe_space.proofs.Defining.{laid_defined, number_plain, plain_at}
-use Rattle.pe_space.proofs.Holding.{each_at}
+use Rattle.pe_space.proofs.Lists.{each_at, none_found}
 use Rattle.pe_space.proofs.Images.{image_got, got_below}
 use Rattle.pe_space.proofs.Laying.{width_in}
-use Rattle.pe_space.proofs.Lists.{none_found}
 use Rattle.pe_space.proofs.SlotsAndFields.{slot_byte, field_byte, in_slot-true, is_in-true, true-is_in}
 
 each_contains : {X : Type 0} (P : X → Type 0) (xs : List X) (x : X) → Each P xs → Contains xs x → P x

@@ -1,5 +1,5 @@
 -- The fields and slots that cover a place of an image, and windows on which they are laid.
-use Rattle.std.proofs.Common.{◌≡◌, ℕ, zero, suc, ◌+◌, ◌-◌, ◌<◌, ◌≤◌, ◌⊎◌, Bool, true, false, cond, List, [], ◌∷◌, length, get_or, refl, ap, ◌∙◌, sym, subst, arith, inl, inr, Option, Some, None}
+use Rattle.std.proofs.Common.{◌≡◌, ℕ, zero, suc, ◌+◌, ◌-◌, ◌<◌, ◌≤◌, ◌⊎◌, Bool, true, List, [], ◌∷◌, length, get_or, refl, ap, ◌∙◌, sym, subst, arith, inl, inr, Option, Some, None}
 use Rattle.std.specs.List.{find, Contains}
 use Rattle.std.proofs.lemmas.List.FromFn.{get_or-map-range_with_len, length-map-range_with_len}
 use Rattle.pe_head.specs.declared.optional.Magic.{Magic}
@@ -12,30 +12,14 @@ use Rattle.pe_set.specs.declared.binding.Binding.{Binding}
 use Rattle.pe_space.specs.Bare.{bare}
 use Rattle.pe_space.specs.Number.{digit}
 use Rattle.pe_space.specs.Content.{SpaceImage, Content, nth_image, width_of, slot_width, is_in, in_field, in_slot, fixed_byte, byte_by, byte_in}
-use Rattle.pe_space.specs.Tied.{Each, FieldsApart, IsImage, IsTied}
+use Rattle.pe_space.specs.Tied.{FieldsApart, IsImage, IsTied}
 use Rattle.pe_space.specs.Windows.{fixed_at, fixed_bytes}
 use Rattle.pe_space.proofs.Defining.{plain_at, byte_same}
-use Rattle.pe_space.proofs.Holding.{each_at}
-use Rattle.pe_space.proofs.Lists.{finds_each}
+use Rattle.pe_space.proofs.Lists.{each_contains, find_in, finds_each}
 use Rattle.pe_space.proofs.SlotsAndFields.{is_in-true, true-is_in, in_slot-true, value_of, slot_byte}
 use Rattle.pe_space.proofs.Windows.{AnyOf, Still}
 
 -- ---- elements
-contains_more : {X : Type 0} (y : X) (xs : List X) (x : X) → Contains xs x → Contains (y ∷ xs) x
-contains_more y xs x c = (suc c.0, (let lt = c.1 in omega arith), c.2)
-
-in_step : {X : Type 0} (p : X → Bool) (y : X) (xs : List X) (x : X) (b : Bool) → p y ≡ b → (find p xs ≡ Some x → Contains xs x × (p x ≡ true)) → cond b (Some y) (find p xs) ≡ Some x → Contains (y ∷ xs) x × (p x ≡ true)
-in_step p y xs x true is later h = let same : y ≡ x = cc in ((0, omega arith, same), subst (λ z. p z ≡ true) same is)
-in_step p y xs x false is later h = let more = later h in (contains_more y xs x more.0, more.1)
-
--- what a search finds is an element that passes
-find_in : {X : Type 0} (p : X → Bool) (xs : List X) (x : X) → find p xs ≡ Some x → Contains xs x × (p x ≡ true)
-find_in p [] x h = cc
-find_in p (y ∷ xs) x h = in_step p y xs x (p y) refl (find_in p xs x) h
-
-pub each_contains : {X : Type 0} (P : X → Type 0) (xs : List X) (x : X) → Each P xs → Contains xs x → P x
-each_contains P xs x e c = subst P c.2 (each_at P xs c.0 x e c.1)
-
 any_at : {X : Type 0} (p : X → Bool) (xs : List X) (k : ℕ) (x : X) → k < length xs → get_or xs k x ≡ x → p x ≡ true → AnyOf p xs
 any_at p [] k x lt is passes = absurd (omega arith)
 any_at p (y ∷ xs) zero x lt is passes = inl (subst (λ z. p z ≡ true) (sym is) passes)

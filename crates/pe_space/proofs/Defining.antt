@@ -1,6 +1,6 @@
 -- What is kept of a set says at each address what the set defines.
 use Rattle.std.proofs.Common.{◌≡◌, ◌∙◌, ◌+◌, ◌-◌, ◌*◌, ◌<◌, ◌≤◌, ℕ, zero, suc, Bool, true, false, cond, List, [], ◌∷◌, length, map, get_or, Option, None, Some, refl, sym, ap, subst, arith, inl, inr}
-use Rattle.std.specs.Prelude.{pos, ◌-ℤ◌, slice_get, unwrap_or, ◌==◌, Result, Ok}
+use Rattle.std.specs.Prelude.{pos, ◌-ℤ◌, slice_get, unwrap_or, ◌==◌, Result, Ok, Err}
 use Rattle.std.specs.Option.{option_map_or}
 use Rattle.pe_set.specs.Placement.{Placement}
 use Rattle.pe_view.specs.declared.fault.Fault.{Fault}
@@ -18,7 +18,7 @@ use Rattle.pe_tables.specs.Relocated.{relocated_by}
 use Rattle.pe_tables.specs.declared.fixups.Fixup.{Fixup}
 use Rattle.pe_set.specs.declared.binding.Binding.{Binding}
 use Rattle.pe_space.specs.Number.{digit, number_in, shift}
-use Rattle.pe_space.specs.Content.{SpaceImage, Content, placement_of, placed_from, nth_image, slot_width, is_in, in_slot, in_field, fixed_byte, byte_by, byte_in, holder_from, byte_held, byte_at, bytes_from, window_image, window_in, window_at}
+use Rattle.pe_space.specs.Content.{SpaceImage, Content, placement_of, placed_from, nth_image, slot_width, is_in, in_slot, in_field, fixed_byte, byte_by, byte_in, holder_from, byte_held, byte_at, bytes_from, window_image, image_at, window_in, window_at}
 use Rattle.pe_space.specs.Bare.{without_slots, bared, bare}
 use Rattle.pe_space.specs.Tied.{Each, Apart, IsSlot, IsTied}
 use Rattle.pe_space.proofs.Lists.{each_map, each_both}
@@ -209,3 +209,13 @@ module _ (s : List Module) (inside : (j : ℕ) (m : Module) → slice_get s j �
   pub laid_defined : (a : ℕ) → byte_at (laid_out s) a ≡ defined_byte s a
   unfolding laid_out defined_byte
   laid_defined a = at_from 0 s a (λ i m at. let here : 0 + i ≡ i = omega arith in subst (λ (k : ℕ). slice_get s k ≡ Some m) (sym here) at)
+
+-- which image holds what was asked
+pub image_told : (c s : Content) (a n : ℕ) (o : Result ℕ Fault) → bare c ≡ s → o ≡ image_at s a n → window_image (map placement_of c.images) a n ≡ o
+image_told c s a n o view is =
+    ap (λ (ps : List Placement). window_image ps a n) (sym (placements_bared 0 c.bindings c.images)) ∙ ap (λ (x : Content). image_at x a n) view ∙ sym is
+
+-- a window that no image holds
+pub window_refused : (s : Content) (a n : ℕ) (fault : Fault) → (n == 0) ≡ false → Err fault ≡ image_at s a n → window_at s a n ≡ Err fault
+window_refused s a n fault some is =
+    ap (λ (b : Bool). cond b (Ok []) (window_in s a n (image_at s a n))) some ∙ ap (window_in s a n) (sym is)

@@ -1,23 +1,29 @@
 -- Images over files: which of them holds an address, what windows hold, and what an accepted move leaves.
-use Rattle.std.proofs.Common.{◌≡◌, ℕ, zero, suc, ◌+◌, ◌-◌, ◌<◌, ◌≤◌, ◌^◌, List, length, map, get_or, refl, ap, ◌∙◌, sym, subst, arith}
-use Rattle.std.specs.Prelude.{Option, Some, None, unwrap_or, Result, Ok, slice_set}
+use Rattle.std.proofs.Common.{◌≡◌, ℕ, zero, suc, ◌+◌, ◌-◌, ◌<◌, ◌≤◌, ◌^◌, List, length, map, get_or, refl, ap, ◌∙◌, sym, subst, arith, [], ◌∷◌, ◌++◌, take, length-append, inl, inr}
+use Rattle.std.specs.Prelude.{Option, Some, None, unwrap_or, Ok, slice_set}
 use Rattle.std.specs.List.{range_with_len}
-use Rattle.std.proofs.lemmas.List.{get_or_default}
-use Rattle.pe_view.specs.declared.fault.Fault.{Fault}
+use Rattle.std.proofs.lemmas.Bool.{cases_eq}
+use Rattle.std.proofs.lemmas.List.{get_or_default, get_or-set_same, get_or-set_other, length-set, length-take-le}
+use Rattle.std.proofs.lemmas.List.Sums.{count_by_more_yes, count_by_more_no, count_by-le-length}
+use borrow.Author.Tests.{eq-eqb, ne_eqb}
 use Rattle.pe_view.specs.Faults.{first_standing}
-use Rattle.pe_set.specs.Placement.{move_tests}
+use Rattle.pe_set.specs.Placement.{Placement, placement_at, move_tests}
 use Rattle.pe_set.specs.declared.binding.Binding.{Binding}
 use Rattle.pe_space.specs.Bare.{bare}
 use Rattle.pe_space.specs.Content.{SpaceImage, Content, placement_of, nth_image, no_image, placed_from, holder_from, byte_at, byte_held, byte_in, bytes_from, window_image}
-use Rattle.pe_space.specs.Filed.{filed_content, IsFiled}
+use Rattle.pe_space.specs.ByBase.{IsByBase, StandApart}
+use Rattle.pe_space.specs.Filed.{filed_content, AreCounts, IsFiled}
+use Rattle.pe_space.specs.Memory.{ends_in}
 use Rattle.pe_space.specs.Moves.{move_fault, moved}
 use Rattle.pe_space.specs.Placing.{IsPlaced}
 use Rattle.pe_space.specs.Tied.{IsSlot, IsTied}
 use Rattle.pe_space.specs.Windows.{bytes_in}
-use Rattle.pe_space.proofs.Addressing.{Holds, holder_inside, holder_is, window_lies}
+use Rattle.pe_space.specs.declared.by_base.NumberAt.{NumberAt}
+use Rattle.pe_space.proofs.Addressing.{Holds, stand_apart, holder_inside, holder_is, window_lies}
+use Rattle.pe_space.proofs.Asked.{limit_le}
 use Rattle.pe_space.proofs.Baring.{image_bared, length-bared}
 use Rattle.pe_space.proofs.Defining.{address_same, byte_same, bytes_same, placements_bared}
-use Rattle.pe_space.proofs.Move.{limit_le, accepts, bare_moved, placed_moved}
+use Rattle.pe_space.proofs.Move.{accepts, bare_moved, placed_moved, by_base_moved}
 use Rattle.pe_space.proofs.Moving.{part_kept, tied_moved}
 use Rattle.pe_space.proofs.SlotsAndFields.{is_in-true, true-is_in}
 
@@ -66,9 +72,12 @@ found_at images l a j m same found is =
       image = image;
     }
 
--- what a window of them gave
-pub window_so : (images l : List SpaceImage) (a n : ℕ) (o : Result ℕ Fault) → l ≡ images → o ≡ window_image (map placement_of l) a n → window_image (map placement_of images) a n ≡ o
-window_so images l a n o same is = sym (ap (λ (x : List SpaceImage). window_image (map placement_of x) a n) same) ∙ sym is
+-- the images are in the order of their bases, and no two are at one address
+pub filed_order : {order : List NumberAt} {bs slots : List Binding} {counts : List ℕ} (images l : List SpaceImage) {lent : List NumberAt} → IsFiled images order bs slots counts → l ≡ images → lent ≡ order → IsByBase (map placement_of l) lent
+filed_order images l kept same lent_is = rw (same, lent_is) kept.by_base
+
+pub filed_apart : {order : List NumberAt} {bs slots : List Binding} {counts : List ℕ} (images l : List SpaceImage) → IsFiled images order bs slots counts → l ≡ images → StandApart (map placement_of l)
+filed_apart {bs = bs} images l kept same = rw same (stand_apart (filed_content images bs) kept.placed)
 
 -- where the images of the content stand
 pub placed_so : (images l : List SpaceImage) (bs : List Binding) → l ≡ images → map placement_of l ≡ map placement_of (bare (filed_content images bs)).images
@@ -83,7 +92,7 @@ found_window images a n j m lies is =
     let fits : a + n ≤ m.base + m.size = subst (λ (x : SpaceImage). a + n ≤ x.base + x.size) (sym found.image) both.1 in
     (found, omega arith)
 
-module _ (images : List SpaceImage) (bs slots : List Binding) (kept : IsFiled images bs slots) (a j : ℕ) (m : SpaceImage) (found : FoundAt images a j m) where
+module _ (images : List SpaceImage) (order : List NumberAt) (bs slots : List Binding) (counts : List ℕ) (kept : IsFiled images order bs slots counts) (a j : ℕ) (m : SpaceImage) (found : FoundAt images a j m) where
   abbrev c : Content
   c = filed_content images bs
 
@@ -123,10 +132,11 @@ module _ (images : List SpaceImage) (bs slots : List Binding) (kept : IsFiled im
 pub fault_so : (images l : List SpaceImage) (bs : List Binding) (i base : ℕ) → l ≡ images → move_fault (filed_content images bs) i base ≡ first_standing (move_tests (map placement_of l) i base)
 fault_so images l bs i base same = ap (λ (x : List SpaceImage). first_standing (move_tests (map placement_of x) i base)) (sym same)
 
-pub filed_moved : (images : List SpaceImage) (bs slots : List Binding) (i base : ℕ) (m new : SpaceImage) → IsFiled images bs slots → move_fault (filed_content images bs) i base ≡ None
+pub filed_moved : (images : List SpaceImage) (order order_after : List NumberAt) (bs slots : List Binding) (counts : List ℕ) (i base : ℕ) (m new : SpaceImage) → IsFiled images order bs slots counts → move_fault (filed_content images bs) i base ≡ None
     → m ≡ get_or images i m → new ≡ record m { base = base }
-    → IsFiled (slice_set images i new) bs slots × (bare (filed_content (slice_set images i new) bs) ≡ moved (bare (filed_content images bs)) i base)
-filed_moved images bs slots i base m new kept none is made =
+    → ((ps : List Placement) → i < length ps → IsByBase ps order → IsByBase (slice_set ps i (record (placement_at ps i) { base = base })) order_after)
+    → IsFiled (slice_set images i new) order_after bs slots counts × (bare (filed_content (slice_set images i new) bs) ≡ moved (bare (filed_content images bs)) i base)
+filed_moved images order order_after bs slots counts i base m new kept none is made reordered =
     let c = filed_content images bs in
     let ok = accepts c i base none in
     let image : m ≡ nth_image images i = image_at images i m ok.image is in
@@ -139,7 +149,63 @@ filed_moved images bs slots i base m new kept none is made =
         placed = subst IsPlaced (sym content) (placed_moved c i base ok kept.placed);
         whole = λ j. subst (λ (x : Content). length (nth_image x.images j).plain ≡ (nth_image x.images j).size) (sym content) (plain j ∙ kept.whole j ∙ sym (size j));
         small = λ j. subst (λ (x : Content). (nth_image x.images j).size ≤ 2 ^ 31) (sym content) (subst (λ (n : ℕ). n ≤ 2 ^ 31) (sym (size j)) (kept.small j));
-        ordered = kept.ordered;
+        by_base = by_base_moved c i base order order_after (slice_set images i new) ok.image (ap (λ (x : Content). x.images) content) kept.by_base reordered;
+        by_slot = kept.by_slot;
+        counts = subst (λ (n : ℕ). AreCounts n bs counts) (sym (length-set images i new)) kept.counts;
       },
       ap bare content ∙ bare_moved c i base,
     )
+
+-- ---- how many slots end in each image
+all_zero : (xs : List ℕ) → ((j : ℕ) → get_or xs j 0 ≡ 0) → (j : ℕ) → get_or (xs ++ 0 ∷ []) j 0 ≡ 0
+all_zero [] zeros zero = refl
+all_zero [] zeros (suc j) = refl
+all_zero (x ∷ xs) zeros zero = zeros 0
+all_zero (x ∷ xs) zeros (suc j) = all_zero xs (λ k. zeros (suc k)) j
+
+-- so many counts of 0
+pub record AreZeros (n : ℕ) (counts : List ℕ) : Type 0 where
+  pub count : length counts ≡ n
+  pub zeros : (j : ℕ) → get_or counts j 0 ≡ 0
+
+pub zeros_none : AreZeros 0 []
+zeros_none = record { count = refl; zeros = λ j. refl }
+
+pub zeros_more : (n : ℕ) (counts : List ℕ) → AreZeros n counts → AreZeros (n + 1) (counts ++ 0 ∷ [])
+zeros_more n counts so_far = record {
+  count = (let parts = length-append counts (0 ∷ []) in omega (arith, parts, so_far.count));
+  zeros = all_zero counts so_far.zeros;
+}
+
+pub zeros_all : (n : ℕ) (counts : List ℕ) → AreZeros n counts → AreCounts n [] counts
+zeros_all n counts zeros = record { count = zeros.count; each = λ j lt. zeros.zeros j }
+
+-- one slot further on
+pub counts_more : (n k : ℕ) (bs : List Binding) (d : Binding) (counts : List ℕ) → k < length bs → (get_or bs k d).exporter < n → AreCounts n (take k bs) counts
+    → AreCounts n (take (k + 1) bs) (slice_set counts (get_or bs k d).exporter (get_or counts (get_or bs k d).exporter 0 + 1))
+counts_more n k bs d counts lt small so_far = record {
+  count = length-set counts e _ ∙ so_far.count;
+  each = λ j below. elim (cases_eq e j) [
+    | inl same ↦
+        ap (λ (i : ℕ). get_or (slice_set counts e (get_or counts e 0 + 1)) i 0) (sym same)
+        ∙ get_or-set_same counts e (get_or counts e 0 + 1) 0 (omega (arith, small, so_far.count))
+        ∙ ap (λ (i : ℕ). get_or counts i 0 + 1) same
+        ∙ ap (λ (i : ℕ). i + 1) (so_far.each j below)
+        ∙ sym (count_by_more_yes (ends_in j) bs k d lt (eq-eqb e j same))
+    | inr other ↦
+        get_or-set_other counts e j (get_or counts e 0 + 1) 0 (λ is. other (sym is))
+        ∙ so_far.each j below
+        ∙ sym (count_by_more_no (ends_in j) bs k d lt (ne_eqb e j other))
+  ];
+}
+  where
+    e : ℕ
+    e = (get_or bs k d).exporter
+
+-- no count is greater than the number of slots
+pub count_fits : (n k : ℕ) (bs : List Binding) (j : ℕ) (counts : List ℕ) → k < length bs → length bs < 2 ^ 32 → j < n → AreCounts n (take k bs) counts → get_or counts j 0 + 1 < 2 ^ 32
+count_fits n k bs j counts lt few small so_far =
+    let is = so_far.each j small in
+    let most = count_by-le-length (ends_in j) (take k bs) in
+    let count = length-take-le k bs (omega arith) in
+    omega (arith, is, most, count, lt, few)

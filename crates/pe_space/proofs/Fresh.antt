@@ -1,25 +1,28 @@
 -- The memory of a new space.
-use Rattle.std.proofs.Common.{◌≡◌, ℕ, ◌+◌, ◌-◌, ◌<◌, ◌≤◌, ◌⊎◌, true, List, length, get_or, refl, ap, ◌∙◌, sym, subst, inl, inr}
+use Rattle.std.proofs.Common.{◌≡◌, ℕ, ◌+◌, ◌-◌, ◌<◌, ◌≤◌, ◌⊎◌, List, length, map, get_or, refl, ap, ◌∙◌, sym, subst, inl, inr}
 use Rattle.std.specs.Prelude.{Option, Some, None, pos, ◌-ℤ◌}
 use Rattle.std.specs.List.{find}
 use Rattle.pe_tables.specs.declared.fixups.Fixup.{Fixup}
 use Rattle.pe_set.specs.declared.binding.Binding.{Binding}
 use Rattle.pe_space.specs.Number.{digit, number_in}
-use Rattle.pe_space.specs.Content.{SpaceImage, Content, nth_image, width_of, slot_width, in_field, in_slot, fixed_byte, byte_by, byte_in}
-use Rattle.pe_space.specs.Memory.{shifted_all, memory_of, rebound}
+use Rattle.pe_space.specs.Content.{SpaceImage, Content, placement_of, nth_image, width_of, in_field, in_slot, fixed_byte, byte_by, byte_in}
+use Rattle.pe_space.specs.Memory.{shifted_all, memory_of, address_of, bound}
 use Rattle.pe_space.specs.Tied.{Each, IsSlot, IsTied, IsLaid}
-use Rattle.pe_space.specs.Kept.{address_of, any_slot, IsFresh, kept_content, IsKept}
+use Rattle.pe_space.specs.ByBase.{IsByBase}
+use Rattle.pe_space.specs.Kept.{IsFresh, kept_content, IsKept}
+use Rattle.pe_space.specs.Ordered.{IsOrdered, exporter_of}
+use Rattle.pe_space.specs.declared.by_base.NumberAt.{NumberAt}
 use Rattle.pe_space.specs.Held.{Held, images_of, memories_of}
 use Rattle.pe_space.specs.Placing.{IsPlaced}
 use Rattle.pe_space.proofs.Lists.{each_map, each_all}
-use Rattle.pe_space.proofs.Laying.{InField, InSlot, width_in, Fits, StillFields, laid_fields, laid_slots, rebound_lengths, length-shifted_all}
-use Rattle.pe_space.proofs.SlotsAndFields.{slot_byte, field_byte, in_slots, in_fields}
+use Rattle.pe_space.proofs.Laying.{InField, InSlot, width_in, Fits, StillFields, laid_fields, in_one, laid_slots, bound_lengths, length-shifted_all}
+use Rattle.pe_space.proofs.SlotsAndFields.{slot_byte, field_byte, slot_found, in_fields}
 
-pub laid_fresh : (c : Content) (ms : List (List ℕ)) → IsTied c → IsFresh c ms → IsLaid c (rebound c.images any_slot (address_of c.images) c.bindings ms)
+pub laid_fresh : (c : Content) (ms : List (List ℕ)) → IsTied c → IsFresh c ms → IsLaid c (bound c.images c.bindings ms)
 laid_fresh c ms tied fresh = record {
   count = ends.0 ∙ fresh.count;
   lengths = λ j. ends.1 j ∙ size j;
-  each = laid_slots c.images any_slot (address_of c.images) (byte_in c) (λ j. (nth_image c.images j).size) c.bindings ms fits wanted_slots (λ j r small. subst (λ (m : List ℕ). (get_or m r 0 ≡ byte_in c j r) ⊎ InSlot c.images any_slot j r c.bindings) (sym (fresh.fields j)) (fields j r small));
+  each = laid_slots c.images (byte_in c) (λ j. (nth_image c.images j).size) c.bindings ms fits wanted_slots (λ j r small. subst (λ (m : List ℕ). (get_or m r 0 ≡ byte_in c j r) ⊎ InSlot c.images j r c.bindings) (sym (fresh.fields j)) (fields j r small));
 }
   where
     by : ℕ → SpaceImage
@@ -34,42 +37,47 @@ laid_fresh c ms tied fresh = record {
     fits : Each (Fits c.images ms) c.bindings
     fits = each_map (IsSlot c.images) (Fits c.images ms) c.bindings (λ b slot. record { image = rw fresh.count slot.image; inside = rw (size b.image) slot.inside }) tied.slots
 
-    ends : (length (rebound c.images any_slot (address_of c.images) c.bindings ms) ≡ length ms) × ((j : ℕ) → length (memory_of (rebound c.images any_slot (address_of c.images) c.bindings ms) j) ≡ length (memory_of ms j))
-    ends = rebound_lengths c.images any_slot (address_of c.images) c.bindings ms fits
+    ends : (length (bound c.images c.bindings ms) ≡ length ms) × ((j : ℕ) → length (memory_of (bound c.images c.bindings ms) j) ≡ length (memory_of ms j))
+    ends = bound_lengths c.images c.bindings ms fits
 
-    wanted_slots : Each (λ (b : Binding). any_slot b ≡ true → (r : ℕ) → b.slot ≤ r → r < b.slot + width_in c.images b → byte_in c b.image r ≡ digit (address_of c.images b) (r - b.slot)) c.bindings
-    wanted_slots = each_map _ _ c.bindings (λ b is _. is) (slot_byte c tied)
+    wanted_slots : Each (λ (b : Binding). (r : ℕ) → b.slot ≤ r → r < b.slot + width_in c.images b → byte_in c b.image r ≡ digit (address_of c.images b) (r - b.slot)) c.bindings
+    wanted_slots = slot_byte c tied
 
     by_field : (j r : ℕ) → find (in_slot j (nth_image c.images j).magic r) c.bindings ≡ None → (o : Option Fixup) → find (in_field r) (nth_image c.images j).fixups ≡ o
-        → (get_or (nth_image c.images j).plain r 0 ≡ byte_in c j r) ⊎ (InField r (nth_image c.images j).fixups ⊎ InSlot c.images any_slot j r c.bindings)
+        → (get_or (nth_image c.images j).plain r 0 ≡ byte_in c j r) ⊎ (InField r (nth_image c.images j).fixups ⊎ InSlot c.images j r c.bindings)
     by_field j r free None h = inl (sym (ap (byte_by c j r) free ∙ ap (fixed_byte (nth_image c.images j) r) h))
     by_field j r free (Some f) h = inr (inl (in_fields r (nth_image c.images j).fixups f h))
 
     by_slot : (j r : ℕ) → (o : Option Binding) → find (in_slot j (nth_image c.images j).magic r) c.bindings ≡ o
-        → (get_or (nth_image c.images j).plain r 0 ≡ byte_in c j r) ⊎ (InField r (nth_image c.images j).fixups ⊎ InSlot c.images any_slot j r c.bindings)
+        → (get_or (nth_image c.images j).plain r 0 ≡ byte_in c j r) ⊎ (InField r (nth_image c.images j).fixups ⊎ InSlot c.images j r c.bindings)
     by_slot j r None h = by_field j r h (find (in_field r) (nth_image c.images j).fixups) refl
-    by_slot j r (Some b) h = inr (inr (in_slots c.images any_slot j r (nth_image c.images j).magic c.bindings b (λ e same. ap (λ (k : ℕ). slot_width (nth_image c.images k).magic) (sym same)) h refl))
+    by_slot j r (Some b) h =
+        let at = slot_found c.images j r c.bindings b h in
+        inr (inr (in_one c.images j r c.bindings b at.0 at.1))
 
-    still : (j : ℕ) → StillFields (byte_in c j) (λ r. InSlot c.images any_slot j r c.bindings) (nth_image c.images j).size (nth_image c.images j).fixups (nth_image c.images j).plain
+    still : (j : ℕ) → StillFields (byte_in c j) (λ r. InSlot c.images j r c.bindings) (nth_image c.images j).size (nth_image c.images j).fixups (nth_image c.images j).plain
     still j r small = by_slot j r (find (in_slot j (nth_image c.images j).magic r) c.bindings) refl
 
-    fields : (j r : ℕ) → r < (nth_image c.images j).size → (get_or (shifted_all (pos (nth_image c.images j).base -ℤ pos (nth_image c.images j).image_base) (nth_image c.images j).fixups (nth_image c.images j).plain) r 0 ≡ byte_in c j r) ⊎ InSlot c.images any_slot j r c.bindings
-    fields j = laid_fields (pos (nth_image c.images j).base -ℤ pos (nth_image c.images j).image_base) (nth_image c.images j).size (byte_in c j) (λ r. InSlot c.images any_slot j r c.bindings)
+    fields : (j r : ℕ) → r < (nth_image c.images j).size → (get_or (shifted_all (pos (nth_image c.images j).base -ℤ pos (nth_image c.images j).image_base) (nth_image c.images j).fixups (nth_image c.images j).plain) r 0 ≡ byte_in c j r) ⊎ InSlot c.images j r c.bindings
+    fields j = laid_fields (pos (nth_image c.images j).base -ℤ pos (nth_image c.images j).image_base) (nth_image c.images j).size (byte_in c j) (λ r. InSlot c.images j r c.bindings)
         (λ f. number_in (nth_image c.images j).plain f.field (width_of f.kind)) (nth_image c.images j).fixups (nth_image c.images j).plain (in_plain j) (tied.images j).apart
         (each_all _ (nth_image c.images j).fixups (λ f. refl)) (field_byte c j tied) (still j)
 
-pub kept_fresh : (hs first after : List Held) (bs lent : List Binding) → IsTied (kept_content hs bs) → IsPlaced (kept_content hs bs) → IsFresh (kept_content hs bs) (memories_of hs)
-    → first ≡ hs → lent ≡ bs → images_of after ≡ images_of first → memories_of after ≡ rebound (images_of first) any_slot (address_of (images_of first)) lent (memories_of first)
-    → IsKept after bs
-kept_fresh hs first after bs lent tied placed fresh first_is lent_is same written =
+pub kept_fresh : (hs first after : List Held) (order : List NumberAt) (bs slots lent : List Binding) → IsTied (kept_content hs bs) → IsPlaced (kept_content hs bs) → IsFresh (kept_content hs bs) (memories_of hs)
+    → IsByBase (map placement_of (images_of hs)) order → IsOrdered exporter_of bs slots
+    → first ≡ hs → lent ≡ bs → images_of after ≡ images_of first → memories_of after ≡ bound (images_of first) lent (memories_of first)
+    → IsKept after order bs slots
+kept_fresh hs first after order bs slots lent tied placed fresh by_base by_exporter first_is lent_is same written =
     let images : images_of after ≡ images_of hs = same ∙ ap images_of first_is in
     let content : kept_content after bs ≡ kept_content hs bs = ap (λ (x : List SpaceImage). record { images = x; bindings = bs }) images in
-    let memory : memories_of after ≡ rebound (images_of hs) any_slot (address_of (images_of hs)) bs (memories_of hs) =
-    written ∙ ap (λ (x : List Held). rebound (images_of x) any_slot (address_of (images_of x)) lent (memories_of x)) first_is
-    ∙ ap (λ (x : List Binding). rebound (images_of hs) any_slot (address_of (images_of hs)) x (memories_of hs)) lent_is in
+    let memory : memories_of after ≡ bound (images_of hs) bs (memories_of hs) =
+    written ∙ ap (λ (x : List Held). bound (images_of x) lent (memories_of x)) first_is
+    ∙ ap (λ (x : List Binding). bound (images_of hs) x (memories_of hs)) lent_is in
     record {
       tied = rw content tied;
       placed = rw content placed;
       laid = rw (content, memory) (laid_fresh (kept_content hs bs) (memories_of hs) tied fresh);
-      whole = rw images fresh.whole;
+      whole = subst (λ (x : List SpaceImage). (j : ℕ) → length (nth_image x j).plain ≡ (nth_image x j).size) (sym images) fresh.whole;
+      by_base = subst (λ (x : List SpaceImage). IsByBase (map placement_of x) order) (sym images) by_base;
+      by_exporter = by_exporter;
     }

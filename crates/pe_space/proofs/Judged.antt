@@ -3,6 +3,7 @@ use Rattle.std.proofs.Common.{◌≡◌, ◌∙◌, ◌≤◌, ◌++◌, [], ◌
 use Rattle.std.proofs.lemmas.List.{length-map}
 use Rattle.pe_view.specs.Faults.{first_standing}
 use Rattle.pe_view.specs.FirstStanding.{none-append}
+use Rattle.pe_set.specs.Bindings.{bindings_of}
 use Rattle.pe_set.specs.Set.{Entry, Module, modules_of}
 use Rattle.pe_set.specs.SetFaults.{names_tests, set_tests}
 use Rattle.pe_set.specs.SetView.{entry_view, entries_of, module_view, modules_view}
@@ -15,7 +16,7 @@ use Rattle.pe_space.specs.Content.{Content}
 use Rattle.pe_space.specs.SetContent.{laid_out, content_of}
 use Rattle.pe_space.proofs.Images.{modules_count}
 
-none_left : {X : Type 0} (xs : List X) → length xs ≡ 0 → xs ≡ []
+pub none_left : {X : Type 0} (xs : List X) → length xs ≡ 0 → xs ≡ []
 none_left [] e = refl
 none_left (x ∷ xs) e = absurd (omega (arith, e))
 
@@ -38,6 +39,17 @@ count_modules set ms is = sym (length-map ms module_view) ∙ ap length is ∙ m
 pub names_fine : (policy : Policy) (es : List Entry) → first_standing (set_tests policy es) ≡ None → first_standing (names_tests es) ≡ None
 unfolding set_tests
 names_fine policy es none = (none-append (names_tests es) _ none).0
+
+-- an empty set has no image, and no slot that is bound
+pub no_images : {Y : Type 0} (make : Module → Y) (set : List SetEntry) → length set ≡ 0 → length (map make (modules_of (entries_of set))) ≡ 0
+unfolding modules_of
+no_images make [] none = refl
+no_images make (e ∷ set) none = absurd (omega (arith, none))
+
+pub no_bindings : (set : List SetEntry) → length set ≡ 0 → length (bindings_of (modules_of (entries_of set))) ≡ 0
+unfolding bindings_of modules_of
+no_bindings [] none = refl
+no_bindings (e ∷ set) none = absurd (omega (arith, none))
 
 -- ---- images that are made one by one, each by `make`
 module _ {A Y : Type 0} (make : Module → Y) where

@@ -1,5 +1,6 @@
 -- Fields and slots that are written one by one, against the bytes that are wanted.
-use Rattle.std.proofs.Common.{◌≡◌, ℕ, ◌+◌, ◌-◌, ◌<◌, ◌≤◌, ◌⊎◌, ℤ, Bool, true, false, List, [], ◌∷◌, length, get_or, refl, ap, ◌∙◌, sym, arith, inl, inr}
+use Rattle.std.proofs.Common.{◌≡◌, ℕ, zero, suc, ◌+◌, ◌-◌, ◌<◌, ◌≤◌, ◌⊎◌, ℤ, List, [], ◌∷◌, length, get_or, refl, ap, ◌∙◌, sym, subst, arith, inl, inr}
+use Rattle.std.specs.List.{Contains}
 use Rattle.std.proofs.lemmas.Bool.{cases_lt, cases_eq}
 use Rattle.std.proofs.lemmas.List.{length-set, get_or-set_same, get_or-set_other}
 use Rattle.pe_tables.specs.declared.fixups.Fixup.{Fixup}
@@ -7,7 +8,7 @@ use Rattle.pe_set.specs.declared.binding.Binding.{Binding}
 use Rattle.pe_space.specs.Number.{digit, number_in, shift}
 use Rattle.pe_space.specs.Content.{SpaceImage, nth_image, width_of, slot_width}
 use Rattle.pe_tables.specs.Patch.{shifted_at}
-use Rattle.pe_space.specs.Memory.{patch, bytes, with_shifted, shifted_all, memory_of, put_slot, rebound}
+use Rattle.pe_space.specs.Memory.{patch, bytes, with_shifted, shifted_all, memory_of, put_slot, address_of, bound}
 use Rattle.pe_space.specs.Tied.{Each, EachPair, FieldsApart}
 use Rattle.pe_tables.specs.Patched.{length-patch, length-bytes_from, written_in, written_out}
 use Rattle.pe_space.proofs.Numbers.{same_number}
@@ -101,14 +102,21 @@ laid_fields d size T Q old (f ∷ fs) xs fit apart held wanted still =
 abbrev pub width_in : List SpaceImage → Binding → ℕ
 width_in images b = slot_width (nth_image images b.image).magic
 
-cases_bool : (t : Bool) → (t ≡ true) ⊎ (t ≡ false)
-cases_bool true = inl refl
-cases_bool false = inr refl
+-- the place of image j is one of this slot's
+pub record IsAt (images : List SpaceImage) (j r : ℕ) (b : Binding) : Type 0 where
+  pub image : b.image ≡ j
+  pub low : b.slot ≤ r
+  pub high : r < b.slot + width_in images b
 
--- the place of image j lies in one of these slots, which passes the test
-abbrev pub InSlot : List SpaceImage → (Binding → Bool) → ℕ → ℕ → List Binding → Type 0
-InSlot images p j r [] = ⊥
-InSlot images p j r (b ∷ bs) = ((p b ≡ true) × (b.image ≡ j) × (b.slot ≤ r) × (r < b.slot + width_in images b)) ⊎ InSlot images p j r bs
+-- the place of image j lies in one of these slots
+abbrev pub InSlot : List SpaceImage → ℕ → ℕ → List Binding → Type 0
+InSlot images j r [] = ⊥
+InSlot images j r (b ∷ bs) = IsAt images j r b ⊎ InSlot images j r bs
+
+pub in_one : (images : List SpaceImage) (j r : ℕ) (bs : List Binding) (b : Binding) → Contains bs b → IsAt images j r b → InSlot images j r bs
+in_one images j r [] b (k, lt, is) at = absurd (omega (arith, lt))
+in_one images j r (e ∷ bs) b (zero, lt, is) at = inl (subst (IsAt images j r) (sym is) at)
+in_one images j r (e ∷ bs) b (suc k, lt, is) at = inr (in_one images j r bs b (k, omega (arith, lt), is) at)
 
 -- the slot lies in a memory
 pub record Fits (images : List SpaceImage) (ms : List (List ℕ)) (b : Binding) : Type 0 where
@@ -160,58 +168,47 @@ put_fits images b e v ms fits h =
     record { image = omega arith; inside = omega arith }
 
 -- what is wrong so far lies in a slot that is still to come
-abbrev pub StillSlots : List SpaceImage → (Binding → Bool) → (ℕ → ℕ → ℕ) → (ℕ → ℕ) → List Binding → List (List ℕ) → Type 0
-StillSlots images p T size bs ms = (j r : ℕ) → r < size j → (get_or (memory_of ms j) r 0 ≡ T j r) ⊎ InSlot images p j r bs
+abbrev pub StillSlots : List SpaceImage → (ℕ → ℕ → ℕ) → (ℕ → ℕ) → List Binding → List (List ℕ) → Type 0
+StillSlots images T size bs ms = (j r : ℕ) → r < size j → (get_or (memory_of ms j) r 0 ≡ T j r) ⊎ InSlot images j r bs
 
-slot_done : (images : List SpaceImage) (p : Binding → Bool) (v : ℕ) (T : ℕ → ℕ → ℕ) (size : ℕ → ℕ) (b : Binding) (bs : List Binding) (ms : List (List ℕ))
+slot_done : (images : List SpaceImage) (v : ℕ) (T : ℕ → ℕ → ℕ) (size : ℕ → ℕ) (b : Binding) (bs : List Binding) (ms : List (List ℕ))
     → Fits images ms b
     → ((r : ℕ) → b.slot ≤ r → r < b.slot + width_in images b → T b.image r ≡ digit v (r - b.slot))
-    → StillSlots images p T size (b ∷ bs) ms → StillSlots images p T size bs (put_slot images b v ms)
-slot_done images p v T size b bs ms fits wanted still j r lt = elim (cases_eq j b.image) [
+    → StillSlots images T size (b ∷ bs) ms → StillSlots images T size bs (put_slot images b v ms)
+slot_done images v T size b bs ms fits wanted still j r lt = elim (cases_eq j b.image) [
   | inl same ↦ elim (cases_in b.slot (width_in images b) r) [
     | inl inside ↦ inl (rw same (put_in images b v ms r fits inside.0 inside.1 ∙ sym (wanted r inside.0 inside.1)))
     | inr out ↦ elim (still j r lt) [
       | inl right ↦ inl (rw same (put_out images b v ms r fits out ∙ rw same at right))
-      | inr (inl here) ↦ let low = here.2 in let high = here.3 in elim out [ inl below ↦ absurd (omega arith) | inr above ↦ absurd (omega arith) ]
+      | inr (inl here) ↦ let low = here.low in let high = here.high in elim out [ inl below ↦ absurd (omega arith) | inr above ↦ absurd (omega arith) ]
       | inr (inr later) ↦ inr later
     ]
   ]
   | inr ne ↦ elim (still j r lt) [
     | inl right ↦ inl (rw (put_other images b v ms j ne) right)
-    | inr (inl here) ↦ absurd (ne (sym here.1))
+    | inr (inl here) ↦ absurd (ne (sym here.image))
     | inr (inr later) ↦ inr later
   ]
 ]
 
-slot_skipped : (images : List SpaceImage) (p : Binding → Bool) (T : ℕ → ℕ → ℕ) (size : ℕ → ℕ) (b : Binding) (bs : List Binding) (ms : List (List ℕ))
-    → (p b ≡ false) → StillSlots images p T size (b ∷ bs) ms → StillSlots images p T size bs ms
-slot_skipped images p T size b bs ms off still j r lt = elim (still j r lt) [
-  | inl right ↦ inl right
-  | inr (inl here) ↦ let on = here.0 in cc
-  | inr (inr later) ↦ inr later
-]
-
 -- slots that are written one by one hold what is wanted
-pub laid_slots : (images : List SpaceImage) (p : Binding → Bool) (address : Binding → ℕ) (T : ℕ → ℕ → ℕ) (size : ℕ → ℕ) (bs : List Binding) (ms : List (List ℕ))
+pub laid_slots : (images : List SpaceImage) (T : ℕ → ℕ → ℕ) (size : ℕ → ℕ) (bs : List Binding) (ms : List (List ℕ))
     → Each (Fits images ms) bs
-    → Each (λ (b : Binding). p b ≡ true → (r : ℕ) → b.slot ≤ r → r < b.slot + width_in images b → T b.image r ≡ digit (address b) (r - b.slot)) bs
-    → StillSlots images p T size bs ms
-    → (j r : ℕ) → r < size j → get_or (memory_of (rebound images p address bs ms) j) r 0 ≡ T j r
-laid_slots images p address T size [] ms fits wanted still = λ j r lt. elim (still j r lt) [ inl right ↦ right | inr none ↦ absurd none ]
-laid_slots images p address T size (b ∷ bs) ms fits wanted still = elim (cases_bool (p b)) [
-  | inl on ↦ rw on (laid_slots images p address T size bs (put_slot images b (address b) ms)
-      (each_map (Fits images ms) (Fits images (put_slot images b (address b) ms)) bs (λ e h. put_fits images b e (address b) ms fits.0 h) fits.1)
-      wanted.1
-      (slot_done images p (address b) T size b bs ms fits.0 (wanted.0 on) still))
-  | inr off ↦ rw off (laid_slots images p address T size bs ms fits.1 wanted.1 (slot_skipped images p T size b bs ms off still))
-]
+    → Each (λ (b : Binding). (r : ℕ) → b.slot ≤ r → r < b.slot + width_in images b → T b.image r ≡ digit (address_of images b) (r - b.slot)) bs
+    → StillSlots images T size bs ms
+    → (j r : ℕ) → r < size j → get_or (memory_of (bound images bs ms) j) r 0 ≡ T j r
+laid_slots images T size [] ms fits wanted still = λ j r lt. elim (still j r lt) [ inl right ↦ right | inr none ↦ absurd none ]
+laid_slots images T size (b ∷ bs) ms fits wanted still =
+    let address = address_of images b in
+    laid_slots images T size bs (put_slot images b address ms)
+    (each_map (Fits images ms) (Fits images (put_slot images b address ms)) bs (λ e h. put_fits images b e address ms fits.0 h) fits.1)
+    wanted.1
+    (slot_done images address T size b bs ms fits.0 wanted.0 still)
 
-pub rebound_lengths : (images : List SpaceImage) (p : Binding → Bool) (address : Binding → ℕ) (bs : List Binding) (ms : List (List ℕ)) → Each (Fits images ms) bs
-    → (length (rebound images p address bs ms) ≡ length ms) × ((j : ℕ) → length (memory_of (rebound images p address bs ms) j) ≡ length (memory_of ms j))
-rebound_lengths images p address [] ms fits = (refl, λ j. refl)
-rebound_lengths images p address (b ∷ bs) ms fits = elim (cases_bool (p b)) [
-  | inl on ↦
-      let more = rebound_lengths images p address bs (put_slot images b (address b) ms) (each_map (Fits images ms) (Fits images (put_slot images b (address b) ms)) bs (λ e h. put_fits images b e (address b) ms fits.0 h) fits.1) in
-      rw on (more.0 ∙ put_count images b (address b) ms, λ j. more.1 j ∙ put_length images b (address b) ms fits.0 j)
-  | inr off ↦ rw off (rebound_lengths images p address bs ms fits.1)
-]
+pub bound_lengths : (images : List SpaceImage) (bs : List Binding) (ms : List (List ℕ)) → Each (Fits images ms) bs
+    → (length (bound images bs ms) ≡ length ms) × ((j : ℕ) → length (memory_of (bound images bs ms) j) ≡ length (memory_of ms j))
+bound_lengths images [] ms fits = (refl, λ j. refl)
+bound_lengths images (b ∷ bs) ms fits =
+    let address = address_of images b in
+    let more = bound_lengths images bs (put_slot images b address ms) (each_map (Fits images ms) (Fits images (put_slot images b address ms)) bs (λ e h. put_fits images b e address ms fits.0 h) fits.1) in
+    (more.0 ∙ put_count images b address ms, λ j. more.1 j ∙ put_length images b address ms fits.0 j)

@@ -18,6 +18,7 @@ pub mod Lists
 pub mod Move
 pub mod Moving
 pub mod Numbers
+pub mod Ordering
 pub mod Relocating
 pub mod Running
 pub mod SlotsAndFields

@@ -1,39 +1,39 @@
 -- An accepted move leaves what a space keeps.
-use Rattle.std.proofs.Common.{◌≡◌, ℕ, zero, suc, ◌+◌, ◌%◌, ◌<◌, ◌≤◌, ◌^◌, ◌⊎◌, Bool, true, false, cond, not, ◌&&◌, ◌||◌, List, [], ◌∷◌, ◌++◌, map, take, drop, length, get_or, refl, ap, ◌∙◌, sym, subst, arith, inl, inr}
+use Rattle.std.proofs.Common.{◌≡◌, ℕ, zero, suc, ◌+◌, ◌%◌, ◌<◌, ◌≤◌, ◌^◌, ◌⊎◌, Bool, true, false, cond, not, ◌&&◌, List, [], ◌∷◌, map, length, get_or, refl, ap, ◌∙◌, sym, subst, arith, inl, inr}
 use Rattle.std.specs.Prelude.{slice_set, None, nat_lt, ◌==◌, pos, ◌-ℤ◌}
 use Rattle.std.proofs.lemmas.Bool.{cases_eq, eqb-true}
 use Rattle.std.proofs.lemmas.List.{map-set, length-map, length-set}
 use borrow.Author.Tests.{ltb-true, ltb-false}
 use Rattle.pe_set.specs.declared.binding.Binding.{Binding}
-use Rattle.pe_head.specs.declared.optional.Magic.{Magic}
-use Rattle.pe_head.specs.declared.optional.Magic.TheVariants.{Pe32, Pe32Plus}
 use Rattle.pe_space.specs.Content.{SpaceImage, Content, nth_image, placement_of, slot_width}
-use Rattle.pe_space.specs.Memory.{shifted_all, memory_of, put_slot, rebound, ends_in, from_base}
+use Rattle.pe_space.specs.ByBase.{IsByBase}
+use Rattle.pe_space.specs.Memory.{shifted_all, memory_of, bound, ends_in}
+use Rattle.pe_space.specs.declared.by_base.NumberAt.{NumberAt}
 use Rattle.pe_space.specs.Held.{Held, images_of, memories_of, rebased_held}
 use Rattle.pe_space.specs.Tied.{Each, Apart, IsSlot}
+use Rattle.pe_space.specs.Ordered.{IsOrdered, exporter_of}
 use Rattle.pe_space.specs.Placing.{IsPlaced}
 use Rattle.pe_space.specs.Moves.{move_fault, moved, moved_counts}
 use Rattle.pe_space.specs.declared.space.Moved.{Moved}
 use Rattle.pe_space.specs.Bare.{without_slots, bared, bare}
 use Rattle.pe_space.proofs.Addressing.{placed_at}
+use Rattle.pe_space.proofs.Asked.{limit_le}
 use Rattle.pe_space.proofs.Defining.{placements_bared}
 use Rattle.pe_view.specs.Faults.{first_standing}
 use Rattle.std.specs.Prelude.{count_by}
 use Rattle.pe_set.specs.Placement.{Placement, address_limit, overlap, no_placement, placement_at, move_tests}
 use Rattle.pe_tables.specs.Ranges.{meets}
 use Rattle.pe_view.specs.FirstStanding.{none_stands}
-use Rattle.std.specs.List.{list_any}
+use Rattle.std.specs.List.{Contains}
+use Rattle.std.proofs.lemmas.List.Sorted.{Contains-permutation, IsPermutation-sym, sum_by-IsPermutation}
 use Rattle.pe_space.specs.Kept.{kept_content, IsKept}
-use Rattle.pe_space.proofs.Moving.{part_kept, image_moved, image_kept, tied_moved, laid_moved, moved_memory}
+use Rattle.pe_space.proofs.Lists.{each_in, each_contains, others_free}
+use Rattle.pe_space.proofs.Moving.{AreEnding, part_kept, image_moved, image_kept, tied_moved, laid_moved, moved_memory}
 use Rattle.pe_space.proofs.Holding.{image_read, memory_read}
 
 not_false : (b : Bool) → not b ≡ false → b ≡ true
 not_false true h = refl
 not_false false h = cc
-
-or_false : (a b : Bool) → (a || b) ≡ false → (a ≡ false) × (b ≡ false)
-or_false true b h = cc
-or_false false b h = (refl, h)
 
 and_false : (a b : Bool) → (a && b) ≡ false → (a ≡ false) ⊎ (b ≡ false)
 and_false true b h = inr h
@@ -44,24 +44,6 @@ apart_unless_meets a n b m h = elim (and_false (nat_lt a (b + m)) (nat_lt b (a +
   | inl after ↦ inr (ltb-false a (b + m) after)
   | inr before ↦ inl (ltb-false b (a + n) before)
 ]
-
--- a test that none of some items passes is passed by none of them
-any_free : {X : Type 0} (p : X → Bool) (xs : List X) (d : X) (k : ℕ) → list_any p xs ≡ false → k < length xs → p (get_or xs k d) ≡ false
-any_free p [] d k none lt = absurd (omega arith)
-any_free p (x ∷ xs) d zero none lt = (or_false (p x) (list_any p xs) none).0
-any_free p (x ∷ xs) d (suc k) none lt = any_free p xs d k (or_false (p x) (list_any p xs) none).1 (omega arith)
-
--- nor of those but one by any other
-others_free : {X : Type 0} (p : X → Bool) (xs : List X) (d : X) (i k : ℕ) → list_any p (take i xs ++ drop (suc i) xs) ≡ false → k < length xs → (k ≡ i → ⊥) → p (get_or xs k d) ≡ false
-others_free p [] d i k none lt ne = absurd (omega arith)
-others_free p (x ∷ xs) d zero zero none lt ne = absurd (ne refl)
-others_free p (x ∷ xs) d zero (suc k) none lt ne = any_free p xs d k none (omega arith)
-others_free p (x ∷ xs) d (suc i) zero none lt ne = (or_false (p x) (list_any p (take i xs ++ drop (suc i) xs)) none).0
-others_free p (x ∷ xs) d (suc i) (suc k) none lt ne = others_free p xs d i k (or_false (p x) (list_any p (take i xs ++ drop (suc i) xs)) none).1 (omega arith) (λ e. ne (ap (λ (n : ℕ). suc n) e))
-
-pub limit_le : (magic : Magic) → address_limit magic ≤ 2 ^ 64
-limit_le Pe32 = omega arith
-limit_le Pe32Plus = omega arith
 
 -- what an accepted move shows
 pub record Accepts (c : Content) (i base : ℕ) : Type 0 where
@@ -92,12 +74,24 @@ accepts c i base none =
           (subst (λ (q : Placement). meets base (placement_at ps i).size q.base q.size ≡ false) (placed_at c.images k) met));
     }
 
+-- the order of the images after the move
+pub by_base_moved : (c : Content) (i base : ℕ) (order order_after : List NumberAt) (images : List SpaceImage) → i < length c.images → images ≡ (moved c i base).images → IsByBase (map placement_of c.images) order
+    → ((ps : List Placement) → i < length ps → IsByBase ps order → IsByBase (slice_set ps i (record (placement_at ps i) { base = base })) order_after)
+    → IsByBase (map placement_of images) order_after
+by_base_moved c i base order order_after images lt is by_base reordered =
+    let ps = map placement_of c.images in
+    let count = length-map c.images placement_of in
+    let there : map placement_of images ≡ slice_set ps i (record (placement_at ps i) { base = base }) =
+    ap (map placement_of) is ∙ map-set placement_of c.images i (record (nth_image c.images i) { base = base }) ∙ ap (λ (p : Placement). slice_set ps i (record p { base = base })) (sym (placed_at c.images i)) in
+    subst (λ (qs : List Placement). IsByBase qs order_after) (sym there) (reordered ps (omega arith) by_base)
+
 pub placed_moved : (c : Content) (i base : ℕ) → Accepts c i base → IsPlaced c → IsPlaced (moved c i base)
 placed_moved c i base ok placed = record {
   few = rw (length-set c.images i (record (nth_image c.images i) { base = base })) placed.few;
   few_slots = placed.few_slots;
   aligned = aligned;
   room = room;
+  some = λ j small. some j (rw count at small);
   apart = λ j k small_j small_k ne. apart j k (rw count at small_j) (rw count at small_k) ne;
 }
   where
@@ -116,6 +110,9 @@ placed_moved c i base ok placed = record {
       | inr ne ↦ rw (image_kept c i base j ne) (placed.room j)
     ]
 
+    some : (j : ℕ) → j < length c.images → 0 < (nth_image (moved c i base).images j).size
+    some j lt = rw (part_kept (λ (m : SpaceImage). m.size) c i base j ok.image (λ m. refl)) (placed.some j lt)
+
     turned : (a n b m : ℕ) → Apart a n b m → Apart b m a n
     turned a n b m (inl x) = inr x
     turned a n b m (inr x) = inl x
@@ -129,17 +126,6 @@ placed_moved c i base ok placed = record {
       ]
     ]
 
--- only the Magic of the images counts
-put_alike : (a b : List SpaceImage) (x : Binding) (v : ℕ) (ms : List (List ℕ)) → slot_width (nth_image a x.image).magic ≡ slot_width (nth_image b x.image).magic → put_slot a x v ms ≡ put_slot b x v ms
-unfolding put_slot
-put_alike a b x v ms same = rw same refl
-
-pub rebound_alike : (a b : List SpaceImage) (p : Binding → Bool) (address : Binding → ℕ) (bs : List Binding) (ms : List (List ℕ)) → ((j : ℕ) → slot_width (nth_image a j).magic ≡ slot_width (nth_image b j).magic) → rebound a p address bs ms ≡ rebound b p address bs ms
-rebound_alike a b p address [] ms same = refl
-rebound_alike a b p address (x ∷ xs) ms same =
-    ap (λ (n : List (List ℕ)). rebound a p address xs (cond (p x) n ms)) (put_alike a b x (address x) ms (same x.image))
-    ∙ rebound_alike a b p address xs (cond (p x) (put_slot b x (address x) ms) ms) same
-
 -- the lists once the image has its new base
 pub rebased_content : (hs : List Held) (bs : List Binding) (i base : ℕ) (h new : Held) → i < length hs → h ≡ get_or hs i h → new ≡ rebased_held base h
     → (images_of (slice_set hs i new) ≡ (moved (kept_content hs bs) i base).images)
@@ -152,52 +138,68 @@ rebased_content hs bs i base h new lt is made =
           ∙ ap (shifted_all (pos base -ℤ pos (nth_image (images_of hs) i).base) (nth_image (images_of hs) i).fixups) (memory_read hs i h lt is)),
     )
 
-pub kept_moved : (hs after : List Held) (bs : List Binding) (i base : ℕ) (h new : Held) → IsKept hs bs → move_fault (kept_content hs bs) i base ≡ None
-    → h ≡ get_or hs i h → new ≡ rebased_held base h
-    → images_of after ≡ images_of (slice_set hs i new)
-    → memories_of after ≡ rebound (images_of (slice_set hs i new)) (ends_in i) (from_base base) bs (memories_of (slice_set hs i new))
-    → IsKept after bs × (kept_content after bs ≡ moved (kept_content hs bs) i base)
-kept_moved hs after bs i base h new kept none is made same written =
-    let c = kept_content hs bs in
-    let ok = accepts c i base none in
-    let lt : i < length hs = (let n = length-map hs (λ (x : Held). x.image) in let m = ok.image in omega arith) in
-    let both = rebased_content hs bs i base h new lt is made in
-    let images : images_of after ≡ (moved c i base).images = same ∙ both.0 in
-    let content : kept_content after bs ≡ moved c i base = ap (λ (x : List SpaceImage). record { images = x; bindings = bs }) images in
-    let memory : memories_of after ≡ moved_memory c i base (memories_of hs) =
-    written
-    ∙ rebound_alike (images_of (slice_set hs i new)) (images_of hs) (ends_in i) (from_base base) bs (memories_of (slice_set hs i new)) (λ j. ap (λ (x : List SpaceImage). slot_width (nth_image x j).magic) both.0 ∙ part_kept (λ (m : SpaceImage). slot_width m.magic) c i base j ok.image (λ m. refl))
-    ∙ ap (rebound (images_of hs) (ends_in i) (from_base base) bs) both.1 in (
-      record {
-        tied = rw content (tied_moved c i base ok.image kept.tied);
-        placed = rw content (placed_moved c i base ok kept.placed);
-        laid = rw (content, memory) (laid_moved c i base (memories_of hs) ok.image ok.aligned (kept.placed.aligned i) kept.tied kept.laid);
-        whole = λ j. ap (λ (x : List SpaceImage). length (nth_image x j).plain) images ∙ part_kept (λ (m : SpaceImage). length m.plain) c i base j ok.image (λ m. refl)
-            ∙ kept.whole j ∙ sym (ap (λ (x : List SpaceImage). (nth_image x j).size) images ∙ part_kept (λ (m : SpaceImage). m.size) c i base j ok.image (λ m. refl));
-      },
-      content,
-    )
+-- slots that were lent from those in the order of their exporters
+pub ending_from : (c : Content) (slots l lent : List Binding) (i : ℕ) → IsOrdered exporter_of c.bindings slots → l ≡ slots
+    → ((b : Binding) → Contains lent b → Contains l b × (b.exporter ≡ i)) → ((b : Binding) → Contains l b → b.exporter ≡ i → Contains lent b) → AreEnding c i lent
+ending_from c slots l lent i ordered same held all = record {
+  held = λ b listed.
+      let own = held b listed in
+      (Contains-permutation slots c.bindings b (IsPermutation-sym c.bindings slots ordered.same) (subst (λ (xs : List Binding). Contains xs b) same own.0), own.1);
+  all = λ b bound ends. all b (subst (λ (xs : List Binding). Contains xs b) (sym same) (Contains-permutation c.bindings slots b ordered.same bound)) ends;
+}
 
-pub slots_ready : (hs : List Held) (bs : List Binding) (i base : ℕ) (h new : Held) → IsKept hs bs → move_fault (kept_content hs bs) i base ≡ None → h ≡ get_or hs i h → new ≡ rebased_held base h
-    → Each (IsSlot (images_of (slice_set hs i new))) bs × (base + (nth_image (images_of (slice_set hs i new)) i).size ≤ 2 ^ 64)
-slots_ready hs bs i base h new kept none is made =
-    let c = kept_content hs bs in
-    let ok = accepts c i base none in
-    let lt : i < length hs = (let n = length-map hs (λ (x : Held). x.image) in let m = ok.image in omega arith) in
-    let both = rebased_content hs bs i base h new lt is made in
-    let size : (nth_image (images_of (slice_set hs i new)) i).size ≡ (nth_image c.images i).size = ap (λ (x : List SpaceImage). (nth_image x i).size) both.0 ∙ part_kept (λ (m : SpaceImage). m.size) c i base i ok.image (λ m. refl) in
-    let room = ok.room in
-    let most : address_limit (nth_image c.images i).magic ≤ 2 ^ 64 = limit_le (nth_image c.images i).magic in
-    (rw both.0 (tied_moved c i base ok.image kept.tied).slots, omega arith)
+pub count_ending : (bs slots l : List Binding) (i n : ℕ) → IsOrdered exporter_of bs slots → l ≡ slots → n ≡ count_by (ends_in i) l → n ≡ count_by (ends_in i) bs
+count_ending bs slots l i n ordered same is = is ∙ ap (count_by (ends_in i)) same ∙ sum_by-IsPermutation (λ (b : Binding). cond (ends_in i b) 1 0) bs slots ordered.same
 
--- the same, from what `rebind` says of the lists that it was lent
-pub kept_rebound : (hs first after : List Held) (bs lent : List Binding) (i base : ℕ) (h new : Held) → IsKept hs bs → move_fault (kept_content hs bs) i base ≡ None
-    → h ≡ get_or hs i h → new ≡ rebased_held base h → first ≡ slice_set hs i new → lent ≡ bs
-    → images_of after ≡ images_of first → memories_of after ≡ rebound (images_of first) (ends_in i) (from_base base) lent (memories_of first)
-    → IsKept after bs × (kept_content after bs ≡ moved (kept_content hs bs) i base)
-kept_rebound hs first after bs lent i base h new kept none is made set_is lent_is same written =
-    kept_moved hs after bs i base h new kept none is made (same ∙ ap images_of set_is)
-    (written ∙ ap (λ (x : List Held). rebound (images_of x) (ends_in i) (from_base base) lent (memories_of x)) set_is ∙ ap (λ (x : List Binding). rebound (images_of (slice_set hs i new)) (ends_in i) (from_base base) x (memories_of (slice_set hs i new))) lent_is)
+-- where the image has been put at its base: what is asked of the slots before they are bound, and what is kept once they are
+module _ (hs first : List Held) (order : List NumberAt) (bs slots : List Binding) (i base : ℕ) (h new : Held) (kept : IsKept hs order bs slots) (none : move_fault (kept_content hs bs) i base ≡ None)
+    (is : h ≡ get_or hs i h) (made : new ≡ rebased_held base h) (first_is : first ≡ slice_set hs i new) where
+  abbrev c : Content
+  c = kept_content hs bs
+
+  ok : Accepts c i base
+  ok = accepts c i base none
+
+  pub below : i < length hs
+  below = let n = length-map hs (λ (x : Held). x.image) in let m = ok.image in omega arith
+
+  both : (images_of (slice_set hs i new) ≡ (moved c i base).images)
+      × (memories_of (slice_set hs i new) ≡ slice_set (memories_of hs) i (shifted_all (pos base -ℤ pos (nth_image (images_of hs) i).base) (nth_image (images_of hs) i).fixups (memory_of (memories_of hs) i)))
+  both = rebased_content hs bs i base h new below is made
+
+  pub images_first : images_of first ≡ (moved c i base).images
+  images_first = ap images_of first_is ∙ both.0
+
+  pub room_first : (j : ℕ) → (nth_image (images_of first) j).base + (nth_image (images_of first) j).size ≤ 2 ^ 64
+  room_first j =
+      let room = (placed_moved c i base ok kept.placed).room j in
+      let most = limit_le (nth_image (moved c i base).images j).magic in
+      subst (λ (x : List SpaceImage). (nth_image x j).base + (nth_image x j).size ≤ 2 ^ 64) (sym images_first) (omega arith)
+
+  pub slots_first : (lent : List Binding) → AreEnding c i lent → Each (IsSlot (images_of first)) lent
+  slots_first lent ending = rw images_first (each_in (IsSlot (moved c i base).images) lent (λ b held. each_contains (IsSlot (moved c i base).images) bs b (tied_moved c i base ok.image kept.tied).slots (ending.held b held).0))
+
+  pub kept_moved : (after : List Held) (lent : List Binding) (order_after : List NumberAt) → AreEnding c i lent
+      → ((ps : List Placement) → i < length ps → IsByBase ps order → IsByBase (slice_set ps i (record (placement_at ps i) { base = base })) order_after)
+      → images_of after ≡ images_of first → memories_of after ≡ bound (images_of first) lent (memories_of first)
+      → IsKept after order_after bs slots × (kept_content after bs ≡ moved c i base)
+  kept_moved after lent order_after ending reordered same written =
+      let images : images_of after ≡ (moved c i base).images = same ∙ images_first in
+      let content : kept_content after bs ≡ moved c i base = ap (λ (x : List SpaceImage). record { images = x; bindings = bs }) images in
+      let memory : memories_of after ≡ moved_memory c i base lent (memories_of hs) =
+      written ∙ ap (λ (x : List SpaceImage). bound x lent (memories_of first)) images_first
+      ∙ ap (bound (moved c i base).images lent) (ap memories_of first_is ∙ both.1) in (
+        record {
+          tied = rw content (tied_moved c i base ok.image kept.tied);
+          placed = rw content (placed_moved c i base ok kept.placed);
+          laid = rw (content, memory) (laid_moved c i base lent (memories_of hs) ok.image ok.aligned (kept.placed.aligned i) ending kept.tied kept.laid);
+          whole = λ j. ap (λ (x : List SpaceImage). length (nth_image x j).plain) images ∙ part_kept (λ (m : SpaceImage). length m.plain) c i base j ok.image (λ m. refl)
+              ∙ kept.whole j ∙ sym (ap (λ (x : List SpaceImage). (nth_image x j).size) images ∙ part_kept (λ (m : SpaceImage). m.size) c i base j ok.image (λ m. refl));
+          by_base = by_base_moved c i base order order_after (images_of after) ok.image images kept.by_base reordered;
+          by_exporter = kept.by_exporter;
+        },
+        content,
+      )
 
 -- ---- the same of the content with 0 in its bound slots
 bared_set : (k i base : ℕ) (bs : List Binding) (images : List SpaceImage) → bared k bs (slice_set images i (record (nth_image images i) { base = base }))

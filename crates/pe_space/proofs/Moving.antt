@@ -1,8 +1,8 @@
 -- A move rewrites the fields of one image and the slots that end in it, and then the memory is that of the content with the new base.
-use Rattle.std.proofs.Common.{◌≡◌, ℕ, ◌+◌, ◌-◌, ◌%◌, ◌<◌, ◌≤◌, ◌⊎◌, true, List, [], length, get_or, refl, ap, ◌∙◌, sym, subst, arith, inl, inr}
+use Rattle.std.proofs.Common.{◌≡◌, ℕ, ◌+◌, ◌-◌, ◌%◌, ◌<◌, ◌≤◌, ◌⊎◌, List, [], length, get_or, refl, ap, ◌∙◌, sym, subst, arith, inl, inr}
 use Rattle.std.specs.Prelude.{Option, Some, None, pos, ◌-ℤ◌, slice_set}
-use Rattle.std.specs.List.{find}
-use Rattle.std.proofs.lemmas.Bool.{cases_eq, eqb-true, eq-eqb}
+use Rattle.std.specs.List.{find, Contains}
+use Rattle.std.proofs.lemmas.Bool.{cases_eq}
 use Rattle.std.proofs.lemmas.List.{length-set, get_or-set_same, get_or-set_other}
 use Rattle.pe_tables.specs.declared.fixups.Fixup.{Fixup}
 use Rattle.pe_set.specs.declared.binding.Binding.{Binding}
@@ -10,13 +10,13 @@ use Rattle.pe_head.specs.declared.optional.Magic.{Magic}
 use Rattle.pe_space.specs.Number.{digit, number_in, shift}
 use Rattle.pe_space.specs.Content.{SpaceImage, Content, nth_image, no_image, width_of, slot_width, in_field, in_slot, fixed_byte, byte_by, byte_in}
 use Rattle.pe_space.specs.Moves.{moved}
-use Rattle.pe_space.specs.Memory.{shifted_all, memory_of, rebound, ends_in, from_base}
+use Rattle.pe_space.specs.Memory.{shifted_all, memory_of, address_of, bound}
 use Rattle.pe_space.specs.Tied.{Each, SlotsApart, IsImage, IsSlot, IsTied, IsLaid}
 use Rattle.pe_tables.proofs.Shifts.{shift_lt, shift-shift}
 use Rattle.pe_space.proofs.Numbers.{number_of_own_digits}
-use Rattle.pe_space.proofs.Lists.{each_map, each_both, pair_map}
-use Rattle.pe_space.proofs.SlotsAndFields.{slot_byte, field_byte, value_of, in_slots, in_fields}
-use Rattle.pe_space.proofs.Laying.{InField, InSlot, width_in, Fits, StillFields, StillSlots, laid_fields, laid_slots, rebound_lengths, length-shifted_all}
+use Rattle.pe_space.proofs.Lists.{each_map, each_both, each_in, each_contains, pair_map}
+use Rattle.pe_space.proofs.SlotsAndFields.{slot_byte, field_byte, value_of, slot_found, in_fields}
+use Rattle.pe_space.proofs.Laying.{InField, IsAt, InSlot, in_one, width_in, Fits, StillFields, StillSlots, laid_fields, laid_slots, bound_lengths, length-shifted_all}
 
 -- ---- the content after a move
 pub image_moved : (c : Content) (i base : ℕ) → i < length c.images → nth_image (moved c i base).images i ≡ record (nth_image c.images i) { base = base }
@@ -63,9 +63,16 @@ tied_moved c i base lt tied = record {
       target = rw (size b.exporter) s.target;
     }
 
+-- the place of image j is one of a slot that ends in image i
+pub record InEnding (c : Content) (i j r : ℕ) : Type 0 where
+  pub slot : Binding
+  pub bound : Contains c.bindings slot
+  pub ends : slot.exporter ≡ i
+  pub at : IsAt c.images j r slot
+
 -- a move changes a byte only in a field of the image and in a slot that ends in it
 pub changes : (c : Content) (i base : ℕ) → i < length c.images → (j r : ℕ)
-    → (byte_in c j r ≡ byte_in (moved c i base) j r) ⊎ (((j ≡ i) × InField r (nth_image c.images i).fixups) ⊎ InSlot c.images (ends_in i) j r c.bindings)
+    → (byte_in c j r ≡ byte_in (moved c i base) j r) ⊎ (((j ≡ i) × InField r (nth_image c.images i).fixups) ⊎ InEnding c i j r)
 changes c i base lt j r = by_slot (find (in_slot j (nth_image c.images j).magic r) c.bindings) refl
   where
     magic : (nth_image (moved c i base).images j).magic ≡ (nth_image c.images j).magic
@@ -83,7 +90,7 @@ changes c i base lt j r = by_slot (find (in_slot j (nth_image c.images j).magic 
     by_field here (Some f) h = inr (in_fields r (nth_image c.images i).fixups f h)
 
     by_slot : (o : Option Binding) → find (in_slot j (nth_image c.images j).magic r) c.bindings ≡ o
-        → (byte_in c j r ≡ byte_in (moved c i base) j r) ⊎ (((j ≡ i) × InField r (nth_image c.images i).fixups) ⊎ InSlot c.images (ends_in i) j r c.bindings)
+        → (byte_in c j r ≡ byte_in (moved c i base) j r) ⊎ (((j ≡ i) × InField r (nth_image c.images i).fixups) ⊎ InEnding c i j r)
     by_slot None h = elim (cases_eq j i) [
       | inl here ↦ elim (by_field here (find (in_field r) (nth_image c.images i).fixups) refl) [
         | inl same ↦ inl (ap (byte_by c j r) h ∙ (ap (λ (k : ℕ). outside (nth_image c.images k)) here ∙ same ∙ sym (ap outside (ap (λ (k : ℕ). nth_image (moved c i base).images k) here ∙ image_moved c i base lt))) ∙ sym (now ∙ ap (byte_by (moved c i base) j r) h))
@@ -92,19 +99,26 @@ changes c i base lt j r = by_slot (find (in_slot j (nth_image c.images j).magic 
       | inr ne ↦ inl (ap (byte_by c j r) h ∙ ap (λ (m : SpaceImage). fixed_byte m r (find (in_field r) m.fixups)) (sym (image_kept c i base j ne)) ∙ sym (now ∙ ap (byte_by (moved c i base) j r) h))
     ]
     by_slot (Some b) h = elim (cases_eq b.exporter i) [
-      | inl ends ↦ inr (inr (in_slots c.images (ends_in i) j r (nth_image c.images j).magic c.bindings b (λ e same. ap (λ (k : ℕ). slot_width (nth_image c.images k).magic) (sym same)) h (eq-eqb b.exporter i ends)))
+      | inl ends ↦
+          let found = slot_found c.images j r c.bindings b h in
+          inr (inr (record { slot = b; bound = found.0; ends = ends; at = found.1 }))
       | inr ne ↦ inl (ap (byte_by c j r) h ∙ ap (λ (m : SpaceImage). digit (m.base + b.rva) (r - b.slot)) (sym (image_kept c i base b.exporter ne)) ∙ sym (now ∙ ap (byte_by (moved c i base) j r) h))
     ]
 
+-- some slots are those that end in an image
+pub record AreEnding (c : Content) (i : ℕ) (bs : List Binding) : Type 0 where
+  pub held : (b : Binding) → Contains bs b → Contains c.bindings b × (b.exporter ≡ i)
+  pub all : (b : Binding) → Contains c.bindings b → b.exporter ≡ i → Contains bs b
+
 -- the memories after a move
-abbrev pub moved_memory : Content → ℕ → ℕ → List (List ℕ) → List (List ℕ)
-moved_memory c i base ms =
-    rebound c.images (ends_in i) (from_base base) c.bindings
+abbrev pub moved_memory : Content → ℕ → ℕ → List Binding → List (List ℕ) → List (List ℕ)
+moved_memory c i base bs ms =
+    bound (moved c i base).images bs
     (slice_set ms i (shifted_all (pos base -ℤ pos (nth_image c.images i).base) (nth_image c.images i).fixups (memory_of ms i)))
 
 -- the memories after a move are those of the content after the move
-pub laid_moved : (c : Content) (i base : ℕ) (ms : List (List ℕ)) → i < length c.images → base % 65536 ≡ 0 → (nth_image c.images i).base % 65536 ≡ 0 → IsTied c → IsLaid c ms → IsLaid (moved c i base) (moved_memory c i base ms)
-laid_moved c i base ms lt aligned was_aligned tied laid = record {
+pub laid_moved : (c : Content) (i base : ℕ) (bs : List Binding) (ms : List (List ℕ)) → i < length c.images → base % 65536 ≡ 0 → (nth_image c.images i).base % 65536 ≡ 0 → AreEnding c i bs → IsTied c → IsLaid c ms → IsLaid (moved c i base) (moved_memory c i base bs ms)
+laid_moved c i base bs ms lt aligned was_aligned ending tied laid = record {
   count = ends.0 ∙ length-set ms i _ ∙ laid.count ∙ sym (length-set c.images i _);
   lengths = λ j. ends.1 j ∙ size_first j ∙ sym (size j);
   each = λ j r small. bytes j r (rw (← size j) small);
@@ -140,11 +154,29 @@ laid_moved c i base ms lt aligned was_aligned tied laid = record {
       | inr ne ↦ ap length (get_or-set_other ms i j first [] ne) ∙ laid.lengths j
     ]
 
-    fits : Each (Fits c.images next) c.bindings
-    fits = each_map (IsSlot c.images) (Fits c.images next) c.bindings (λ b slot. record { image = rw (length-set ms i first, laid.count) slot.image; inside = rw (size_first b.image) slot.inside }) tied.slots
+    after : List SpaceImage
+    after = (moved c i base).images
 
-    ends : (length (rebound c.images (ends_in i) (from_base base) c.bindings next) ≡ length next) × ((j : ℕ) → length (memory_of (rebound c.images (ends_in i) (from_base base) c.bindings next) j) ≡ length (memory_of next j))
-    ends = rebound_lengths c.images (ends_in i) (from_base base) c.bindings next fits
+    width : (j : ℕ) → slot_width (nth_image after j).magic ≡ slot_width (nth_image c.images j).magic
+    width j = part_kept (λ (m : SpaceImage). slot_width m.magic) c i base j lt (λ m. refl)
+
+    -- what holds of each bound slot holds of these
+    of_ending : (P : Binding → Type 0) → Each P c.bindings → Each P bs
+    of_ending P all = each_in P bs (λ b held. each_contains P c.bindings b all (ending.held b held).0)
+
+    fits : Each (Fits after next) bs
+    fits = of_ending (Fits after next) (each_map (IsSlot after) (Fits after next) c.bindings (λ b slot. record { image = rw (length-set ms i first, laid.count, ← length-set c.images i (record image { base = base })) slot.image; inside = rw (size_first b.image, ← size b.image) slot.inside }) tied_after.slots)
+
+    ends : (length (bound after bs next) ≡ length next) × ((j : ℕ) → length (memory_of (bound after bs next) j) ≡ length (memory_of next j))
+    ends = bound_lengths after bs next fits
+
+    -- a place that a move changes in a slot is in one of these
+    in_ending : (j r : ℕ) → InEnding c i j r → InSlot after j r bs
+    in_ending j r in_s =
+        let b = in_s.slot in
+        let high = in_s.at.high in
+        let w = width b.image in
+        in_one after j r bs b (ending.all b in_s.bound in_s.ends) (record { image = in_s.at.image; low = in_s.at.low; high = omega arith })
 
     held : Each (λ (f : Fixup). number_in old f.field (width_of f.kind) ≡ value_of image f) image.fixups
     held = each_map _ _ image.fixups
@@ -158,32 +190,29 @@ laid_moved c i base ms lt aligned was_aligned tied laid = record {
         (λ f is r low high. is r low high ∙ ap (λ (v : ℕ). digit v (r - f.field)) (sym (shift-shift (number_in image.plain f.field (width_of f.kind)) f.kind image.image_base image.base base was_aligned aligned)))
         (subst (λ (m : SpaceImage). Each (λ (f : Fixup). (r : ℕ) → f.field ≤ r → r < f.field + width_of f.kind → byte_in (moved c i base) i r ≡ digit (value_of m f) (r - f.field)) m.fixups) (image_moved c i base lt) (field_byte (moved c i base) i tied_after))
 
-    still_fields : StillFields (byte_in (moved c i base) i) (λ r. InSlot c.images (ends_in i) i r c.bindings) image.size image.fixups old
+    still_fields : StillFields (byte_in (moved c i base) i) (λ r. InSlot after i r bs) image.size image.fixups old
     still_fields r small = elim (changes c i base lt i r) [
       | inl same ↦ inl (laid.each i r small ∙ same)
       | inr (inl in_f) ↦ inr (inl in_f.1)
-      | inr (inr in_s) ↦ inr (inr in_s)
+      | inr (inr in_s) ↦ inr (inr (in_ending i r in_s))
     ]
 
-    fields : (r : ℕ) → r < image.size → (get_or first r 0 ≡ byte_in (moved c i base) i r) ⊎ InSlot c.images (ends_in i) i r c.bindings
-    fields = laid_fields (pos base -ℤ pos image.base) image.size (byte_in (moved c i base) i) (λ r. InSlot c.images (ends_in i) i r c.bindings) (value_of image) image.fixups old in_old (tied.images i).apart held wanted_fields still_fields
+    fields : (r : ℕ) → r < image.size → (get_or first r 0 ≡ byte_in (moved c i base) i r) ⊎ InSlot after i r bs
+    fields = laid_fields (pos base -ℤ pos image.base) image.size (byte_in (moved c i base) i) (λ r. InSlot after i r bs) (value_of image) image.fixups old in_old (tied.images i).apart held wanted_fields still_fields
 
-    still_slots : StillSlots c.images (ends_in i) (byte_in (moved c i base)) (λ j. (nth_image c.images j).size) c.bindings next
+    still_slots : StillSlots after (byte_in (moved c i base)) (λ j. (nth_image c.images j).size) bs next
     still_slots j r small = elim (cases_eq j i) [
-      | inl same ↦ subst (λ (k : ℕ). (r : ℕ) → r < (nth_image c.images k).size → (get_or (memory_of next k) r 0 ≡ byte_in (moved c i base) k r) ⊎ InSlot c.images (ends_in i) k r c.bindings) (sym same)
+      | inl same ↦ subst (λ (k : ℕ). (r : ℕ) → r < (nth_image c.images k).size → (get_or (memory_of next k) r 0 ≡ byte_in (moved c i base) k r) ⊎ InSlot after k r bs) (sym same)
           (λ r small. rw (get_or-set_same ms i first [] here) (fields r small)) r small
       | inr ne ↦ elim (changes c i base lt j r) [
         | inl kept ↦ inl (ap (λ (m : List ℕ). get_or m r 0) (get_or-set_other ms i j first [] ne) ∙ laid.each j r small ∙ kept)
         | inr (inl in_f) ↦ absurd (ne in_f.0)
-        | inr (inr in_s) ↦ inr in_s
+        | inr (inr in_s) ↦ inr (in_ending j r in_s)
       ]
     ]
 
-    wanted_slots : Each (λ (b : Binding). ends_in i b ≡ true → (r : ℕ) → b.slot ≤ r → r < b.slot + width_in c.images b → byte_in (moved c i base) b.image r ≡ digit (base + b.rva) (r - b.slot)) c.bindings
-    wanted_slots = each_map _ _ c.bindings
-        (λ b is ends r low high. is r low (rw (part_kept (λ (m : SpaceImage). slot_width m.magic) c i base b.image lt (λ m. refl)) high)
-        ∙ ap (λ (v : ℕ). digit (v + b.rva) (r - b.slot)) (ap (λ (k : ℕ). (nth_image (moved c i base).images k).base) (eqb-true b.exporter i ends) ∙ ap (λ (m : SpaceImage). m.base) (image_moved c i base lt)))
-        (slot_byte (moved c i base) tied_after)
+    wanted_slots : Each (λ (b : Binding). (r : ℕ) → b.slot ≤ r → r < b.slot + width_in after b → byte_in (moved c i base) b.image r ≡ digit (address_of after b) (r - b.slot)) bs
+    wanted_slots = of_ending _ (slot_byte (moved c i base) tied_after)
 
-    bytes : (j r : ℕ) → r < (nth_image c.images j).size → get_or (memory_of (rebound c.images (ends_in i) (from_base base) c.bindings next) j) r 0 ≡ byte_in (moved c i base) j r
-    bytes = laid_slots c.images (ends_in i) (from_base base) (byte_in (moved c i base)) (λ j. (nth_image c.images j).size) c.bindings next fits wanted_slots still_slots
+    bytes : (j r : ℕ) → r < (nth_image c.images j).size → get_or (memory_of (bound after bs next) j) r 0 ≡ byte_in (moved c i base) j r
+    bytes = laid_slots after (byte_in (moved c i base)) (λ j. (nth_image c.images j).size) bs next fits wanted_slots still_slots

@@ -1,7 +1,7 @@
 -- The bytes of slots and fields: what stands in a slot, what in a field, whatever else the image holds.
-use Rattle.std.proofs.Common.{◌≡◌, ℕ, ◌+◌, ◌-◌, ◌<◌, ◌≤◌, Bool, true, false, cond, ◌==◌, ◌&&◌, List, [], ◌∷◌, refl, ap, ◌∙◌, subst, arith, inl, inr}
+use Rattle.std.proofs.Common.{◌≡◌, ℕ, ◌+◌, ◌-◌, ◌<◌, ◌≤◌, Bool, true, false, cond, ◌==◌, ◌&&◌, List, [], ◌∷◌, refl, ap, ◌∙◌, sym, subst, arith, inl, inr}
 use Rattle.std.specs.Prelude.{Some, nat_le, nat_lt, pos, ◌-ℤ◌}
-use Rattle.std.specs.List.{find}
+use Rattle.std.specs.List.{find, Contains}
 use Rattle.std.proofs.lemmas.Bool.{cases_eq, eqb-true, eq-eqb, leb-true, le-leb}
 use borrow.Author.Tests.{ltb-true, lt-ltb}
 use Rattle.pe_tables.specs.declared.fixups.Fixup.{Fixup}
@@ -10,8 +10,8 @@ use Rattle.pe_head.specs.declared.optional.Magic.{Magic}
 use Rattle.pe_space.specs.Number.{digit, number_in, shift}
 use Rattle.pe_space.specs.Content.{SpaceImage, Content, nth_image, width_of, slot_width, is_in, in_field, in_slot, fixed_byte, byte_by, byte_in}
 use Rattle.pe_space.specs.Tied.{Each, Apart, FieldsApart, SlotsApart, IsSlot, IsTied}
-use Rattle.pe_space.proofs.Lists.{each_map, each_both, each_all, each_swap, none_found, Finds, finds_each}
-use Rattle.pe_space.proofs.Laying.{InField, InSlot, width_in}
+use Rattle.pe_space.proofs.Lists.{each_map, each_both, each_all, each_swap, none_found, find_in, Finds, finds_each}
+use Rattle.pe_space.proofs.Laying.{InField, IsAt, width_in}
 
 -- ---- tests on ranges
 both_true : (a b : Bool) → (a && b) ≡ true → (a ≡ true) × (b ≡ true)
@@ -89,18 +89,12 @@ field_byte c j tied =
         let d = in_g.1 in
         elim apart [ inl before ↦ absurd (omega arith) | inr after ↦ absurd (omega arith) ]
 
-pub in_slots : (images : List SpaceImage) (p : Binding → Bool) (j r : ℕ) (magic : Magic) (bs : List Binding) (b : Binding) → ((e : Binding) → e.image ≡ j → slot_width magic ≡ width_in images e) → find (in_slot j magic r) bs ≡ Some b → p b ≡ true → InSlot images p j r bs
-in_slots images p j r magic [] b same h on = cc
-in_slots images p j r magic (e ∷ bs) b same h on = step (λ k. in_slots images p j r magic bs b same k on) (in_slot j magic r e) refl h
-  where
-    step : (find (in_slot j magic r) bs ≡ Some b → InSlot images p j r bs) → (t : Bool) → in_slot j magic r e ≡ t → cond t (Some e) (find (in_slot j magic r) bs) ≡ Some b → InSlot images p j r (e ∷ bs)
-    step more true passes h =
-        let it : e ≡ b = cc in
-        let in_e = in_slot-true j magic r e passes in
-        let width = same e in_e.0 in
-        let high = in_e.2 in
-        inl (ap p it ∙ on, in_e.0, in_e.1, omega arith)
-    step more false passes h = inr (more h)
+-- a slot that a search finds
+pub slot_found : (images : List SpaceImage) (j r : ℕ) (bs : List Binding) (b : Binding) → find (in_slot j (nth_image images j).magic r) bs ≡ Some b → Contains bs b × IsAt images j r b
+slot_found images j r bs b h =
+    let held = find_in (in_slot j (nth_image images j).magic r) bs b h in
+    let at = in_slot-true j (nth_image images j).magic r b held.1 in
+    (held.0, record { image = at.0; low = at.1; high = subst (λ (k : ℕ). r < b.slot + slot_width (nth_image images k).magic) (sym at.0) at.2 })
 
 pub in_fields : (r : ℕ) (fs : List Fixup) (f : Fixup) → find (in_field r) fs ≡ Some f → InField r fs
 in_fields r [] f h = cc

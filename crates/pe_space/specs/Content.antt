@@ -108,10 +108,14 @@ window_image_by ps a n (Some j) = if nat_le (a + n) ((placement_at ps j).base + 
 abbrev pub window_image : List Placement → ℕ → ℕ → Result ℕ Fault
 window_image ps a n = window_image_by ps a n (placed_from 0 ps a)
 
+-- the image of a content that holds them
+abbrev pub image_at : Content → ℕ → ℕ → Result ℕ Fault
+image_at c a n = window_image (map placement_of c.images) a n
+
 abbrev pub window_in : Content → ℕ → ℕ → Result ℕ Fault → Result (List ℕ) Fault
 window_in c a n (Ok j) = Ok (bytes_from c a n)
 window_in c a n (Err fault) = Err fault
 
 -- the bytes of a window, which is empty or lies in one image
 abbrev pub window_at : Content → ℕ → ℕ → Result (List ℕ) Fault
-window_at c a n = if n == 0 then Ok [] else window_in c a n (window_image (map placement_of c.images) a n)
+window_at c a n = if n == 0 then Ok [] else window_in c a n (image_at c a n)

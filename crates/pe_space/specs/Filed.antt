@@ -1,17 +1,27 @@
 -- What the fields of a space over files keep.
-use Rattle.std.specs.Prelude.{ℕ, List, ◌≡◌, ◌≤◌, ◌^◌, length}
+use Rattle.std.specs.Prelude.{ℕ, List, ◌≡◌, ◌<◌, ◌≤◌, ◌^◌, length, map, count_by, slice_index}
 use Rattle.pe_set.specs.declared.binding.Binding.{Binding}
-use Rattle.pe_space.specs.Content.{Content, SpaceImage, nth_image}
+use Rattle.pe_space.specs.ByBase.{IsByBase}
+use Rattle.pe_space.specs.Content.{Content, SpaceImage, nth_image, placement_of}
+use Rattle.pe_space.specs.Memory.{ends_in}
 use Rattle.pe_space.specs.Ordered.{IsOrdered, slot_of}
 use Rattle.pe_space.specs.Placing.{IsPlaced}
 use Rattle.pe_space.specs.Tied.{IsTied}
+use Rattle.pe_space.specs.declared.by_base.NumberAt.{NumberAt}
 
 abbrev pub filed_content : List SpaceImage → List Binding → Content
 filed_content images bs = record { images = images; bindings = bs }
 
-pub record IsFiled (images : List SpaceImage) (bs slots : List Binding) : Type 0 where
+-- how many slots end in each of n images
+pub record AreCounts (n : ℕ) (bs : List Binding) (counts : List ℕ) : Type 0 where
+  pub count : length counts ≡ n
+  pub each : (j : ℕ) → j < n → slice_index counts j ≡ count_by (ends_in j) bs
+
+pub record IsFiled (images : List SpaceImage) (order : List NumberAt) (bs slots : List Binding) (ends : List ℕ) : Type 0 where
   pub tied : IsTied (filed_content images bs)
   pub placed : IsPlaced (filed_content images bs)
   pub whole : (j : ℕ) → length (nth_image images j).plain ≡ (nth_image images j).size
   pub small : (j : ℕ) → (nth_image images j).size ≤ 2 ^ 31
-  pub ordered : IsOrdered slot_of bs slots
+  pub by_base : IsByBase (map placement_of images) order
+  pub by_slot : IsOrdered slot_of bs slots
+  pub counts : AreCounts (length images) bs ends

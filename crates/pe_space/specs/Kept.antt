@@ -1,27 +1,25 @@
 -- What the fields of a mapped space keep.
-use Rattle.std.specs.Prelude.{ℕ, List, ◌≡◌, ◌+◌, Bool, true, length, pos, ◌-ℤ◌}
+use Rattle.std.specs.Prelude.{ℕ, List, ◌≡◌, length, map, pos, ◌-ℤ◌}
 use Rattle.pe_set.specs.declared.binding.Binding.{Binding}
-use Rattle.pe_space.specs.Content.{Content, SpaceImage, nth_image}
+use Rattle.pe_space.specs.ByBase.{IsByBase}
+use Rattle.pe_space.specs.Content.{Content, nth_image, placement_of}
 use Rattle.pe_space.specs.Memory.{memory_of, shifted_all}
 use Rattle.pe_space.specs.Held.{Held, images_of, memories_of}
+use Rattle.pe_space.specs.Ordered.{IsOrdered, exporter_of}
 use Rattle.pe_space.specs.Placing.{IsPlaced}
 use Rattle.pe_space.specs.Tied.{IsTied, IsLaid}
+use Rattle.pe_space.specs.declared.by_base.NumberAt.{NumberAt}
 
 abbrev pub kept_content : List Held → List Binding → Content
 kept_content hs bs = record { images = images_of hs; bindings = bs }
 
-pub record IsKept (hs : List Held) (bs : List Binding) : Type 0 where
+pub record IsKept (hs : List Held) (order : List NumberAt) (bs slots : List Binding) : Type 0 where
   pub tied : IsTied (kept_content hs bs)
   pub placed : IsPlaced (kept_content hs bs)
   pub laid : IsLaid (kept_content hs bs) (memories_of hs)
   pub whole : (j : ℕ) → length (nth_image (images_of hs) j).plain ≡ (nth_image (images_of hs) j).size
-
--- where the export of a binding stands
-abbrev pub address_of : List SpaceImage → Binding → ℕ
-address_of images b = (nth_image images b.exporter).base + b.rva
-
-abbrev pub any_slot : Binding → Bool
-any_slot b = true
+  pub by_base : IsByBase (map placement_of (images_of hs)) order
+  pub by_exporter : IsOrdered exporter_of bs slots
 
 -- the memories hold the plain bytes with each field moved on from ImageBase, and no slot is bound
 pub record IsFresh (c : Content) (ms : List (List ℕ)) : Type 0 where

@@ -3,6 +3,7 @@ pub use Rattle.pe_set.specs.SetFaults
 pub use Rattle.pe_set.specs.SetView
 pub use Rattle.pe_tables.specs.Fixups
 pub mod Bare
+pub mod ByBase
 pub mod ByteCases
 pub mod Commands
 pub mod Content

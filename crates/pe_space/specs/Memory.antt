@@ -1,5 +1,5 @@
 -- Writes into the memory of images.
-use Rattle.std.specs.Prelude.{ℕ, ◌+◌, ◌==◌, if◌then◌else◌, Bool, ℤ, List, [], ◌∷◌, slice_set, slice_index_or}
+use Rattle.std.specs.Prelude.{ℕ, ◌+◌, ◌==◌, Bool, ℤ, List, [], ◌∷◌, slice_set, slice_index_or}
 use Rattle.pe_tables.specs.Patch.{shifted_at}
 pub use Rattle.pe_tables.specs.Patch.{bytes}
 unfoldable pub use Rattle.pe_tables.specs.Patch.{patch}
@@ -23,14 +23,15 @@ memory_of ms j = slice_index_or ms j []
 unfoldable pub put_slot : List SpaceImage → Binding → ℕ → List (List ℕ) → List (List ℕ)
 put_slot images b address ms = slice_set ms b.image (patch (memory_of ms b.image) b.slot (bytes (slot_width (nth_image images b.image).magic) address))
 
--- the memories once each slot that passes the test holds its address
-abbrev pub rebound : List SpaceImage → (Binding → Bool) → (Binding → ℕ) → List Binding → List (List ℕ) → List (List ℕ)
-rebound images p address [] ms = ms
-rebound images p address (b ∷ bs) ms = rebound images p address bs (if p b then put_slot images b (address b) ms else ms)
+-- where the export of a binding stands
+abbrev pub address_of : List SpaceImage → Binding → ℕ
+address_of images b = (nth_image images b.exporter).base + b.rva
 
--- the slots that end in image i, at a base
+-- the memories once each of these slots holds the address of its export
+abbrev pub bound : List SpaceImage → List Binding → List (List ℕ) → List (List ℕ)
+bound images [] ms = ms
+bound images (b ∷ bs) ms = bound images bs (put_slot images b (address_of images b) ms)
+
+-- whether a slot ends in image i
 abbrev pub ends_in : ℕ → Binding → Bool
 ends_in i b = b.exporter == i
-
-abbrev pub from_base : ℕ → Binding → ℕ
-from_base base b = base + b.rva

@@ -10,4 +10,5 @@ pub record IsPlaced (c : Content) : Type 0 where
   pub few_slots : length c.bindings < 2 ^ 32
   pub aligned : (j : ℕ) → (nth_image c.images j).base % 65536 ≡ 0
   pub room : (j : ℕ) → (nth_image c.images j).base + (nth_image c.images j).size ≤ address_limit (nth_image c.images j).magic
+  pub some : (j : ℕ) → j < length c.images → 0 < (nth_image c.images j).size
   pub apart : (j k : ℕ) → j < length c.images → k < length c.images → (j ≡ k → ⊥) → Apart (nth_image c.images j).base (nth_image c.images j).size (nth_image c.images k).base (nth_image c.images k).size

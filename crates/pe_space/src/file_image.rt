@@ -8,7 +8,7 @@ ghost use Rattle.pe_space.specs.SetContent.{image_content};
 ghost use Rattle.pe_space.specs.Tied.{IsImage};
 ghost use Rattle.pe_space.specs.Windows.{fixed_bytes};
 
-use crate::ordered::{between, put_in_order};
+use crate::ordered::{ByField, between, put_in_order};
 use crate::window::{REACH, lay_on};
 use pe_head::Magic;
 use pe_layout::Layout;
@@ -87,7 +87,7 @@ impl<'a, A: Allocator + Copy> FileImage<'a, A> {
         let (base, layout) = (own.base, own.image.layout);
         let mut fixups = own.image.fixups;
         let listed = Snapshot::of(&fixups);
-        put_in_order(fixups.as_mut_slice());
+        put_in_order::<ByField, _>(fixups.as_mut_slice());
         FileImage {
             base,
             layout,
@@ -103,7 +103,7 @@ impl<'a, A: Allocator + Copy> FileImage<'a, A> {
         ensures all { (fixup : Fixup) → Contains self.now.fixups fixup → start < fixup.field + 8 → fixup.field < end → Contains result.now fixup }
     {
         let low = start.saturating_sub(REACH);
-        between(self.fixups.as_slice(), u64::from(low), end)
+        between::<ByField, _>(self.fixups.as_slice(), u64::from(low), end)
     }
 
     /// The number in a field: that of the file, moved on from ImageBase to the base.

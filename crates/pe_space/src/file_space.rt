@@ -1,16 +1,16 @@
-ghost use Rattle.std.specs.Prelude.{◌≡◌, ◌+◌, ◌≤◌, ◌<◌, ◌^◌, ℕ, Contains, length, count_by, IsOk, IfOk};
+ghost use Rattle.std.specs.Prelude.{◌≡◌, ◌+◌, ◌≤◌, ◌<◌, ◌^◌, ℕ, [], Contains, length, count_by, slice_index, IsOk, IfOk};
 ghost use Rattle.pe_set.specs.declared.binding.Binding.{Binding};
 ghost use Rattle.pe_space.specs.Bare.{bare};
 ghost use Rattle.pe_space.specs.Content.{nth_image};
-ghost use Rattle.pe_space.specs.Filed.{filed_content, IsFiled};
-ghost use Rattle.pe_space.specs.Memory.{ends_in};
+ghost use Rattle.pe_space.specs.Filed.{filed_content, AreCounts};
 ghost use Rattle.pe_space.specs.Placing.{IsPlaced};
-ghost use Rattle.pe_space.specs.Tied.{IsTied};
+ghost use Rattle.pe_space.specs.Tied.{Each, IsTied};
 ghost use Rattle.pe_space.specs.Windows.{bytes_in};
 
+use crate::by_base::{NumberAt, by_base, rebase};
 use crate::bytes::slot_width;
 use crate::file_image::FileImage;
-use crate::ordered::{IMAGE_STEP, between, put_in_order};
+use crate::ordered::{BySlot, IMAGE_STEP, between, ordered_copy};
 use crate::placed::{base_of, holder, move_fault, size_of, window_image};
 use crate::space::{Moved, Space};
 use crate::window::{REACH, lay_on};
@@ -19,26 +19,45 @@ use pe_view::Fault;
 use std::alloc::{AllocError, Allocator};
 use std::marker::Model;
 
-/// How many of the bound slots end in an image.
-fn count_slots(bindings: &[Binding], exporter: u16) -> u32
-    requires { length bindings.now < 2 ^ 32 }
-    ensures { result ≡ count_by (ends_in exporter) bindings.now }
+/// As many counts of 0 as there are images.
+fn no_slots<A: Allocator + Copy>(alloc: A, images: usize) -> Result<Vec<u32, A>, AllocError>
+    ensures counts { IfOk result (λ counts. AreCounts images [] counts.items) }
+    ensures empty { images ≡ 0 → IsOk result }
 {
-    let mut count = 0;
-    for binding in bindings {
-        if binding.exporter == exporter {
-            count += 1;
-        }
+    let mut counts = Vec::with_capacity(alloc, images)?;
+    for _ in 0..images {
+        counts.push(0)?;
     }
-    count
+    Ok(counts)
 }
 
-/// Images whose bytes stay in their files, which it borrows. `slots` are the bindings by image, and those of an image by slot.
+/// How many of the bound slots end in each image.
+fn count_slots<A: Allocator + Copy>(
+    alloc: A,
+    images: usize,
+    bindings: &[Binding],
+) -> Result<Vec<u32, A>, AllocError>
+    requires few { length bindings.now < 2 ^ 32 }
+    requires exporters { Each (λ b. b.exporter < images) bindings.now }
+    ensures counts { IfOk result (λ counts. AreCounts images bindings.now counts.items) }
+    ensures empty { images ≡ 0 → IsOk result }
+{
+    let mut counts = no_slots(alloc, images)?;
+    for binding in bindings {
+        counts[binding.exporter as usize] += 1;
+    }
+    Ok(counts)
+}
+
+/// Images whose bytes stay in their files, which it borrows. `order` has the images by their bases, `slots` the bindings by image,
+/// and those of an image by slot; `counts` tells how many end in each image.
 #[derive(Drop)]
 pub struct FileSpace<'a, A: Allocator> {
     images: Vec<FileImage<'a, A>, A>,
+    order: Vec<NumberAt, A>,
     bindings: Vec<Binding, A>,
     slots: Vec<Binding, A>,
+    counts: Vec<u32, A>,
 }
 
 impl<'a, A: Allocator> Model for FileSpace<'a, A> {
@@ -51,7 +70,7 @@ impl<'a, A: Allocator> Model for FileSpace<'a, A> {
 
     ghost view = { λ s. bare (filed_content s.images.items s.bindings.items) };
 
-    ghost invariant = { λ s. IsFiled s.images.items s.bindings.items s.slots.items };
+    ghost invariant = { λ s. IsFiled s.images.items s.order.items s.bindings.items s.slots.items s.counts.items };
 }
 
 impl<'a, A: Allocator + Copy> FileSpace<'a, A> {
@@ -66,15 +85,17 @@ impl<'a, A: Allocator + Copy> FileSpace<'a, A> {
         requires whole { (j : ℕ) → length (nth_image images.items j).plain ≡ (nth_image images.items j).size }
         requires small { (j : ℕ) → (nth_image images.items j).size ≤ 2 ^ 31 }
         ensures content { IfOk result (λ space. space ≡ bare (filed_content images.entry.items bindings.items)) }
-        ensures empty { length bindings.items ≡ 0 → IsOk result }
+        ensures empty { length images.entry.items ≡ 0 → length bindings.items ≡ 0 → IsOk result }
     {
-        let mut slots = Vec::with_capacity(alloc, bindings.len())?;
-        slots.extend_from_slice(bindings.as_slice())?;
-        put_in_order(slots.as_mut_slice());
+        let order = by_base(alloc, images.as_slice())?;
+        let slots = ordered_copy::<BySlot, _, _>(alloc, bindings.as_slice())?;
+        let counts = count_slots(alloc, images.len(), bindings.as_slice())?;
         Ok(FileSpace {
             images,
+            order,
             bindings,
             slots,
+            counts,
         })
     }
 
@@ -87,7 +108,7 @@ impl<'a, A: Allocator + Copy> FileSpace<'a, A> {
     {
         let image_start = u64::from(number) * IMAGE_STEP;
         let low = image_start + u64::from(start.saturating_sub(REACH));
-        between(self.slots.as_slice(), low, image_start + end)
+        between::<BySlot, _>(self.slots.as_slice(), low, image_start + end)
     }
 
     /// Fills a window with the bytes of an image from RVA `start` on: the slots that meet the window are laid on those that
@@ -112,32 +133,49 @@ impl<'a, A: Allocator + Copy> Space for FileSpace<'a, A> {
     ghost content = { λ s. s };
 
     fn byte(&self, address: u64) -> Option<u8> {
-        let number = holder(self.images.as_slice(), address)?;
+        let number = holder(self.images.as_slice(), self.order.as_slice(), address)?;
         let rva = address - self.images[number as usize].base();
         let mut byte = [0];
         self.read(number, rva as u32, &mut byte);
         Some(byte[0])
     }
 
+    fn image_at(&self, address: u64, count: usize) -> Result<u16, Fault> {
+        window_image(
+            self.images.as_slice(),
+            self.order.as_slice(),
+            address,
+            count,
+        )
+    }
+
     fn window(&self, address: u64, buffer: &mut [u8]) -> Result<(), Fault> {
         if buffer.is_empty() {
             return Ok(());
         }
-        let number = window_image(self.images.as_slice(), address, buffer.len())?;
+        let number = self.image_at(address, buffer.len())?;
         let rva = address - self.images[number as usize].base();
         self.read(number, rva as u32, buffer);
         Ok(())
     }
 
     fn move_image(&mut self, image: u16, base: u64) -> Result<Moved, Fault> {
-        if let Some(fault) = move_fault(self.images.as_slice(), image, base) {
+        if let Some(fault) = move_fault(
+            self.images.as_slice(),
+            self.order.as_slice(),
+            image,
+            base,
+        ) {
             return Err(fault);
         }
         let own = &mut self.images[image as usize];
         own.rebase(base);
         let fields = own.field_count();
-        let slots = count_slots(self.bindings.as_slice(), image);
-        Ok(Moved { fields, slots })
+        rebase(self.order.as_mut_slice(), image, base);
+        Ok(Moved {
+            fields,
+            slots: self.counts[image as usize],
+        })
     }
 
     fn image_count(&self) -> u16 {

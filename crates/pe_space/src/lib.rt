@@ -13,6 +13,7 @@
 //! ```
 #![tactic(auto)]
 
+mod by_base;
 mod bytes;
 mod commands;
 mod file_image;

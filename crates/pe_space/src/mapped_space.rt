@@ -1,25 +1,33 @@
-ghost use Rattle.std.specs.Prelude.{◌≡◌, ◌+◌, ◌<◌, ◌≤◌, ◌^◌, ℕ, length, count_by};
+ghost use Rattle.std.specs.Prelude.{◌≡◌, ◌+◌, ◌≤◌, ◌^◌, ℕ, Contains, IfOk, IsOk, length, count_by};
+ghost use Rattle.std.specs.List.Sorted.{IsNonDecreasingBy};
+ghost use Rattle.pe_set.specs.declared.binding.Binding.{Binding};
 ghost use Rattle.pe_space.specs.Bare.{bare};
 ghost use Rattle.pe_space.specs.Content.{nth_image};
-ghost use Rattle.pe_space.specs.Memory.{put_slot, rebound, ends_in, from_base};
+ghost use Rattle.pe_space.specs.Memory.{put_slot, bound, ends_in};
 ghost use Rattle.pe_space.specs.Held.{images_of, memories_of};
+ghost use Rattle.pe_space.specs.Ordered.{exporter_of};
 ghost use Rattle.pe_space.specs.Tied.{Each, IsSlot, IsTied};
 ghost use Rattle.pe_space.specs.Placing.{IsPlaced};
-ghost use Rattle.pe_space.specs.Kept.{kept_content, IsFresh, address_of, any_slot};
+ghost use Rattle.pe_space.specs.Kept.{kept_content, IsFresh};
 
+use crate::by_base::{NumberAt, by_base, rebase};
 use crate::mapped_image::MappedImage;
+use crate::ordered::{ByExporter, between, ordered_copy};
 use crate::placed::{base_of, holder, move_fault, size_of, window_image};
 use crate::space::{Moved, Space};
 use pe_set::{Binding, Placed};
 use pe_view::Fault;
-use std::alloc::Allocator;
+use std::alloc::{AllocError, Allocator};
 use std::marker::Model;
 
-/// Images in memory, each with its bytes as they stand at its base. It owns its bytes and borrows no file.
+/// Images in memory, each with its bytes as they stand at its base. It owns its bytes and borrows no file. `order` has the images
+/// by their bases, `slots` the bindings by the images in which they end.
 #[derive(Drop)]
 pub struct MappedSpace<A: Allocator> {
     images: Vec<MappedImage<A>, A>,
+    order: Vec<NumberAt, A>,
     bindings: Vec<Binding, A>,
+    slots: Vec<Binding, A>,
 }
 
 impl<A: Allocator> Model for MappedSpace<A> {
@@ -32,7 +40,7 @@ impl<A: Allocator> Model for MappedSpace<A> {
 
     ghost view = { λ s. bare (kept_content s.images.items s.bindings.items) };
 
-    ghost invariant = { λ s. IsKept s.images.items s.bindings.items };
+    ghost invariant = { λ s. IsKept s.images.items s.order.items s.bindings.items s.slots.items };
 }
 
 /// Writes an address into the slot of a binding.
@@ -44,56 +52,52 @@ fn put_address<A: Allocator + Copy>(images: &mut [MappedImage<A>], binding: &Bin
     images[binding.image as usize].put_slot(binding.slot, address);
 }
 
-/// Writes the address of its export into each slot.
-fn bind<A: Allocator + Copy>(images: &mut [MappedImage<A>], bindings: &[Binding])
-    requires slots { Each (IsSlot (images_of images.old)) bindings.now }
+/// Writes the address of its export into each of these slots.
+fn bind<A: Allocator + Copy>(images: &mut [MappedImage<A>], slots: &[Binding])
+    requires slots { Each (IsSlot (images_of images.old)) slots.now }
     requires room { (j : ℕ) → (nth_image (images_of images.old) j).base + (nth_image (images_of images.old) j).size ≤ 2 ^ 64 }
     ensures images { images_of images.new ≡ images_of images.old }
-    ensures memories { memories_of images.new ≡ rebound (images_of images.old) any_slot (address_of (images_of images.old)) bindings.now (memories_of images.old) }
+    ensures memories { memories_of images.new ≡ bound (images_of images.old) slots.now (memories_of images.old) }
 {
-    for binding in bindings {
-        let address = images[binding.exporter as usize].base() + u64::from(binding.rva);
-        put_address(images, binding, address);
+    for slot in slots {
+        let address = images[slot.exporter as usize].base() + u64::from(slot.rva);
+        put_address(images, slot, address);
     }
 }
 
-/// Writes the address of its export into each slot that ends in an image, whose new base this is, and tells how many there are.
-fn rebind<A: Allocator + Copy>(
-    images: &mut [MappedImage<A>],
-    bindings: &[Binding],
-    exporter: u16,
-    base: u64,
-) -> u32
-    requires slots { Each (IsSlot (images_of images.old)) bindings.now }
-    requires few { length bindings.now < 2 ^ 32 }
-    requires room { base + (nth_image (images_of images.old) exporter).size ≤ 2 ^ 64 }
-    ensures images { images_of images.new ≡ images_of images.old }
-    ensures memories { memories_of images.new ≡ rebound (images_of images.old) (ends_in exporter) (from_base base) bindings.now (memories_of images.old) }
-    ensures count { result ≡ count_by (ends_in exporter) bindings.now }
+/// The slots that end in an image, among slots in the order of the images in which they end.
+fn slots_of(slots: &[Binding], exporter: u16) -> &[Binding]
+    requires { IsNonDecreasingBy exporter_of slots.now }
+    ensures held { (b : Binding) → Contains result.now b → Contains slots.now b × (b.exporter ≡ exporter) }
+    ensures all { (b : Binding) → Contains slots.now b → b.exporter ≡ exporter → Contains result.now b }
+    ensures count { length result.now ≡ count_by (ends_in exporter) slots.now }
 {
-    let mut count = 0;
-    for binding in bindings {
-        if binding.exporter == exporter {
-            put_address(images, binding, base + u64::from(binding.rva));
-            count += 1;
-        }
-    }
-    count
+    let exporter = u64::from(exporter);
+    between::<ByExporter, _>(slots, exporter, exporter + 1)
 }
 
 impl<A: Allocator + Copy> MappedSpace<A> {
     /// A space of images whose slots are still to be bound.
     pub(crate) fn new(
+        alloc: A,
         mut images: Vec<MappedImage<A>, A>,
         bindings: Vec<Binding, A>,
-    ) -> MappedSpace<A>
+    ) -> Result<MappedSpace<A>, AllocError>
         requires tied { IsTied (kept_content images.items bindings.items) }
         requires placed { IsPlaced (kept_content images.items bindings.items) }
         requires fresh { IsFresh (kept_content images.items bindings.items) (memories_of images.items) }
-        ensures { result ≡ bare (kept_content images.items bindings.items) }
+        ensures content { IfOk result (λ space. space ≡ bare (kept_content images.items bindings.items)) }
+        ensures empty { length images.items ≡ 0 → length bindings.items ≡ 0 → IsOk result }
     {
+        let order = by_base(alloc, images.as_slice())?;
+        let slots = ordered_copy::<ByExporter, _, _>(alloc, bindings.as_slice())?;
         bind(images.as_mut_slice(), bindings.as_slice());
-        MappedSpace { images, bindings }
+        Ok(MappedSpace {
+            images,
+            order,
+            bindings,
+            slots,
+        })
     }
 }
 
@@ -101,35 +105,49 @@ impl<A: Allocator + Copy> Space for MappedSpace<A> {
     ghost content = { λ s. s };
 
     fn byte(&self, address: u64) -> Option<u8> {
-        let number = holder(self.images.as_slice(), address)?;
+        let number = holder(self.images.as_slice(), self.order.as_slice(), address)?;
         let image = &self.images[number as usize];
         Some(image.byte((address - image.base()) as usize))
+    }
+
+    fn image_at(&self, address: u64, count: usize) -> Result<u16, Fault> {
+        window_image(
+            self.images.as_slice(),
+            self.order.as_slice(),
+            address,
+            count,
+        )
     }
 
     fn window(&self, address: u64, buffer: &mut [u8]) -> Result<(), Fault> {
         if buffer.is_empty() {
             return Ok(());
         }
-        let number = window_image(self.images.as_slice(), address, buffer.len())?;
+        let number = self.image_at(address, buffer.len())?;
         let image = &self.images[number as usize];
         image.read((address - image.base()) as usize, buffer);
         Ok(())
     }
 
     fn move_image(&mut self, image: u16, base: u64) -> Result<Moved, Fault> {
-        if let Some(fault) = move_fault(self.images.as_slice(), image, base) {
+        if let Some(fault) = move_fault(
+            self.images.as_slice(),
+            self.order.as_slice(),
+            image,
+            base,
+        ) {
             return Err(fault);
         }
         let own = &mut self.images[image as usize];
         own.rebase(base);
         let fields = own.field_count();
-        let slots = rebind(
-            self.images.as_mut_slice(),
-            self.bindings.as_slice(),
-            image,
-            base,
-        );
-        Ok(Moved { fields, slots })
+        rebase(self.order.as_mut_slice(), image, base);
+        let slots = slots_of(self.slots.as_slice(), image);
+        bind(self.images.as_mut_slice(), slots);
+        Ok(Moved {
+            fields,
+            slots: slots.len() as u32,
+        })
     }
 
     fn image_count(&self) -> u16 {

@@ -65,5 +65,5 @@ pub fn map<A: Allocator + Copy>(
     for own in modules {
         images.push(place(alloc, own)?)?;
     }
-    Ok(MappedSpace::new(images, bindings))
+    Ok(MappedSpace::new(alloc, images, bindings)?)
 }

@@ -1,10 +1,15 @@
 //! Images at their bases, whatever keeps their bytes: which one holds an address, where each stands.
 
-ghost use Rattle.std.specs.Prelude.{◌≡◌, ◌+◌, ◌<◌, ◌≤◌, length, map, IfSome, IfOk};
+ghost use Rattle.std.specs.Prelude.{◌≡◌, ◌+◌, ◌<◌, ◌≤◌, ◌^◌, length, map, IfSome, IfOk};
+ghost use Rattle.std.specs.List.{list_any};
 ghost use Rattle.pe_view.specs.Faults.{first_standing};
-ghost use Rattle.pe_set.specs.Placement.{move_tests};
+ghost use Rattle.pe_tables.specs.Ranges.{meets};
+ghost use Rattle.pe_set.specs.Placement.{move_tests, others_than};
+ghost use Rattle.pe_space.specs.ByBase.{IsByBase, StandApart};
 ghost use Rattle.pe_space.specs.Content.{placed_from, base_in, size_in, window_fault, window_image};
 
+use crate::by_base::{ByBase, NumberAt};
+use crate::ordered::at_most;
 use pe_set::{Placed, base_fault};
 use pe_view::{Fault, Place};
 
@@ -18,18 +23,20 @@ fn end<P: Placed>(image: &P) -> u128
     u128::from(image.base()) + u128::from(image.size())
 }
 
-/// The number of the image that holds an address.
-pub(crate) fn holder<P: Placed>(images: &[P], address: u64) -> Option<u16>
-    requires { length images.now ≤ 256 }
+/// The number of the image that holds an address: the last one that begins there or before it, if it reaches so far. `order` has
+/// the images by their bases; the search takes log n steps.
+pub(crate) fn holder<P: Placed>(images: &[P], order: &[NumberAt], address: u64) -> Option<u16>
+    requires order { IsByBase (map P.placement images.now) order.now }
+    requires apart { StandApart (map P.placement images.now) }
     ensures holder { result ≡ placed_from 0 (map P.placement images.now) address }
     ensures inside { IfSome result (λ number. number < length images.now) }
 {
-    for (index, image) in images.iter().enumerate() {
-        if image.base() <= address && u128::from(address) < end(image) {
-            return Some(index as u16);
-        }
+    let number = at_most::<ByBase, _>(order, address).last()?.number;
+    if u128::from(address) < end(&images[number as usize]) {
+        Some(number)
+    } else {
+        None
     }
-    None
 }
 
 /// Fault 54 of a window at an address, which names the image that holds the address.
@@ -46,14 +53,16 @@ fn window_fault(image: u16, address: u64) -> Fault
 /// The number of the image in which a window lies that has this many bytes, or fault 54.
 pub(crate) fn window_image<P: Placed>(
     images: &[P],
+    order: &[NumberAt],
     address: u64,
     count: usize,
 ) -> Result<u16, Fault>
-    requires { length images.now ≤ 256 }
+    requires order { IsByBase (map P.placement images.now) order.now }
+    requires apart { StandApart (map P.placement images.now) }
     ensures image { result ≡ window_image (map P.placement images.now) address count }
     ensures inside { IfOk result (λ number. number < length images.now) }
 {
-    let Some(number) = holder(images, address) else {
+    let Some(number) = holder(images, order, address) else {
         return Err(window_fault(NO_IMAGE, address));
     };
     if u128::from(address) + count as u128 > end(&images[number as usize]) {
@@ -62,25 +71,60 @@ pub(crate) fn window_image<P: Placed>(
     Ok(number)
 }
 
+/// Whether the image of a number, which has this many bytes, would have an address in common with another one if it stood at a
+/// base: the last other one that begins by its end would, or none.
+fn overlaps_another<P: Placed>(
+    images: &[P],
+    order: &[NumberAt],
+    number: u16,
+    base: u64,
+    size: u32,
+) -> bool
+    requires order { IsByBase (map P.placement images.now) order.now }
+    requires apart { StandApart (map P.placement images.now) }
+    requires some { 0 < size }
+    requires room { base + size ≤ 2 ^ 64 }
+    ensures { result ≡ list_any (λ other. meets base size other.base other.size) (others_than number (map P.placement images.now)) }
+{
+    let last = base + u64::from(size - 1);
+    for at in at_most::<ByBase, _>(order, last).iter().rev() {
+        if at.number != number {
+            return u128::from(base) < end(&images[at.number as usize]);
+        }
+    }
+    false
+}
+
 /// The first fault of a move of an image to a base: 55, 44 to 47.
-pub(crate) fn move_fault<P: Placed>(images: &[P], number: u16, base: u64) -> Option<Fault>
+pub(crate) fn move_fault<P: Placed>(
+    images: &[P],
+    order: &[NumberAt],
+    number: u16,
+    base: u64,
+) -> Option<Fault>
+    requires order { IsByBase (map P.placement images.now) order.now }
+    requires apart { StandApart (map P.placement images.now) }
     ensures { result ≡ first_standing (move_tests (map P.placement images.now) number base) }
 {
-    let index = number as usize;
-    if index >= images.len() {
+    let Some(own) = images.get(number as usize) else {
         return Some(Fault {
             number: 55,
             image: number,
             place: Place::Item(u32::from(number)),
         });
+    };
+    if let Some(fault) = base_fault(&[], &[], number, own, base) {
+        return Some(fault);
     }
-    base_fault(
-        &images[..index],
-        &images[index + 1..],
-        number,
-        &images[index],
-        base,
-    )
+    if overlaps_another(images, order, number, base, own.size()) {
+        Some(Fault {
+            number: 47,
+            image: number,
+            place: Place::Address(base),
+        })
+    } else {
+        None
+    }
 }
 
 /// The base of the image that has a number.

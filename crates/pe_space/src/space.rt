@@ -1,5 +1,5 @@
 ghost use Rattle.std.specs.Prelude.{◌≡◌, length, None, Some, IfOk, IfErr, OnOk, OnErr, Ok, Err};
-ghost use Rattle.pe_space.specs.Content.{Content, byte_at, window_at, base_at, size_at};
+ghost use Rattle.pe_space.specs.Content.{Content, byte_at, image_at, window_at, base_at, size_at};
 ghost use Rattle.pe_space.specs.Moves.{move_fault, moved, moved_counts};
 
 use pe_set::Binding;
@@ -25,9 +25,13 @@ pub trait Space {
     fn byte(&self, address: u64) -> Option<u8>
         ensures { result ≡ byte_at (content self.now) address };
 
-    /// Fills a buffer with the bytes from an address on, which lie in one image; an empty buffer lies anywhere. Else fault 54 at
-    /// [`pe_view::Place::Address`] of the address, of the image that holds it, or of image 65,535 where none does, and the
-    /// buffer is as it was.
+    /// The number of the image that holds this many bytes from an address on; it holds also the address where there are none.
+    /// Else fault 54 at [`pe_view::Place::Address`] of the address, of the image that holds it, or of image 65,535 where none does.
+    fn image_at(&self, address: u64, count: usize) -> Result<u16, Fault>
+        ensures { result ≡ image_at (content self.now) address count };
+
+    /// Fills a buffer with the bytes from an address on, which lie in one image; an empty buffer lies anywhere. Else fault 54, as
+    /// [`Space::image_at`] answers it, and the buffer is as it was.
     fn window(&self, address: u64, buffer: &mut [u8]) -> Result<(), Fault>
         ensures ok { OnOk result (window_at (content self.now) address (length buffer.old) ≡ Ok buffer.new) }
         ensures fault { IfErr result (λ fault. window_at (content self.now) address (length buffer.old) ≡ Err fault) }

@@ -1,5 +1,4 @@
 pub mod Exchanging
-pub mod Held
 pub mod MapLines
 pub mod Mapped
 pub mod RebasedSets

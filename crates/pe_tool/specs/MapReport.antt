@@ -68,10 +68,6 @@ map_text s window =
     ++ codes "end\n"
 
 -- ---- what is refused
--- image j has so many bytes from an address in it on
-abbrev pub HasRoom : List SpaceImage → ℕ → ℕ → ℕ → Type 0
-HasRoom images j address room = address + room ≡ (nth_image images j).base + (nth_image images j).size
-
 abbrev pub refusal_of : {X : Type 0} → Result X Fault → Option Fault
 refusal_of (Ok x) = None
 refusal_of (Err fault) = Some fault

@@ -1,11 +1,10 @@
 use Rattle.std.proofs.Common.{◌≡◌, drop}
 use Rattle.pe_space.specs.Held.{images_of, memories_of}
-use Rattle.pe_space.specs.Memory.{rebound}
-use Rattle.pe_space.specs.Kept.{any_slot, address_of}
+use Rattle.pe_space.specs.Memory.{bound}
 use Rattle.pe_space.proofs.mapped_space.bind.Given as goal
 
-abbrev pub invariant-loop-binding : goal.invariant-loop-binding
-invariant-loop-binding g l = record {
+abbrev pub invariant-loop-slot : goal.invariant-loop-slot
+invariant-loop-slot g l = record {
   images : images_of l.images ≡ images_of l.fn.images;
-  rest : rebound (images_of l.fn.images) any_slot (address_of (images_of l.fn.images)) (drop l.binding-index l.bindings) (memories_of l.images) ≡ rebound (images_of l.fn.images) any_slot (address_of (images_of l.fn.images)) l.bindings (memories_of l.fn.images);
+  rest : bound (images_of l.fn.images) (drop l.slot-index l.slots) (memories_of l.images) ≡ bound (images_of l.fn.images) l.slots (memories_of l.fn.images);
 }

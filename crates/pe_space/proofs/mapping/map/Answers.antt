@@ -9,7 +9,7 @@ use Rattle.pe_space.specs.Fresh.{fresh_of, IsFit}
 use Rattle.pe_space.specs.Placing.{IsPlaced}
 use Rattle.pe_space.specs.Tied.{Each, IsTied}
 use Rattle.pe_space.proofs.Bases.{bytes_at_bases}
-use Rattle.pe_space.proofs.Judged.{content_is, few_entries, count_modules, names_fine, one_more, all_made, none_to_make}
+use Rattle.pe_space.proofs.Judged.{content_is, few_entries, count_modules, names_fine, one_more, all_made, none_to_make, no_images, no_bindings}
 use Rattle.pe_space.specs.Held.{Held, memories_of}
 use Rattle.pe_space.specs.Kept.{kept_content, IsFresh}
 use Rattle.pe_space.specs.SetContent.{laid_out}
@@ -75,7 +75,7 @@ returns-clause-exact g c =
     let sound = c.accepted_sets_are_sound.ensures c.args.policy es c.in_ok-modules.ensures.exact.0 in
     let all = all_made fresh_of c.loop-own.images.items c.loop-own.own-iterator.rest.items c.loop-own.own-iterator.rest.len s c.loop-own.invariant.made (sym c.loop-own.own-iterator.rest.ok.0) c.in-None.ensures.steps.0 in
     let is = kept_is c.loop-own.images.items c.in_ok-modules.field-0.bindings.items s all c.in_ok-modules.ensures.exact.1.bindings in
-    (c.in_ok-modules.ensures.exact.0, c.new.ensures ∙ content_is _ s is)
+    (c.in_ok-modules.ensures.exact.0, c.in_ok-new.ensures.content ∙ content_is _ s is)
 
 pub returns-clause-bytes : goal.returns-clause-bytes
 returns-clause-bytes g c = λ bases a none.
@@ -84,7 +84,7 @@ returns-clause-bytes g c = λ bases a none.
     let sound = c.accepted_sets_are_sound.ensures c.args.policy es c.in_ok-modules.ensures.exact.0 in
     let all = all_made fresh_of c.loop-own.images.items c.loop-own.own-iterator.rest.items c.loop-own.own-iterator.rest.len s c.loop-own.invariant.made (sym c.loop-own.own-iterator.rest.ok.0) c.in-None.ensures.steps.0 in
     let is = kept_is c.loop-own.images.items c.in_ok-modules.field-0.bindings.items s all c.in_ok-modules.ensures.exact.1.bindings in
-    ap (λ (x : Content). byte_at (set_at bases x) a) (c.new.ensures ∙ content_is _ s is)
+    ap (λ (x : Content). byte_at (set_at bases x) a) (c.in_ok-new.ensures.content ∙ content_is _ s is)
     ∙ bytes_at_bases bases s (modules_of (at_bases bases es)) a (c.bases_change_no_binding.ensures.images bases es) (c.bases_change_no_binding.ensures.bindings bases es)
     (c.accepted_sets_are_sound.ensures c.args.policy (at_bases bases es) none)
 
@@ -129,3 +129,16 @@ returns-in_err-push-clause-named g c = λ _. names_fine c.args.policy (entries_o
 
 pub returns-clause-error : goal.returns-clause-error
 returns-clause-error g c = (c.in_ok-modules.ensures.error.0, tt)
+
+pub returns-in_err-new-clause-no_memory : goal.returns-in_err-new-clause-no_memory
+returns-in_err-new-clause-no_memory g c = λ e refused.
+    let few = few_entries c.args.set.now (c.accepted_sets_are_sound.ensures c.args.policy (entries_of c.args.set.now) c.in_ok-modules.ensures.exact.0) in
+    elim e [
+      | inl none ↦
+          (let placed = all_made fresh_of c.loop-own.images.items c.loop-own.own-iterator.rest.items c.loop-own.own-iterator.rest.len (modules_of (entries_of c.args.set.now)) c.loop-own.invariant.made (sym c.loop-own.own-iterator.rest.ok.0) c.in-None.ensures.steps.0 in
+          let h = c.in_err-new.ensures.empty (ap length placed ∙ no_images fresh_of c.args.set.now none) (ap length c.in_ok-modules.ensures.exact.1.bindings ∙ no_bindings c.args.set.now none) in absurd cc)
+      | inr many ↦ absurd (omega arith)
+    ]
+
+pub returns-in_err-new-clause-named : goal.returns-in_err-new-clause-named
+returns-in_err-new-clause-named g c = λ _. names_fine c.args.policy (entries_of c.args.set.now) c.in_ok-modules.ensures.exact.0

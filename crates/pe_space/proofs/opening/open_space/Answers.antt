@@ -1,4 +1,4 @@
-use Rattle.std.proofs.Common.{◌≡◌, ◌∙◌, ◌≤◌, ◌^◌, List, [], ◌∷◌, refl, map, length, ap, subst, sym, inl, inr, arith}
+use Rattle.std.proofs.Common.{◌≡◌, ◌∙◌, ◌≤◌, ◌^◌, List, map, length, ap, subst, sym, inl, inr, arith}
 use Rattle.pe_set.specs.Bindings.{bindings_of}
 use Rattle.pe_set.specs.Set.{Module, modules_of, at_bases}
 use Rattle.pe_set.specs.SetView.{entries_of, modules_view}
@@ -9,7 +9,7 @@ use Rattle.pe_space.specs.Fresh.{IsFit}
 use Rattle.pe_space.specs.Placing.{IsPlaced}
 use Rattle.pe_space.specs.Tied.{Each, IsTied}
 use Rattle.pe_space.proofs.Bases.{bytes_at_bases, whole_at}
-use Rattle.pe_space.proofs.Judged.{content_is, few_entries, count_modules, names_fine, one_more, all_made, none_to_make}
+use Rattle.pe_space.proofs.Judged.{content_is, few_entries, count_modules, names_fine, one_more, all_made, none_to_make, no_images, no_bindings}
 use Rattle.pe_space.specs.Filed.{filed_content}
 use Rattle.pe_space.specs.SetContent.{image_content, laid_out}
 use Rattle.pe_space.proofs.Accepting.{fit, tied, placed, small}
@@ -20,12 +20,6 @@ use Rattle.pe_space.proofs.opening.open_space.Goals as goal
 filed_is : (images : List SpaceImage) (bs : List Binding) (s : List Module) → images ≡ map image_content s → bs ≡ bindings_of s → filed_content images bs ≡ laid_out s
 unfolding laid_out
 filed_is images bs s opened bound = ap (λ (x : List SpaceImage). filed_content x bs) opened ∙ ap (filed_content (map image_content s)) bound
-
--- no slot of an empty set is bound
-no_bindings : (set : List _) → length set ≡ 0 → length (bindings_of (modules_of (entries_of set))) ≡ 0
-unfolding bindings_of modules_of
-no_bindings [] none = refl
-no_bindings (e ∷ set) none = absurd (omega (arith, none))
 
 pub loop-own-init : goal.loop-own-init
 loop-own-init g c =
@@ -127,7 +121,8 @@ returns-in_err-new-clause-no_memory g c = λ e refused.
     let few = few_entries c.args.set.now (c.accepted_sets_are_sound.ensures c.args.policy (entries_of c.args.set.now) c.in_ok-modules.ensures.exact.0) in
     elim e [
       | inl none ↦
-          (let h = c.in_err-new.ensures.empty (ap length c.in_ok-modules.ensures.exact.1.bindings ∙ no_bindings c.args.set.now none) in absurd cc)
+          (let opened = all_made image_content c.loop-own.images.items c.loop-own.own-iterator.rest.items c.loop-own.own-iterator.rest.len (modules_of (entries_of c.args.set.now)) c.loop-own.invariant.made (sym c.loop-own.own-iterator.rest.ok.0) c.in-None.ensures.steps.0 in
+          let h = c.in_err-new.ensures.empty (ap length opened ∙ no_images image_content c.args.set.now none) (ap length c.in_ok-modules.ensures.exact.1.bindings ∙ no_bindings c.args.set.now none) in absurd cc)
       | inr many ↦ absurd (omega arith)
     ]
 

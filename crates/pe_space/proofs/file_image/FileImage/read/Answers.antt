@@ -9,7 +9,8 @@ use Rattle.pe_tables.specs.declared.fixups.FixupKind.TheVariants.{Bits32}
 use Rattle.pe_space.specs.Number.{digit}
 use Rattle.pe_space.specs.Content.{SpaceImage, in_field, width_of}
 use Rattle.pe_space.specs.Windows.{laid_on, fixed_at, fixed_bytes}
-use Rattle.pe_space.proofs.Covering.{each_contains, field_at, fields_still, field_width_small}
+use Rattle.pe_space.proofs.Lists.{each_contains}
+use Rattle.pe_space.proofs.Covering.{field_at, fields_still, field_width_small}
 use Rattle.pe_space.proofs.SlotsAndFields.{is_in-true}
 use Rattle.pe_space.proofs.Windows.{Still, still_more, still_none, length-laid_on}
 use Rattle.pe_space.proofs.file_image.FileImage.read.Goals as goal

@@ -1,18 +1,26 @@
-use Rattle.std.proofs.Common.{◌∙◌, ◌++◌, ap, sym, subst, List}
-use Rattle.std.proofs.lemmas.List.{with_items_is}
+use Rattle.std.proofs.Common.{◌∙◌, ◌<◌, List, length, map, subst}
 use Rattle.pe_set.specs.declared.binding.Binding.{Binding}
-use Rattle.pe_space.specs.Filed.{IsFiled}
+use Rattle.pe_space.specs.ByBase.{IsByBase}
+use Rattle.pe_space.specs.Content.{SpaceImage, placement_of}
+use Rattle.pe_space.specs.Filed.{AreCounts}
 use Rattle.pe_space.specs.Ordered.{IsOrdered, slot_of}
+use Rattle.pe_space.specs.Tied.{IsSlot}
+use Rattle.pe_space.proofs.Lists.{each_map}
 use Rattle.pe_space.proofs.file_space.FileSpace.new.Goals as goal
 
+pub count_slots-requires-clause-exporters : goal.count_slots-requires-clause-exporters
+count_slots-requires-clause-exporters g c =
+    let images = c.args.images.items in
+    rw (c.as_slice-3.ensures.value, c.len.ensures, c.args.images.ok.0) (each_map (IsSlot images) (λ (b : Binding). b.exporter < length images) c.args.bindings.items (λ b slot. slot.exporter) c.requires.tied.slots)
+
 pub invariant_of-result : goal.invariant_of-result
-invariant_of-result g c =
-    let all = c.as_mut_slice.ensures.value ∙ c.in_ok-extend_from_slice.ensures.items ∙ ap (λ (xs : List Binding). xs ++ c.as_slice.result.now) c.in_ok-slots.ensures.items ∙ c.as_slice.ensures.value in
-    subst (IsFiled c.args.images.items c.args.bindings.items) (sym (with_items_is c.extend_from_slice.new.self c.put_in_order.new.items (c.put_in_order.auto.items ∙ c.as_mut_slice.ensures.len)))
-    (record {
-      tied = c.requires.tied;
-      placed = c.requires.placed;
-      whole = c.requires.whole;
-      small = c.requires.small;
-      ordered = subst (λ (xs : List Binding). IsOrdered slot_of xs c.put_in_order.new.items) all c.put_in_order.ensures;
-    })
+invariant_of-result g c = record {
+  tied = c.requires.tied;
+  placed = c.requires.placed;
+  whole = c.requires.whole;
+  small = c.requires.small;
+  by_base = subst (λ (l : List SpaceImage). IsByBase (map placement_of l) c.in_ok-order.order.items) c.as_slice.ensures.value c.in_ok-order.ensures.order;
+  by_slot = subst (λ (l : List Binding). IsOrdered slot_of l c.in_ok-slots.slots.items) c.as_slice-2.ensures.value c.in_ok-slots.ensures.ordered;
+  counts = subst (λ n. AreCounts n c.args.bindings.items c.in_ok-counts.counts.items) (c.len.ensures ∙ c.args.images.ok.0)
+      (subst (λ (l : List Binding). AreCounts c.len.result l c.in_ok-counts.counts.items) c.as_slice-3.ensures.value c.in_ok-counts.ensures.counts);
+}

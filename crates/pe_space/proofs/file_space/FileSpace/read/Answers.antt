@@ -7,7 +7,8 @@ use Rattle.pe_space.specs.Content.{SpaceImage, Content, nth_image, byte_in, slot
 use Rattle.pe_space.specs.Filed.{filed_content}
 use Rattle.pe_space.specs.Tied.{IsImage, IsSlot}
 use Rattle.pe_space.specs.Windows.{bytes_in, fixed_bytes, laid_on}
-use Rattle.pe_space.proofs.Covering.{each_contains, in_slot_of, slot_at, slots_still}
+use Rattle.pe_space.proofs.Lists.{each_contains}
+use Rattle.pe_space.proofs.Covering.{in_slot_of, slot_at, slots_still}
 use Rattle.pe_space.proofs.Filing.{image_at, address_fits, there, same_size}
 use Rattle.pe_space.proofs.SlotsAndFields.{is_in-true}
 use Rattle.pe_space.proofs.Windows.{Still, still_more, still_none, length-laid_on}

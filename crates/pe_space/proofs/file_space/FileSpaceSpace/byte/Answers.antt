@@ -4,7 +4,7 @@ use Rattle.pe_space.specs.Content.{SpaceImage, Content, holder_from, byte_at, by
 use Rattle.pe_space.specs.Filed.{filed_content}
 use Rattle.pe_space.specs.Windows.{bytes_in}
 use Rattle.pe_space.proofs.Defining.{byte_nowhere}
-use Rattle.pe_space.proofs.Filing.{found_at, byte_found, same_size, still_there}
+use Rattle.pe_space.proofs.Filing.{filed_order, filed_apart, found_at, byte_found, same_size, still_there}
 use Rattle.pe_space.proofs.file_space.FileSpaceSpace.byte.Goals as goal
 
 pub overflow_sub-rva : goal.overflow_sub-rva
@@ -67,7 +67,7 @@ returns g c =
     ap (λ (l : List ℕ). Some (get_or l 0 0)) c.read.ensures
     ∙ ap (λ (n : ℕ). Some (byte_in c.args.self.now j (a - n))) c.base.ensures
     ∙ ap (λ (x : Content). Some (byte_in x j (a - m.base))) (sym c.self.view_is)
-    ∙ sym (byte_found images c.self.inside.bindings.items c.self.inside.slots.items c.self.invariant a j m found)
+    ∙ sym (byte_found images c.self.inside.order.items c.self.inside.bindings.items c.self.inside.slots.items c.self.inside.counts.items c.self.invariant a j m found)
     ∙ ap (λ (x : Content). byte_at x a) c.self.view_is
 
 pub returns-in_err-number : goal.returns-in_err-number
@@ -77,3 +77,9 @@ returns-in_err-number g c =
     ∙ sym (ap (λ (x : Content). byte_at x c.args.address) (sym c.self.view_is)
     ∙ byte_nowhere (filed_content images c.self.inside.bindings.items) c.args.address
     (sym (ap (λ (x : List SpaceImage). holder_from 0 x c.args.address) c.as_slice.ensures.value) ∙ sym c.in_err-number.ensures.holder))
+
+pub holder-requires-clause-order : goal.holder-requires-clause-order
+holder-requires-clause-order g c = filed_order c.self.inside.images.items c.as_slice.result.now c.self.invariant c.as_slice.ensures.value c.as_slice-2.ensures.value
+
+pub holder-requires-clause-apart : goal.holder-requires-clause-apart
+holder-requires-clause-apart g c = filed_apart c.self.inside.images.items c.as_slice.result.now c.self.invariant c.as_slice.ensures.value

@@ -1,11 +1,12 @@
 use Rattle.std.proofs.Common.{◌∙◌, ◌-◌, ap, sym, arith, length, List, ℕ}
-use Rattle.std.specs.Prelude.{Ok, Err}
+use Rattle.std.specs.Prelude.{Ok}
 use Rattle.std.proofs.lemmas.Result.{err_from_is_err_and}
 use Rattle.pe_space.specs.Content.{SpaceImage, Content, window_at}
 use Rattle.pe_space.specs.Filed.{filed_content}
 use Rattle.pe_space.specs.Windows.{bytes_in}
-use Rattle.pe_space.proofs.Defining.{window_told}
-use Rattle.pe_space.proofs.Filing.{found_window, window_found, window_so, same_size, still_there}
+use Rattle.pe_space.proofs.Addressing.{window_place}
+use Rattle.pe_space.proofs.Defining.{window_told, image_told, window_refused}
+use Rattle.pe_space.proofs.Filing.{found_window, window_found, same_size, still_there}
 use Rattle.pe_space.proofs.file_space.FileSpaceSpace.window.Goals as goal
 
 pub overflow_sub-rva : goal.overflow_sub-rva
@@ -16,7 +17,7 @@ overflow_sub-rva g c =
     let n = length c.args.buffer.now in
     let j = c.in_ok-number.number in
     let m = c.index.result.now in
-    let lies = window_so images c.as_slice.result.now a n (Ok j) c.as_slice.ensures.value c.in_ok-number.ensures.image in
+    let lies = image_told own c.args.self.now a n (Ok j) c.self.view_is c.in_ok-number.ensures in
     let both = found_window images a n j m lies c.index.ensures in
     let found = both.0 in
     rw c.base.ensures found.low
@@ -29,7 +30,7 @@ overflow_cast-rva g c =
     let n = length c.args.buffer.now in
     let j = c.in_ok-number.number in
     let m = c.index.result.now in
-    let lies = window_so images c.as_slice.result.now a n (Ok j) c.as_slice.ensures.value c.in_ok-number.ensures.image in
+    let lies = image_told own c.args.self.now a n (Ok j) c.self.view_is c.in_ok-number.ensures in
     let both = found_window images a n j m lies c.index.ensures in
     let found = both.0 in
     let low = found.low in
@@ -46,7 +47,7 @@ read-requires-clause-number g c =
     let n = length c.args.buffer.now in
     let j = c.in_ok-number.number in
     let m = c.index.result.now in
-    let lies = window_so images c.as_slice.result.now a n (Ok j) c.as_slice.ensures.value c.in_ok-number.ensures.image in
+    let lies = image_told own c.args.self.now a n (Ok j) c.self.view_is c.in_ok-number.ensures in
     let both = found_window images a n j m lies c.index.ensures in
     let found = both.0 in
     still_there own c.args.self.now j c.self.view_is found.place
@@ -59,7 +60,7 @@ read-requires-clause-inside g c =
     let n = length c.args.buffer.now in
     let j = c.in_ok-number.number in
     let m = c.index.result.now in
-    let lies = window_so images c.as_slice.result.now a n (Ok j) c.as_slice.ensures.value c.in_ok-number.ensures.image in
+    let lies = image_told own c.args.self.now a n (Ok j) c.self.view_is c.in_ok-number.ensures in
     let both = found_window images a n j m lies c.index.ensures in
     let found = both.0 in
     let size = ap (λ (m : SpaceImage). m.size) found.image in
@@ -67,15 +68,9 @@ read-requires-clause-inside g c =
 
 pub returns-in_err-number-clause-fault : goal.returns-in_err-number-clause-fault
 returns-in_err-number-clause-fault g c =
-    let images = c.self.inside.images.items in
-    let a = c.args.address in
-    let n = length c.args.buffer.now in
     let fault = c.in_err-number.field-0.0 in
     let p = err_from_is_err_and c.from_residual.result c.from_residual.ensures.1 in
-    rw (p.1, p.2)
-    (ap (λ (x : Content). window_at x a n) (sym c.self.view_is)
-    ∙ window_told (filed_content images c.self.inside.bindings.items) a n (Err fault) (sym c.is_empty.ensures ∙ c.if-is_empty.false)
-    (window_so images c.as_slice.result.now a n (Err fault) c.as_slice.ensures.value c.in_err-number.ensures.image))
+    rw (p.1, p.2) (window_refused c.args.self.now c.args.address (length c.args.buffer.now) fault (sym c.is_empty.ensures ∙ c.if-is_empty.false) c.in_err-number.ensures)
 
 pub returns-clause-ok : goal.returns-clause-ok
 returns-clause-ok g c =
@@ -85,12 +80,18 @@ returns-clause-ok g c =
     let n = length c.args.buffer.now in
     let j = c.in_ok-number.number in
     let m = c.index.result.now in
-    let lies = window_so images c.as_slice.result.now a n (Ok j) c.as_slice.ensures.value c.in_ok-number.ensures.image in
+    let lies = image_told own c.args.self.now a n (Ok j) c.self.view_is c.in_ok-number.ensures in
     let both = found_window images a n j m lies c.index.ensures in
     let found = both.0 in
     ap (λ (x : Content). window_at x a n) (sym c.self.view_is)
     ∙ window_told own a n (Ok j) (sym c.is_empty.ensures ∙ c.if-is_empty.false) lies
     ∙ ap (λ (xs : List ℕ). Ok xs)
-    (window_found images c.self.inside.bindings.items c.self.inside.slots.items c.self.invariant a j m found n both.1
+    (window_found images c.self.inside.order.items c.self.inside.bindings.items c.self.inside.slots.items c.self.inside.counts.items c.self.invariant a j m found n both.1
     ∙ ap (λ (x : Content). bytes_in x j (a - m.base) n) c.self.view_is
     ∙ sym (c.read.ensures ∙ ap (λ (b : ℕ). bytes_in c.args.self.now j (a - b) n) c.base.ensures))
+
+pub index-requires : goal.index-requires
+index-requires g c =
+    let images = c.self.inside.images.items in
+    let lies = image_told (filed_content images c.self.inside.bindings.items) c.args.self.now c.args.address (length c.args.buffer.now) (Ok c.in_ok-number.number) c.self.view_is c.in_ok-number.ensures in
+    omega (arith, window_place images c.args.address (length c.args.buffer.now) c.in_ok-number.number lies, c.self.inside.images.ok.0)

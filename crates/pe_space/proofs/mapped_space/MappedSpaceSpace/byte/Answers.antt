@@ -1,6 +1,6 @@
 use Rattle.std.proofs.Common.{Some, None, ◌∙◌, ap, sym, arith, refl}
 use Rattle.pe_space.specs.Content.{Content, byte_at}
-use Rattle.pe_space.proofs.Addressing.{found_at, held_by, byte_here}
+use Rattle.pe_space.proofs.Addressing.{found_at, held_by, byte_here, kept_order, kept_apart}
 use Rattle.pe_space.specs.Kept.{kept_content}
 use Rattle.pe_space.proofs.Defining.{address_same, byte_nowhere}
 use Rattle.pe_space.proofs.mapped_space.MappedSpaceSpace.byte.Goals as goal
@@ -34,3 +34,9 @@ returns-in_err-number g c =
     ∙ sym (ap (λ (x : Content). byte_at x c.args.address) (sym c.self.view_is)
     ∙ byte_nowhere (kept_content c.self.inside.images.items c.self.inside.bindings.items) c.args.address
     (held_by c.self.inside.images.items c.as_slice.result.now c.args.address None c.as_slice.ensures.value c.in_err-number.ensures.holder))
+
+pub holder-requires-clause-order : goal.holder-requires-clause-order
+holder-requires-clause-order g c = kept_order c.self.inside.images.items c.as_slice.result.now c.self.inside.bindings.items c.self.invariant c.as_slice.ensures.value c.as_slice-2.ensures.value
+
+pub holder-requires-clause-apart : goal.holder-requires-clause-apart
+holder-requires-clause-apart g c = kept_apart c.self.inside.images.items c.as_slice.result.now c.self.inside.bindings.items c.self.invariant c.as_slice.ensures.value
