@@ -91,7 +91,8 @@ fn texts_len(view: View, start: u64, size: u64) -> u64
     requires { start + size ≤ size_of view }
     ensures { (offset : ℕ) → is_none (text_between (bytes_of view.entry) (start + offset) (start + size)) ≡ nat_le result offset }
 {
-    match view.slice(start, size).unwrap().rfind_byte(0) {
+    let bytes = view.slice(start, size).unwrap();
+    match bytes.rfind_byte(0) {
         Some(last) => last as u64 + 1,
         None => 0,
     }
