@@ -1,5 +1,6 @@
 #!/usr/bin/env python3
-"""Makes images whose tables share their texts: crafted.py FOLDER SIZE writes one file of each kind into the folder.
+"""Makes images whose tables share their texts, and objects whose records share texts or relocations: crafted.py FOLDER SIZE
+writes one file of each kind into the folder.
 
 SIZE is the length of the shared text in bytes, 1048576 for the largest files that the format allows; the numbers of entries
 are in proportion. So a file of a SIZE four times as large is four times as large.
@@ -59,8 +60,30 @@ def imports(modules, lookups, texts):
     return image(data + texts, [(1, BASE, 20 * (len(modules) + 1))])
 
 
+def coff_object(sections, symbols, texts, relocations=b""):
+    """An object of sections, each an 8-byte name and a count of relocations, which are the same for all; symbols of no name
+    but that at the string table's offset 4, each by its section's number; and these texts."""
+    behind = 20 + 40 * len(sections)
+    coff = struct.pack("<HHIIIHH", 0x8664, len(sections), 0, behind + len(relocations), len(symbols), 0, 0)
+    headers = b"".join(struct.pack("<8sIIIIIIHHI", name, 0, 0, 0, 0, behind, 0, count, 0, 0x60000020) for name, count in sections)
+    records = b"".join(struct.pack("<IIIHHBB", 0, 4, 0, section, 0, 2, 0) for section in symbols)
+    return coff + headers + relocations + records + struct.pack("<I", 4 + len(texts)) + texts
+
+
+def object_kinds(size):
+    """The kinds of objects, by name: those that are refused are so by their last record."""
+    count = min(size // 16, 65534)
+    text = b"a" * (size - 1) + b"\0"
+    good, bad = struct.pack("<IIH", 0, 0, 4), struct.pack("<IIH", 0, 5, 4)
+    sections = [(b".text", count)] * (size // 1024)
+    yield "relocations_refused", lambda: coff_object(sections, [0], b"a\0", good * (count - 1) + bad)
+    yield "relocations_shared", lambda: coff_object(sections[: size // 16384], [0], b"a\0", good * count)
+    yield "symbols_refused", lambda: coff_object([], [0] * (size // 4) + [77], text)
+    yield "sections_refused", lambda: coff_object([(b"/4", 0)] * (size // 32) + [(b"/2", 0)], [0], text)
+
+
 def kinds(size):
-    """The kinds of files, by name."""
+    """The kinds of images, by name."""
     count = size // 16
     text = b"a" * (size - 1) + b"\0"
     other = b"b" + b"a" * (size - 2) + b"\0"
@@ -83,9 +106,10 @@ def kinds(size):
 def main():
     folder, size = sys.argv[1], int(sys.argv[2])
     os.makedirs(folder, exist_ok=True)
-    for name, make in kinds(size):
-        with open(os.path.join(folder, f"{name}.dll"), "wb") as file:
-            file.write(make())
+    for made, ending in ((kinds(size), "dll"), (object_kinds(size), "obj")):
+        for name, make in made:
+            with open(os.path.join(folder, f"{name}.{ending}"), "wb") as file:
+                file.write(make())
 
 
 if __name__ == "__main__":

@@ -1,41 +1,32 @@
 -- The lines of an object's dump.
-use Rattle.std.proofs.Common.{◌≡◌, ◌∙◌, ℕ, ◌+◌, ◌*◌, ◌<◌, List, ◌∷◌, ◌++◌, drop, get_or, length, map, Some, ap, sym, append_assoc, arith}
+use Rattle.std.proofs.Common.{◌≡◌, ◌∙◌, ℕ, ◌+◌, ◌*◌, ◌<◌, List, ◌∷◌, ◌++◌, drop, length, map, Some, ap, sym, append_assoc, zero-add}
 use Rattle.std.specs.Prelude.{slice_get}
+use Rattle.std.specs.List.{range_with_len}
 use Rattle.std.proofs.lemmas.Bool.{lt-ltb}
 use Rattle.std.proofs.lemmas.List.{at_drop_more}
+use Rattle.std.proofs.lemmas.List.FromFn.{get_or-map-range_with_len}
+use Rattle.std.proofs.lemmas.Option.{get_or_from_slice_get}
 use Rattle.pe_view.specs.Number.{part}
-use Rattle.coff_object.specs.Auxiliary.{AuxRecord, aux_of, aux_in}
-use Rattle.coff_object.specs.Records.{Object, Symbol}
-use Rattle.coff_object.specs.Written.{aux_records, records_of}
-use Rattle.coff_lines.specs.ObjectLines.{symbol_line, aux_lines, symbol_lines}
+use Rattle.coff_object.specs.Auxiliary.{AuxRecord, aux_of, aux_record}
+use Rattle.coff_object.specs.Records.{Section, Symbol}
+use Rattle.coff_object.specs.Written.{aux_records}
 use Rattle.pe_text.specs.Text.{numbered}
 
--- the rows from i on are row i and those behind it
-pub row_here : {X : Type 0} (xs : List X) (i : ℕ) (d : X) → i < length xs → drop i xs ≡ get_or xs i d ∷ drop (i + 1) xs
-row_here xs i d below = at_drop_more (λ ys. ys) xs i d below
-
 -- one more section is written, with its relocations
-pub section-next : {X Y : Type 0} (view : X → Y) (lines : ℕ → Y → List ℕ) (number i : ℕ) (xs : List X) (x : X) (written all : List ℕ) → i < length xs → x ≡ get_or xs i x
-    → written ++ numbered lines number (map view (drop i xs)) ≡ all → (written ++ lines number (view x)) ++ numbered lines (number + 1) (map view (drop (i + 1) xs)) ≡ all
-section-next view lines number i xs x written all below is e =
-    let here : drop i xs ≡ x ∷ drop (i + 1) xs = row_here xs i x below ∙ ap (λ y. y ∷ drop (i + 1) xs) (sym is) in
-    rw append_assoc (rw here at e)
+pub section-next : (lines : ℕ → Section → List ℕ) (index : ℕ) (sections : List Section) (section : Section) (written all : List ℕ) → index < length sections → slice_get sections index ≡ Some section
+    → written ++ numbered lines (index + 1) (drop index sections) ≡ all
+    → (written ++ lines (index + 1) section) ++ numbered lines (index + 1 + 1) (drop (index + 1) sections) ≡ all
+section-next lines index sections section written all below is e =
+    let first : drop index sections ≡ section ∷ drop (index + 1) sections =
+    at_drop_more (λ ys. ys) sections index section below ∙ ap (λ (s : Section). s ∷ drop (index + 1) sections) (get_or_from_slice_get sections index section section is) in
+    rw append_assoc (rw first at e)
 
-module _ {X : Type 0} (view : X → Symbol) (index i : ℕ) (xs : List X) (d : X) (below : i < length xs) where
-  -- one more symbol is written, with its auxiliary records
-  pub symbol-next : (written all : List ℕ) → written ++ symbol_lines index (map view (drop i xs)) ≡ all
-      → ((written ++ symbol_line index (view (get_or xs i d))) ++ aux_lines (index + 1) (view (get_or xs i d)))
-      ++ symbol_lines (index + (1 + aux_records (view (get_or xs i d)))) (map view (drop (i + 1) xs)) ≡ all
-  symbol-next written all e = rw (append_assoc (written ++ _), append_assoc written) (rw (row_here xs i d below) at e)
-
-  -- its records are counted
-  pub records-next : (all : ℕ) → index + records_of (map view (drop i xs)) ≡ all
-      → index + (1 + aux_records (view (get_or xs i d))) + records_of (map view (drop (i + 1) xs)) ≡ all
-  records-next all e = let e' = rw (row_here xs i d below) at e in omega (arith, e')
+-- the item at a place of a list that is made by places
+pub item_is : {X : Type 0} (item : ℕ → X) (n i : ℕ) (x : X) → i < n → Some x ≡ slice_get (map item (range_with_len 0 n)) i → x ≡ item i
+item_is item n i x below is = sym (get_or_from_slice_get (map item (range_with_len 0 n)) i x x (sym is)) ∙ get_or-map-range_with_len item 0 n i i x below (zero-add i)
 
 -- which auxiliary record is told
-pub record_told : (o : Object) (s : Symbol) (i k : ℕ) (aux : AuxRecord) → slice_get o.symbols i ≡ Some s → k < aux_records s → Some aux ≡ aux_in o i k
-    → aux ≡ aux_of s (part s.aux (18 * k) 18)
-record_told o s i k aux there below is =
-    let e : Some aux ≡ Some (aux_of s (part s.aux (18 * k) 18)) = rw (there, lt-ltb k (aux_records s) below) at is in
+pub record_told : (s : Symbol) (k : ℕ) (aux : AuxRecord) → k < aux_records s → Some aux ≡ aux_record s k → aux ≡ aux_of s (part s.aux (18 * k) 18)
+record_told s k aux below is =
+    let e : Some aux ≡ Some (aux_of s (part s.aux (18 * k) 18)) = rw (lt-ltb k (aux_records s) below) at is in
     cc

@@ -1,8 +1,8 @@
 -- The lines of an object's dump as the definitions give them, written out.
-use Rattle.std.proofs.Common.{◌≡◌, ℕ, List, [], ◌∷◌, None, refl, codes}
+use Rattle.std.proofs.Common.{◌≡◌, ℕ, List, [], ◌∷◌, refl, codes}
 use Rattle.std.specs.Fmt.{digits}
 use Rattle.coff_object.specs.Auxiliary as auxiliary
-use Rattle.coff_object.specs.Records.{Bytes, Absent, Section, Symbol, Object}
+use Rattle.coff_object.specs.Records.{Bytes, Absent, Section, Symbol}
 use Rattle.coff_object.specs.declared.symbol.SymbolSection.TheVariants as belongs
 use Rattle.pe_text.specs.MachineLine.{machine_line}
 use Rattle.pe_text.specs.Field.{field_line}

@@ -5,8 +5,7 @@ ghost use Rattle.pe_text.specs.Engine.{Ran};
 ghost use Rattle.coff_lines.specs.ObjectReport.{IsObjectText};
 
 use crate::object_lines::write_object;
-use coff_object::laws::symbols_fill_the_table;
-use coff_object::{ObjectError, read_object};
+use coff_object::ObjectFile;
 use pe_text::{Outcome, Report, Sink, Source, TextWriter, ToolError, refuse, run_report};
 use std::alloc::{AllocError, Allocator};
 
@@ -17,18 +16,16 @@ impl Report for DumpObject {
     ghost is_text = { IsObjectText };
 
     fn write<A: Allocator + Copy, W: Sink>(
-        alloc: A,
+        _alloc: A,
         text: &mut TextWriter<W>,
         file: &[u8],
     ) -> Result<Outcome, AllocError> {
-        symbols_fill_the_table();
-        match read_object(alloc, file) {
+        match ObjectFile::new(file) {
             Ok(object) => {
                 write_object(text, &object);
                 Ok(Outcome::Done)
             }
-            Err(ObjectError::Fault(fault)) => Ok(refuse(text, fault)),
-            Err(ObjectError::Memory) => Err(AllocError),
+            Err(fault) => Ok(refuse(text, fault)),
         }
     }
 }
@@ -36,7 +33,8 @@ impl Report for DumpObject {
 /// Writes what an object holds, a line for three fields of its header, for each section, relocation, symbol and auxiliary
 /// record, or the object's first fault.
 ///
-/// The reader is read to its end, or to 2^32 + 1 bytes; then all faults are asked, and only then the text is written. After
+/// The reader is read to its end, or to 2^32 + 1 bytes; then all faults are asked, and only then the text is written. Beside
+/// the file's bytes no memory is taken. After
 /// `Write` a beginning of it was written, after `Read` and `Memory` nothing; `Memory` never comes where the reader gave no
 /// byte. Condition: fewer than 2^64 - 1 failures are counted on either device so far.
 pub fn dump_object<A: Allocator + Copy, R: Source, W: Sink>(

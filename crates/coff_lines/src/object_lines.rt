@@ -1,25 +1,26 @@
 //! The dump of an object: what it holds, a line each.
 
-ghost use Rattle.std.specs.Prelude.{◌≡◌, ◌+◌, ◌<◌, ◌^◌, ◌∷◌, [], Some, codes, decimal, flat_map, map, option_map, slice_get};
+ghost use Rattle.std.specs.Prelude.{◌≡◌, ◌+◌, ◌^◌, ◌≤◌, ◌∷◌, [], codes, decimal, flat_map, option_map};
 ghost use Rattle.coff_object.specs.Auxiliary.{Function, Section as SectionRecord};
 ghost use Rattle.coff_object.specs.AuxiliaryView.{aux_view};
-ghost use Rattle.coff_object.specs.ObjectView.{raw_view, section_view, symbol_view, object_view};
-ghost use Rattle.coff_object.specs.Written.{raw_size, aux_records, records_of};
+ghost use Rattle.coff_object.specs.FileView.{file_section_view, relocations_view};
+ghost use Rattle.coff_object.specs.ObjectFile.{file_of};
+ghost use Rattle.coff_object.specs.ObjectView.{raw_view, symbol_view};
+ghost use Rattle.coff_object.specs.Reading.{object_of};
+ghost use Rattle.coff_object.specs.Written.{raw_size};
 ghost use Rattle.coff_lines.specs.ObjectLines.{amd64_names, i386_names, type_names, class_names, name_in, raw_word, section_line, section_lines, relocation_line, section_text, symbol_line, shape_text, aux_line, aux_lines, symbol_lines, object_text};
 ghost use Rattle.pe_text.specs.Part.{joined, part_text};
 ghost use Rattle.pe_text.specs.Text.{hex, numbered};
 ghost use Rattle.pe_text.specs.TextWriter.{IsReady, Adds};
 
-use coff_object::{Aux, ObjSection, Object, RawData, Relocation, Symbol, SymbolSection};
+use coff_object::{
+    Aux, FileSection, ObjectFile, RawData, Relocation, Relocations, Symbol, SymbolSection,
+};
 use pe_head::machine;
 use pe_text::Part::{self, Decimal, Hex4, Hex8, Name, Quoted, Text};
 use pe_text::{
     Sink, TextWriter, characteristics, time_date_stamp, write_fields, write_machine, write_parts,
 };
-use std::alloc::Allocator;
-
-/// How many bytes an auxiliary record has.
-const AUX_LEN: usize = 18;
 
 /// The name of a storage class ("PE Format", Storage Class).
 fn class_name(class: u8) -> Option<&'static [u8]>
@@ -97,16 +98,12 @@ fn size_and_word(raw: &RawData) -> (u64, &'static [u8])
 }
 
 #[tactic(auto, unfolding(crate::specs::ObjectLines::section_line))]
-fn write_section<A: Allocator, W: Sink>(
-    line: &mut TextWriter<W>,
-    number: u64,
-    section: &ObjSection<A>,
-)
+fn write_section<W: Sink>(line: &mut TextWriter<W>, number: u64, section: &FileSection)
     requires { IsReady W.failures line.old }
-    ensures { Adds W.taken W.failures line.old line.new (section_line number (section_view section.now)) }
+    ensures { Adds W.taken W.failures line.old line.new (section_line number (file_section_view section.now)) }
 {
     let (size, word) = size_and_word(&section.raw);
-    let relocations = section.relocations.as_slice().len();
+    let relocations = section.relocations.len();
     write_parts(
         line,
         &[
@@ -146,28 +143,26 @@ fn write_relocation<W: Sink>(line: &mut TextWriter<W>, machine: u16, relocation:
     );
 }
 
-fn write_relocations<W: Sink>(text: &mut TextWriter<W>, machine: u16, relocations: &[Relocation])
+fn write_relocations<W: Sink>(text: &mut TextWriter<W>, machine: u16, relocations: Relocations)
     requires { IsReady W.failures text.old }
-    ensures { Adds W.taken W.failures text.old text.new (flat_map (relocation_line machine) relocations.now) }
+    ensures { Adds W.taken W.failures text.old text.new (flat_map (relocation_line machine) (relocations_view relocations.entry)) }
 {
-    for relocation in relocations {
-        write_relocation(text, machine, relocation);
+    for index in 0..relocations.len() {
+        let relocation = relocations.get(index).unwrap();
+        write_relocation(text, machine, &relocation);
     }
 }
 
 /// Adds the lines of each section, with its number from 1.
-fn write_sections<A: Allocator, W: Sink>(
-    text: &mut TextWriter<W>,
-    machine: u16,
-    sections: &[ObjSection<A>],
-)
+fn write_sections<W: Sink>(text: &mut TextWriter<W>, machine: u16, object: &ObjectFile)
     requires { IsReady W.failures text.old }
     ensures { Adds W.taken W.failures text.old text.new
-        (numbered (section_lines machine) 1 (map section_view sections.now)) }
+        (numbered (section_lines machine) 1 (object_of (file_of object.now)).sections) }
 {
-    for (index, section) in sections.iter().enumerate() {
-        write_section(text, index as u64 + 1, section);
-        write_relocations(text, machine, &section.relocations);
+    for index in 0..object.section_count() {
+        let section = object.section(index).unwrap();
+        write_section(text, index as u64 + 1, &section);
+        write_relocations(text, machine, section.relocations);
     }
 }
 
@@ -181,13 +176,6 @@ fn section_part<'a>(section: SymbolSection) -> Part<'a>
         SymbolSection::Debug => Text(b"debug"),
         SymbolSection::Section(number) => Decimal(number as u64),
     }
-}
-
-/// How many auxiliary records a symbol has.
-fn aux_count(symbol: &Symbol) -> u64
-    ensures { result ≡ aux_records (symbol_view symbol.now) }
-{
-    (symbol.aux.len() / AUX_LEN) as u64
 }
 
 #[tactic(auto, unfolding(crate::specs::ObjectLines::symbol_line))]
@@ -212,7 +200,7 @@ fn write_symbol<W: Sink>(line: &mut TextWriter<W>, index: u64, symbol: &Symbol)
             Decimal(symbol.class as u64),
             Name(class_name(symbol.class)),
             Text(b" aux "),
-            Decimal(aux_count(symbol)),
+            Decimal(symbol.aux_count() as u64),
             Text(b"\n"),
         ],
     );
@@ -353,56 +341,44 @@ fn write_aux<W: Sink>(line: &mut TextWriter<W>, index: u64, aux: &Aux)
     line.text(b"\n");
 }
 
-/// Adds the lines of the auxiliary records of the symbol at a position of the object, the first with this index.
-fn write_aux_records<A: Allocator, W: Sink>(
-    text: &mut TextWriter<W>,
-    object: &Object<A>,
-    position: usize,
-    symbol: &Symbol,
-    index: u64,
-)
+/// Adds the lines of the auxiliary records of a symbol, the first with this index.
+fn write_aux_records<W: Sink>(text: &mut TextWriter<W>, symbol: &Symbol, index: u64)
     requires ready { IsReady W.failures text.old }
-    requires there { slice_get object.now.symbols.items position ≡ Some symbol.now }
-    requires few { index + aux_records (symbol_view symbol.now) < 2 ^ 64 }
+    requires small { index ≤ 2 ^ 32 }
     ensures { Adds W.taken W.failures text.old text.new (aux_lines index (symbol_view symbol.now)) }
 {
-    for k in 0..symbol.aux.len() / AUX_LEN {
-        let aux = object.aux_view(position, k).unwrap();
+    for k in 0..symbol.aux_count() {
+        let aux = symbol.aux_record(k).unwrap();
         write_aux(text, index + k as u64, &aux);
     }
 }
 
 /// Adds the lines of each symbol, with the index of its record, and of its auxiliary records.
-fn write_symbols<A: Allocator, W: Sink>(text: &mut TextWriter<W>, object: &Object<A>)
-    requires ready { IsReady W.failures text.old }
-    requires few { records_of (map symbol_view object.now.symbols.items) < 2 ^ 32 }
-    ensures { Adds W.taken W.failures text.old text.new (symbol_lines 0 (map symbol_view object.now.symbols.items)) }
+fn write_symbols<W: Sink>(text: &mut TextWriter<W>, object: &ObjectFile)
+    requires { IsReady W.failures text.old }
+    ensures { Adds W.taken W.failures text.old text.new (symbol_lines 0 (object_of (file_of object.now)).symbols) }
 {
-    let symbols = object.symbols.as_slice();
-    let mut index = 0;
-    for (position, symbol) in symbols.iter().enumerate() {
-        write_symbol(text, index, symbol);
-        write_aux_records(text, object, position, symbol, index + 1);
-        index += 1 + aux_count(symbol);
+    for (index, symbol) in object.symbols() {
+        write_symbol(text, u64::from(index), &symbol);
+        write_aux_records(text, &symbol, u64::from(index) + 1);
     }
 }
 
 /// Adds the lines of an object's dump.
 #[tactic(auto, unfolding(crate::specs::ObjectLines::object_text))]
-pub(crate) fn write_object<A: Allocator, W: Sink>(text: &mut TextWriter<W>, object: &Object<A>)
-    requires ready { IsReady W.failures text.old }
-    requires few { records_of (map symbol_view object.now.symbols.items) < 2 ^ 32 }
-    ensures { Adds W.taken W.failures text.old text.new (object_text (object_view object.now)) }
+pub(crate) fn write_object<W: Sink>(text: &mut TextWriter<W>, object: &ObjectFile)
+    requires { IsReady W.failures text.old }
+    ensures { Adds W.taken W.failures text.old text.new (object_text (object_of (file_of object.now))) }
 {
-    write_machine(text, object.machine);
+    write_machine(text, object.machine());
     write_fields(
         text,
         &[
-            time_date_stamp(object.time_stamp),
-            characteristics(object.characteristics),
+            time_date_stamp(object.time_stamp()),
+            characteristics(object.characteristics()),
         ],
     );
-    write_sections(text, object.machine, object.sections.as_slice());
+    write_sections(text, object.machine(), object);
     write_symbols(text, object);
     text.text(b"end\n");
 }

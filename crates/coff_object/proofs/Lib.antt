@@ -18,7 +18,9 @@ pub mod SectionsBack
 pub mod Sizes
 pub mod StringPlaces
 pub mod StringTable
+pub mod SymbolSteps
 pub mod SymbolsBack
+pub mod TextsEnd
 pub mod Walk
 pub mod WholeTable
 pub mod Writable

@@ -1,17 +1,17 @@
 -- A walk over the records of a table: what is left of its tests, and of the list that it reads.
-use Rattle.std.proofs.Common.{◌≡◌, ◌∙◌, refl, true, false, length, ℕ, suc, ◌+◌, ◌-◌, ◌<◌, ◌≤◌, List, [], ◌∷◌, ◌++◌, Option, Some, None, Result, Ok, Err, sym, ap, append_assoc, arith}
-use Rattle.std.specs.Prelude.{map, not, nat_lt, ◌==◌}
+use Rattle.std.proofs.Common.{◌≡◌, ◌∙◌, refl, true, false, length, ℕ, zero, suc, ◌+◌, ◌-◌, ◌<◌, ◌≤◌, List, [], ◌∷◌, ◌++◌, Option, Some, None, sym, ap, append_assoc, zero-add, arith}
+use Rattle.std.specs.Prelude.{map, not, nat_lt, slice_get, ◌==◌}
 use Rattle.std.proofs.lemmas.Bool.{ne_eqb, ltb-false}
 use Rattle.std.specs.List.{flat_map, range_with_len}
 use Rattle.std.proofs.lemmas.List.{map-append, append-nil}
-use Rattle.pe_view.specs.Faults.{Test, first_standing, Refuses, AnswersOrWants}
-use Rattle.pe_view.specs.FirstStanding.{first-in, first-past, refused-past, none-append, none_stands}
+use Rattle.std.proofs.lemmas.List.FromFn.{get_or-map-range_with_len, length-map-range_with_len}
+use Rattle.std.proofs.lemmas.Option.{slice_get-get_or}
+use Rattle.pe_view.specs.Faults.{Test, first_standing}
+use Rattle.pe_view.specs.FirstStanding.{first-in, first-past, none-append, none_stands}
 use Rattle.pe_view.specs.declared.fault.Fault as view
 use Rattle.coff_object.specs.Field.{field}
 use Rattle.coff_object.specs.ObjectFaults.{section_tests}
 use Rattle.coff_object.specs.Reading.{aux_count, symbols_from, relocation_start}
-use Rattle.pe_view.specs.declared.refusal.Refusal.{Refusal}
-use Rattle.pe_view.specs.declared.refusal.Refusal.TheVariants.{Fault, Memory}
 use Rattle.coff_object.proofs.SymbolsBack.{symbols-step}
 
 -- the indexes that are left, from one of them on
@@ -27,12 +27,6 @@ pass tests h left more whole is none inv = sym (first-past (tests h) (flat_map t
 pub stop : (tests : ℕ → List Test) (h : ℕ) (left more : List ℕ) (whole : List Test) (y : view.Fault) → left ≡ h ∷ more → first_standing (tests h) ≡ Some y
     → first_standing (flat_map tests left) ≡ first_standing whole → first_standing whole ≡ Some y
 stop tests h left more whole y is some inv = sym inv ∙ ap (λ (hs : List ℕ). first_standing (flat_map tests hs)) is ∙ first-in (tests h) (flat_map tests more) y some
-
--- or want of memory
-pub stop_reading : (tests : ℕ → List Test) (h : ℕ) (left more : List ℕ) (whole : List Test) (e : Refusal) → left ≡ h ∷ more → Refuses (tests h) e
-    → first_standing (flat_map tests left) ≡ first_standing whole → Refuses whole e
-stop_reading tests h left more whole Memory is refused inv = tt
-stop_reading tests h left more whole (Fault y) is refused inv = stop tests h left more whole y is refused inv
 
 -- one item more has been read
 pub read_more : {X Y : Type 0} (view : X → Y) (read : ℕ → Y) (h : ℕ) (old new : List X) (x : X) (left more : List ℕ) (whole : List Y) → left ≡ h ∷ more → new ≡ old ++ x ∷ [] → view x ≡ read h
@@ -83,7 +77,24 @@ relocations_fit file h none some =
 pub first_none : (tests : ℕ → List Test) (h : ℕ) (left more : List ℕ) → left ≡ h ∷ more → first_standing (flat_map tests left) ≡ None → (first_standing (tests h) ≡ None) × (first_standing (flat_map tests more) ≡ None)
 first_none tests h left more is none = none-append (tests h) (flat_map tests more) (sym (ap (λ (hs : List ℕ). first_standing (flat_map tests hs)) is) ∙ none)
 
--- what is asked behind tests of which none stands
-pub behind : {X : Type 0} (front rest : List Test) (P : X → Type 0) (result : Result X Refusal) → first_standing front ≡ None → AnswersOrWants rest P result → AnswersOrWants (front ++ rest) P result
-behind front rest P (Ok x) none answers = (first-past front rest none ∙ answers.0, answers.1)
-behind front rest P (Err e) none answers = refused-past front rest e none answers
+-- of records without a fault each has none
+pub none_among : (tests : ℕ → List Test) (start : ℕ → ℕ) (from n i : ℕ) → first_standing (flat_map tests (map start (range_with_len from n))) ≡ None → i < n → first_standing (tests (start (from + i))) ≡ None
+none_among tests start from zero i none lt = absurd (omega (arith, lt))
+none_among tests start from (suc n) zero none lt =
+    let here : from ≡ from + 0 = omega arith in
+    ap (λ (k : ℕ). first_standing (tests (start k))) (sym here) ∙ (none-append (tests (start from)) (flat_map tests (map start (range_with_len (from + 1) n))) none).0
+none_among tests start from (suc n) (suc i) none lt =
+    let next : from + 1 + i ≡ from + suc i = omega arith in
+    ap (λ (k : ℕ). first_standing (tests (start k))) (sym next)
+    ∙ none_among tests start (from + 1) n i (none-append (tests (start from)) (flat_map tests (map start (range_with_len (from + 1) n))) none).1 (omega (arith, lt))
+
+-- an item of a list that is made by places
+pub made_at : {Y : Type 0} (item : ℕ → Y) (n i : ℕ) → i < n → slice_get (map item (range_with_len 0 n)) i ≡ Some (item i)
+made_at item n i lt =
+    let len = length-map-range_with_len item 0 n in
+    slice_get-get_or (map item (range_with_len 0 n)) i (item i) (omega (arith, len, lt)) ∙ ap Some (get_or-map-range_with_len item 0 n i i (item i) lt (zero-add i))
+
+pub made_none : {Y : Type 0} (item : ℕ → Y) (from n i : ℕ) → n ≤ i → slice_get (map item (range_with_len from n)) i ≡ None
+made_none item from zero i le = refl
+made_none item from (suc n) zero le = absurd (omega (arith, le))
+made_none item from (suc n) (suc i) le = made_none item (from + 1) n i (omega (arith, le))

@@ -47,9 +47,10 @@ table_inside file none = elim (cases_Bool (symbol_pointer file == 0)) [
       ltb-false (length file) (strings_start file) inside)
 ]
 
--- the symbol table lies in the file, and no fault of its symbols stands
+-- the symbol table lies in the file, and no fault of the sections or of the symbols stands
 pub record TableStands (file : List ℕ) : Type 0 where
   pub inside : strings_start file ≤ length file
+  pub sections : first_standing (flat_map (section_tests file) (section_starts file)) ≡ None
   pub symbols : first_standing (flat_map (symbol_tests file) (symbol_indexes file)) ≡ None
 
 pub table_stands : (file : List ℕ) → first_standing (object_tests file) ≡ None → TableStands file
@@ -59,7 +60,7 @@ table_stands file none =
     let tables = none-append (symbol_table_tests file) (record_tests file) parts.1 in
     let sections = none-append (flat_map (section_tests file) (section_starts file)) (flat_map (symbol_tests file) (symbol_indexes file) ++ flat_map (relocation_tests file) (section_starts file)) tables.1 in
     let symbols = none-append (flat_map (symbol_tests file) (symbol_indexes file)) (flat_map (relocation_tests file) (section_starts file)) sections.1 in
-    record { inside = table_inside file (none_stands (symbol_table_tests file) 0 _ tables.0 refl); symbols = symbols.0 }
+    record { inside = table_inside file (none_stands (symbol_table_tests file) 0 _ tables.0 refl); sections = sections.0; symbols = symbols.0 }
 
 pub record FillsTable (file : List ℕ) : Type 0 where
   pub records : records_of (object_of file).symbols ≡ record_count file

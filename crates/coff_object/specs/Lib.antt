@@ -5,8 +5,11 @@ pub use Rattle.pe_view.specs.View
 pub mod Auxiliary
 pub mod AuxiliaryView
 pub mod Field
+pub mod NameField
 pub mod Names
+pub mod FileView
 pub mod ObjectFaults
+pub mod ObjectFile
 pub mod Reading
 pub mod RecordPlaces
 pub mod Records
@@ -15,6 +18,7 @@ pub mod StringPlaces
 pub mod Strings
 pub mod StringTableView
 pub mod StringTableWords
+pub mod SymbolsLeft
 pub mod WriteFaults
 pub mod NamePlaces
 pub mod ObjectView

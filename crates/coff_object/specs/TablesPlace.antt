@@ -1,7 +1,7 @@
 -- Where the tables of an object's file stand, as the reader holds it.
-use Rattle.std.specs.Prelude.{◌≡◌, ℕ, ◌+◌, ◌*◌, ◌≤◌, ◌^◌, length, List}
+use Rattle.std.specs.Prelude.{◌≡◌, ◌||◌, ℕ, ◌+◌, ◌*◌, ◌≤◌, ◌^◌, length, List, is_none, nat_le, nat_lt}
 use Rattle.coff_object.specs.Field.{field}
-use Rattle.coff_object.specs.Strings.{strings_start, strings_size, symbol_pointer, record_count}
+use Rattle.coff_object.specs.Strings.{strings_start, strings_size, string_at, symbol_pointer, record_count}
 use Rattle.coff_object.specs.declared.tables.Tables.{Tables}
 
 pub record AreTables (file : List ℕ) (t : Tables) : Type 0 where
@@ -14,4 +14,5 @@ pub record AreTables (file : List ℕ) (t : Tables) : Type 0 where
   pub strings : t.strings ≡ strings_start file
   pub strings_size : t.strings_size ≡ strings_size file
   pub strings_inside : t.strings + t.strings_size ≤ length file
+  pub texts : (offset : ℕ) → is_none (string_at file offset) ≡ (nat_lt offset 4 || nat_le t.texts offset)
   pub small : length file ≤ 2 ^ 32

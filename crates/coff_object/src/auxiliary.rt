@@ -3,6 +3,7 @@ ghost use Rattle.pe_view.specs.View.{bytes_of, size_of};
 ghost use Rattle.coff_object.specs.Auxiliary.{aux_in, aux_of, aux_record, defines_function, function_of, section_of};
 ghost use Rattle.coff_object.specs.AuxiliaryView.{aux_view};
 ghost use Rattle.coff_object.specs.ObjectView.{object_view, symbol_view};
+ghost use Rattle.coff_object.specs.Written.{aux_records};
 
 use crate::fields::{u8_in, u16_in, u32_in};
 use crate::names::up_to_zero;
@@ -133,16 +134,26 @@ fn aux_of<'a>(symbol: &Symbol, bytes: &'a [u8]) -> Aux<'a>
     }
 }
 
-/// Auxiliary record `k` of a symbol.
-fn aux_record<'a>(symbol: &Symbol<'a>, k: usize) -> Option<Aux<'a>>
-    ensures { option_map aux_view result ≡ aux_record (symbol_view symbol.now) k }
-{
-    let records = symbol.aux;
-    if k >= records.len() / AUX_LEN {
-        return None;
+impl<'a> Symbol<'a> {
+    /// How many auxiliary records the symbol has.
+    pub fn aux_count(&self) -> usize
+        ensures { result ≡ aux_records (symbol_view self.now) }
+    {
+        self.aux.len() / AUX_LEN
     }
-    let start = AUX_LEN * k;
-    Some(aux_of(symbol, &records[start..start + AUX_LEN]))
+
+    /// Auxiliary record `k` of the symbol, counted from 0; `None` exactly where there is no such record. Takes no memory.
+    /// ("PE Format", Auxiliary Symbol Records.)
+    pub fn aux_record(&self, k: usize) -> Option<Aux<'a>>
+        ensures { option_map aux_view result ≡ aux_record (symbol_view self.now) k }
+    {
+        if k >= self.aux_count() {
+            return None;
+        }
+        let records = self.aux;
+        let start = AUX_LEN * k;
+        Some(aux_of(self, &records[start..start + AUX_LEN]))
+    }
 }
 
 impl<'a, A: Allocator> Object<'a, A> {
@@ -151,6 +162,6 @@ impl<'a, A: Allocator> Object<'a, A> {
     pub fn aux_view(&self, symbol: usize, k: usize) -> Option<Aux<'a>>
         ensures { option_map aux_view result ≡ aux_in (object_view self.now) symbol k }
     {
-        aux_record(self.symbols.as_slice().get(symbol)?, k)
+        self.symbols.as_slice().get(symbol)?.aux_record(k)
     }
 }

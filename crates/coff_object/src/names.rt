@@ -1,18 +1,31 @@
 //! Names of sections and symbols, read from their fields and from the string table.
 
-ghost use Rattle.std.specs.Prelude.{◌≡◌, ◌+◌, ◌*◌, ◌≤◌, ◌<◌, ◌^◌, ◌==◌, length, option_map, IsTrue, true, Some, None, if◌then◌else◌};
+ghost use Rattle.std.specs.Prelude.{◌≡◌, ◌+◌, ◌*◌, ◌≤◌, ◌<◌, ◌^◌, ◌==◌, ℕ, List, [], length, is_none, option_map, IsTrue, true, Some, None, if◌then◌else◌};
 ghost use Rattle.std.specs.List.{list_all};
+ghost use Rattle.std.specs.Option.{unwrap_or};
 ghost use Rattle.pe_view.specs.View.{bytes_of, size_of};
+ghost use Rattle.pe_view.specs.TextEnds.{AreEndsOf};
+ghost use Rattle.coff_object.specs.NameField.{name_in};
 ghost use Rattle.coff_object.specs.Names.{is_digit, decimal_value, up_to_zero, is_number_field, name_offset, section_name, symbol_name};
 ghost use Rattle.coff_object.specs.TablesPlace.{AreTables};
 ghost use Rattle.coff_object.specs.Strings.{string_at};
 
 use crate::fields::u32_in;
 use crate::tables::Tables;
-use pe_view::View;
+use pe_view::{TextEnds, View};
+use std::alloc::Allocator;
 
 /// How many bytes a name field has.
 pub(crate) const NAME_LEN: usize = 8;
+
+/// What the name field of a section or of a symbol holds.
+#[derive(Clone, Copy)]
+pub(crate) enum NameField<'a> {
+    /// The name.
+    Inline(&'a [u8]),
+    /// The offset of the name in the string table.
+    Offset(u32),
+}
 
 /// The bytes before the first zero byte, or all of them.
 pub(crate) fn up_to_zero(bytes: &[u8]) -> &[u8]
@@ -94,30 +107,72 @@ fn string_at<'a>(view: View<'a>, tables: Tables, offset: u32) -> Option<&'a [u8]
     view.until_zero(start, tables.strings + tables.strings_size)
 }
 
-/// The name of the section whose header stands at an offset of the file.
-pub(crate) fn section_name<'a>(view: View<'a>, tables: Tables, h: u64) -> Option<&'a [u8]>
-    requires tables { AreTables (bytes_of view) tables }
-    requires inside { h + 40 ≤ size_of view }
-    ensures { option_map (λ name. name.now) result ≡ section_name (bytes_of view.entry) h }
+/// Whether a name's offset leads to no text of the string table.
+pub(crate) fn has_no_text(tables: Tables, field: NameField) -> bool
+    ensures { (file : List ℕ) → AreTables file tables → result ≡ is_none (name_in file field.entry) }
 {
-    let field = view.slice(h, NAME_LEN as u64).unwrap();
-    match name_offset(field) {
-        Some(offset) => string_at(view, tables, offset),
-        None => Some(up_to_zero(field)),
+    match field {
+        NameField::Inline(_) => false,
+        NameField::Offset(offset) => offset < 4 || tables.texts <= u64::from(offset),
     }
 }
 
-/// The name of the symbol whose record stands at an offset of the file.
-pub(crate) fn symbol_name<'a>(view: View<'a>, tables: Tables, at: u64) -> Option<&'a [u8]>
+/// The name that a field gives, which is empty where it leads to no text. A text of the string table is searched for its end.
+pub(crate) fn name_of<'a>(view: View<'a>, tables: Tables, field: NameField<'a>) -> &'a [u8]
+    requires { AreTables (bytes_of view) tables }
+    ensures { result.now ≡ unwrap_or (name_in (bytes_of view.entry) field.entry) [] }
+{
+    match field {
+        NameField::Inline(name) => name,
+        NameField::Offset(offset) => string_at(view, tables, offset).unwrap_or(&[]),
+    }
+}
+
+/// The name that a field gives, as [`name_of`] answers it. Where texts of the string table end is remembered.
+pub(crate) fn name_kept<'a, A: Allocator + Copy>(
+    ends: &mut TextEnds<A>,
+    view: View<'a>,
+    tables: Tables,
+    field: NameField<'a>,
+) -> &'a [u8]
     requires tables { AreTables (bytes_of view) tables }
-    requires inside { at + 18 ≤ size_of view }
-    ensures { option_map (λ name. name.now) result ≡ symbol_name (bytes_of view.entry) at }
+    requires known { AreEndsOf (bytes_of view) ends.old }
+    ensures name { result.now ≡ unwrap_or (name_in (bytes_of view.entry) field.entry) [] }
+    ensures known { AreEndsOf (bytes_of view.entry) ends.new }
+{
+    match field {
+        NameField::Inline(name) => name,
+        NameField::Offset(0..4) => &[],
+        NameField::Offset(offset) => {
+            let start = tables.strings + u64::from(offset);
+            let end = tables.strings + tables.strings_size;
+            ends.until_zero(view, start, end).unwrap_or(&[])
+        }
+    }
+}
+
+/// What the name field of the section holds whose header stands at an offset of the file.
+pub(crate) fn section_name_field<'a>(view: View<'a>, h: u64) -> NameField<'a>
+    requires { h + 40 ≤ size_of view }
+    ensures { name_in (bytes_of view.entry) result ≡ section_name (bytes_of view.entry) h }
+{
+    let field = view.slice(h, NAME_LEN as u64).unwrap();
+    match name_offset(field) {
+        Some(offset) => NameField::Offset(offset),
+        None => NameField::Inline(up_to_zero(field)),
+    }
+}
+
+/// What the name field of the symbol holds whose record stands at an offset of the file.
+pub(crate) fn symbol_name_field<'a>(view: View<'a>, at: u64) -> NameField<'a>
+    requires { at + 18 ≤ size_of view }
+    ensures { name_in (bytes_of view.entry) result ≡ symbol_name (bytes_of view.entry) at }
 {
     if u32_in(view, at, 0) != 0 {
-        return Some(up_to_zero(view.slice(at, NAME_LEN as u64).unwrap()));
+        return NameField::Inline(up_to_zero(view.slice(at, NAME_LEN as u64).unwrap()));
     }
     match u32_in(view, at, 4) {
-        0 => Some(&[]),
-        offset => string_at(view, tables, offset),
+        0 => NameField::Inline(&[]),
+        offset => NameField::Offset(offset),
     }
 }

@@ -1,4 +1,4 @@
-ghost use Rattle.std.specs.Prelude.{◌≡◌, ◌+◌, ◌≤◌, ◌<◌, ◌^◌, ◌++◌, ◌∷◌, length, map, replicate, IsTrue, OnOk};
+ghost use Rattle.std.specs.Prelude.{◌≡◌, ◌+◌, ◌*◌, ◌≤◌, ◌<◌, ◌^◌, ◌++◌, ◌∷◌, length, map, replicate, IsTrue, OnOk};
 ghost use Rattle.std.specs.List.{flat_map, AllByRecursion};
 ghost use Rattle.coff_object.specs.Field.{number_bytes};
 ghost use Rattle.coff_object.specs.Names.{decimal_digits, padded, is_long, is_long_section_name};
@@ -7,7 +7,7 @@ ghost use Rattle.coff_object.specs.Written.{relocation_bytes, raw_bytes, pointer
 ghost use Rattle.coff_object.specs.ObjectView.{raw_view, section_view, symbol_view};
 
 use crate::names::NAME_LEN;
-use crate::relocation::Relocation;
+use crate::relocation::{RELOCATION_LEN, Relocation};
 use crate::section::{ObjSection, RawData};
 use crate::symbol::{Symbol, SymbolSection};
 use itoa::Buffer;
@@ -100,19 +100,20 @@ fn relocation_record(address: u32, symbol: u32, kind: u16) -> [u8; 10]
     [a, b, c, d, e, f, g, h, i, j]
 }
 
-/// Adds the bytes of a relocation.
-fn push_relocation<A: Allocator>(
-    bytes: &mut Vec<u8, A>,
-    relocation: &Relocation,
-) -> Result<(), AllocError>
-    ensures bytes { OnOk result (bytes.new.items ≡ bytes.old.items ++ relocation_bytes relocation.now) }
-    ensures fits { OnOk result (RelocationFits relocation.now) }
+/// Writes the bytes of relocations into room for as many.
+fn write_relocations(room: &mut [u8], relocations: &[Relocation])
+    requires { room.old ≡ replicate (10 * length relocations.now) 0 }
+    ensures fits { AllByRecursion RelocationFits relocations.now }
+    ensures bytes { room.new ≡ flat_map relocation_bytes relocations.now }
 {
-    let record = relocation_record(relocation.address, relocation.symbol, relocation.kind);
-    bytes.extend_from_slice(&record)
+    for (index, relocation) in relocations.iter().enumerate() {
+        let record = relocation_record(relocation.address, relocation.symbol, relocation.kind);
+        let start = record.len() * index;
+        room[start..start + record.len()].copy_from_slice(&record);
+    }
 }
 
-/// Adds the bytes of relocations.
+/// Adds the bytes of relocations, for which room is made once.
 fn push_relocations<A: Allocator>(
     bytes: &mut Vec<u8, A>,
     relocations: &[Relocation],
@@ -120,9 +121,9 @@ fn push_relocations<A: Allocator>(
     ensures fits { OnOk result (AllByRecursion RelocationFits relocations.now) }
     ensures bytes { OnOk result (bytes.new.items ≡ bytes.old.items ++ flat_map relocation_bytes relocations.now) }
 {
-    for relocation in relocations {
-        push_relocation(bytes, relocation)?;
-    }
+    let start = bytes.len();
+    bytes.resize(start + RELOCATION_LEN as usize * relocations.len(), 0)?;
+    write_relocations(&mut bytes[start..], relocations);
     Ok(())
 }
 

@@ -1,4 +1,4 @@
-ghost use Rattle.std.specs.Prelude.{◌≡◌, ◌+◌, ◌*◌, ◌≤◌, ◌<◌, ◌^◌, map, IfOk, ⊤};
+ghost use Rattle.std.specs.Prelude.{◌≡◌, ◌+◌, ◌*◌, ◌≤◌, ◌<◌, map, ⊤};
 ghost use Rattle.std.specs.List.{range_with_len};
 ghost use Rattle.pe_view.specs.View.{bytes_of, size_of};
 ghost use Rattle.pe_view.specs.Faults.{Answers};
@@ -10,7 +10,6 @@ ghost use Rattle.coff_object.specs.Strings.{record_count};
 use crate::error::file_fault;
 use crate::fields::{u16_in, u32_in};
 use pe_view::{Fault, View};
-use std::alloc::{AllocError, Allocator};
 
 /// How many bytes a relocation has.
 pub(crate) const RELOCATION_LEN: u64 = 10;
@@ -27,7 +26,7 @@ pub struct Relocation {
 }
 
 /// The relocation whose record stands at an offset of the file.
-fn relocation_at(view: View, at: u64) -> Relocation
+pub(crate) fn relocation_at(view: View, at: u64) -> Relocation
     requires { at + 10 ≤ size_of view }
     ensures { result ≡ relocation_at (bytes_of view.entry) at }
 {
@@ -36,25 +35,6 @@ fn relocation_at(view: View, at: u64) -> Relocation
         symbol: u32_in(view, at, 4),
         kind: u16_in(view, at, 8),
     }
-}
-
-/// The relocations that begin at an offset of the file, so many.
-pub(crate) fn read_relocations<A: Allocator>(
-    alloc: A,
-    view: View,
-    start: u64,
-    count: u64,
-) -> Result<Vec<Relocation, A>, AllocError>
-    requires fits { 0 < count → start + 10 * count ≤ size_of view }
-    requires near { start < 2 ^ 32 }
-    requires few { count < 2 ^ 16 }
-    ensures { IfOk result (λ relocations. relocations.items ≡ map (λ k. relocation_at (bytes_of view.entry) (start + 10 * k)) (range_with_len 0 count)) }
-{
-    let mut relocations = Vec::new(alloc);
-    for k in 0..count {
-        relocations.push(relocation_at(view, start + RELOCATION_LEN * k))?;
-    }
-    Ok(relocations)
 }
 
 /// That fault 72 stands of no relocation of the section whose header stands at an offset of the file, where the symbol table

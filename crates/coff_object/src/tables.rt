@@ -1,6 +1,7 @@
-ghost use Rattle.std.specs.Prelude.{◌≡◌, ◌+◌, ◌*◌, ◌≤◌, ◌<◌, ◌^◌, OnOk, ⊤};
+ghost use Rattle.std.specs.Prelude.{◌≡◌, ◌+◌, ◌*◌, ◌≤◌, ◌<◌, ◌^◌, ℕ, is_none, nat_le, OnOk, ⊤};
 ghost use Rattle.pe_view.specs.View.{bytes_of, size_of};
 ghost use Rattle.pe_view.specs.Faults.{Answers};
+ghost use Rattle.pe_view.specs.Text.{text_between};
 ghost use Rattle.coff_object.specs.Field.{field};
 ghost use Rattle.coff_object.specs.ObjectFaults.{header_tests, string_table_tests, symbol_table_tests};
 ghost use Rattle.coff_object.specs.Reading.{section_start};
@@ -10,6 +11,7 @@ ghost use Rattle.coff_object.specs.TablesPlace.{AreTables};
 use crate::error::file_fault;
 use crate::fields::{u16_in, u32_in};
 use crate::refusal::is_other_header;
+use bstr::ByteSlice;
 use pe_view::{Fault, View};
 
 /// The most bytes that a file may have: 2^32.
@@ -39,6 +41,8 @@ pub(crate) struct Tables {
     pub strings: u64,
     /// How many bytes the string table has, its size field counted.
     pub strings_size: u64,
+    /// How many bytes the string table has up to its last zero byte, that one counted: each offset under it leads to a text.
+    pub texts: u64,
 }
 
 /// That none of faults 61 to 63 stands.
@@ -81,6 +85,19 @@ fn strings_size(view: View, start: u64) -> Result<u64, Fault>
     Ok(size)
 }
 
+/// How many of the bytes at a place of the file, so many, stand before the end of the last zero byte among them: a text that
+/// a zero byte ends begins at each offset under it. The search goes from the end.
+fn texts_len(view: View, start: u64, size: u64) -> u64
+    requires { start + size ≤ size_of view }
+    ensures { (offset : ℕ) → is_none (text_between (bytes_of view.entry) (start + offset) (start + size)) ≡ nat_le result offset }
+{
+    let bytes = view.slice(start, size).unwrap();
+    match bytes.rfind_byte(0) {
+        Some(last) => last as u64 + 1,
+        None => 0,
+    }
+}
+
 /// Where the tables stand, unless one of faults 67 and 68 does.
 pub(crate) fn read_tables(view: View) -> Result<Tables, Fault>
     requires fits { section_start (bytes_of view) (field (bytes_of view) 0 2 2) ≤ size_of view }
@@ -98,6 +115,7 @@ pub(crate) fn read_tables(view: View) -> Result<Tables, Fault>
             records: 0,
             strings: 0,
             strings_size: 0,
+            texts: 0,
         });
     }
     let records = u64::from(u32_in(view, 0, 12));
@@ -113,5 +131,6 @@ pub(crate) fn read_tables(view: View) -> Result<Tables, Fault>
         records,
         strings,
         strings_size,
+        texts: texts_len(view, strings, strings_size),
     })
 }

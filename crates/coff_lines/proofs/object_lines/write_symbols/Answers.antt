@@ -1,10 +1,31 @@
-use Rattle.coff_object.specs.ObjectView.{symbol_view}
-use Rattle.pe_text.proofs.Adding.{◌then◌}
-use Rattle.coff_lines.proofs.ObjectLines.{symbol-next, records-next}
+-- One symbol more, with its auxiliary records.
+use Rattle.std.proofs.Common.{◌∙◌, [], ℕ, List, ◌++◌, refl, ap, sym, subst, append-nil}
+use Rattle.std.specs.Prelude.{flat_map}
+use Rattle.coff_object.specs.ObjectFile.{file_of}
+use Rattle.coff_object.specs.Records.{Symbol}
+use Rattle.coff_object.specs.SymbolsLeft.{symbols_left}
+use Rattle.pe_text.specs.TextWriter.{Adds}
+use Rattle.pe_text.proofs.Adding.{Adds-held, ◌then◌}
+use Rattle.coff_lines.proofs.ObjectPlaces.{item_lines, items-next, items_shown}
 use Rattle.coff_lines.proofs.object_lines.write_symbols.Goals as goal
 
-pub loop-position-preserved : goal.loop-position-preserved
-loop-position-preserved g c =
-    let i = c.loop-position.invariant in
-    let below = c.loop-position-test.true in
-    rw c.aux_count.ensures (_, i.1 then c.write_symbol.ensures then c.write_aux_records.ensures, symbol-next symbol_view _ _ _ _ below _ _ i.2, records-next symbol_view _ _ _ _ below _ i.3)
+pub loop-index-init : goal.loop-index-init
+loop-index-init g c = (
+  [],
+  Adds-held g.W.Sink.taken g.W.Sink.failures c.args.text.now c.args.text.now [] c.requires refl (sym (append-nil _)) refl,
+  ap (flat_map item_lines) (ap symbols_left c.into_iter-index-iterator.ensures.into_iter_gives ∙ c.symbols-index-items.ensures),
+)
+
+pub loop-index-preserved : goal.loop-index-preserved
+loop-index-preserved g c =
+    let i = c.loop-index.invariant in
+    let symbol = rw c.from.ensures at c.write_symbol.ensures in
+    let records = rw c.from-in-loop-index.ensures at c.write_aux_records.ensures in
+    (_, (i.1 then symbol) then records, items-next _ _ _ _ _ c.in-Some.ensures.steps i.2)
+
+pub returns : goal.returns
+returns g c =
+    let i = c.loop-index.invariant in
+    subst (Adds g.W.Sink.taken g.W.Sink.failures c.args.text.now c.loop-index.text)
+    (sym (append-nil i.0) ∙ ap (λ (left : List (ℕ × Symbol)). i.0 ++ flat_map item_lines left) (sym c.in-None.ensures.steps.0) ∙ i.2 ∙ items_shown (file_of c.args.object.now) c.args.object.now.accepted)
+    i.1

@@ -1,18 +1,15 @@
 use Rattle.std.proofs.Common.{◌≡◌, ◌-◌, ◌++◌}
 use Rattle.std.specs.Prelude.{map}
-use Rattle.std.specs.List.{flat_map, range_with_len}
-use Rattle.pe_view.specs.Faults.{first_standing}
+use Rattle.std.specs.List.{range_with_len}
+use Rattle.pe_view.specs.TextEnds.{AreEndsOf}
 use Rattle.pe_view.specs.View.{bytes_of}
-use Rattle.coff_object.specs.ObjectFaults.{section_tests}
 use Rattle.coff_object.specs.ObjectView.{section_view}
 use Rattle.coff_object.specs.Reading.{section_in, section_start, section_starts}
 use Rattle.coff_object.proofs.section.read_sections.Given as goal
 
 abbrev pub invariant-loop-i : goal.invariant-loop-i
 invariant-loop-i g l = record {
-  first :
-      first_standing (flat_map (section_tests (bytes_of l.view)) (map (section_start (bytes_of l.view)) (range_with_len l.i (l.tables.sections - l.i))))
-      ≡ first_standing (flat_map (section_tests (bytes_of l.view)) (section_starts (bytes_of l.view)));
+  known : AreEndsOf (bytes_of l.view) l.ends;
   read :
       map section_view l.sections.items ++ map (section_in (bytes_of l.view)) (map (section_start (bytes_of l.view)) (range_with_len l.i (l.tables.sections - l.i)))
       ≡ map (section_in (bytes_of l.view)) (section_starts (bytes_of l.view));

@@ -1,7 +1,8 @@
-use Rattle.std.proofs.Common.{◌≡◌, ◌-◌, ◌≤◌, ◌++◌}
+use Rattle.std.proofs.Common.{◌≡◌, ◌-◌, ◌≤◌, ◌++◌, None}
 use Rattle.std.specs.Prelude.{map}
 use Rattle.std.specs.List.{flat_map}
 use Rattle.pe_view.specs.Faults.{first_standing}
+use Rattle.pe_view.specs.TextEnds.{AreEndsOf}
 use Rattle.pe_view.specs.View.{bytes_of}
 use Rattle.coff_object.specs.ObjectFaults.{symbol_tests}
 use Rattle.coff_object.specs.ObjectView.{symbol_view}
@@ -11,9 +12,8 @@ use Rattle.coff_object.proofs.symbol.read_symbols.Given as goal
 abbrev pub invariant-loop-k : goal.invariant-loop-k
 invariant-loop-k g l = record {
   within : l.k ≤ l.tables.records;
-  first :
-      first_standing (flat_map (symbol_tests (bytes_of l.view)) (symbols_from (bytes_of l.view) l.k (l.tables.records - l.k) 0))
-      ≡ first_standing (flat_map (symbol_tests (bytes_of l.view)) (symbol_indexes (bytes_of l.view)));
+  known : AreEndsOf (bytes_of l.view) l.ends;
+  sound : first_standing (flat_map (symbol_tests (bytes_of l.view)) (symbols_from (bytes_of l.view) l.k (l.tables.records - l.k) 0)) ≡ None;
   read :
       map symbol_view l.symbols.items ++ map (λ k. symbol_at (bytes_of l.view) (record_start (bytes_of l.view) k)) (symbols_from (bytes_of l.view) l.k (l.tables.records - l.k) 0)
       ≡ map (λ k. symbol_at (bytes_of l.view) (record_start (bytes_of l.view) k)) (symbol_indexes (bytes_of l.view));

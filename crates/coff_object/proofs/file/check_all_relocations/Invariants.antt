@@ -5,7 +5,7 @@ use Rattle.pe_view.specs.Faults.{first_standing}
 use Rattle.pe_view.specs.View.{bytes_of}
 use Rattle.coff_object.specs.ObjectFaults.{section_tests, relocation_tests}
 use Rattle.coff_object.specs.Reading.{section_start, section_starts}
-use Rattle.coff_object.proofs.read.check_all_relocations.Given as goal
+use Rattle.coff_object.proofs.file.check_all_relocations.Given as goal
 
 abbrev pub invariant-loop-i : goal.invariant-loop-i
 invariant-loop-i l = record {

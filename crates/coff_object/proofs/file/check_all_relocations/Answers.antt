@@ -9,7 +9,7 @@ use Rattle.coff_object.specs.Field.{field}
 use Rattle.coff_object.specs.ObjectFaults.{section_tests, relocation_tests}
 use Rattle.coff_object.specs.Reading.{section_start, section_starts, relocation_start}
 use Rattle.coff_object.proofs.Walk.{range_left, pass, stop, relocations_fit, first_none}
-use Rattle.coff_object.proofs.read.check_all_relocations.Goals as goal
+use Rattle.coff_object.proofs.file.check_all_relocations.Goals as goal
 
 pub check_relocations-requires-clause-fits : goal.check_relocations-requires-clause-fits
 check_relocations-requires-clause-fits c =

@@ -1,0 +1,18 @@
+-- The symbols that are left of a walk over an object's file, each with the index of its record.
+use Rattle.std.specs.Prelude.{ℕ, ◌-◌, List, map}
+use Rattle.pe_view.specs.View.{bytes_of}
+use Rattle.coff_object.specs.ObjectView.{symbol_view}
+use Rattle.coff_object.specs.Reading.{record_start, symbol_at, symbols_from}
+use Rattle.coff_object.specs.Records as format
+use Rattle.coff_object.specs.declared.symbol.Symbol.{Symbol}
+use Rattle.coff_object.specs.declared.symbols.Symbols.{Symbols}
+
+abbrev pub item_view : ℕ × Symbol → ℕ × format.Symbol
+item_view item = (item.0, symbol_view item.1)
+
+-- the symbols of records, each with the record's index
+abbrev pub indexed : List ℕ → List ℕ → List (ℕ × format.Symbol)
+indexed file records = map (λ k. (k, symbol_at file (record_start file k))) records
+
+abbrev pub symbols_left : Symbols → List (ℕ × format.Symbol)
+symbols_left s = indexed (bytes_of s.view) (symbols_from (bytes_of s.view) s.next (s.tables.records - s.next) 0)
