@@ -1,5 +1,6 @@
-//! What is asserted in many tests, and the bytes from an offset on.
+//! What is asserted in many tests, the bytes of a file at its offsets, and numbers behind one another.
 
+use pe_vectors::files::push_number;
 use std::process::Abort;
 
 /// Asserts what holds of a case.
@@ -16,4 +17,29 @@ pub(super) fn assert_number(rt: &impl Abort, case: usize, found: u64, expected: 
 pub(super) fn bytes_from<'a>(rt: &impl Abort, file: &'a [u8], offset: usize) -> &'a [u8] {
     assert!(rt; offset <= file.len(), "at {offset:#x}");
     &file[offset..]
+}
+
+/// Whether a file has bytes at an offset.
+fn has_piece(file: &[u8], offset: usize, bytes: &[u8]) -> bool {
+    match file.get(offset..) {
+        Some(rest) => rest.starts_with(bytes),
+        None => false,
+    }
+}
+
+/// Whether a file has bytes at each of these offsets.
+pub(super) fn has_pieces(file: &[u8], pieces: &[(usize, &[u8])]) -> bool {
+    for (offset, bytes) in pieces {
+        if !has_piece(file, *offset, bytes) {
+            return false;
+        }
+    }
+    true
+}
+
+/// Adds numbers of 4 bytes to a table.
+pub(super) fn push_numbers(rt: &impl Abort, table: &mut Vec<u8>, numbers: &[u32]) {
+    for number in numbers {
+        push_number(table, *number).expect(rt, "memory");
+    }
 }

@@ -1,12 +1,12 @@
 //! What the program prints, on which of its outputs, and its exit status.
 
+use crate::tests::asserts::assert_holds;
 use fake::{Fake, Stored, Target};
 use linked_list_allocator::LocalHeap;
 use pe_program::{Engine, OUTPUT_BUFFER, refuse_command_line, run, run_file, run_map, words_of};
 use pe_tool::{MapFile, Policy};
 use std::io::ErrorKind;
 use std::process::Abort;
-use std::test::Fail;
 
 mod fake;
 mod refusals;
@@ -55,183 +55,6 @@ For more information, try '--help'.
 struct Case {
     words: &'static [&'static [u8]],
     file: Stored,
-    refusal: Option<ErrorKind>,
-    status: u8,
-    printed: &'static str,
-    complained: &'static str,
-}
-
-/// Asserts what the program does in each case.
-fn assert_ends(rt: &(impl Abort + AllocGlobal), cases: &[Case]) -> Result<(), Fail> {
-    for case in cases {
-        let mut system = Fake::new(rt.alloc(), case.words, case.file);
-        system.refusal = case.refusal;
-        assert_eq!(rt; run(&system), case.status);
-        assert_eq!(rt; system.printed()?.as_str(), case.printed);
-        assert_eq!(rt; system.complained()?.as_str(), case.complained);
-    }
-    Ok(())
-}
-
-#[test]
-fn each_end_has_its_status_and_its_text(rt: HostRuntime) -> Result<(), Fail> {
-    let cases = [
-        Case {
-            words: CHECK,
-            file: Stored::Bytes(HEADERS),
-            refusal: None,
-            status: 0,
-            printed: "accepted PE32 sections 0\n",
-            complained: "",
-        },
-        Case {
-            words: DUMP,
-            file: Stored::Bytes(b""),
-            refusal: None,
-            status: 1,
-            printed: "fault 2 image 0 file 0x00000000\n",
-            complained: NO_BYTES,
-        },
-        Case {
-            words: OBJECT,
-            file: Stored::Bytes(b"\x64\x86\0\0\x78\x56\x34\x12\0\0\0\0\0\0\0\0\0\0\x04\0"),
-            refusal: None,
-            status: 0,
-            printed: "Machine 0x8664 AMD64\nTimeDateStamp 0x12345678\nCharacteristics 0x0004\nend\n",
-            complained: "",
-        },
-        Case {
-            words: OBJECT,
-            file: Stored::Bytes(HEADERS),
-            refusal: None,
-            status: 1,
-            printed: "fault 62 image 0 file 0x00000000\n",
-            complained: "petool: a.dll: COFF file header at 0x0: the file begins as an image, an archive or an import object does; it is an image\n",
-        },
-        Case {
-            words: &[b"petool", b"check"],
-            file: Stored::Bytes(HEADERS),
-            refusal: None,
-            status: 2,
-            printed: "",
-            complained: NO_FILE_GIVEN,
-        },
-        Case {
-            words: &[b"petool", b"check", b"\xff"],
-            file: Stored::Bytes(HEADERS),
-            refusal: None,
-            status: 2,
-            printed: "",
-            complained: "petool: word 2 of the command line is not UTF-8\n",
-        },
-        Case {
-            words: &[b"petool", b"dump", b"b.dll"],
-            file: Stored::Bytes(HEADERS),
-            refusal: None,
-            status: 3,
-            printed: "",
-            complained: "petool: b.dll: cannot be opened: no such file\n",
-        },
-        Case {
-            words: DUMP,
-            file: Stored::Broken,
-            refusal: None,
-            status: 3,
-            printed: "",
-            complained: "petool: a.dll: reading failed: other error\n",
-        },
-        Case {
-            words: CHECK,
-            file: Stored::Bytes(HEADERS),
-            refusal: Some(ErrorKind::StorageFull),
-            status: 3,
-            printed: "",
-            complained: "petool: standard output: writing failed: no storage space\n",
-        },
-        Case {
-            words: &[b"petool", b"--help"],
-            file: Stored::Bytes(HEADERS),
-            refusal: Some(ErrorKind::StorageFull),
-            status: 3,
-            printed: "",
-            complained: "petool: standard output: writing failed: no storage space\n",
-        },
-    ];
-    assert_ends(&rt, &cases)
-}
-
-#[test]
-fn each_end_of_map_has_its_status_and_its_text(rt: HostRuntime) -> Result<(), Fail> {
-    let cases = [
-        Case {
-            words: &[
-                b"petool",
-                b"map",
-                b"--window",
-                b"0x10000000",
-                b"--count",
-                b"2",
-                b"10000000=a.dll",
-            ],
-            file: Stored::Bytes(HEADERS),
-            refusal: None,
-            status: 0,
-            printed: "image 0 \"a.dll\" base 0x0000000010000000 size 0x00001000\n0x0000000010000000 4d 5a\nend\n",
-            complained: "",
-        },
-        Case {
-            words: MAP,
-            file: Stored::Bytes(b""),
-            refusal: None,
-            status: 1,
-            printed: "fault 2 image 0 file 0x00000000\n",
-            complained: NO_BYTES,
-        },
-        // all words are judged before a file is opened
-        Case {
-            words: &[b"petool", b"map", b"10000000=b.dll", b"a.dll"],
-            file: Stored::Bytes(HEADERS),
-            refusal: None,
-            status: 2,
-            printed: "",
-            complained: NO_BASE,
-        },
-        // all files are read before one is judged
-        Case {
-            words: &[b"petool", b"map", b"10000000=a.dll", b"20000000=b.dll"],
-            file: Stored::Bytes(b""),
-            refusal: None,
-            status: 3,
-            printed: "",
-            complained: "petool: b.dll: cannot be opened: no such file\n",
-        },
-        Case {
-            words: MAP,
-            file: Stored::Broken,
-            refusal: None,
-            status: 3,
-            printed: "",
-            complained: "petool: a.dll: reading failed: other error\n",
-        },
-        Case {
-            words: MAP,
-            file: Stored::Bytes(HEADERS),
-            refusal: Some(ErrorKind::StorageFull),
-            status: 3,
-            printed: "",
-            complained: "petool: standard output: writing failed: no storage space\n",
-        },
-    ];
-    assert_ends(&rt, &cases)
-}
-
-const REBASE: &[&[u8]] = &[b"petool", b"rebase", b"20000000", b"a.dll", b"new.dll"];
-
-/// What the program is to do where it writes a file.
-#[derive(Clone, Copy)]
-struct RebaseCase {
-    words: &'static [&'static [u8]],
-    file: Stored,
     target: Target,
     refusal: Option<ErrorKind>,
     status: u8,
@@ -241,8 +64,176 @@ struct RebaseCase {
     is_made: bool,
 }
 
-/// A case without a failure.
-const REBASED: RebaseCase = RebaseCase {
+/// A case without a failure, of which nothing is told.
+const SILENT: Case = Case {
+    words: CHECK,
+    file: Stored::Bytes(HEADERS),
+    target: Target::Closed,
+    refusal: None,
+    status: 0,
+    printed: "",
+    complained: "",
+    is_made: false,
+};
+
+/// Asserts what was printed on a system, and of what was complained.
+fn assert_told(rt: &impl Abort, case: usize, system: &Fake, printed: &str, complained: &str) {
+    assert_holds(rt, case, system.has_printed(printed));
+    assert_holds(rt, case, system.has_complained(complained));
+}
+
+/// Asserts what the program does in a case.
+fn assert_end(rt: &(impl Abort + AllocGlobal), index: usize, case: &Case) {
+    let mut system = Fake::new(rt.alloc(), case.words, case.file);
+    system.target = case.target;
+    system.refusal = case.refusal;
+    assert_holds(rt, index, run(&system) == case.status);
+    assert_told(rt, index, &system, case.printed, case.complained);
+    assert_holds(rt, index, system.has_made(case.is_made));
+}
+
+/// Asserts what the program does in each case.
+fn assert_ends(rt: &(impl Abort + AllocGlobal), cases: &[Case]) {
+    for (index, case) in cases.iter().enumerate() {
+        assert_end(rt, index, case);
+    }
+}
+
+/// Commands that read one file.
+const ENDS: &[Case] = &[
+    Case {
+        printed: "accepted PE32 sections 0\n",
+        ..SILENT
+    },
+    Case {
+        words: DUMP,
+        file: Stored::Bytes(b""),
+        status: 1,
+        printed: "fault 2 image 0 file 0x00000000\n",
+        complained: NO_BYTES,
+        ..SILENT
+    },
+    Case {
+        words: OBJECT,
+        file: Stored::Bytes(b"\x64\x86\0\0\x78\x56\x34\x12\0\0\0\0\0\0\0\0\0\0\x04\0"),
+        printed: "Machine 0x8664 AMD64\nTimeDateStamp 0x12345678\nCharacteristics 0x0004\nend\n",
+        ..SILENT
+    },
+    Case {
+        words: OBJECT,
+        status: 1,
+        printed: "fault 62 image 0 file 0x00000000\n",
+        complained: "petool: a.dll: COFF file header at 0x0: the file begins as an image, an archive or an import object does; it is an image\n",
+        ..SILENT
+    },
+    Case {
+        words: &[b"petool", b"check"],
+        status: 2,
+        complained: NO_FILE_GIVEN,
+        ..SILENT
+    },
+    Case {
+        words: &[b"petool", b"check", b"\xff"],
+        status: 2,
+        complained: "petool: word 2 of the command line is not UTF-8\n",
+        ..SILENT
+    },
+    Case {
+        words: &[b"petool", b"dump", b"b.dll"],
+        status: 3,
+        complained: "petool: b.dll: cannot be opened: no such file\n",
+        ..SILENT
+    },
+    Case {
+        words: DUMP,
+        file: Stored::Broken,
+        status: 3,
+        complained: "petool: a.dll: reading failed: other error\n",
+        ..SILENT
+    },
+    Case {
+        refusal: Some(ErrorKind::StorageFull),
+        status: 3,
+        complained: "petool: standard output: writing failed: no storage space\n",
+        ..SILENT
+    },
+    Case {
+        words: &[b"petool", b"--help"],
+        refusal: Some(ErrorKind::StorageFull),
+        status: 3,
+        complained: "petool: standard output: writing failed: no storage space\n",
+        ..SILENT
+    },
+];
+
+#[test]
+fn each_end_has_its_status_and_its_text(rt: HostRuntime) {
+    assert_ends(&rt, ENDS);
+}
+
+/// Commands that read a set.
+const MAP_ENDS: &[Case] = &[
+    Case {
+        words: &[
+            b"petool",
+            b"map",
+            b"--window",
+            b"0x10000000",
+            b"--count",
+            b"2",
+            b"10000000=a.dll",
+        ],
+        printed: "image 0 \"a.dll\" base 0x0000000010000000 size 0x00001000\n0x0000000010000000 4d 5a\nend\n",
+        ..SILENT
+    },
+    Case {
+        words: MAP,
+        file: Stored::Bytes(b""),
+        status: 1,
+        printed: "fault 2 image 0 file 0x00000000\n",
+        complained: NO_BYTES,
+        ..SILENT
+    },
+    // all words are judged before a file is opened
+    Case {
+        words: &[b"petool", b"map", b"10000000=b.dll", b"a.dll"],
+        status: 2,
+        complained: NO_BASE,
+        ..SILENT
+    },
+    // all files are read before one is judged
+    Case {
+        words: &[b"petool", b"map", b"10000000=a.dll", b"20000000=b.dll"],
+        file: Stored::Bytes(b""),
+        status: 3,
+        complained: "petool: b.dll: cannot be opened: no such file\n",
+        ..SILENT
+    },
+    Case {
+        words: MAP,
+        file: Stored::Broken,
+        status: 3,
+        complained: "petool: a.dll: reading failed: other error\n",
+        ..SILENT
+    },
+    Case {
+        words: MAP,
+        refusal: Some(ErrorKind::StorageFull),
+        status: 3,
+        complained: "petool: standard output: writing failed: no storage space\n",
+        ..SILENT
+    },
+];
+
+#[test]
+fn each_end_of_map_has_its_status_and_its_text(rt: HostRuntime) {
+    assert_ends(&rt, MAP_ENDS);
+}
+
+const REBASE: &[&[u8]] = &[b"petool", b"rebase", b"20000000", b"a.dll", b"new.dll"];
+
+/// A case without a failure where a file is written.
+const REBASED: Case = Case {
     words: REBASE,
     file: Stored::Bytes(HEADERS),
     target: Target::Open,
@@ -253,92 +244,87 @@ const REBASED: RebaseCase = RebaseCase {
     is_made: true,
 };
 
-#[test]
-fn each_end_of_rebase_has_its_status_and_its_text(rt: HostRuntime) -> Result<(), Fail> {
-    let cases = [
-        REBASED,
-        // a refused file leaves the target unmade
-        RebaseCase {
-            words: &[b"petool", b"rebase", b"20000001", b"a.dll", b"new.dll"],
-            status: 1,
-            printed: "fault 44 image 0 address 0x0000000020000001\n",
-            complained: "petool: a.dll: base 0x20000001: the base is no multiple of 65,536\n",
-            is_made: false,
-            ..REBASED
-        },
-        RebaseCase {
-            target: Target::Full,
-            status: 3,
-            printed: "",
-            complained: "petool: new.dll: writing failed: no storage space\n",
-            ..REBASED
-        },
-        RebaseCase {
-            target: Target::Closed,
-            status: 3,
-            printed: "",
-            complained: "petool: new.dll: writing failed: permission denied\n",
-            is_made: false,
-            ..REBASED
-        },
-        RebaseCase {
-            file: Stored::Broken,
-            status: 3,
-            printed: "",
-            complained: "petool: a.dll: reading failed: other error\n",
-            is_made: false,
-            ..REBASED
-        },
-        RebaseCase {
-            words: &[b"petool", b"rebase", b"20000000", b"b.dll", b"new.dll"],
-            status: 3,
-            printed: "",
-            complained: "petool: b.dll: cannot be opened: no such file\n",
-            is_made: false,
-            ..REBASED
-        },
-        RebaseCase {
-            words: &[b"petool", b"rebase", b"20000000", b"a.dll", b"a.dll"],
-            status: 3,
-            printed: "",
-            complained: "petool: a.dll: is the file that is read\n",
-            is_made: false,
-            ..REBASED
-        },
-        // the line comes after the file
-        RebaseCase {
-            refusal: Some(ErrorKind::StorageFull),
-            status: 3,
-            printed: "",
-            complained: "petool: standard output: writing failed: no storage space\n",
-            ..REBASED
-        },
-    ];
-    for case in cases {
-        let mut system = Fake::new(rt.alloc(), case.words, case.file);
-        system.target = case.target;
-        system.refusal = case.refusal;
-        assert_eq!(rt; run(&system), case.status);
-        assert_eq!(rt; system.printed()?.as_str(), case.printed);
-        assert_eq!(rt; system.complained()?.as_str(), case.complained);
-        assert_eq!(rt; system.is_made()?, case.is_made);
-    }
-    Ok(())
-}
+/// Commands that write a file.
+const REBASE_ENDS: &[Case] = &[
+    REBASED,
+    // a refused file leaves the target unmade
+    Case {
+        words: &[b"petool", b"rebase", b"20000001", b"a.dll", b"new.dll"],
+        status: 1,
+        printed: "fault 44 image 0 address 0x0000000020000001\n",
+        complained: "petool: a.dll: base 0x20000001: the base is no multiple of 65,536\n",
+        is_made: false,
+        ..REBASED
+    },
+    Case {
+        target: Target::Full,
+        status: 3,
+        printed: "",
+        complained: "petool: new.dll: writing failed: no storage space\n",
+        ..REBASED
+    },
+    Case {
+        target: Target::Closed,
+        status: 3,
+        printed: "",
+        complained: "petool: new.dll: writing failed: permission denied\n",
+        is_made: false,
+        ..REBASED
+    },
+    Case {
+        file: Stored::Broken,
+        status: 3,
+        printed: "",
+        complained: "petool: a.dll: reading failed: other error\n",
+        is_made: false,
+        ..REBASED
+    },
+    Case {
+        words: &[b"petool", b"rebase", b"20000000", b"b.dll", b"new.dll"],
+        status: 3,
+        printed: "",
+        complained: "petool: b.dll: cannot be opened: no such file\n",
+        is_made: false,
+        ..REBASED
+    },
+    Case {
+        words: &[b"petool", b"rebase", b"20000000", b"a.dll", b"a.dll"],
+        status: 3,
+        printed: "",
+        complained: "petool: a.dll: is the file that is read\n",
+        is_made: false,
+        ..REBASED
+    },
+    // the line comes after the file
+    Case {
+        refusal: Some(ErrorKind::StorageFull),
+        status: 3,
+        printed: "",
+        complained: "petool: standard output: writing failed: no storage space\n",
+        ..REBASED
+    },
+];
 
 #[test]
-fn help_goes_to_standard_output(rt: HostRuntime) -> Result<(), Fail> {
+fn each_end_of_rebase_has_its_status_and_its_text(rt: HostRuntime) {
+    assert_ends(&rt, REBASE_ENDS);
+}
+
+/// What help says.
+const HELP: [&str; 3] = [
+    "\nUsage: petool <COMMAND>\n",
+    STATUSES,
+    "docs/FAULTS.md explains each fault",
+];
+
+#[test]
+fn help_goes_to_standard_output(rt: HostRuntime) {
     let system = Fake::new(rt.alloc(), &[b"petool", b"--help"], Stored::Broken);
-    assert_eq!(rt; run(&system), 0);
-    let text = system.printed()?;
-    assert!(rt; text.contains("\nUsage: petool <COMMAND>\n"), "{text}");
-    assert!(rt; text.contains(STATUSES), "{text}");
-    assert!(rt;
-        text.contains("docs/FAULTS.md explains each fault"),
-        "{text}"
-    );
-    assert_eq!(rt; system.complained()?.as_str(), "");
-    Ok(())
+    assert_holds(&rt, 0, run(&system) == 0);
+    for (index, part) in HELP.iter().enumerate() {
+        assert_holds(&rt, index, system.has_printed_with(part));
+    }
+    assert_holds(&rt, 0, system.has_complained(""));
 }
 
 /// What help says of the exit statuses.
@@ -351,109 +337,105 @@ Exit statuses:
   4  out of memory
 ";
 
+/// Words in place of files, the version, and readers that went away.
+const DASHES: &[Case] = &[
+    Case {
+        words: &[b"petool", b"--version"],
+        file: Stored::Broken,
+        printed: "petool 0.1.0\n",
+        ..SILENT
+    },
+    Case {
+        words: &[b"petool", b"check", b"-"],
+        printed: "accepted PE32 sections 0\n",
+        ..SILENT
+    },
+    Case {
+        words: &[b"petool", b"map", b"10000000=-"],
+        printed: "image 0 \"-\" base 0x0000000010000000 size 0x00001000\nend\n",
+        ..SILENT
+    },
+    // a path, which is no file of the system
+    Case {
+        words: &[b"petool", b"rebase", b"20000000", b"-", b"new.dll"],
+        status: 3,
+        complained: "petool: -: cannot be opened: no such file\n",
+        ..SILENT
+    },
+    // a reader of a pipe that went away
+    Case {
+        refusal: Some(ErrorKind::BrokenPipe),
+        status: 3,
+        ..SILENT
+    },
+    Case {
+        words: &[b"petool", b"--help"],
+        refusal: Some(ErrorKind::BrokenPipe),
+        status: 3,
+        ..SILENT
+    },
+];
+
 #[test]
-fn dashes_version_and_pipes(rt: HostRuntime) -> Result<(), Fail> {
-    let cases = [
-        Case {
-            words: &[b"petool", b"--version"],
-            file: Stored::Broken,
-            refusal: None,
-            status: 0,
-            printed: "petool 0.1.0\n",
-            complained: "",
-        },
-        Case {
-            words: &[b"petool", b"check", b"-"],
-            file: Stored::Bytes(HEADERS),
-            refusal: None,
-            status: 0,
-            printed: "accepted PE32 sections 0\n",
-            complained: "",
-        },
-        Case {
-            words: &[b"petool", b"map", b"10000000=-"],
-            file: Stored::Bytes(HEADERS),
-            refusal: None,
-            status: 0,
-            printed: "image 0 \"-\" base 0x0000000010000000 size 0x00001000\nend\n",
-            complained: "",
-        },
-        // a path, which is no file of the system
-        Case {
-            words: &[b"petool", b"rebase", b"20000000", b"-", b"new.dll"],
-            file: Stored::Bytes(HEADERS),
-            refusal: None,
-            status: 3,
-            printed: "",
-            complained: "petool: -: cannot be opened: no such file\n",
-        },
-        // a reader of a pipe that went away
-        Case {
-            words: CHECK,
-            file: Stored::Bytes(HEADERS),
-            refusal: Some(ErrorKind::BrokenPipe),
-            status: 3,
-            printed: "",
-            complained: "",
-        },
-        Case {
-            words: &[b"petool", b"--help"],
-            file: Stored::Bytes(HEADERS),
-            refusal: Some(ErrorKind::BrokenPipe),
-            status: 3,
-            printed: "",
-            complained: "",
-        },
-    ];
-    assert_ends(&rt, &cases)
+fn dashes_version_and_pipes(rt: HostRuntime) {
+    assert_ends(&rt, DASHES);
+}
+
+/// Asserts that a command on a file wants memory where there is a heap of so many bytes.
+fn assert_file_wants(rt: &(impl Abort + AllocGlobal), size: usize) {
+    let heap = LocalHeap::new(rt.alloc(), size).expect(rt, "a heap");
+    let system = Fake::new(rt.alloc(), CHECK, Stored::Bytes(HEADERS));
+    let status = run_file(&(&system, &heap), Engine::Check, "a.dll");
+    assert_holds(rt, size, status == 4);
+    assert_told(rt, size, &system, "", "petool: a.dll: out of memory\n");
 }
 
 #[test]
-fn want_of_memory_is_told(rt: HostRuntime) -> Result<(), Fail> {
+fn want_of_memory_is_told(rt: HostRuntime) {
     // the first heap has no room for the output's buffer, the second none for the file beside it
     for size in [1 << 10, OUTPUT_BUFFER + 64] {
-        let heap = LocalHeap::new(rt.alloc(), size)?;
-        let system = Fake::new(rt.alloc(), CHECK, Stored::Bytes(HEADERS));
-        assert_eq!(rt; run_file(&(&system, &heap), Engine::Check, "a.dll"), 4);
-        assert_eq!(rt; system.printed()?.as_str(), "");
-        assert_eq!(rt;
-            system.complained()?.as_str(),
-            "petool: a.dll: out of memory\n"
-        );
+        assert_file_wants(&rt, size);
     }
-    Ok(())
 }
 
-#[test]
-fn want_of_memory_for_a_set_is_told(rt: HostRuntime) -> Result<(), Fail> {
-    let files = [MapFile {
+/// The file of a set at 0x10000000.
+fn map_file(rt: &(impl Abort + AllocGlobal)) -> MapFile {
+    MapFile {
         base: 0x1000_0000,
-        path: String::from_str(rt.alloc(), "a.dll")?,
-        name: String::from_str(rt.alloc(), "a.dll")?,
-    }];
-    // the first heap has no room for the file, the second none for the output's buffer beside it
-    for (size, complained) in [
-        (64, "petool: a.dll: out of memory\n"),
-        (OUTPUT_BUFFER, "petool: map: out of memory\n"),
-    ] {
-        let heap = LocalHeap::new(rt.alloc(), size)?;
-        let system = Fake::new(rt.alloc(), MAP, Stored::Bytes(HEADERS));
-        assert_eq!(rt; run_map(&(&system, &heap), Policy::Strict, None, &files), 4);
-        assert_eq!(rt; system.printed()?.as_str(), "");
-        assert_eq!(rt; system.complained()?.as_str(), complained);
+        path: String::from_str(rt.alloc(), "a.dll").expect(rt, "memory"),
+        name: String::from_str(rt.alloc(), "a.dll").expect(rt, "memory"),
     }
-    Ok(())
+}
+
+/// Asserts that a command on a set wants memory where there is a heap of so many bytes, and what it then tells.
+fn assert_set_wants(
+    rt: &(impl Abort + AllocGlobal),
+    files: &[MapFile],
+    size: usize,
+    complained: &str,
+) {
+    let heap = LocalHeap::new(rt.alloc(), size).expect(rt, "a heap");
+    let system = Fake::new(rt.alloc(), MAP, Stored::Bytes(HEADERS));
+    let status = run_map(&(&system, &heap), Policy::Strict, None, files);
+    assert_holds(rt, size, status == 4);
+    assert_told(rt, size, &system, "", complained);
 }
 
 #[test]
-fn want_of_memory_for_the_words_is_told(rt: HostRuntime) -> Result<(), Fail> {
-    let heap = LocalHeap::new(rt.alloc(), 64)?;
+fn want_of_memory_for_a_set_is_told(rt: HostRuntime) {
+    let files = [map_file(&rt)];
+    // the first heap has no room for the file, the second none for the output's buffer beside it
+    assert_set_wants(&rt, &files, 64, "petool: a.dll: out of memory\n");
+    assert_set_wants(&rt, &files, OUTPUT_BUFFER, "petool: map: out of memory\n");
+}
+
+#[test]
+fn want_of_memory_for_the_words_is_told(rt: HostRuntime) {
+    let heap = LocalHeap::new(rt.alloc(), 64).expect(&rt, "a heap");
     let system = Fake::new(rt.alloc(), CHECK, Stored::Bytes(HEADERS));
-    let Err(error) = words_of(&(&system, &heap)) else {
-        return Err(Fail::from("the words were read"));
-    };
-    assert_eq!(rt; refuse_command_line(&system, error), 4);
-    assert_eq!(rt; system.printed()?.as_str(), "");
-    assert_eq!(rt; system.complained()?.as_str(), "petool: out of memory\n");
-    Ok(())
+    let error = words_of(&(&system, &heap))
+        .err()
+        .expect(&rt, "the words were read");
+    assert_holds(&rt, 0, refuse_command_line(&system, error) == 4);
+    assert_told(&rt, 0, &system, "", "petool: out of memory\n");
 }

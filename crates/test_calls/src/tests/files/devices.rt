@@ -3,6 +3,7 @@
 use crate::tests::asserts::{assert_holds, assert_number};
 use pe_tool::{Failed, Sink, Source};
 use pe_vectors::{StepReader, StepWriter};
+use std::process::Abort;
 
 /// Whether a read answered with these bytes, or failed.
 fn has_given(buffer: &[u8], given: Result<usize, Failed>, expected: Option<&[u8]>) -> bool {
@@ -23,14 +24,19 @@ const READS: &[(Option<&[u8]>, u64)] = &[
     (Some(b""), 1),
 ];
 
+/// Whether a read of at most 4 bytes gives these, or fails.
+fn reads(rt: &impl Abort, reader: &mut StepReader, expected: Option<&[u8]>) -> bool {
+    assert!(rt; reader.failures() < 5);
+    let mut buffer = [0; 4];
+    let given = reader.read(&mut buffer);
+    has_given(&buffer, given, expected)
+}
+
 #[test]
 fn a_reader_gives_its_bytes_in_steps(rt: HostRuntime) {
     let mut reader = StepReader::new(b"abcdefg", 3, Some(1));
-    let mut buffer = [0; 4];
     for (index, (expected, failures)) in READS.iter().enumerate() {
-        assert!(rt; reader.failures() < 5);
-        let given = reader.read(&mut buffer);
-        assert_holds(&rt, index, has_given(&buffer, given, *expected));
+        assert_holds(&rt, index, reads(&rt, &mut reader, *expected));
         assert_number(&rt, index, reader.failures(), *failures);
     }
 }
@@ -44,14 +50,19 @@ const WRITES: &[(Result<usize, Failed>, &[u8])] = &[
     (Err(Failed), b"abcab"),
 ];
 
+/// What a write of a piece answers.
+fn written(rt: &impl Abort, writer: &mut StepWriter, piece: &[u8]) -> Result<usize, Failed> {
+    assert!(rt; writer.failures() < 5);
+    writer.write(piece)
+}
+
 #[test]
 fn a_writer_takes_steps_until_its_room_is_full(rt: HostRuntime) {
     let mut writer = StepWriter::new(rt.alloc(), 5, 3, Some(1)).expect(&rt, "memory");
     for (index, (answer, taken)) in WRITES.iter().enumerate() {
-        assert!(rt; writer.failures() < 5);
-        assert_holds(&rt, index, writer.write(b"abcd") == *answer);
+        assert_holds(&rt, index, written(&rt, &mut writer, b"abcd") == *answer);
         assert_holds(&rt, index, writer.taken() == *taken);
     }
-    assert!(rt; writer.failures() == 2);
-    assert_holds(&rt, 0, writer.write(b"") == Ok(0));
+    assert_number(&rt, 0, writer.failures(), 2);
+    assert_holds(&rt, 0, written(&rt, &mut writer, b"") == Ok(0));
 }

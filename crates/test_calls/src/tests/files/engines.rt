@@ -1,8 +1,8 @@
-//! The engines that read one file, run over devices that work in steps and fail.
+//! The engines that read one file, and the report of a set, run over devices that work in steps and fail.
 
 ghost use Rattle.std.specs.Prelude.{◌≡◌, ◌<◌};
 
-use pe_tool::{Outcome, ToolError, check, dump, dump_object};
+use pe_tool::{Outcome, Policy, SetEntry, ToolError, check, dump, dump_object, map_report};
 use pe_vectors::{StepReader, StepWriter};
 use std::alloc::{AllocError, Allocator, Global};
 
@@ -66,4 +66,19 @@ pub(super) fn run(
     requires { 0 < devices.step }
 {
     run_over(alloc, alloc, engine, file, devices)
+}
+
+/// Reports a set over an allocator's memory, with a window or none; the writer's own, of 0x800 bytes, may be refused.
+pub(super) fn report_over<A: Allocator + Copy>(
+    alloc: Global,
+    memory: A,
+    set: &[SetEntry],
+    window: Option<(u64, u32)>,
+    devices: Devices,
+) -> Result<Answered, AllocError>
+    requires { 0 < devices.step }
+{
+    let mut writer = StepWriter::new(alloc, 0x800, devices.step, devices.failing_write)?;
+    let answer = map_report(memory, set, Policy::Strict, window, &mut writer);
+    Ok((answer, writer))
 }

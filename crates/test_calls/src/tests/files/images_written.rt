@@ -1,13 +1,15 @@
 //! What `pe_write` writes of plans, and which plans it refuses.
 
-use super::plans::{Heading, V1, V2, V3, VA, VB, VC, VD, VF, VS, bare_plan, plan_of, section};
-use crate::tests::asserts::{assert_holds, bytes_from};
+use super::plans::{
+    Heading, NO_DIRECTORIES, V1, V2, V3, VA, VB, VC, VD, VF, VS, plan_of, plan_with, section,
+};
+use crate::tests::asserts::{assert_holds, assert_number, bytes_from};
 use pe_head::{Directory, Magic};
 use pe_layout::Layout;
 use pe_vectors::files::{Vector, file_of, number, put, put_pieces};
 use pe_vectors::vf;
 use pe_view::{Fault, Place, View};
-use pe_write::{Plan, WriteError, write_image};
+use pe_write::{Plan, PlanSection, WriteError, write_image};
 use std::alloc::Global;
 use std::process::Abort;
 
@@ -47,50 +49,32 @@ fn a_chain_of_forwarders_is_what_is_written_of_its_plan(rt: HostRuntime) {
 /// A section's VirtualSize and RVA, and how many bytes the file has of it.
 type Placed = (u32, u32, usize);
 
-/// The numbers of a plan that decide whether it is refused.
-#[derive(Clone, Copy)]
-struct Numbers {
-    magic: Magic,
-    image_base: u64,
-    file_alignment: u32,
-    size_of_image: u32,
-    size_of_headers: u32,
-    sections: &'static [Placed],
-}
-
-/// Numbers of a plan that is not refused.
-const FINE: Numbers = Numbers {
-    magic: Magic::Pe32,
-    image_base: 0x1000_0000,
-    file_alignment: 0x200,
-    size_of_image: 0x3000,
-    size_of_headers: 0x200,
-    sections: &[(0x10, 0x1000, 1)],
-};
+/// The sections of a plan that is not refused.
+const FINE: &[Placed] = &[(0x10, 0x1000, 1)];
 
 /// Bytes of sections.
 const DATA: &[u8] = &[0x90; 0x201];
 
-/// The plan with these numbers.
-fn numbered_plan(rt: &impl Abort, alloc: Global, numbers: &Numbers) -> Plan<'static> {
-    let mut plan = bare_plan(alloc, &V1);
-    plan.magic = numbers.magic;
-    plan.image_base = numbers.image_base;
-    plan.file_alignment = numbers.file_alignment;
-    plan.size_of_image = numbers.size_of_image;
-    plan.size_of_headers = numbers.size_of_headers;
-    for (virtual_size, virtual_address, size) in numbers.sections {
-        assert!(rt; *size <= DATA.len());
-        plan.sections
-            .push(section(
-                *b".data\0\0\0",
-                *virtual_size,
-                *virtual_address,
-                &DATA[..*size],
-            ))
+/// The sections at these places.
+fn sections_at(rt: &impl Abort, alloc: Global, placed: &[Placed]) -> Vec<PlanSection<'static>> {
+    let mut sections = Vec::new(alloc);
+    for (virtual_size, virtual_address, size) in placed {
+        let raw = DATA.get(..*size).expect(rt, "bytes");
+        sections
+            .push(section(*b".data\0\0\0", *virtual_size, *virtual_address, raw))
             .expect(rt, "memory");
     }
-    plan
+    sections
+}
+
+/// The plan with these numbers and sections.
+fn placed_plan(
+    rt: &impl Abort,
+    alloc: Global,
+    heading: &Heading,
+    placed: &[Placed],
+) -> Plan<'static> {
+    plan_with(heading, NO_DIRECTORIES, sections_at(rt, alloc, placed))
 }
 
 /// Fault 53.
@@ -101,10 +85,17 @@ pub(super) const REFUSED: Option<WriteError> = Some(WriteError::Fault(Fault {
 }));
 
 /// Asserts whether a plan is refused.
-fn assert_judged(rt: &impl Abort, alloc: Global, case: usize, numbers: &Numbers, refused: bool) {
-    let plan = numbered_plan(rt, alloc, numbers);
+fn assert_judged(
+    rt: &impl Abort,
+    alloc: Global,
+    case: usize,
+    heading: &Heading,
+    placed: &[Placed],
+    refused: bool,
+) {
+    let plan = placed_plan(rt, alloc, heading, placed);
     let expected = if refused { REFUSED } else { None };
-    assert_eq!(rt; write_image(alloc, &plan).err(), expected, "in case {case}");
+    assert_holds(rt, case, write_image(alloc, &plan).err() == expected);
 }
 
 /// A form, FileAlignment, ImageBase and SizeOfImage, and whether they are refused.
@@ -128,14 +119,14 @@ const FIELDS: &[(Magic, u32, u64, u32, bool)] = &[
 #[test]
 fn the_fields_of_a_plan_have_limits(rt: HostRuntime) {
     for (index, (magic, alignment, base, size, refused)) in FIELDS.iter().enumerate() {
-        let numbers = Numbers {
+        let heading = Heading {
             magic: *magic,
             image_base: *base,
             file_alignment: *alignment,
             size_of_image: *size,
-            ..FINE
+            ..V1
         };
-        assert_judged(&rt, rt.alloc(), index, &numbers, *refused);
+        assert_judged(&rt, rt.alloc(), index, &heading, FINE, *refused);
     }
 }
 
@@ -158,13 +149,12 @@ const HEADERS: &[(Magic, u32, &[Placed], bool)] = &[
 #[test]
 fn headers_hold_the_section_table_and_lie_in_the_image(rt: HostRuntime) {
     for (index, (magic, size_of_headers, sections, refused)) in HEADERS.iter().enumerate() {
-        let numbers = Numbers {
+        let heading = Heading {
             magic: *magic,
             size_of_headers: *size_of_headers,
-            sections: *sections,
-            ..FINE
+            ..V1
         };
-        assert_judged(&rt, rt.alloc(), index, &numbers, *refused);
+        assert_judged(&rt, rt.alloc(), index, &heading, sections, *refused);
     }
 }
 
@@ -196,51 +186,62 @@ const PLACES: &[(&[Placed], bool)] = &[
 #[test]
 fn sections_ascend_between_the_headers_and_the_images_end(rt: HostRuntime) {
     for (index, (sections, refused)) in PLACES.iter().enumerate() {
-        let numbers = Numbers {
-            sections: *sections,
-            ..FINE
-        };
-        assert_judged(&rt, rt.alloc(), index, &numbers, *refused);
+        assert_judged(&rt, rt.alloc(), index, &V1, sections, *refused);
     }
 }
 
-/// A plan of so many sections of one byte in the image, and none in the file.
-fn crowded_plan(rt: &impl Abort, alloc: Global, count: u32) -> Plan<'static> {
-    let mut plan = bare_plan(alloc, &V1);
-    plan.size_of_headers = 0x1100;
+/// So many sections of one byte in the image, and none in the file.
+fn crowded(rt: &impl Abort, alloc: Global, count: u32) -> Vec<PlanSection<'static>> {
+    let mut sections = Vec::new(alloc);
     for index in 0..count {
         assert!(rt; index < 0x100);
-        plan.sections
+        sections
             .push(section(*b".bss\0\0\0\0", 1, 0x1100 + index, &[]))
             .expect(rt, "memory");
     }
-    plan
+    sections
+}
+
+/// What is written of so many sections.
+fn crowded_file(rt: &impl Abort, alloc: Global, count: u32) -> Result<Vec<u8>, WriteError> {
+    let heading = Heading {
+        size_of_headers: 0x1100,
+        ..V1
+    };
+    let plan = plan_with(&heading, NO_DIRECTORIES, crowded(rt, alloc, count));
+    write_image(alloc, &plan)
+}
+
+/// Asserts that a file has 96 sections, the last at 0x115f.
+fn assert_crowded(rt: &impl Abort, file: &[u8]) {
+    let layout = Layout::new(View::new(file), 0).expect(rt, "a layout");
+    let sections = layout.headers().sections.as_slice();
+    assert_number(rt, 0, sections.len() as u64, 96);
+    let last = sections.last().expect(rt, "a section");
+    assert_number(rt, 95, u64::from(last.virtual_address), 0x115f);
 }
 
 #[test]
 fn an_image_has_at_most_96_sections(rt: HostRuntime) {
-    let plan = crowded_plan(&rt, rt.alloc(), 96);
-    let file = write_image(rt.alloc(), &plan).expect(&rt, "a file");
-    assert_eq!(rt; file.len(), 0x1100);
-    let layout = Layout::new(View::new(&file), 0).expect(&rt, "a layout");
-    let sections = layout.headers().sections.as_slice();
-    assert_eq!(rt; sections.len(), 96);
-    assert_holds(
-        &rt,
-        95,
-        sections.last().expect(&rt, "a section").virtual_address == 0x115f,
-    );
-    let plan = crowded_plan(&rt, rt.alloc(), 97);
-    assert_eq!(rt; write_image(rt.alloc(), &plan).err(), REFUSED);
+    let file = crowded_file(&rt, rt.alloc(), 96).expect(&rt, "a file");
+    assert_number(&rt, 0, file.len() as u64, 0x1100);
+    assert_crowded(&rt, &file);
+    assert_holds(&rt, 97, crowded_file(&rt, rt.alloc(), 97).err() == REFUSED);
+}
+
+/// V1 without its section.
+fn v1_headers(rt: &impl Abort, alloc: Global) -> Vec<u8> {
+    let mut file = file_of(alloc, Vector::V1).expect(rt, "memory");
+    put_pieces(&mut file, &[(0x46, &[0]), (0x138, &[0; 40])]).expect(rt, "pieces in the file");
+    file.truncate(0x200);
+    file
 }
 
 #[test]
 fn a_plan_of_no_sections_is_written_as_headers(rt: HostRuntime) {
-    let plan = bare_plan(rt.alloc(), &V1);
+    let plan = plan_with(&V1, NO_DIRECTORIES, Vec::new(rt.alloc()));
     let file = write_image(rt.alloc(), &plan).expect(&rt, "a file");
-    let mut expected = file_of(rt.alloc(), Vector::V1).expect(&rt, "memory");
-    put_pieces(&mut expected, &[(0x46, &[0]), (0x138, &[0; 40])]).expect(&rt, "pieces in the file");
-    expected.truncate(0x200);
+    let expected = v1_headers(&rt, rt.alloc());
     assert_holds(&rt, 0, *file.as_slice() == *expected.as_slice());
 }
 
@@ -250,12 +251,14 @@ type Field = (usize, usize, u64);
 /// Asserts the numbers in a file.
 fn assert_fields(rt: &impl Abort, file: &[u8], fields: &[Field]) {
     for (offset, width, value) in fields {
-        assert_eq!(rt;
-            number(file, *offset, *width).expect(rt, "a number in the file"),
-            *value,
-            "at {offset:#x}"
-        );
+        let found = number(file, *offset, *width).expect(rt, "a number in the file");
+        assert_number(rt, *offset, found, *value);
     }
+}
+
+/// What is written of a plan.
+fn written(rt: &impl Abort, alloc: Global, plan: &Plan) -> Vec<u8> {
+    write_image(alloc, plan).expect(rt, "a file")
 }
 
 /// The sections of 0, 1 and 0x201 bytes: SizeOfRawData and PointerToRawData of each.
@@ -268,25 +271,25 @@ const RAW_FIELDS: &[Field] = &[
     (0x19c, 4, 0x400),
 ];
 
-#[test]
-fn raw_data_is_aligned_and_filled_up(rt: HostRuntime) {
-    let numbers = Numbers {
-        size_of_headers: 0x1f0,
-        sections: &[(8, 0x1000, 0), (8, 0x1008, 1), (8, 0x1010, 0x201)],
-        ..FINE
-    };
-    let plan = numbered_plan(&rt, rt.alloc(), &numbers);
-    let file = write_image(rt.alloc(), &plan).expect(&rt, "a file");
-    assert_fields(&rt, &file, RAW_FIELDS);
-    // from the end of the section table on: zeros, one byte, filled up, and 0x201 bytes, filled up
+/// Asserts the bytes of a file from the end of its section table on: zeros, one byte, filled up, and 0x201 bytes, filled up.
+fn assert_raw_data(rt: &impl Abort, file: &[u8]) {
     let mut expected = [0; 0x650];
     expected[0x50] = 0x90;
     put(&mut expected, 0x250, DATA);
-    assert_holds(
-        &rt,
-        0,
-        *bytes_from(&rt, &file, 0x1b0) == *expected.as_slice(),
-    );
+    assert_holds(rt, 0, *bytes_from(rt, file, 0x1b0) == *expected.as_slice());
+}
+
+#[test]
+fn raw_data_is_aligned_and_filled_up(rt: HostRuntime) {
+    let heading = Heading {
+        size_of_headers: 0x1f0,
+        ..V1
+    };
+    let sections = [(8, 0x1000, 0), (8, 0x1008, 1), (8, 0x1010, 0x201)];
+    let plan = placed_plan(&rt, rt.alloc(), &heading, &sections);
+    let file = written(&rt, rt.alloc(), &plan);
+    assert_fields(&rt, &file, RAW_FIELDS);
+    assert_raw_data(&rt, &file);
 }
 
 /// What the plan names, each by a value of its own, in the headers up to the directories.
@@ -309,9 +312,9 @@ const NAMED_FIELDS: &[Field] = &[
     (0xc4, 4, 16),
 ];
 
-#[test]
-fn each_field_that_a_plan_names_stands_at_its_offset(rt: HostRuntime) {
-    let plan = Plan {
+/// A plan of such values.
+fn named_plan(alloc: Global) -> Plan<'static> {
+    Plan {
         magic: Magic::Pe32Plus,
         machine: 0x1111,
         time_stamp: 0x2222_2222,
@@ -324,23 +327,33 @@ fn each_field_that_a_plan_names_stands_at_its_offset(rt: HostRuntime) {
         size_of_headers: 0x148,
         subsystem: 0x8888,
         dll_characteristics: 0x9999,
-        directories: [Directory::default(); 16],
-        sections: Vec::new(rt.alloc()),
-    };
-    let file = write_image(rt.alloc(), &plan).expect(&rt, "a file");
-    assert_fields(&rt, &file, NAMED_FIELDS);
+        directories: NO_DIRECTORIES,
+        sections: Vec::new(alloc),
+    }
 }
 
 #[test]
-fn each_directory_stands_at_its_index(rt: HostRuntime) {
-    let mut plan = bare_plan(rt.alloc(), &V1);
+fn each_field_that_a_plan_names_stands_at_its_offset(rt: HostRuntime) {
+    let file = written(&rt, rt.alloc(), &named_plan(rt.alloc()));
+    assert_fields(&rt, &file, NAMED_FIELDS);
+}
+
+/// Directories that differ.
+fn distinct_directories() -> [Directory; 16] {
+    let mut directories = NO_DIRECTORIES;
     for index in 0..16_u32 {
-        plan.directories[index as usize] = Directory {
+        directories[index as usize] = Directory {
             rva: 0x0102_0300 + index,
             size: 0x0405_0600 + index,
         };
     }
-    let file = write_image(rt.alloc(), &plan).expect(&rt, "a file");
+    directories
+}
+
+#[test]
+fn each_directory_stands_at_its_index(rt: HostRuntime) {
+    let plan = plan_with(&V1, distinct_directories(), Vec::new(rt.alloc()));
+    let file = written(&rt, rt.alloc(), &plan);
     for index in 0..16_usize {
         let fields: &[Field] = &[
             (0xb8 + 8 * index, 4, 0x0102_0300 + index as u64),

@@ -1,6 +1,8 @@
 //! The object that O1 holds, and objects compared.
 
-use coff_object::{ObjSection, Object, ObjectError, RawData, Relocation, Symbol, SymbolSection};
+use coff_object::{
+    ObjSection, Object, ObjectError, RawData, Relocation, Symbol, SymbolSection, read_object,
+};
 use pe_view::Fault;
 use std::alloc::{Allocator, Global};
 use std::process::Abort;
@@ -50,29 +52,59 @@ pub(super) fn list<T: Drop, const N: usize>(
     Vec::from_array(alloc, items).expect(rt, "memory")
 }
 
-/// The object that O1 holds, with another name of its section.
-pub(super) fn o1(rt: &impl Abort, alloc: Global, name: &'static [u8]) -> Object<'static, Global> {
+/// The section of O1, with another name.
+fn o1_section(rt: &impl Abort, alloc: Global, name: &'static [u8]) -> ObjSection<'static, Global> {
     let relocation = Relocation {
         address: 1,
         symbol: 3,
         kind: 4,
     };
-    let section = ObjSection {
+    ObjSection {
         name,
         virtual_size: 0,
         virtual_address: 0,
         raw: RawData::Bytes(b"\xe8\x00\x00\x00\x00\xc3"),
         flags: 0x6000_0020,
         relocations: list(rt, alloc, [relocation]),
-    };
+    }
+}
+
+/// An object for a machine, of these sections and symbols.
+pub(super) fn with_sections<'a>(
+    machine: u16,
+    sections: Vec<ObjSection<'a, Global>>,
+    symbols: Vec<Symbol<'a>>,
+) -> Object<'a, Global> {
     Object {
-        machine: 0x8664,
+        machine,
         time_stamp: 0,
         characteristics: 0,
         optional: b"",
-        sections: list(rt, alloc, [section]),
-        symbols: list(rt, alloc, O1_SYMBOLS),
+        sections,
+        symbols,
     }
+}
+
+/// The object that O1 holds, with another name of its section.
+pub(super) fn o1(rt: &impl Abort, alloc: Global, name: &'static [u8]) -> Object<'static, Global> {
+    with_sections(
+        0x8664,
+        list(rt, alloc, [o1_section(rt, alloc, name)]),
+        list(rt, alloc, O1_SYMBOLS),
+    )
+}
+
+/// What a section holds beside its relocations.
+type Fields<'a> = (&'a [u8], u32, u32, RawData<'a>, u32);
+
+fn fields_of<'a, A: Allocator>(section: &ObjSection<'a, A>) -> Fields<'a> {
+    (
+        section.name,
+        section.virtual_size,
+        section.virtual_address,
+        section.raw,
+        section.flags,
+    )
 }
 
 /// Whether two sections are equal.
@@ -80,12 +112,7 @@ fn same_section<A: Allocator, B: Allocator>(
     one: &ObjSection<'_, A>,
     other: &ObjSection<'_, B>,
 ) -> bool {
-    one.name == other.name
-        && one.virtual_size == other.virtual_size
-        && one.virtual_address == other.virtual_address
-        && one.raw == other.raw
-        && one.flags == other.flags
-        && one.relocations.as_slice() == other.relocations.as_slice()
+    fields_of(one) == fields_of(other) && one.relocations.as_slice() == other.relocations.as_slice()
 }
 
 /// Whether two lists of sections are equal.
@@ -104,6 +131,11 @@ fn same_sections<A: Allocator, B: Allocator>(
     true
 }
 
+/// The numbers of an object's header.
+fn numbers_of<A: Allocator>(object: &Object<'_, A>) -> (u16, u32, u16) {
+    (object.machine, object.time_stamp, object.characteristics)
+}
+
 /// Whether two objects are equal.
 pub(super) fn same_object<A: Allocator, B: Allocator>(
     one: &Object<'_, A>,
@@ -115,12 +147,18 @@ pub(super) fn same_object<A: Allocator, B: Allocator>(
     if one.symbols.as_slice() != other.symbols.as_slice() {
         return false;
     }
-    if one.optional != other.optional {
-        return false;
-    }
-    one.machine == other.machine
-        && one.time_stamp == other.time_stamp
-        && one.characteristics == other.characteristics
+    one.optional == other.optional && numbers_of(one) == numbers_of(other)
+}
+
+/// Whether a file is read as an object.
+pub(super) fn reads_as(
+    rt: &impl Abort,
+    alloc: Global,
+    file: &[u8],
+    object: &Object<'_, Global>,
+) -> bool {
+    let found = read_object(alloc, file).expect(rt, "an object");
+    same_object(&found, object)
 }
 
 /// The fault of an error, if it is one.

@@ -1,23 +1,22 @@
 //! What `coff_object` reads of object files.
 
-use super::o1::{list, o1, same_object};
+use super::o1::{list, o1, reads_as, with_sections};
 use crate::tests::asserts::assert_holds;
-use coff_object::{Aux, Object, Symbol, SymbolSection, read_object};
+use coff_object::{Aux, Object, Symbol, SymbolSection};
 use pe_vectors::objects::O1;
 use std::alloc::Global;
 use std::process::Abort;
 
 #[test]
 fn o1_is_read(rt: HostRuntime) {
-    let alloc = rt.alloc();
-    let object = read_object(alloc, O1).expect(&rt, "an object");
-    assert!(&rt; same_object(&object, &o1(&rt, alloc, b".text$long")));
+    let object = o1(&rt, rt.alloc(), b".text$long");
+    assert_holds(&rt, 0, reads_as(&rt, rt.alloc(), O1, &object));
 }
 
 #[test]
 fn a_header_alone_holds_nothing(rt: HostRuntime) {
-    let object = read_object(rt.alloc(), &[0; 20]).expect(&rt, "an object");
-    assert!(&rt; object.sections.is_empty() && object.symbols.is_empty());
+    let nothing = with_sections(0, Vec::new(rt.alloc()), Vec::new(rt.alloc()));
+    assert_holds(&rt, 0, reads_as(&rt, rt.alloc(), &[0; 20], &nothing));
 }
 
 /// The bytes of an auxiliary record, which differ.
@@ -88,7 +87,7 @@ const SHAPES: &[Shape] = &[
 fn with_aux(
     rt: &impl Abort,
     alloc: Global,
-    shape: Shape,
+    shape: &Shape,
     aux: &'static [u8],
 ) -> Object<'static, Global> {
     let symbol = Symbol {
@@ -99,32 +98,39 @@ fn with_aux(
         class: shape.0,
         aux,
     };
-    Object {
-        machine: 0x8664,
-        time_stamp: 0,
-        characteristics: 0,
-        optional: b"",
-        sections: Vec::new(alloc),
-        symbols: list(rt, alloc, [symbol]),
+    with_sections(0x8664, Vec::new(alloc), list(rt, alloc, [symbol]))
+}
+
+/// A symbol, a record of it, and the shape that the record has, if there is one.
+type View = (usize, usize, Option<Aux<'static>>);
+
+/// Asserts what is seen of the auxiliary records of an object.
+fn assert_views(rt: &impl Abort, case: usize, object: &Object<'_, Global>, views: &[View]) {
+    for (symbol, record, expected) in views {
+        assert_holds(rt, case, object.aux_view(*symbol, *record) == *expected);
     }
 }
 
 #[test]
 fn an_auxiliary_record_has_the_shape_of_its_symbol(rt: HostRuntime) {
     for (index, shape) in SHAPES.iter().enumerate() {
-        let object = with_aux(&rt, rt.alloc(), *shape, RECORD);
-        assert_holds(&rt, index, object.aux_view(0, 0) == Some(shape.3));
-        assert_holds(&rt, index, object.aux_view(0, 1).is_none());
-        assert_holds(&rt, index, object.aux_view(1, 0).is_none());
+        let object = with_aux(&rt, rt.alloc(), shape, RECORD);
+        let views = [(0, 0, Some(shape.3)), (0, 1, None), (1, 0, None)];
+        assert_views(&rt, index, &object, &views);
     }
 }
+
+/// The records of a symbol of two.
+const TWO_RECORDS: &[View] = &[
+    (0, 0, Some(Aux::File { name: b"a.c" })),
+    (0, 1, Some(Aux::File { name: b"/b.h" })),
+    (0, 2, None),
+    (0, usize::MAX, None),
+];
 
 #[test]
 fn each_auxiliary_record_of_a_symbol_has_its_place(rt: HostRuntime) {
     let aux = b"a.c\x00............../b.h\x00..............x";
-    let object = with_aux(&rt, rt.alloc(), (103, 0, SymbolSection::Debug, RAW), aux);
-    assert!(&rt; object.aux_view(0, 0) == Some(Aux::File { name: b"a.c" }));
-    assert!(&rt; object.aux_view(0, 1) == Some(Aux::File { name: b"/b.h" }));
-    assert!(&rt; object.aux_view(0, 2).is_none());
-    assert!(&rt; object.aux_view(0, usize::MAX).is_none());
+    let object = with_aux(&rt, rt.alloc(), &(103, 0, SymbolSection::Debug, RAW), aux);
+    assert_views(&rt, 0, &object, TWO_RECORDS);
 }

@@ -1,11 +1,11 @@
 //! What `coff_object` writes of objects, and that it is read back.
 
-use super::o1::{fault_of, list, o1, same_object};
-use crate::tests::asserts::{assert_holds, bytes_from};
+use super::o1::{fault_of, list, o1, reads_as, with_sections};
+use crate::tests::asserts::{assert_holds, has_pieces};
 use coff_object::{
-    ObjSection, Object, ObjectError, RawData, Relocation, Symbol, SymbolSection, read_object,
-    write_object,
+    ObjSection, Object, ObjectError, RawData, Relocation, Symbol, SymbolSection, write_object,
 };
+use pe_vectors::files::Piece;
 use pe_vectors::objects::O1;
 use pe_view::{Fault, Place};
 use std::alloc::Global;
@@ -39,12 +39,12 @@ const FINE: Parts<'static> = Parts {
     aux: b"",
 };
 
-/// A section without relocations.
+/// A section with these relocations.
 fn section<'a>(
-    alloc: Global,
     name: &'a [u8],
     raw: RawData<'a>,
     flags: u32,
+    relocations: Vec<Relocation>,
 ) -> ObjSection<'a, Global> {
     ObjSection {
         name,
@@ -52,65 +52,98 @@ fn section<'a>(
         virtual_address: 0x9abc_def0,
         raw,
         flags,
-        relocations: Vec::new(alloc),
+        relocations,
     }
 }
 
-/// The object of these parts.
-fn object_of<'a>(rt: &impl Abort, alloc: Global, parts: Parts<'a>) -> Object<'a, Global> {
+/// The section of these parts.
+fn section_of<'a>(rt: &impl Abort, alloc: Global, parts: &Parts<'a>) -> ObjSection<'a, Global> {
     let relocation = Relocation {
         address: 0x0102_0304,
         symbol: parts.target,
         kind: 0x0506,
     };
-    let mut section = section(alloc, parts.section, parts.raw, parts.flags);
-    section.relocations.push(relocation).expect(rt, "memory");
-    let symbol = Symbol {
+    let relocations = list(rt, alloc, [relocation]);
+    section(parts.section, parts.raw, parts.flags, relocations)
+}
+
+/// The symbol of these parts.
+fn symbol_of<'a>(parts: &Parts<'a>) -> Symbol<'a> {
+    Symbol {
         name: parts.symbol,
         value: 0x1122_3344,
         section: parts.number,
         kind: 0x5566,
         class: 0x77,
         aux: parts.aux,
-    };
+    }
+}
+
+/// The object of these parts.
+fn object_of<'a>(rt: &impl Abort, alloc: Global, parts: &Parts<'a>) -> Object<'a, Global> {
     Object {
         machine: parts.machine,
         time_stamp: 0x8765_4321,
         characteristics: 0xa1b2,
         optional: parts.optional,
-        sections: list(rt, alloc, [section]),
-        symbols: list(rt, alloc, [symbol]),
+        sections: list(rt, alloc, [section_of(rt, alloc, parts)]),
+        symbols: list(rt, alloc, [symbol_of(parts)]),
     }
 }
 
-/// An object of these sections and no symbols.
-fn with_sections<'a>(
-    sections: Vec<ObjSection<'a, Global>>,
-    symbols: Vec<Symbol<'a>>,
-) -> Object<'a, Global> {
-    Object {
-        machine: 0,
-        time_stamp: 0,
-        characteristics: 0,
-        optional: b"",
-        sections,
-        symbols,
+/// A symbol of a name alone.
+fn named<'a>(name: &'a [u8], section: SymbolSection) -> Symbol<'a> {
+    Symbol {
+        name,
+        value: 0,
+        section,
+        kind: 0,
+        class: 2,
+        aux: b"",
     }
 }
 
-/// An object of nothing but so many sections without bytes.
-fn empty_sections(
+/// A section without relocations: its name, raw data and flags.
+type Bare<'a> = (&'a [u8], RawData<'a>, u32);
+
+/// Sections without relocations.
+fn sections_of<'a>(
     rt: &impl Abort,
     alloc: Global,
-    count: u32,
-    symbols: Vec<Symbol<'static>>,
-) -> Object<'static, Global> {
+    bare: &[Bare<'a>],
+) -> Vec<ObjSection<'a, Global>> {
     let mut sections = Vec::new(alloc);
-    for _ in 0..count {
-        let empty = section(alloc, b"", RawData::Absent(0), 0);
-        sections.push(empty).expect(rt, "memory");
+    for (name, raw, flags) in bare {
+        sections
+            .push(section(name, *raw, *flags, Vec::new(alloc)))
+            .expect(rt, "memory");
     }
-    with_sections(sections, symbols)
+    sections
+}
+
+/// Symbols of these names, which no section defines.
+fn symbols_of<'a>(rt: &impl Abort, alloc: Global, names: &[&'a [u8]]) -> Vec<Symbol<'a>> {
+    let mut symbols = Vec::new(alloc);
+    for name in names {
+        symbols
+            .push(named(name, SymbolSection::Undefined))
+            .expect(rt, "memory");
+    }
+    symbols
+}
+
+/// An object of such sections and symbols.
+fn bare_object<'a>(
+    rt: &impl Abort,
+    alloc: Global,
+    bare: &[Bare<'a>],
+    names: &[&'a [u8]],
+) -> Object<'a, Global> {
+    with_sections(
+        0,
+        sections_of(rt, alloc, bare),
+        symbols_of(rt, alloc, names),
+    )
 }
 
 /// Asserts the fault of a call in a case, by number and item; None where there is none.
@@ -120,7 +153,8 @@ fn assert_fault(
     error: Option<ObjectError>,
     expected: Option<(u16, u32)>,
 ) {
-    let expected = match expected {
+    assert_holds(rt, case, error.is_some() == expected.is_some());
+    let fault = match expected {
         Some((number, item)) => Some(Fault {
             number,
             image: 0,
@@ -128,14 +162,7 @@ fn assert_fault(
         }),
         None => None,
     };
-    assert_holds(rt, case, error.is_some() == expected.is_some());
-    assert_eq!(rt; fault_of(error), expected, "in case {case}");
-}
-
-/// Whether a file is read as an object.
-fn reads_as(rt: &impl Abort, alloc: Global, file: &[u8], object: &Object<'_, Global>) -> bool {
-    let found = read_object(alloc, file).expect(rt, "an object");
-    same_object(&found, object)
+    assert_holds(rt, case, fault_of(error) == fault);
 }
 
 /// Asserts that an object is written and read back equal; what was written.
@@ -145,97 +172,124 @@ fn read_back(rt: &impl Abort, alloc: Global, case: usize, object: &Object<'_, Gl
     file
 }
 
+/// Asserts that an object is written and read back equal, and the length of the file and pieces of it.
+fn assert_written(
+    rt: &impl Abort,
+    alloc: Global,
+    object: &Object<'_, Global>,
+    len: usize,
+    pieces: &[Piece],
+) {
+    let file = read_back(rt, alloc, 0, object);
+    assert_holds(rt, len, file.len() == len && has_pieces(&file, pieces));
+}
+
+/// Asserts the same of an object of bare sections and symbols.
+fn assert_bare(
+    rt: &impl Abort,
+    alloc: Global,
+    bare: &[Bare],
+    names: &[&[u8]],
+    len: usize,
+    pieces: &[Piece],
+) {
+    let object = bare_object(rt, alloc, bare, names);
+    assert_written(rt, alloc, &object, len, pieces);
+}
+
 #[test]
 fn o1_is_written_and_read_back(rt: HostRuntime) {
-    let alloc = rt.alloc();
-    let file = read_back(&rt, alloc, 0, &o1(&rt, alloc, b".text$long"));
-    assert!(&rt; *file == *O1.as_slice());
+    let object = o1(&rt, rt.alloc(), b".text$long");
+    assert_written(&rt, rt.alloc(), &object, O1.len(), &[(0, O1)]);
 }
 
 #[test]
 fn an_object_of_nothing_is_a_header(rt: HostRuntime) {
-    let alloc = rt.alloc();
-    let nothing = with_sections(Vec::new(alloc), Vec::new(alloc));
-    let file = read_back(&rt, alloc, 0, &nothing);
-    assert!(&rt; *file == *[0; 20].as_slice());
+    assert_bare(&rt, rt.alloc(), &[], &[], 20, &[(0, &[0; 20])]);
 }
+
+/// O1 with a section named `/4`: the section's name, the name of the symbol `abcdefghi`, and the string table.
+const SLASH: &[Piece] = &[
+    (20, b"/4\x00\x00\x00\x00\x00\x00"),
+    (130, b"\x00\x00\x00\x00\x07\x00\x00\x00"),
+    (166, b"\x11\x00\x00\x00/4\x00abcdefghi\x00"),
+];
 
 #[test]
 fn a_section_name_with_a_slash_stands_in_the_string_table(rt: HostRuntime) {
-    let alloc = rt.alloc();
-    let file = read_back(&rt, alloc, 0, &o1(&rt, alloc, b"/4"));
-    assert_eq!(&rt; file.len(), 183);
-    assert!(&rt; bytes_from(&rt, &file, 20).starts_with(b"/4\x00\x00\x00\x00\x00\x00"));
-    assert!(&rt; bytes_from(&rt, &file, 130).starts_with(b"\x00\x00\x00\x00\x07\x00\x00\x00"));
-    assert!(&rt;
-        *bytes_from(&rt, &file, 166) == *b"\x11\x00\x00\x00/4\x00abcdefghi\x00".as_slice()
-    );
+    let object = o1(&rt, rt.alloc(), b"/4");
+    assert_written(&rt, rt.alloc(), &object, 183, SLASH);
 }
+
+/// Parts that each take bytes of the file.
+const EACH_PART: Parts<'static> = Parts {
+    optional: b"\xa0\xa1\xa2",
+    raw: RawData::Bytes(b"\xb0\xb1"),
+    symbol: b"a long name",
+    aux: b"0123456789abcdefgh",
+    target: 1,
+    ..FINE
+};
+
+/// The file of these parts.
+const EACH_PART_WRITTEN: &[u8] =
+    b"\x4c\x01\x01\x00\x21\x43\x65\x87\x4b\x00\x00\x00\x02\x00\x00\x00\x03\x00\xb2\xa1\
+    \xa0\xa1\xa2\
+    .text\x00\x00\x00\x78\x56\x34\x12\xf0\xde\xbc\x9a\x02\x00\x00\x00\x3f\x00\x00\x00\
+    \x41\x00\x00\x00\x00\x00\x00\x00\x01\x00\x00\x00\x20\x00\x00\x00\
+    \xb0\xb1\
+    \x04\x03\x02\x01\x01\x00\x00\x00\x06\x05\
+    \x00\x00\x00\x00\x04\x00\x00\x00\x44\x33\x22\x11\x01\x00\x66\x55\x77\x01\
+    0123456789abcdefgh\
+    \x10\x00\x00\x00a long name\x00";
 
 #[test]
 fn each_part_stands_behind_the_one_before(rt: HostRuntime) {
-    let alloc = rt.alloc();
-    let parts = Parts {
-        optional: b"\xa0\xa1\xa2",
-        raw: RawData::Bytes(b"\xb0\xb1"),
-        symbol: b"a long name",
-        aux: b"0123456789abcdefgh",
-        target: 1,
-        ..FINE
-    };
-    let file = read_back(&rt, alloc, 0, &object_of(&rt, alloc, parts));
-    let expected =
-        b"\x4c\x01\x01\x00\x21\x43\x65\x87\x4b\x00\x00\x00\x02\x00\x00\x00\x03\x00\xb2\xa1\
-        \xa0\xa1\xa2\
-        .text\x00\x00\x00\x78\x56\x34\x12\xf0\xde\xbc\x9a\x02\x00\x00\x00\x3f\x00\x00\x00\
-        \x41\x00\x00\x00\x00\x00\x00\x00\x01\x00\x00\x00\x20\x00\x00\x00\
-        \xb0\xb1\
-        \x04\x03\x02\x01\x01\x00\x00\x00\x06\x05\
-        \x00\x00\x00\x00\x04\x00\x00\x00\x44\x33\x22\x11\x01\x00\x66\x55\x77\x01\
-        0123456789abcdefgh\
-        \x10\x00\x00\x00a long name\x00";
-    assert!(&rt; *file == *expected.as_slice());
+    let object = object_of(&rt, rt.alloc(), &EACH_PART);
+    let pieces = [(0, EACH_PART_WRITTEN)];
+    assert_written(&rt, rt.alloc(), &object, EACH_PART_WRITTEN.len(), &pieces);
 }
+
+/// Sections and symbols of which some have equal names.
+const EQUAL_SECTIONS: &[Bare] = &[
+    (b"second long", RawData::Absent(5), 0x80),
+    (b"/", RawData::Absent(0), 0),
+    (b"second long", RawData::Absent(0), 0),
+];
+
+const EQUAL_SYMBOLS: &[&[u8]] = &[b"first long", b"second long", b"first long", b"/"];
+
+/// The string table, and names of sections and symbols that are not in it or point there.
+const EQUAL_TEXTS: &[Piece] = &[
+    (212, b"\x1d\x00\x00\x00second long\x00/\x00first long\x00"),
+    (60, b"/16\x00\x00\x00\x00\x00"),
+    (140, b"\x00\x00\x00\x00\x12\x00\x00\x00"),
+    (194, b"/\x00\x00\x00\x00\x00\x00\x00"),
+];
 
 #[test]
 fn equal_texts_stand_once_in_order_of_first_use(rt: HostRuntime) {
-    let alloc = rt.alloc();
-    let sections = [
-        section(alloc, b"second long", RawData::Absent(5), 0x80),
-        section(alloc, b"/", RawData::Absent(0), 0),
-        section(alloc, b"second long", RawData::Absent(0), 0),
-    ];
-    let names: [&[u8]; 4] = [b"first long", b"second long", b"first long", b"/"];
-    let mut symbols = Vec::new(alloc);
-    for name in names {
-        let symbol = Symbol {
-            name,
-            value: 0,
-            section: SymbolSection::Undefined,
-            kind: 0,
-            class: 2,
-            aux: b"",
-        };
-        symbols.push(symbol).expect(&rt, "memory");
-    }
-    let object = with_sections(list(&rt, alloc, sections), symbols);
-    let file = read_back(&rt, alloc, 0, &object);
-    let strings = b"\x1d\x00\x00\x00second long\x00/\x00first long\x00";
-    assert_eq!(&rt; file.len(), 20 + 3 * 40 + 4 * 18 + 29);
-    assert!(&rt; *bytes_from(&rt, &file, 212) == *strings.as_slice());
-    assert!(&rt; bytes_from(&rt, &file, 60).starts_with(b"/16\x00\x00\x00\x00\x00"));
-    assert!(&rt; bytes_from(&rt, &file, 140).starts_with(b"\x00\x00\x00\x00\x12\x00\x00\x00"));
-    assert!(&rt; bytes_from(&rt, &file, 194).starts_with(b"/\x00\x00\x00\x00\x00\x00\x00"));
+    let len = 20 + 3 * 40 + 4 * 18 + 29;
+    assert_bare(
+        &rt,
+        rt.alloc(),
+        EQUAL_SECTIONS,
+        EQUAL_SYMBOLS,
+        len,
+        EQUAL_TEXTS,
+    );
 }
+
+/// The pointer to no symbols, behind which the strings stand, and the strings.
+const STRINGS: &[Piece] = &[
+    (8, b"\x3c\x00\x00\x00\x00\x00\x00\x00"),
+    (60, b"\x06\x00\x00\x00/\x00"),
+];
 
 #[test]
 fn strings_without_symbols_have_a_pointer(rt: HostRuntime) {
-    let alloc = rt.alloc();
-    let sections = list(&rt, alloc, [section(alloc, b"/", RawData::Absent(9), 0)]);
-    let file = read_back(&rt, alloc, 0, &with_sections(sections, Vec::new(alloc)));
-    assert_eq!(&rt; file.len(), 66);
-    assert!(&rt; bytes_from(&rt, &file, 8).starts_with(b"\x3c\x00\x00\x00\x00\x00\x00\x00"));
-    assert!(&rt; *bytes_from(&rt, &file, 60) == *b"\x06\x00\x00\x00/\x00".as_slice());
+    let sections: &[Bare] = &[(b"/", RawData::Absent(9), 0)];
+    assert_bare(&rt, rt.alloc(), sections, &[], 66, STRINGS);
 }
 
 /// The parts of an object, and the fault that stands, by number and item.
@@ -282,22 +336,7 @@ const FORMS: &[Case] = &[
         },
         Some((81, 1)),
     ),
-    // 85: the optional bytes
-    (
-        Parts {
-            optional: &[7; 65_535],
-            ..FINE
-        },
-        None,
-    ),
-    (
-        Parts {
-            optional: &[7; 65_536],
-            ..FINE
-        },
-        Some((85, 0)),
-    ),
-    // a file of another kind
+    // 85: a file of another kind
     (
         Parts {
             machine: 0x5a4d,
@@ -400,42 +439,6 @@ const FORMS: &[Case] = &[
         },
         None,
     ),
-    // auxiliary bytes
-    (
-        Parts {
-            aux: &[1; 17],
-            ..FINE
-        },
-        Some((85, 0)),
-    ),
-    (
-        Parts {
-            aux: &[1; 18],
-            ..FINE
-        },
-        None,
-    ),
-    (
-        Parts {
-            aux: &[1; 19],
-            ..FINE
-        },
-        Some((85, 0)),
-    ),
-    (
-        Parts {
-            aux: &[1; 4_590],
-            ..FINE
-        },
-        None,
-    ),
-    (
-        Parts {
-            aux: &[1; 4_608],
-            ..FINE
-        },
-        Some((85, 0)),
-    ),
     // the relocation's symbol, which counts auxiliary records
     (Parts { target: 1, ..FINE }, Some((85, 0))),
     (
@@ -456,88 +459,169 @@ const FORMS: &[Case] = &[
     ),
 ];
 
-#[test]
-fn objects_without_a_form_are_refused(rt: HostRuntime) {
-    let alloc = rt.alloc();
-    for (index, (parts, expected)) in FORMS.iter().enumerate() {
-        let object = object_of(&rt, alloc, *parts);
-        assert_fault(&rt, index, write_object(alloc, &object).err(), *expected);
-        if expected.is_none() {
-            read_back(&rt, alloc, index, &object);
-        }
+/// Asserts the fault of writing an object in a case; where there is none, it is read back equal.
+fn assert_form(
+    rt: &impl Abort,
+    alloc: Global,
+    case: usize,
+    parts: &Parts,
+    expected: Option<(u16, u32)>,
+) {
+    let object = object_of(rt, alloc, parts);
+    assert_fault(rt, case, write_object(alloc, &object).err(), expected);
+    if expected.is_none() {
+        read_back(rt, alloc, case, &object);
     }
 }
 
-/// The fault of writing a section with so many relocations behind one without.
-fn crowded(rt: &impl Abort, alloc: Global, count: u32) -> Option<ObjectError> {
-    let mut second = section(alloc, b"", RawData::Absent(0), 0);
+/// How many bytes a part has, and the fault that stands.
+type Length = (usize, Option<(u16, u32)>);
+
+/// The optional bytes.
+const OPTIONAL: &[Length] = &[(65_535, None), (65_536, Some((85, 0)))];
+
+/// The auxiliary bytes of the symbol, 18 a record.
+const AUXILIARY: &[Length] = &[
+    (17, Some((85, 0))),
+    (18, None),
+    (19, Some((85, 0))),
+    (4_590, None),
+    (4_608, Some((85, 0))),
+];
+
+/// Asserts the fault of writing so many optional bytes.
+fn assert_optional(rt: &impl Abort, alloc: Global, length: Length) {
+    let optional = Vec::from_elem(alloc, 7, length.0).expect(rt, "memory");
+    let parts = Parts {
+        optional: &optional,
+        ..FINE
+    };
+    assert_form(rt, alloc, length.0, &parts, length.1);
+}
+
+/// Asserts the fault of writing so many auxiliary bytes.
+fn assert_auxiliary(rt: &impl Abort, alloc: Global, length: Length) {
+    let aux = Vec::from_elem(alloc, 1, length.0).expect(rt, "memory");
+    let parts = Parts { aux: &aux, ..FINE };
+    assert_form(rt, alloc, length.0, &parts, length.1);
+}
+
+/// Asserts the fault of writing in each case.
+fn assert_forms(rt: &impl Abort, alloc: Global, cases: &[Case]) {
+    for (index, (parts, expected)) in cases.iter().enumerate() {
+        assert_form(rt, alloc, index, parts, *expected);
+    }
+}
+
+#[test]
+fn objects_without_a_form_are_refused(rt: HostRuntime) {
+    assert_forms(&rt, rt.alloc(), FORMS);
+    for length in OPTIONAL {
+        assert_optional(&rt, rt.alloc(), *length);
+    }
+    for length in AUXILIARY {
+        assert_auxiliary(&rt, rt.alloc(), *length);
+    }
+}
+
+/// So many relocations.
+fn relocations(rt: &impl Abort, alloc: Global, count: u32) -> Vec<Relocation> {
+    let mut relocations = Vec::new(alloc);
     for address in 0..count {
         let relocation = Relocation {
             address,
             symbol: 0,
             kind: 0,
         };
-        second.relocations.push(relocation).expect(rt, "memory");
+        relocations.push(relocation).expect(rt, "memory");
     }
-    let sections = [section(alloc, b"", RawData::Absent(0), 0), second];
-    let symbol = Symbol {
-        name: b"f",
-        value: 0,
-        section: SymbolSection::Undefined,
-        kind: 0,
-        class: 2,
-        aux: b"",
-    };
-    let object = with_sections(list(rt, alloc, sections), list(rt, alloc, [symbol]));
+    relocations
+}
+
+/// The fault of writing a section with so many relocations behind one without.
+fn crowded(rt: &impl Abort, alloc: Global, count: u32) -> Option<ObjectError> {
+    let sections = [
+        section(b"", RawData::Absent(0), 0, Vec::new(alloc)),
+        section(b"", RawData::Absent(0), 0, relocations(rt, alloc, count)),
+    ];
+    let symbols = symbols_of(rt, alloc, &[b"f"]);
+    let object = with_sections(0, list(rt, alloc, sections), symbols);
     write_object(alloc, &object).err()
 }
 
 #[test]
 fn a_section_has_at_most_65534_relocations(rt: HostRuntime) {
-    let alloc = rt.alloc();
-    assert_fault(&rt, 0, crowded(&rt, alloc, 65_534), None);
-    assert_fault(&rt, 1, crowded(&rt, alloc, 65_535), Some((83, 1)));
+    for (case, count, expected) in [(0, 65_534, None), (1, 65_535, Some((83, 1)))] {
+        assert_fault(&rt, case, crowded(&rt, rt.alloc(), count), expected);
+    }
+}
+
+/// What is written of a section's name of so many letters and another that needs the string table.
+fn long_named(rt: &impl Abort, alloc: Global, length: usize) -> Result<Vec<u8>, ObjectError> {
+    let long = Vec::from_elem(alloc, b'a', length).expect(rt, "memory");
+    let sections: &[Bare] = &[
+        (&long, RawData::Absent(0), 0),
+        (b"/", RawData::Absent(0), 0),
+    ];
+    write_object(alloc, &bare_object(rt, alloc, sections, &[]))
+}
+
+/// Asserts of such names that the offset of the other one has 7 digits, or a fault.
+fn assert_long_name(rt: &impl Abort, alloc: Global, length: usize, expected: Option<(u16, u32)>) {
+    match long_named(rt, alloc, length) {
+        Ok(file) => {
+            assert_holds(rt, length, has_pieces(&file, &[(60, b"/9999999")]));
+            assert_fault(rt, length, None, expected);
+        }
+        Err(error) => assert_fault(rt, length, Some(error), expected),
+    }
 }
 
 #[test]
 fn the_offset_of_a_sections_name_has_at_most_7_digits(rt: HostRuntime) {
-    let alloc = rt.alloc();
     // behind the size field, the first name and its zero byte the second name stands at the first's length plus 5
     for (length, expected) in [(9_999_994, None), (9_999_995, Some((82, 1)))] {
-        let long = Vec::from_elem(alloc, b'a', length).expect(&rt, "memory");
-        let sections = [
-            section(alloc, &long, RawData::Absent(0), 0),
-            section(alloc, b"/", RawData::Absent(0), 0),
-        ];
-        let object = with_sections(list(&rt, alloc, sections), Vec::new(alloc));
-        let written = write_object(alloc, &object);
-        if let Ok(file) = &written {
-            assert_holds(
-                &rt,
-                length,
-                bytes_from(&rt, file, 60).starts_with(b"/9999999"),
-            );
-        }
-        assert_fault(&rt, length, written.err(), expected);
+        assert_long_name(&rt, rt.alloc(), length, expected);
     }
+}
+
+/// As many sections that are all alike.
+fn repeated<'a>(
+    rt: &impl Abort,
+    alloc: Global,
+    bare: Bare<'a>,
+    count: usize,
+) -> Vec<ObjSection<'a, Global>> {
+    let all = Vec::from_elem(alloc, bare, count).expect(rt, "memory");
+    sections_of(rt, alloc, &all)
 }
 
 #[test]
 fn a_file_of_4_gib_is_not_written(rt: HostRuntime) {
-    let alloc = rt.alloc();
-    let bytes = Vec::from_elem(alloc, 1, 0x10_0000).expect(&rt, "memory");
-    let mut sections = Vec::new(alloc);
-    for _ in 0..0x1000 {
-        let part = section(alloc, b"", RawData::Bytes(&bytes), 0);
-        sections.push(part).expect(&rt, "memory");
-    }
-    let object = with_sections(sections, Vec::new(alloc));
-    assert_fault(&rt, 0, write_object(alloc, &object).err(), Some((84, 0)));
+    let bytes = Vec::from_elem(rt.alloc(), 1, 0x10_0000).expect(&rt, "memory");
+    let part = (b"".as_slice(), RawData::Bytes(&bytes), 0);
+    let sections = repeated(&rt, rt.alloc(), part, 0x1000);
+    let object = with_sections(0, sections, Vec::new(rt.alloc()));
+    let error = write_object(rt.alloc(), &object).err();
+    assert_fault(&rt, 0, error, Some((84, 0)));
+}
+
+/// The fault of writing so many sections, and a symbol of the section of this number.
+fn numbered(
+    rt: &impl Abort,
+    alloc: Global,
+    machine: u16,
+    count: usize,
+    number: u16,
+) -> Option<ObjectError> {
+    let sections = repeated(rt, alloc, (b"", RawData::Absent(0), 0), count);
+    let symbols = list(rt, alloc, [named(b"f", SymbolSection::Section(number))]);
+    let object = with_sections(machine, sections, symbols);
+    write_object(alloc, &object).err()
 }
 
 #[test]
 fn an_object_has_at_most_65535_sections(rt: HostRuntime) {
-    let alloc = rt.alloc();
     for (machine, count, number, expected) in [
         (0, 65_533, 0xfffd, None),
         (0, 65_534, 0xfffe, Some((85, 0))),
@@ -545,21 +629,7 @@ fn an_object_has_at_most_65535_sections(rt: HostRuntime) {
         (1, 65_535, 1, None),
         (1, 65_536, 1, Some((85, 0))),
     ] {
-        let symbol = Symbol {
-            name: b"f",
-            value: 0,
-            section: SymbolSection::Section(number),
-            kind: 0,
-            class: 2,
-            aux: b"",
-        };
-        let mut object = empty_sections(&rt, alloc, count, list(&rt, alloc, [symbol]));
-        object.machine = machine;
-        assert_fault(
-            &rt,
-            count as usize,
-            write_object(alloc, &object).err(),
-            expected,
-        );
+        let error = numbered(&rt, rt.alloc(), machine, count, number);
+        assert_fault(&rt, count, error, expected);
     }
 }

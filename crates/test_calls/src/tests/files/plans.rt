@@ -11,14 +11,16 @@ pub(super) type Part = (&'static [u8; 8], u32, usize);
 /// What the headers of a file hold beside what all files have alike. Section k stands at 0x1000 * (k + 1).
 #[derive(Clone, Copy)]
 pub(super) struct Heading {
-    magic: Magic,
-    machine: u16,
-    characteristics: u16,
-    image_base: u64,
-    size_of_image: u32,
+    pub magic: Magic,
+    pub machine: u16,
+    pub characteristics: u16,
+    pub image_base: u64,
+    pub file_alignment: u32,
+    pub size_of_image: u32,
+    pub size_of_headers: u32,
     /// Each by its index, RVA and size.
-    directories: &'static [(usize, u32, u32)],
-    sections: &'static [Part],
+    pub directories: &'static [(usize, u32, u32)],
+    pub sections: &'static [Part],
 }
 
 /// What the headers of V1 hold.
@@ -27,7 +29,9 @@ pub(super) const V1: Heading = Heading {
     machine: 0x14c,
     characteristics: 0x2102,
     image_base: 0x1000_0000,
+    file_alignment: 0x200,
     size_of_image: 0x3000,
+    size_of_headers: 0x200,
     directories: &[],
     sections: &[(b".data\0\0\0", 0x10, 0x200)],
 };
@@ -94,8 +98,15 @@ pub(super) const VF: Heading = Heading {
     ..VB
 };
 
-/// A plan without directories and sections.
-pub(super) fn bare_plan<'a>(alloc: Global, heading: &Heading) -> Plan<'a> {
+/// No directory.
+pub(super) const NO_DIRECTORIES: [Directory; 16] = [Directory { rva: 0, size: 0 }; 16];
+
+/// A plan of these numbers, directories and sections.
+pub(super) fn plan_with<'a>(
+    heading: &Heading,
+    directories: [Directory; 16],
+    sections: Vec<PlanSection<'a>>,
+) -> Plan<'a> {
     Plan {
         magic: heading.magic,
         machine: heading.machine,
@@ -104,13 +115,13 @@ pub(super) fn bare_plan<'a>(alloc: Global, heading: &Heading) -> Plan<'a> {
         entry: 0,
         image_base: heading.image_base,
         section_alignment: 0x1000,
-        file_alignment: 0x200,
+        file_alignment: heading.file_alignment,
         size_of_image: heading.size_of_image,
-        size_of_headers: 0x200,
+        size_of_headers: heading.size_of_headers,
         subsystem: 0,
         dll_characteristics: 0,
-        directories: [Directory::default(); 16],
-        sections: Vec::new(alloc),
+        directories,
+        sections,
     }
 }
 
@@ -130,30 +141,47 @@ pub(super) fn section(
     }
 }
 
-/// The plan of a file whose sections' bytes stand behind its headers, one behind the other.
+/// The directories of a file.
+fn directories_of(rt: &impl Abort, heading: &Heading) -> [Directory; 16] {
+    let mut directories = NO_DIRECTORIES;
+    for (index, rva, size) in heading.directories {
+        assert!(rt; *index < 16);
+        directories[*index] = Directory {
+            rva: *rva,
+            size: *size,
+        };
+    }
+    directories
+}
+
+/// The sections of a file, whose bytes stand behind its headers, one behind the other.
+fn sections_of<'a>(
+    rt: &impl Abort,
+    alloc: Global,
+    parts: &[Part],
+    file: &'a [u8],
+) -> Vec<PlanSection<'a>> {
+    let mut sections = Vec::new(alloc);
+    let (mut rva, mut start) = (0x1000_u32, 0x200_usize);
+    for (name, virtual_size, size) in parts {
+        assert!(rt; start <= file.len() && *size <= file.len() - start && rva < 0x10_0000);
+        let raw = &file[start..start + *size];
+        sections
+            .push(section(**name, *virtual_size, rva, raw))
+            .expect(rt, "memory");
+        rva += 0x1000;
+        start += *size;
+    }
+    sections
+}
+
+/// The plan of a file.
 pub(super) fn plan_of<'a>(
     rt: &impl Abort,
     alloc: Global,
     heading: &Heading,
     file: &'a [u8],
 ) -> Plan<'a> {
-    let mut plan = bare_plan(alloc, heading);
-    for (index, rva, size) in heading.directories {
-        assert!(rt; *index < 16);
-        plan.directories[*index] = Directory {
-            rva: *rva,
-            size: *size,
-        };
-    }
-    let (mut rva, mut start) = (0x1000_u32, 0x200_usize);
-    for (name, virtual_size, size) in heading.sections {
-        assert!(rt; start <= file.len() && *size <= file.len() - start && rva < 0x10_0000);
-        let raw = &file[start..start + *size];
-        plan.sections
-            .push(section(**name, *virtual_size, rva, raw))
-            .expect(rt, "memory");
-        rva += 0x1000;
-        start += *size;
-    }
-    plan
+    let sections = sections_of(rt, alloc, heading.sections, file);
+    plan_with(heading, directories_of(rt, heading), sections)
 }

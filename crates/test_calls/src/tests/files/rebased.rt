@@ -1,13 +1,14 @@
 //! Files at other bases: what they map to, and what the engine writes of them.
 
+use super::cycles::entry;
 use crate::tests::asserts::assert_holds;
-use pe_space::{Policy, SetEntry, Space, map, open_space};
+use pe_space::{Policy, Space, map, open_space};
 use pe_tool::{Outcome, Sink, ToolError, rebase, status};
-use pe_vectors::files::{Piece, Vector, changed_file, file_of};
+use pe_vectors::files::{Piece, Vector, changed_file, file_of, put};
 use pe_vectors::{StepReader, StepWriter};
 use pe_view::{Fault, Place};
 use pe_write::rebase_file;
-use std::alloc::Global;
+use std::alloc::{Allocator, Global};
 use std::process::Abort;
 
 /// The offsets of ImageBase, in PE32 and in PE32+.
@@ -18,6 +19,19 @@ const WIDE_IMAGE_BASE: usize = 0x70;
 /// ImageBase 0x10008000, and two fields of two bytes: LOW at 0x1008 and HIGH at 0x100a.
 const HALVES: &[Piece] = &[(0x75, &[0x80]), (0x408, &[0x08, 0x20, 0x0a, 0x10])];
 
+/// What a file is at a base.
+fn rebased(rt: &impl Abort, alloc: Global, file: &[u8], base: u64) -> Vec<u8> {
+    rebase_file(alloc, file, base).expect(rt, "a file")
+}
+
+/// Asserts that a file differs at a base, and is as before where it is rebased to the first one again.
+fn assert_there_and_back(rt: &impl Abort, alloc: Global, old: &[u8], first: u64, base: u64) {
+    let there = rebased(rt, alloc, old, base);
+    assert_holds(rt, 0, *there.as_slice() != *old);
+    let back = rebased(rt, alloc, &there, first);
+    assert_holds(rt, 0, *back.as_slice() == *old);
+}
+
 #[test]
 fn a_file_that_is_rebased_and_back_is_as_before(rt: HostRuntime) {
     for (vector, first, base) in [
@@ -25,80 +39,86 @@ fn a_file_that_is_rebased_and_back_is_as_before(rt: HostRuntime) {
         (Vector::V3, 0x1_8000_0000, 0xffff_ffff_fff0_0000),
     ] {
         let old = file_of(rt.alloc(), vector).expect(&rt, "memory");
-        let there = rebase_file(rt.alloc(), &old, base).expect(&rt, "a file");
-        let back = rebase_file(rt.alloc(), &there, first).expect(&rt, "a file");
-        assert_holds(&rt, 0, *there.as_slice() != *old.as_slice());
-        assert_holds(&rt, 0, *back.as_slice() == *old.as_slice());
+        assert_there_and_back(&rt, rt.alloc(), &old, first, base);
     }
+}
+
+/// The first 0x3000 bytes at a base in a space.
+pub(super) fn bytes_of<S: Space>(rt: &impl Abort, space: &S, base: u64) -> [u8; 0x3000] {
+    let mut bytes = [0; 0x3000];
+    assert!(rt; space.window(base, &mut bytes) == Ok(()));
+    bytes
 }
 
 /// All bytes of the image of a file at a base, which has 0x3000 of them, by both spaces.
 fn mapped_bytes(rt: &impl Abort, alloc: Global, file: &[u8], base: u64) -> [u8; 0x3000] {
-    let set = [SetEntry {
-        name: b"a.dll",
-        file,
-        base,
-    }];
+    let set = [entry(b"a.dll", file, base)];
     let mapped = map(alloc, &set, Policy::Strict).expect(rt, "a space");
+    let bytes = bytes_of(rt, &mapped, base);
     let opened = open_space(alloc, &set, Policy::Strict).expect(rt, "a space over files");
-    let (mut bytes, mut others) = ([0; 0x3000], [0; 0x3000]);
-    assert_eq!(rt; mapped.window(base, &mut bytes), Ok(()));
-    assert_eq!(rt; opened.window(base, &mut others), Ok(()));
-    assert_holds(rt, 0, bytes == others);
+    assert_holds(rt, 0, bytes == bytes_of(rt, &opened, base));
     bytes
+}
+
+/// A base, where it stands in a file as ImageBase, and in how many bytes.
+type Base = (u64, usize, usize);
+
+/// Asserts that a file, rebased, maps at a third base to the bytes of the old one, but for ImageBase.
+fn assert_mapped(rt: &impl Abort, alloc: Global, old: &[u8], at: u64, new: Base) {
+    let (base, offset, width) = new;
+    let mut expected = mapped_bytes(rt, alloc, old, at);
+    let found = mapped_bytes(rt, alloc, &rebased(rt, alloc, old, base), at);
+    assert_holds(rt, 0, found != expected);
+    assert!(rt; offset < 0x100 && width <= 8);
+    put(&mut expected, offset, &base.to_le_bytes()[..width]);
+    assert_holds(rt, 0, found == expected);
 }
 
 #[test]
 fn a_rebased_file_maps_to_the_bytes_of_the_old_one(rt: HostRuntime) {
-    for (vector, base, at, image_base, width) in [
-        (Vector::V2, 0x2000_0000, 0x3000_0000, IMAGE_BASE, 4),
-        (Vector::V3, 0x1_4000_0000, 0x2_0000_0000, WIDE_IMAGE_BASE, 8),
+    for (vector, at, new) in [
+        (Vector::V2, 0x3000_0000, (0x2000_0000, IMAGE_BASE, 4)),
+        (
+            Vector::V3,
+            0x2_0000_0000,
+            (0x1_4000_0000, WIDE_IMAGE_BASE, 8),
+        ),
     ] {
         let old = file_of(rt.alloc(), vector).expect(&rt, "memory");
-        let new = rebase_file(rt.alloc(), &old, base).expect(&rt, "a file");
-        let mut expected = mapped_bytes(&rt, rt.alloc(), &old, at);
-        let found = mapped_bytes(&rt, rt.alloc(), &new, at);
-        assert_holds(&rt, 0, found != expected);
-        expected[image_base..image_base + width].copy_from_slice(&base.to_le_bytes()[..width]);
-        assert_holds(&rt, 0, found == expected);
+        assert_mapped(&rt, rt.alloc(), &old, at, new);
     }
+}
+
+/// Asserts the four bytes at 0x1008 at the base 0x30000000, of a file that was rebased to 0x20000000.
+fn assert_moved_on(rt: &impl Abort, alloc: Global, old: &[u8], expected: &[u8]) {
+    let new = rebased(rt, alloc, old, 0x2000_0000);
+    let bytes = mapped_bytes(rt, alloc, &new, 0x3000_0000);
+    assert_holds(rt, 0, bytes[0x1008..0x100c].starts_with(expected));
 }
 
 #[test]
 fn v2_rebased_holds_at_0x30000000_what_v2_holds_there(rt: HostRuntime) {
     let old = file_of(rt.alloc(), Vector::V2).expect(&rt, "memory");
-    let new = rebase_file(rt.alloc(), &old, 0x2000_0000).expect(&rt, "a file");
-    let bytes = mapped_bytes(&rt, rt.alloc(), &new, 0x3000_0000);
-    assert_holds(
-        &rt,
-        0,
-        bytes[0x1008..0x100c].starts_with(&[0x08, 0x10, 0x00, 0x30]),
-    );
+    assert_moved_on(&rt, rt.alloc(), &old, &[0x08, 0x10, 0x00, 0x30]);
 }
 
 #[test]
 fn halves_that_were_rebased_are_moved_on_as_those_of_the_old_file(rt: HostRuntime) {
     let old = changed_file(rt.alloc(), Vector::V2, HALVES).expect(&rt, "a changed file");
-    let new = rebase_file(rt.alloc(), &old, 0x2000_0000).expect(&rt, "a file");
-    let bytes = mapped_bytes(&rt, rt.alloc(), &new, 0x3000_0000);
-    assert_holds(
-        &rt,
-        0,
-        bytes[0x1008..0x100c].starts_with(&[0x08, 0x90, 0xff, 0x2f]),
-    );
+    assert_moved_on(&rt, rt.alloc(), &old, &[0x08, 0x90, 0xff, 0x2f]);
 }
 
 /// How the devices of a run work: the most bytes a call, and the read, and the write of either output, that fails.
 #[derive(Clone, Copy)]
-struct Devices {
-    step: usize,
-    failing_read: Option<u64>,
-    failing_out: Option<u64>,
-    failing_line: Option<u64>,
+pub(super) struct Devices {
+    pub step: usize,
+    pub failing_read: Option<u64>,
+    pub failing_out: Option<u64>,
+    pub failing_line: Option<u64>,
 }
 
 /// Devices of which no call fails.
-const FINE: Devices = Devices {
+pub(super) const FINE: Devices = Devices {
     step: 7,
     failing_read: None,
     failing_out: None,
@@ -107,16 +127,17 @@ const FINE: Devices = Devices {
 
 /// What an engine run wrote: its answer, and both outputs.
 #[derive(Drop)]
-struct Run {
-    answer: Result<Outcome, ToolError>,
-    out: StepWriter,
-    line: StepWriter,
+pub(super) struct Run {
+    pub answer: Result<Outcome, ToolError>,
+    pub out: StepWriter,
+    pub line: StepWriter,
 }
 
-/// Rebases V2, or V1 to a base at which it may not stand.
-fn rebased_over(
+/// Rebases a file over an allocator's memory: V2, or V1 to a base at which it may not stand.
+pub(super) fn rebased_over<A: Allocator + Copy>(
     rt: &impl Abort,
     alloc: Global,
+    memory: A,
     vector: Vector,
     base: u64,
     devices: Devices,
@@ -130,24 +151,19 @@ fn rebased_over(
     let mut line = StepWriter::new(alloc, 0x100, devices.step, devices.failing_line).expect(
         rt, "memory",
     );
-    let answer = rebase(alloc, &mut reader, base, &mut out, &mut line);
+    let answer = rebase(memory, &mut reader, base, &mut out, &mut line);
     Run { answer, out, line }
 }
 
 /// V2 at 0x20000000.
-fn rebased_v2(rt: &impl Abort, alloc: Global) -> Vec<u8> {
-    rebase_file(
-        alloc,
-        &file_of(alloc, Vector::V2).expect(rt, "memory"),
-        0x2000_0000,
-    )
-    .expect(rt, "a file")
+pub(super) fn rebased_v2(rt: &impl Abort, alloc: Global) -> Vec<u8> {
+    let file = file_of(alloc, Vector::V2).expect(rt, "memory");
+    rebased(rt, alloc, &file, 0x2000_0000)
 }
 
-/// Asserts what both outputs got.
-fn assert_wrote(rt: &impl Abort, case: usize, run: &Run, out: &[u8], line: &[u8]) {
-    assert_holds(rt, case, run.out.taken() == out);
-    assert_holds(rt, case, run.line.taken() == line);
+/// Whether a run answered so, and both outputs got so much.
+fn has_written(run: &Run, answer: Result<Outcome, ToolError>, out: &[u8], line: &[u8]) -> bool {
+    run.answer == answer && run.out.taken() == out && run.line.taken() == line
 }
 
 #[test]
@@ -155,30 +171,38 @@ fn a_rebased_file_goes_to_one_output_and_its_line_to_another(rt: HostRuntime) {
     let expected = rebased_v2(&rt, rt.alloc());
     for step in [1, 7, 0x1000] {
         let devices = Devices { step, ..FINE };
-        let run = rebased_over(&rt, rt.alloc(), Vector::V2, 0x2000_0000, devices);
-        assert_holds(&rt, step, run.answer == Ok(Outcome::Done));
+        let run = rebased_over(
+            &rt,
+            rt.alloc(),
+            rt.alloc(),
+            Vector::V2,
+            0x2000_0000,
+            devices,
+        );
+        assert_holds(
+            &rt,
+            step,
+            has_written(&run, Ok(Outcome::Done), &expected, LINE),
+        );
         assert_holds(&rt, step, status(&run.answer) == 0);
-        assert_wrote(&rt, step, &run, &expected, LINE);
     }
 }
 
 #[test]
 fn a_refused_file_leaves_the_output_as_it_is(rt: HostRuntime) {
-    let run = rebased_over(&rt, rt.alloc(), Vector::V1, 0x1000_8000, FINE);
-    let expected = Fault {
+    let run = rebased_over(&rt, rt.alloc(), rt.alloc(), Vector::V1, 0x1000_8000, FINE);
+    let fault = Fault {
         number: 44,
         image: 0,
         place: Place::Address(0x1000_8000),
     };
-    assert_holds(&rt, 0, run.answer == Ok(Outcome::Refused(expected)));
-    assert_holds(&rt, 0, status(&run.answer) == 1);
-    assert_wrote(
+    let line = b"fault 44 image 0 address 0x0000000010008000\n";
+    assert_holds(
         &rt,
         0,
-        &run,
-        b"",
-        b"fault 44 image 0 address 0x0000000010008000\n",
+        has_written(&run, Ok(Outcome::Refused(fault)), b"", line),
     );
+    assert_holds(&rt, 0, status(&run.answer) == 1);
 }
 
 /// Devices of which one call fails, the answer, how many bytes of the file and of its line were written, and how many failures
@@ -218,19 +242,21 @@ const FAILURES: &[Failure] = &[
     ),
 ];
 
+/// Asserts what such devices got and how many failures they count.
+fn assert_failure(rt: &impl Abort, alloc: Global, case: usize, failure: &Failure, file: &[u8]) {
+    let (devices, error, len, line, failures) = failure;
+    let out = file.get(..*len).expect(rt, "bytes of the file");
+    let run = rebased_over(rt, alloc, alloc, Vector::V2, 0x2000_0000, *devices);
+    assert_holds(rt, case, has_written(&run, Err(*error), out, line));
+    let found = (run.out.failures(), run.line.failures());
+    assert_holds(rt, case, found == *failures);
+}
+
 #[test]
 fn the_output_that_fails_counts_it(rt: HostRuntime) {
     let file = rebased_v2(&rt, rt.alloc());
-    for (index, (devices, error, len, line, failures)) in FAILURES.iter().enumerate() {
-        let run = rebased_over(&rt, rt.alloc(), Vector::V2, 0x2000_0000, *devices);
-        assert_holds(&rt, index, run.answer == Err(*error));
-        assert!(rt; *len <= file.len());
-        assert_wrote(&rt, index, &run, &file[..*len], line);
-        assert_holds(
-            &rt,
-            index,
-            (run.out.failures(), run.line.failures()) == *failures,
-        );
+    for (index, failure) in FAILURES.iter().enumerate() {
+        assert_failure(&rt, rt.alloc(), index, failure, &file);
     }
 }
 
@@ -272,27 +298,39 @@ fn is_beginning(written: &[u8], whole: &[u8]) -> bool {
 /// Whether a run in which a device failed answered so, and left the outputs so.
 fn has_failed(run: &Run, device: Device, file: &[u8]) -> bool {
     let (out, line) = (run.out.taken(), run.line.taken());
-    match device {
-        Device::Reader => run.answer == Err(ToolError::Read) && out.is_empty() && line.is_empty(),
-        Device::Out => {
-            run.answer == Err(ToolError::Write) && is_beginning(out, file) && line.is_empty()
-        }
-        Device::Line => {
-            run.answer == Err(ToolError::Write) && *out == *file && is_beginning(line, LINE)
-        }
+    let (error, is_out, is_line) = match device {
+        Device::Reader => (ToolError::Read, out.is_empty(), line.is_empty()),
+        Device::Out => (ToolError::Write, is_beginning(out, file), line.is_empty()),
+        Device::Line => (ToolError::Write, *out == *file, is_beginning(line, LINE)),
+    };
+    run.answer == Err(error) && is_out && is_line
+}
+
+/// Whether rebasing V2 answers so where a call of a device fails, or None where no call failed.
+fn is_told(
+    rt: &impl Abort,
+    alloc: Global,
+    devices: Devices,
+    device: Device,
+    file: &[u8],
+) -> Option<bool> {
+    let run = rebased_over(rt, alloc, alloc, Vector::V2, 0x2000_0000, devices);
+    if run.answer == Ok(Outcome::Done) {
+        return None;
     }
+    Some(has_failed(&run, device, file))
 }
 
 /// Asserts what rebasing V2 answers where each call of a device fails in turn.
 fn assert_each_fails(rt: &impl Abort, alloc: Global, step: usize, device: Device, file: &[u8]) {
     for call in 0..0x1000_u64 {
-        let devices = failing(step, device, call);
-        let run = rebased_over(rt, alloc, Vector::V2, 0x2000_0000, devices);
-        if run.answer == Ok(Outcome::Done) {
-            assert_holds(rt, step, call > 0);
-            return;
+        match is_told(rt, alloc, failing(step, device, call), device, file) {
+            Some(is_told) => assert_holds(rt, step, is_told),
+            None => {
+                assert_holds(rt, step, call > 0);
+                return;
+            }
         }
-        assert_holds(rt, step, has_failed(&run, device, file));
     }
     assert_holds(rt, step, false);
 }

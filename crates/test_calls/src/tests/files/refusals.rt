@@ -2,26 +2,28 @@
 
 ghost use Rattle.std.specs.Prelude.{◌<◌};
 
-use super::engines::{Devices, Engine, run_over, steps_of};
+use super::engines::{Devices, Engine, report_over, run as run_engine, run_over, steps_of};
 use super::images_written::REFUSED;
-use super::o1::{O1_SYMBOLS, fault_of, list, same_object};
+use super::o1::{O1_SYMBOLS, fault_of, same_object};
 use super::plans::{V2, plan_of};
+use super::rebased::{FINE, bytes_of, rebased_over, rebased_v2};
+use crate::tests::asserts::assert_holds;
 use bumpalo::Bump;
 use coff_object::{Object, ObjectError, Symbol, read_object, write_object};
 use pe_image::read_image;
 use pe_layout::Layout;
 use pe_set::{Binding, Module, judge};
-use pe_space::{Command, MapError, MappedSpace, Policy, SetEntry, Space, map, open_space, run};
+use pe_space::{Command, MapError, Policy, SetEntry, Space, map, open_space, run};
 use pe_tables::{
     Fixup, FixupKind, Import, Key, TableError, Target, ascending, encode_fixups, read_exports,
     read_fixups, read_imports,
 };
-use pe_tool::{Outcome, ToolError, map_report, read_whole, rebase};
+use pe_tool::{Outcome, ToolError, read_whole};
+use pe_vectors::StepReader;
 use pe_vectors::files::{Vector, file_of};
 use pe_vectors::members::{A, B, C, files_of, names_of, repeated, set_of};
 use pe_vectors::objects::O1;
 use pe_vectors::same::{same_imports, same_names, same_ordinals};
-use pe_vectors::{StepReader, StepWriter};
 use pe_view::{Fault, Place, View};
 use pe_write::{WriteError, rebase_file, write_image};
 use std::alloc::Global;
@@ -163,9 +165,10 @@ fn image(rt: &impl Abort, alloc: Global, arena: &Bump) -> Answer {
     }
 }
 
-/// What the images of A, B and C export by name, and import.
-const MODULES: &[(&[(&[u8], Target)], &[Import])] = &[
+/// Where the images of A, B and C stand, what they export by name, and import.
+const MODULES: &[(u64, &[(&[u8], Target)], &[Import])] = &[
     (
+        A.base,
         &[(
             b"f",
             Target::Forward {
@@ -175,23 +178,30 @@ const MODULES: &[(&[(&[u8], Target)], &[Import])] = &[
         )],
         &[],
     ),
-    (NAMES, &[]),
-    (&[], IMPORTS),
+    (B.base, NAMES, &[]),
+    (C.base, &[], IMPORTS),
 ];
+
+/// Whether a module stands at a base and exports and imports so much.
+fn is_module(
+    found: &Module<'_, &Bump>,
+    base: u64,
+    names: &[(&[u8], Target)],
+    imports: &[Import],
+) -> bool {
+    found.base == base
+        && same_names(found.image.exports.names(), names)
+        && same_imports(&found.image.imports, imports)
+}
 
 /// Whether modules are those of A, B and C at their bases.
 fn are_modules(found: &[Module<'_, &Bump>]) -> bool {
     if found.len() != MODULES.len() {
         return false;
     }
-    let bases = [A.base, B.base, C.base];
     for index in 0..found.len() {
-        let module = &found[index];
-        let (names, imports) = MODULES[index];
-        if bases.get(index) != Some(&module.base)
-            || !same_names(module.image.exports.names(), names)
-            || !same_imports(&module.image.imports, imports)
-        {
+        let (base, names, imports) = MODULES[index];
+        if !is_module(&found[index], base, names, imports) {
             return false;
         }
     }
@@ -206,36 +216,31 @@ const BINDINGS: &[Binding] = &[Binding {
     rva: 0x1010,
 }];
 
-/// Whether two spaces have the same bindings, and an image the same base and bytes in both.
-fn same_image<S: Space>(
-    rt: &impl Abort,
-    space: &S,
-    other: &MappedSpace<Global>,
-    image: u16,
-) -> bool {
-    let base = other.base_of(image);
-    let mut bytes = [1; 0x3000];
-    let mut expected = [2; 0x3000];
-    let address = base.expect(rt, "a base");
-    space.window(address, &mut bytes) == Ok(())
-        && other.window(address, &mut expected) == Ok(())
-        && bytes == expected
-        && space.base_of(image) == base
-        && *space.bindings() == *other.bindings()
+/// The base of an image, and its bytes.
+fn image_at<S: Space>(rt: &impl Abort, space: &S, image: u16) -> (u64, [u8; 0x3000]) {
+    let base = space.base_of(image).expect(rt, "a base");
+    (base, bytes_of(rt, space, base))
 }
 
-/// Whether two spaces of three images are the same.
-fn same_space<S: Space>(rt: &impl Abort, space: &S, other: &MappedSpace<Global>) -> bool {
-    same_image(rt, space, other, 0)
-        && same_image(rt, space, other, 1)
-        && same_image(rt, space, other, 2)
+/// Whether two spaces of three images have the same bindings, bases and bytes.
+fn same_space<S: Space, T: Space>(rt: &impl Abort, space: &S, other: &T) -> bool {
+    for image in 0..3 {
+        if image_at(rt, space, image) != image_at(rt, other, image) {
+            return false;
+        }
+    }
+    *space.bindings() == *other.bindings()
+}
+
+/// Whether a space is that of the set with ample memory.
+fn is_space_of<S: Space>(rt: &impl Abort, alloc: Global, set: &[SetEntry], space: &S) -> bool {
+    let expected = map(alloc, set, Policy::Strict).expect(rt, "a space");
+    same_space(rt, space, &expected)
 }
 
 /// What an accepted set binds, and each module's base, exports and imports.
-fn judging(rt: &impl Abort, alloc: Global, arena: &Bump) -> Answer {
-    let files = files_of(alloc, &[A, B, C]).expect(rt, "files");
-    let set = set_of(alloc, &[A, B, C], &files).expect(rt, "memory");
-    match judge(arena, &set, Policy::Strict) {
+fn judging(arena: &Bump, set: &[SetEntry]) -> Answer {
+    match judge(arena, set, Policy::Strict) {
         Ok(found) => {
             right_if(*found.bindings.as_slice() == *BINDINGS && are_modules(&found.modules))
         }
@@ -244,23 +249,17 @@ fn judging(rt: &impl Abort, alloc: Global, arena: &Bump) -> Answer {
     }
 }
 
-fn mapping(rt: &impl Abort, alloc: Global, arena: &Bump) -> Answer {
-    let files = files_of(alloc, &[A, B, C]).expect(rt, "files");
-    let set = set_of(alloc, &[A, B, C], &files).expect(rt, "memory");
-    let expected = map(alloc, &set, Policy::Strict).expect(rt, "a space");
-    match map(arena, &set, Policy::Strict) {
-        Ok(space) => right_if(same_space(rt, &space, &expected)),
+fn mapping(rt: &impl Abort, alloc: Global, arena: &Bump, set: &[SetEntry]) -> Answer {
+    match map(arena, set, Policy::Strict) {
+        Ok(space) => right_if(is_space_of(rt, alloc, set, &space)),
         Err(MapError::Memory) => Answer::Memory,
         Err(_) => Answer::Wrong,
     }
 }
 
-fn opening(rt: &impl Abort, alloc: Global, arena: &Bump) -> Answer {
-    let files = files_of(alloc, &[A, B, C]).expect(rt, "files");
-    let set = set_of(alloc, &[A, B, C], &files).expect(rt, "memory");
-    let expected = map(alloc, &set, Policy::Strict).expect(rt, "a space");
-    match open_space(arena, &set, Policy::Strict) {
-        Ok(space) => right_if(same_space(rt, &space, &expected)),
+fn opening<'a>(rt: &impl Abort, alloc: Global, arena: &Bump, set: &'a [SetEntry<'a>]) -> Answer {
+    match open_space(arena, set, Policy::Strict) {
+        Ok(space) => right_if(is_space_of(rt, alloc, set, &space)),
         Err(MapError::Memory) => Answer::Memory,
         Err(_) => Answer::Wrong,
     }
@@ -282,22 +281,96 @@ const COMMANDS: &[Command] = &[
     },
 ];
 
-/// A run that was stopped leaves the space as the commands that it counts do.
-fn running(rt: &impl Abort, alloc: Global, arena: &Bump) -> Answer {
-    let files = files_of(alloc, &[A, B, C]).expect(rt, "files");
-    let set = set_of(alloc, &[A, B, C], &files).expect(rt, "memory");
-    let mut space = open_space(alloc, &set, Policy::Strict).expect(rt, "a space");
-    let mut other = map(alloc, &set, Policy::Strict).expect(rt, "a space");
-    let (done, answer) = match run(arena, &mut space, COMMANDS) {
+/// How many of the commands were done on a space, and what the run answered.
+fn first_run<S: Space>(arena: &Bump, space: &mut S) -> (usize, Answer) {
+    match run(arena, space, COMMANDS) {
         Ok(replies) => (COMMANDS.len(), right_if(replies.len() == COMMANDS.len())),
         Err(stopped) => (stopped.done, Answer::Memory),
-    };
+    }
+}
+
+/// Runs so many of the commands with ample memory, which each give a reply.
+fn run_again<S: Space>(rt: &impl Abort, alloc: Global, space: &mut S, done: usize) {
     let commands = COMMANDS.get(..done).expect(rt, "commands");
-    let replies = run(alloc, &mut other, commands).expect(rt, "replies");
-    if replies.len() == done && same_space(rt, &space, &other) {
-        answer
-    } else {
-        Answer::Wrong
+    let replies = run(alloc, space, commands).expect(rt, "replies");
+    assert_holds(rt, done, replies.len() == done);
+}
+
+/// Whether a space is what so many of the commands make of the set.
+fn is_space_after<S: Space>(
+    rt: &impl Abort,
+    alloc: Global,
+    set: &[SetEntry],
+    space: &S,
+    done: usize,
+) -> bool {
+    let mut expected = map(alloc, set, Policy::Strict).expect(rt, "a space");
+    run_again(rt, alloc, &mut expected, done);
+    same_space(rt, space, &expected)
+}
+
+/// A run that was stopped leaves the space as the commands that it counts do.
+fn running<'a>(rt: &impl Abort, alloc: Global, arena: &Bump, set: &'a [SetEntry<'a>]) -> Answer {
+    let mut space = open_space(alloc, set, Policy::Strict).expect(rt, "a space");
+    let (done, answer) = first_run(arena, &mut space);
+    let is_right = is_space_after(rt, alloc, set, &space, done);
+    if is_right { answer } else { Answer::Wrong }
+}
+
+/// What is seen of an engine's answer, and of what it has written, which is nothing where it wants memory.
+fn of_engine(answer: Result<Outcome, ToolError>, taken: &[u8], text: &[u8]) -> Answer {
+    match answer {
+        Ok(Outcome::Done) => right_if(*taken == *text),
+        Err(ToolError::Memory) if taken.is_empty() => Answer::Memory,
+        _ => Answer::Wrong,
+    }
+}
+
+/// The window of the slot of `c.exe`.
+const WINDOW: Option<(u64, u32)> = Some((0x40_1030, 4));
+
+/// The report of a set, which with ample memory is this text.
+fn report_in(
+    rt: &impl Abort,
+    alloc: Global,
+    arena: &Bump,
+    set: &[SetEntry],
+    text: &[u8],
+) -> Answer {
+    let (answer, writer) = report_over(alloc, arena, set, WINDOW, steps_of(64)).expect(
+        rt, "memory",
+    );
+    of_engine(answer, writer.taken(), text)
+}
+
+fn reporting(rt: &impl Abort, alloc: Global, arena: &Bump, set: &[SetEntry]) -> Answer {
+    let (expected, text) = report_over(alloc, alloc, set, WINDOW, steps_of(64)).expect(
+        rt, "memory",
+    );
+    assert_holds(rt, 0, expected == Ok(Outcome::Done));
+    report_in(rt, alloc, arena, set, text.taken())
+}
+
+/// A call on the set of A, B and C, over the memory of an arena.
+fn on_set(rt: &impl Abort, alloc: Global, arena: &Bump, call: Call) -> Answer {
+    let files = files_of(alloc, &[A, B, C]).expect(rt, "files");
+    let set = set_of(alloc, &[A, B, C], &files).expect(rt, "memory");
+    set_answer(rt, alloc, arena, call, &set)
+}
+
+fn set_answer<'a>(
+    rt: &impl Abort,
+    alloc: Global,
+    arena: &Bump,
+    call: Call,
+    set: &'a [SetEntry<'a>],
+) -> Answer {
+    match call {
+        Call::Judge => judging(arena, set),
+        Call::Map => mapping(rt, alloc, arena, set),
+        Call::Opening => opening(rt, alloc, arena, set),
+        Call::Run => running(rt, alloc, arena, set),
+        _ => reporting(rt, alloc, arena, set),
     }
 }
 
@@ -349,50 +422,42 @@ fn whole(rt: &impl Abort, alloc: Global, arena: &Bump) -> Answer {
     }
 }
 
-/// What is seen of an engine's answer, and of what it has written, which is nothing where it wants memory.
-fn of_engine(answer: Result<Outcome, ToolError>, taken: &[u8], text: &[u8]) -> Answer {
-    match answer {
-        Ok(Outcome::Done) => right_if(*taken == *text),
-        Err(ToolError::Memory) if taken.is_empty() => Answer::Memory,
-        _ => Answer::Wrong,
-    }
+/// An engine that reads a file, and with ample memory writes this text of it.
+fn engine_in(
+    rt: &impl Abort,
+    alloc: Global,
+    arena: &Bump,
+    engine: Engine,
+    file: &[u8],
+    text: &[u8],
+) -> Answer {
+    let (answer, writer) = run_over(alloc, arena, engine, file, steps_of(64)).expect(rt, "memory");
+    of_engine(answer, writer.taken(), text)
 }
 
-/// Runs an engine over VR, or O1.
-fn engine(rt: &impl Abort, alloc: Global, arena: &Bump, engine: Engine) -> Answer {
-    let file = match engine {
-        Engine::Object => list(rt, alloc, *O1),
-        _ => file_of(alloc, Vector::Vr).expect(rt, "memory"),
-    };
-    let (expected, text) = run_over(alloc, alloc, engine, &file, steps_of(64)).expect(rt, "memory");
-    assert!(rt; expected == Ok(Outcome::Done));
-    let (answer, writer) = run_over(alloc, arena, engine, &file, steps_of(64)).expect(rt, "memory");
-    of_engine(answer, writer.taken(), text.taken())
+/// Runs an engine over a file.
+fn engine(rt: &impl Abort, alloc: Global, arena: &Bump, engine: Engine, file: &[u8]) -> Answer {
+    let (expected, text) = run_engine(alloc, engine, file, steps_of(64)).expect(rt, "memory");
+    assert_holds(rt, 0, expected == Ok(Outcome::Done));
+    engine_in(rt, alloc, arena, engine, file, text.taken())
 }
 
-fn reporting(rt: &impl Abort, alloc: Global, arena: &Bump) -> Answer {
-    let files = files_of(alloc, &[A, B, C]).expect(rt, "files");
-    let set = set_of(alloc, &[A, B, C], &files).expect(rt, "memory");
-    let window = Some((0x40_1030, 4));
-    let mut text = StepWriter::new(alloc, 0x800, 64, None).expect(rt, "memory");
-    let expected = map_report(alloc, &set, Policy::Strict, window, &mut text);
-    assert!(rt; expected == Ok(Outcome::Done));
-    let mut writer = StepWriter::new(alloc, 0x800, 64, None).expect(rt, "memory");
-    let answer = map_report(arena, &set, Policy::Strict, window, &mut writer);
-    of_engine(answer, writer.taken(), text.taken())
+/// Runs an engine over VR.
+fn on_vr(rt: &impl Abort, alloc: Global, arena: &Bump, of: Engine) -> Answer {
+    let file = file_of(alloc, Vector::Vr).expect(rt, "memory");
+    engine(rt, alloc, arena, of, &file)
 }
 
 /// Neither output gets a byte where memory is wanted.
 fn rebase_engine(rt: &impl Abort, alloc: Global, arena: &Bump) -> Answer {
-    let file = file_of(alloc, Vector::V2).expect(rt, "memory");
-    let expected = rebase_file(alloc, &file, 0x2000_0000).expect(rt, "a file");
-    let mut reader = StepReader::new(&file, 64, None);
-    let mut out = StepWriter::new(alloc, 0x800, 64, None).expect(rt, "memory");
-    let mut line = StepWriter::new(alloc, 0x100, 64, None).expect(rt, "memory");
-    let answer = rebase(arena, &mut reader, 0x2000_0000, &mut out, &mut line);
-    match of_engine(answer, out.taken(), &expected) {
-        Answer::Memory if !line.taken().is_empty() => Answer::Wrong,
-        seen => seen,
+    let expected = rebased_v2(rt, alloc);
+    let devices = super::rebased::Devices { step: 64, ..FINE };
+    let run = rebased_over(rt, alloc, arena, Vector::V2, 0x2000_0000, devices);
+    let answer = of_engine(run.answer, run.out.taken(), &expected);
+    let is_silent = run.line.taken().is_empty();
+    match answer {
+        Answer::Memory => if is_silent { answer } else { Answer::Wrong },
+        _ => answer,
     }
 }
 
@@ -402,19 +467,17 @@ fn answer_of(rt: &impl Abort, alloc: Global, arena: &Bump, call: Call) -> Answer
         Call::Exports | Call::Imports | Call::Fixups => table(rt, alloc, arena, call),
         Call::Encoding => encoding(rt, alloc, arena),
         Call::Image => image(rt, alloc, arena),
-        Call::Judge => judging(rt, alloc, arena),
-        Call::Map => mapping(rt, alloc, arena),
-        Call::Opening => opening(rt, alloc, arena),
-        Call::Run => running(rt, alloc, arena),
+        Call::Judge | Call::Map | Call::Opening | Call::Run | Call::MapReport => {
+            on_set(rt, alloc, arena, call)
+        }
         Call::ReadObject => reading(rt, alloc, arena),
         Call::WriteObject => writing(rt, alloc, arena),
         Call::WriteImage => planning(rt, alloc, arena),
         Call::RebaseFile => rebasing(rt, alloc, arena),
         Call::ReadWhole => whole(rt, alloc, arena),
-        Call::Check => engine(rt, alloc, arena, Engine::Check),
-        Call::Dump => engine(rt, alloc, arena, Engine::Dump),
-        Call::DumpObject => engine(rt, alloc, arena, Engine::Object),
-        Call::MapReport => reporting(rt, alloc, arena),
+        Call::Check => on_vr(rt, alloc, arena, Engine::Check),
+        Call::Dump => on_vr(rt, alloc, arena, Engine::Dump),
+        Call::DumpObject => engine(rt, alloc, arena, Engine::Object, O1),
         Call::Rebase => rebase_engine(rt, alloc, arena),
     }
 }
@@ -551,34 +614,48 @@ fn file_fault(number: u16, offset: u64) -> Fault {
 fn faults_of_headers_need_no_memory(rt: HostRuntime) {
     let arena = no_room(rt.alloc());
     let empty = file_fault(2, 0);
-    assert!(&rt; read_image(&arena, b"", 0).err() == Some(TableError::Fault(empty)));
-    assert!(&rt; rebase_file(&arena, b"", 0).err() == Some(WriteError::Fault(empty)));
+    assert_holds(
+        &rt,
+        0,
+        read_image(&arena, b"", 0).err() == Some(TableError::Fault(empty)),
+    );
+    assert_holds(
+        &rt,
+        1,
+        rebase_file(&arena, b"", 0).err() == Some(WriteError::Fault(empty)),
+    );
     for (len, fault) in [(19, file_fault(61, 19)), (59, file_fault(63, 2))] {
-        assert!(&rt; fault_of(read_object(&arena, &O1[..len]).err()) == Some(fault));
+        let error = read_object(&arena, &O1[..len]).err();
+        assert_holds(&rt, len, fault_of(error) == Some(fault));
+    }
+}
+
+/// An object of a symbol with a zero byte in its name.
+fn zero_named<'b>(rt: &impl Abort, ample: &'b Bump) -> Object<'static, &'b Bump> {
+    let symbol = Symbol {
+        name: b"\x00",
+        ..O1_SYMBOLS[0]
+    };
+    Object {
+        machine: 0x8664,
+        time_stamp: 0,
+        characteristics: 0,
+        optional: b"",
+        sections: Vec::new(ample),
+        symbols: Vec::from_array(ample, [symbol]).expect(rt, "memory"),
     }
 }
 
 #[test]
 fn a_zero_byte_in_a_name_needs_no_memory(rt: HostRuntime) {
     let (ample, arena) = (Bump::new(rt.alloc()), no_room(rt.alloc()));
-    let symbol = Symbol {
-        name: b"\x00",
-        ..O1_SYMBOLS[0]
-    };
-    let object = Object {
-        machine: 0x8664,
-        time_stamp: 0,
-        characteristics: 0,
-        optional: b"",
-        sections: Vec::new(&ample),
-        symbols: Vec::from_array(&ample, [symbol]).expect(&rt, "memory"),
-    };
     let fault = Fault {
         number: 81,
         image: 0,
         place: Place::Item(0),
     };
-    assert!(&rt; fault_of(write_object(&arena, &object).err()) == Some(fault));
+    let error = write_object(&arena, &zero_named(&rt, &ample)).err();
+    assert_holds(&rt, 0, fault_of(error) == Some(fault));
 }
 
 #[test]
@@ -586,16 +663,17 @@ fn a_refused_plan_needs_no_memory(rt: HostRuntime) {
     let file = file_of(rt.alloc(), Vector::V2).expect(&rt, "memory");
     let mut plan = plan_of(&rt, rt.alloc(), &V2, &file);
     plan.file_alignment = 0;
-    assert!(&rt; write_image(&no_room(rt.alloc()), &plan).err() == REFUSED);
+    let error = write_image(&no_room(rt.alloc()), &plan).err();
+    assert_holds(&rt, 0, error == REFUSED);
 }
 
 #[test]
 fn a_set_of_no_entry_needs_no_memory(rt: HostRuntime) {
     let arena = no_room(rt.alloc());
     let space = map(&arena, &[], Policy::Strict).expect(&rt, "a space");
-    assert!(&rt; space.image_count() == 0);
+    assert_holds(&rt, 0, space.image_count() == 0);
     let space = open_space(&arena, &[], Policy::Strict).expect(&rt, "a space");
-    assert!(&rt; space.image_count() == 0);
+    assert_holds(&rt, 1, space.image_count() == 0);
 }
 
 /// Asserts that a set is refused by a fault of an entry, whatever room there is.
@@ -606,8 +684,8 @@ fn assert_names(rt: &impl Abort, arena: &Bump, set: &[SetEntry], number: u16, im
         place: Place::Item(u32::from(image)),
     };
     let error = Some(MapError::Fault(fault));
-    assert!(rt; map(arena, set, Policy::Strict).err() == error);
-    assert!(rt; open_space(arena, set, Policy::Strict).err() == error);
+    assert_holds(rt, 0, map(arena, set, Policy::Strict).err() == error);
+    assert_holds(rt, 1, open_space(arena, set, Policy::Strict).err() == error);
 }
 
 #[test]
@@ -630,23 +708,29 @@ const EMPTY_FILES: &[(Engine, &str)] = &[
     (Engine::Object, "fault 61 image 0 file 0x00000000\n"),
 ];
 
+/// Asserts what an engine answers of an empty file, where there is no memory.
+fn assert_refused(rt: &impl Abort, alloc: Global, arena: &Bump, engine: Engine, line: &str) {
+    let (answer, writer) = run_over(alloc, arena, engine, b"", steps_of(7)).expect(rt, "memory");
+    assert_holds(rt, 0, matches!(answer, Ok(Outcome::Refused(_))));
+    assert_holds(rt, 1, writer.taken() == line.as_bytes());
+}
+
+/// Asserts what an engine answers where its first read fails, where there is no memory.
+fn assert_unread(rt: &impl Abort, alloc: Global, arena: &Bump, engine: Engine) {
+    let devices = Devices {
+        failing_read: Some(0),
+        ..steps_of(7)
+    };
+    let (answer, writer) = run_over(alloc, arena, engine, b"MZ", devices).expect(rt, "memory");
+    assert_holds(rt, 2, answer == Err(ToolError::Read));
+    assert_holds(rt, 3, writer.taken().is_empty());
+}
+
 #[test]
 fn an_engine_that_was_given_no_byte_wants_no_memory(rt: HostRuntime) {
-    let alloc = rt.alloc();
-    let arena = no_room(alloc);
+    let arena = no_room(rt.alloc());
     for (engine, line) in EMPTY_FILES {
-        let (answer, writer) = run_over(alloc, &arena, *engine, b"", steps_of(7)).expect(
-            &rt, "memory",
-        );
-        assert!(&rt; matches!(answer, Ok(Outcome::Refused(_))));
-        assert!(&rt; writer.taken() == line.as_bytes());
-        let devices = Devices {
-            failing_read: Some(0),
-            ..steps_of(7)
-        };
-        let (answer, writer) = run_over(alloc, &arena, *engine, b"MZ", devices).expect(
-            &rt, "memory",
-        );
-        assert!(&rt; answer == Err(ToolError::Read) && writer.taken().is_empty());
+        assert_refused(&rt, rt.alloc(), &arena, *engine, line);
+        assert_unread(&rt, rt.alloc(), &arena, *engine);
     }
 }

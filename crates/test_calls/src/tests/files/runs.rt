@@ -1,12 +1,12 @@
 //! Engines over devices that work in steps and fail: the text is the same in any steps, and each failure is told after a
 //! beginning of it.
 
-ghost use Rattle.std.specs.Prelude.{◌<◌};
+ghost use Rattle.std.specs.Prelude.{◌≡◌, ◌<◌};
 
 use super::cycles::library;
-use super::engines::{Answered, Devices, Engine, run, steps_of};
+use super::engines::{Answered, Devices, Engine, report_over, run, steps_of};
 use crate::tests::asserts::assert_holds;
-use pe_tool::{Outcome, Policy, SetEntry, ToolError, check, map_report, status};
+use pe_tool::{Outcome, SetEntry, ToolError, check, status};
 use pe_vectors::files::{VECTORS, Vector, file_of};
 use pe_vectors::members::{A, B, C, files_of, set_of};
 use pe_vectors::objects::O1;
@@ -16,6 +16,9 @@ use std::process::Abort;
 
 /// How many bytes devices give or take a call.
 const STEPS: [usize; 4] = [1, 7, 64, 4096];
+
+/// The window of the slot of `c.exe`.
+const WINDOW: Option<(u64, u32)> = Some((0x40_1030, 4));
 
 /// What is run.
 #[derive(Clone, Copy)]
@@ -32,53 +35,54 @@ fn run_work(rt: &impl Abort, alloc: Global, work: Work, devices: Devices) -> Ans
 {
     match work {
         Work::File(engine, file) => run(alloc, engine, file, devices).expect(rt, "memory"),
-        Work::Set(set) => {
-            let mut writer = StepWriter::new(
-                alloc,
-                0x800,
-                devices.step,
-                devices.failing_write,
-            ).expect(rt, "memory");
-            let window = Some((0x40_1030, 4));
-            let answer = map_report(alloc, set, Policy::Strict, window, &mut writer);
-            (answer, writer)
-        }
+        Work::Set(set) => report_over(alloc, alloc, set, WINDOW, devices).expect(rt, "memory"),
     }
+}
+
+/// What a run answers, and the text that it writes.
+type Text<'a> = (Result<Outcome, ToolError>, &'a [u8]);
+
+/// Whether a run in steps gives a text.
+fn gives(rt: &impl Abort, alloc: Global, work: Work, step: usize, text: Text) -> bool
+    requires { 0 < step }
+{
+    let (answer, writer) = run_work(rt, alloc, work, steps_of(step));
+    answer == text.0 && writer.taken() == text.1
 }
 
 /// Asserts that any steps give the text that one step gives.
 fn assert_any_steps(rt: &impl Abort, alloc: Global, work: Work) {
     let (expected, whole) = run_work(rt, alloc, work, steps_of(0x1_0000));
     assert!(rt; expected.is_ok() && !whole.taken().is_empty());
+    let text = (expected, whole.taken());
     for step in STEPS {
         assert!(rt; step > 0);
-        let (answer, writer) = run_work(rt, alloc, work, steps_of(step));
-        assert_holds(
-            rt,
-            step,
-            answer == expected && writer.taken() == whole.taken(),
-        );
+        assert_holds(rt, step, gives(rt, alloc, work, step, text));
     }
 }
 
-/// Asserts what is answered where each read fails in turn: that reading failed, and nothing was written.
-fn assert_reads_fail(rt: &impl Abort, alloc: Global, work: Work, step: usize)
-    requires { 0 < step }
+/// A device of a run.
+#[derive(Clone, Copy)]
+enum Device {
+    Reader,
+    Writer,
+}
+
+/// Devices of which a call fails, of one of them.
+fn failing(step: usize, device: Device, call: u64) -> Devices
+    ensures { result.step ≡ step }
 {
-    for call in 0..0x1000_u64 {
-        let devices = Devices {
+    let fine = steps_of(step);
+    match device {
+        Device::Reader => Devices {
             failing_read: Some(call),
-            ..steps_of(step)
-        };
-        let (answer, writer) = run_work(rt, alloc, work, devices);
-        if answer == Ok(Outcome::Done) {
-            assert_holds(rt, step, call > 1);
-            return;
-        }
-        let is_told = answer == Err(ToolError::Read) && status(&answer) == 3;
-        assert_holds(rt, step, is_told && writer.taken().is_empty());
+            ..fine
+        },
+        Device::Writer => Devices {
+            failing_write: Some(call),
+            ..fine
+        },
     }
-    assert_holds(rt, step, false);
 }
 
 /// Whether what was written is a beginning of a text, and not the whole.
@@ -86,69 +90,134 @@ fn is_beginning(written: &[u8], whole: &[u8]) -> bool {
     written.len() < whole.len() && whole.starts_with(written)
 }
 
-/// Asserts what is answered where each write fails in turn: that writing failed, after a beginning of the text.
-fn assert_writes_fail(rt: &impl Abort, alloc: Global, work: Work, step: usize)
+/// Whether a run in which a device failed answered so: that reading failed, with nothing written, or that writing failed, after a
+/// beginning of the text.
+fn has_failed(
+    answer: Result<Outcome, ToolError>,
+    device: Device,
+    taken: &[u8],
+    whole: &[u8],
+) -> bool {
+    let (error, is_taken) = match device {
+        Device::Reader => (ToolError::Read, taken.is_empty()),
+        Device::Writer => (ToolError::Write, is_beginning(taken, whole)),
+    };
+    answer == Err(error) && status(&answer) == 3 && is_taken
+}
+
+/// Whether a run answers so where a call of a device fails, or None where no call failed.
+fn is_told(
+    rt: &impl Abort,
+    alloc: Global,
+    work: Work,
+    devices: Devices,
+    device: Device,
+    whole: &[u8],
+) -> Option<bool>
+    requires { 0 < devices.step }
+{
+    let (answer, writer) = run_work(rt, alloc, work, devices);
+    if answer == Ok(Outcome::Done) {
+        return None;
+    }
+    Some(has_failed(answer, device, writer.taken(), whole))
+}
+
+/// Asserts what is answered where each call of a device fails in turn; there are more calls than so many.
+fn assert_each_fails(
+    rt: &impl Abort,
+    alloc: Global,
+    work: Work,
+    step: usize,
+    device: Device,
+    least: u64,
+)
     requires { 0 < step }
 {
     let (_, whole) = run_work(rt, alloc, work, steps_of(step));
     for call in 0..0x1000_u64 {
-        let devices = Devices {
-            failing_write: Some(call),
-            ..steps_of(step)
-        };
-        let (answer, writer) = run_work(rt, alloc, work, devices);
-        if answer == Ok(Outcome::Done) {
-            assert_holds(rt, step, call > 0);
-            return;
-        }
-        let is_told = answer == Err(ToolError::Write) && status(&answer) == 3;
-        assert_holds(
+        match is_told(
             rt,
-            step,
-            is_told && is_beginning(writer.taken(), whole.taken()),
-        );
+            alloc,
+            work,
+            failing(step, device, call),
+            device,
+            whole.taken(),
+        ) {
+            Some(is_told) => assert_holds(rt, step, is_told),
+            None => {
+                assert_holds(rt, step, call > least);
+                return;
+            }
+        }
     }
     assert_holds(rt, step, false);
+}
+
+/// Asserts what is answered where each read fails in turn, in any steps.
+fn assert_reads_fail(rt: &impl Abort, alloc: Global, work: Work) {
+    for step in STEPS {
+        assert!(rt; step > 0);
+        assert_each_fails(rt, alloc, work, step, Device::Reader, 1);
+    }
+}
+
+/// Asserts what is answered where each write fails in turn, in these steps.
+fn assert_writes_fail(rt: &impl Abort, alloc: Global, work: Work, steps: &[usize]) {
+    for step in steps {
+        assert!(rt; *step > 0);
+        assert_each_fails(rt, alloc, work, *step, Device::Writer, 0);
+    }
+}
+
+/// Asserts that any steps give the same text of a file.
+fn assert_same_texts(rt: &impl Abort, alloc: Global, file: &[u8]) {
+    assert_any_steps(rt, alloc, Work::File(Engine::Check, file));
+    assert_any_steps(rt, alloc, Work::File(Engine::Dump, file));
 }
 
 #[test]
 fn any_steps_give_the_same_text(rt: HostRuntime) {
     for vector in VECTORS {
         let file = file_of(rt.alloc(), vector).expect(&rt, "memory");
-        assert_any_steps(&rt, rt.alloc(), Work::File(Engine::Check, &file));
-        assert_any_steps(&rt, rt.alloc(), Work::File(Engine::Dump, &file));
+        assert_same_texts(&rt, rt.alloc(), &file);
     }
     assert_any_steps(&rt, rt.alloc(), Work::File(Engine::Object, O1));
     // a file that is refused
     assert_any_steps(&rt, rt.alloc(), Work::File(Engine::Check, O1));
 }
 
+/// Engines over small files.
+const FAILING: &[(Engine, Vector)] = &[
+    (Engine::Check, Vector::V1),
+    (Engine::Dump, Vector::V1),
+    (Engine::Dump, Vector::Vs),
+];
+
+/// Asserts what is answered where each call of either device fails in turn.
+fn assert_each_call_fails(rt: &impl Abort, alloc: Global, work: Work) {
+    assert_reads_fail(rt, alloc, work);
+    assert_writes_fail(rt, alloc, work, &STEPS);
+}
+
 #[test]
 fn each_read_and_each_write_that_fails_is_told(rt: HostRuntime) {
-    let file = file_of(rt.alloc(), Vector::V1).expect(&rt, "memory");
-    let tables = file_of(rt.alloc(), Vector::Vs).expect(&rt, "memory");
-    for work in [
-        Work::File(Engine::Check, &file),
-        Work::File(Engine::Dump, &file),
-        Work::File(Engine::Dump, &tables),
-        Work::File(Engine::Object, O1),
-    ] {
-        for step in STEPS {
-            assert!(rt; step > 0);
-            assert_reads_fail(&rt, rt.alloc(), work, step);
-            assert_writes_fail(&rt, rt.alloc(), work, step);
-        }
+    for (engine, vector) in FAILING {
+        let file = file_of(rt.alloc(), *vector).expect(&rt, "memory");
+        assert_each_call_fails(&rt, rt.alloc(), Work::File(*engine, &file));
     }
+    assert_each_call_fails(&rt, rt.alloc(), Work::File(Engine::Object, O1));
+}
+
+/// The forwarder of a module whose name has so many letters.
+fn long_text(rt: &impl Abort, alloc: Global, letters: usize) -> String {
+    let module = "m".repeat(alloc, letters).expect(rt, "memory");
+    format!(in alloc; "{module}.#0").expect(rt, "memory")
 }
 
 /// A library with two forwarders whose texts have over 2,000 bytes, more than a writer holds.
 fn long_texts(rt: &impl Abort, alloc: Global) -> Vec<u8> {
-    let mut texts = Vec::new(alloc);
-    for count in [2_100, 2_500] {
-        let module = "m".repeat(alloc, count).expect(rt, "memory");
-        let text = format!(in alloc; "{module}.#0").expect(rt, "memory");
-        texts.push(text).expect(rt, "memory");
-    }
+    let texts = [long_text(rt, alloc, 2_100), long_text(rt, alloc, 2_500)];
     library(rt, alloc, &texts)
 }
 
@@ -157,10 +226,18 @@ fn a_write_that_fails_beneath_a_long_text_is_told(rt: HostRuntime) {
     let file = long_texts(&rt, rt.alloc());
     let (_, whole) = run(rt.alloc(), Engine::Dump, &file, steps_of(64)).expect(&rt, "memory");
     assert!(rt; whole.taken().len() > 4_600);
-    for step in [64, 4096] {
-        assert!(rt; step > 0);
-        assert_writes_fail(&rt, rt.alloc(), Work::File(Engine::Dump, &file), step);
-    }
+    assert_writes_fail(
+        &rt,
+        rt.alloc(),
+        Work::File(Engine::Dump, &file),
+        &[64, 4096],
+    );
+}
+
+/// Asserts that any steps give the same text, and what is answered where each write fails in turn.
+fn assert_text(rt: &impl Abort, alloc: Global, work: Work) {
+    assert_any_steps(rt, alloc, work);
+    assert_writes_fail(rt, alloc, work, &STEPS);
 }
 
 #[test]
@@ -168,11 +245,7 @@ fn a_report_is_the_same_in_any_steps_and_each_write_that_fails_is_told(rt: HostR
     let members = [A, B, C];
     let files = files_of(rt.alloc(), &members).expect(&rt, "files");
     let set = set_of(rt.alloc(), &members, &files).expect(&rt, "memory");
-    assert_any_steps(&rt, rt.alloc(), Work::Set(&set));
-    for step in STEPS {
-        assert!(rt; step > 0);
-        assert_writes_fail(&rt, rt.alloc(), Work::Set(&set), step);
-    }
+    assert_text(&rt, rt.alloc(), Work::Set(&set));
 }
 
 #[test]

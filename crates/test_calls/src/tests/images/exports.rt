@@ -1,31 +1,11 @@
 //! What `pe_tables` reads of the largest export table, and what it finds there by ordinal and by name.
 
 use super::cases::{layout_of, with_data};
-use crate::tests::asserts::{assert_holds, assert_number};
+use crate::tests::asserts::{assert_holds, assert_number, push_numbers};
 use pe_tables::{Exports, Target, read_exports};
 use pe_vectors::files::{Piece, push_number};
 use std::alloc::Global;
 use std::process::Abort;
-
-/// Whether one of the names is exported.
-fn finds_a_name(exports: &Exports<'_, Global>, names: &[&[u8]]) -> bool {
-    for name in names {
-        if exports.by_name(name).is_some() {
-            return true;
-        }
-    }
-    false
-}
-
-/// Whether one of the ordinals is exported.
-fn finds_an_ordinal(exports: &Exports<'_, Global>, ordinals: &[u32]) -> bool {
-    for ordinal in ordinals {
-        if exports.by_ordinal(*ordinal).is_some() {
-            return true;
-        }
-    }
-    false
-}
 
 /// The most entries that a table has, and the most names.
 const MOST: u32 = 65_536;
@@ -71,9 +51,8 @@ fn push_texts(rt: &impl Abort, alloc: Global, table: &mut Vec<u8>) {
 /// The largest table.
 fn largest_table(rt: &impl Abort, alloc: Global) -> Vec<u8> {
     let mut table = Vec::new(alloc);
-    for field in [0, 0, 0, 0, 1, MOST, MOST, ADDRESSES, POINTERS, ENTRIES] {
-        push_number(&mut table, field).expect(rt, "memory");
-    }
+    let head = [0, 0, 0, 0, 1, MOST, MOST, ADDRESSES, POINTERS, ENTRIES];
+    push_numbers(rt, &mut table, &head);
     push_column(rt, &mut table, 0x10_0000, 1);
     push_column(rt, &mut table, TEXTS, 5);
     push_entries(rt, &mut table);
@@ -81,21 +60,30 @@ fn largest_table(rt: &impl Abort, alloc: Global) -> Vec<u8> {
     table
 }
 
+/// The first name, one in the middle and the last, and what each exports: an ordinal and an RVA, which fall.
+const FOUND: &[(&[u8], u32, u32)] = &[
+    (b"0000", 0x1_0000, 0x10_ffff),
+    (b"1234", 0xedcc, 0x10_edcb),
+    (b"ffff", 1, 0x10_0000),
+];
+
 /// Asserts what the largest table exports.
 fn assert_largest(rt: &impl Abort, exports: &Exports<'_, Global>) {
-    assert_number(rt, 0, exports.ordinals().len() as u64, 65_536);
-    assert_number(rt, 0, exports.names().len() as u64, 65_536);
-    for (text, index) in [(&b"0000"[..], 0), (b"1234", 0x1234), (b"ffff", 0xffff)] {
-        let target = Some(Target::Rva(0x10_0000 + MOST - 1 - index));
-        assert_holds(rt, index as usize, exports.by_name(text) == target);
-        assert_holds(
-            rt,
-            index as usize,
-            exports.by_ordinal(MOST - index) == target,
-        );
+    for (text, ordinal, rva) in FOUND {
+        let target = Some(Target::Rva(*rva));
+        assert_holds(rt, *rva as usize, exports.by_name(text) == target);
+        assert_holds(rt, *rva as usize, exports.by_ordinal(*ordinal) == target);
     }
-    assert_holds(rt, 0, !finds_a_name(exports, &[b"10000"]));
-    assert_holds(rt, 0, !finds_an_ordinal(exports, &[0, MOST + 1]));
+}
+
+/// Asserts what the largest table does not export, and how many entries it has.
+fn assert_no_more(rt: &impl Abort, exports: &Exports<'_, Global>) {
+    assert_number(rt, 0, exports.ordinals().len() as u64, 65_536);
+    assert_number(rt, 1, exports.names().len() as u64, 65_536);
+    assert_holds(rt, 2, exports.by_name(b"10000").is_none());
+    for ordinal in [0, MOST + 1] {
+        assert_holds(rt, 3, exports.by_ordinal(ordinal).is_none());
+    }
 }
 
 #[test]
@@ -106,4 +94,5 @@ fn a_table_of_65536_names(rt: HostRuntime) {
     let file = with_data(&rt, rt.alloc(), pieces, &table);
     let exports = read_exports(rt.alloc(), &layout_of(&rt, &file)).expect(&rt, "exports");
     assert_largest(&rt, &exports);
+    assert_no_more(&rt, &exports);
 }

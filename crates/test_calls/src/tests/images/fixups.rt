@@ -74,8 +74,8 @@ fn assert_fixups(rt: &impl Abort, alloc: Global, vector: Vector, cases: &[Case])
     }
 }
 
-/// V2, whose table at 0x2000 stands at the file offset 0x400, in cases of its directory, blocks and entries.
-const ONE_BLOCK: &[Case] = &[
+/// V2, whose table at 0x2000 stands at the file offset 0x400, in cases of its directory and blocks.
+const BLOCKS: &[Case] = &[
     (&[], &[], Ok(&[(0x2008, 0x1008, Bits32)])),
     // 34: the directory
     (&[(0xe4, &[0xff, 0xff, 0xff, 0xff])], &[], Err((34, 0x2000))),
@@ -94,7 +94,14 @@ const ONE_BLOCK: &[Case] = &[
         Err((33, 0x2000)),
     ),
     (&[(0x404, &[0x00])], &[], Ok(&[])),
-    // 35: the types
+];
+
+fn assert_blocks(rt: &impl Abort, alloc: Global) {
+    assert_fixups(rt, alloc, Vector::V2, BLOCKS);
+}
+
+/// V2 in cases of its entries: 35, the types.
+const TYPES: &[Case] = &[
     (&[(0x408, &[0x00, 0x00])], &[], Ok(&[])),
     (&[(0x408, &[0xff, 0x0f])], &[], Ok(&[])),
     (
@@ -107,7 +114,14 @@ const ONE_BLOCK: &[Case] = &[
     (&[(0x408, &[0x08, 0x90])], &[], Err((35, 0x2008))),
     (&[(0x40a, &[0x00, 0xb0])], &[], Err((35, 0x200a))),
     (&[(0x409, &[0xa0])], &[], Ok(&[(0x2008, 0x1008, Bits64)])),
-    // 36: the field in the image
+];
+
+fn assert_types(rt: &impl Abort, alloc: Global) {
+    assert_fixups(rt, alloc, Vector::V2, TYPES);
+}
+
+/// 36: the field in the image.
+const PLACES: &[Case] = &[
     (
         &[(0x400, &[0x00, 0x20]), (0x408, &[0xfc, 0x3f])],
         &[],
@@ -154,7 +168,14 @@ const ONE_BLOCK: &[Case] = &[
         &[],
         Err((36, 0x2008)),
     ),
-    // 37: fields that meet
+];
+
+fn assert_places(rt: &impl Abort, alloc: Global) {
+    assert_fixups(rt, alloc, Vector::V2, PLACES);
+}
+
+/// 37: fields that meet.
+const MEETING: &[Case] = &[
     (&[(0x40a, &[0x08, 0x30])], &[], Err((37, 0x200a))),
     (&[(0x40a, &[0x0b, 0x30])], &[], Err((37, 0x200a))),
     (&[(0x40a, &[0x05, 0x30])], &[], Err((37, 0x200a))),
@@ -186,7 +207,14 @@ const ONE_BLOCK: &[Case] = &[
         &[],
         Ok(&[(0x2008, 0x1008, Bits32), (0x200a, 0x1006, Low)]),
     ),
-    // 38: slots, of 4 bytes
+];
+
+fn assert_meeting(rt: &impl Abort, alloc: Global) {
+    assert_fixups(rt, alloc, Vector::V2, MEETING);
+}
+
+/// 38: slots, of 4 bytes.
+const SLOTS: &[Case] = &[
     (&[], &[0x100b], Err((38, 0x2008))),
     (&[], &[0x1005], Err((38, 0x2008))),
     (&[], &[0x2000, 0x1008, 0x1800], Err((38, 0x2008))),
@@ -200,6 +228,10 @@ const ONE_BLOCK: &[Case] = &[
         Ok(&[(0x2008, 0x1008, High)]),
     ),
 ];
+
+fn assert_slots(rt: &impl Abort, alloc: Global) {
+    assert_fixups(rt, alloc, Vector::V2, SLOTS);
+}
 
 /// V2 with a directory and a section of 0x18 bytes, for two blocks.
 const TWO_BLOCKS: &[Case] = &[
@@ -331,6 +363,10 @@ const TWO_BLOCKS: &[Case] = &[
     ),
 ];
 
+fn assert_two_blocks(rt: &impl Abort, alloc: Global) {
+    assert_fixups(rt, alloc, Vector::V2, TWO_BLOCKS);
+}
+
 /// V3: its slots have 8 bytes.
 const WIDE_SLOTS: &[Case] = &[
     (&[], &[0x1000, 0x1010], Ok(&[(0x2008, 0x1008, Bits64)])),
@@ -361,17 +397,22 @@ const AN_IMPORT: &[Case] = &[(
 /// V1 has no table.
 const NO_TABLE: &[Case] = &[(&[], &[0x1000], Ok(&[]))];
 
+/// The other files.
+fn assert_other_files(rt: &impl Abort, alloc: Global) {
+    assert_fixups(rt, alloc, Vector::V3, WIDE_SLOTS);
+    assert_fixups(rt, alloc, Vector::Vc, AN_IMPORT);
+    assert_fixups(rt, alloc, Vector::V1, NO_TABLE);
+}
+
 #[test]
 fn tables_are_read_entry_by_entry(rt: HostRuntime) {
-    for (vector, cases) in [
-        (Vector::V2, ONE_BLOCK),
-        (Vector::V2, TWO_BLOCKS),
-        (Vector::V3, WIDE_SLOTS),
-        (Vector::Vc, AN_IMPORT),
-        (Vector::V1, NO_TABLE),
-    ] {
-        assert_fixups(&rt, rt.alloc(), vector, cases);
-    }
+    assert_blocks(&rt, rt.alloc());
+    assert_types(&rt, rt.alloc());
+    assert_places(&rt, rt.alloc());
+    assert_meeting(&rt, rt.alloc());
+    assert_slots(&rt, rt.alloc());
+    assert_two_blocks(&rt, rt.alloc());
+    assert_other_files(&rt, rt.alloc());
 }
 
 /// Fixups, and the bytes of their table.

@@ -1,7 +1,7 @@
 //! What `pe_tables` reads of the largest import table, and of one that is larger.
 
 use super::cases::{assert_refused, layout_of, with_data};
-use crate::tests::asserts::{assert_holds, assert_number};
+use crate::tests::asserts::{assert_holds, assert_number, push_numbers};
 use pe_tables::{Import, Key, read_imports};
 use pe_vectors::files::push_number;
 use std::alloc::Global;
@@ -13,13 +13,12 @@ const MOST: u32 = 1_048_576;
 /// A table at 0x1000 that imports so many ordinals of one module, each ordinal 1: its lookup table is at 0x1030.
 fn many_imports(rt: &impl Abort, alloc: Global, count: u32) -> Vec<u8> {
     let mut table = Vec::new(alloc);
-    for field in [0x1030, 0, 0, 0x1028, 0x80_0000, 0, 0, 0, 0, 0, 0x61, 0] {
-        push_number(&mut table, field).expect(rt, "memory");
-    }
+    let head = [0x1030, 0, 0, 0x1028, 0x80_0000, 0, 0, 0, 0, 0, 0x61, 0];
+    push_numbers(rt, &mut table, &head);
     for _ in 0..count {
         push_number(&mut table, 0x8000_0001).expect(rt, "memory");
     }
-    push_number(&mut table, 0).expect(rt, "memory");
+    push_numbers(rt, &mut table, &[0]);
     table
 }
 

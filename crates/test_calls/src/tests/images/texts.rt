@@ -3,10 +3,10 @@
 ghost use Rattle.std.specs.Prelude.{◌<◌, ◌*◌};
 
 use super::cases::{assert_refused, layout_of, with_data};
-use crate::tests::asserts::{assert_holds, assert_number};
+use crate::tests::asserts::{assert_holds, assert_number, push_numbers};
 use linked_list_allocator::LocalHeap;
 use pe_tables::{Exports, Key, Target, read_exports};
-use pe_vectors::files::{Piece, push_number, put};
+use pe_vectors::files::{Piece, push_number, put_pieces};
 use pe_view::{TextEnds, View};
 use std::alloc::{Allocator, Global};
 use std::process::Abort;
@@ -19,21 +19,32 @@ fn push_bytes(rt: &impl Abort, bytes: &mut Vec<u8>, byte: u8, count: usize) {
     }
 }
 
-/// A file of 3,000 bytes: 100 zeros, 900 `a`, a zero, 999 `b`, a zero, and 999 `c`.
-fn runs(rt: &impl Abort, alloc: Global) -> Vec<u8> {
-    let mut file = Vec::new(alloc);
-    for (byte, count) in [
-        (0, 100),
-        (b'a', 900),
-        (0, 1),
-        (b'b', 999),
-        (0, 1),
-        (b'c', 999),
-    ] {
-        push_bytes(rt, &mut file, byte, count);
+/// A byte, and how many of it.
+type Run = (u8, usize);
+
+/// Adds runs of bytes.
+fn push_runs(rt: &impl Abort, bytes: &mut Vec<u8>, runs: &[Run]) {
+    for (byte, count) in runs {
+        push_bytes(rt, bytes, *byte, *count);
     }
-    file
 }
+
+/// The bytes of runs.
+fn text_of(rt: &impl Abort, alloc: Global, runs: &[Run]) -> Vec<u8> {
+    let mut text = Vec::new(alloc);
+    push_runs(rt, &mut text, runs);
+    text
+}
+
+/// A file of 3,000 bytes: 100 zeros, 900 `a`, a zero, 999 `b`, a zero, and 999 `c`.
+const FILE: &[Run] = &[
+    (0, 100),
+    (b'a', 900),
+    (0, 1),
+    (b'b', 999),
+    (0, 1),
+    (b'c', 999),
+];
 
 /// An offset and an end, and how many bytes the text between them has, and of which letter.
 type Text = (u64, u64, Option<(usize, u8)>);
@@ -108,7 +119,7 @@ fn assert_runs<A: Allocator + Copy>(rt: &impl Abort, alloc: A, file: &[u8]) {
 
 #[test]
 fn texts_are_found_by_those_before_them(rt: HostRuntime) -> Result<(), Fail> {
-    let file = runs(&rt, rt.alloc());
+    let file = text_of(&rt, rt.alloc(), FILE);
     assert_runs(&rt, rt.alloc(), &file);
     // where memory is refused they are searched again
     let heap = LocalHeap::new(rt.alloc(), 64)?;
@@ -124,14 +135,10 @@ const EXPORTS: &[Piece] = &[
 
 /// A section of 0xd00 bytes: 600 `a`, a zero, and 2,727 `b`, with zero fill of 0x100 bytes behind.
 fn two_texts(rt: &impl Abort, alloc: Global) -> Vec<u8> {
-    let mut data = Vec::new(alloc);
-    push_bytes(rt, &mut data, b'a', 600);
-    push_bytes(rt, &mut data, 0, 1);
-    push_bytes(rt, &mut data, b'b', 2727);
+    let data = text_of(rt, alloc, &[(b'a', 600), (0, 1), (b'b', 2727)]);
     let mut file = with_data(rt, alloc, &[], &data);
     // VirtualSize
-    assert!(rt; file.len() == 0xf00);
-    put(&mut file, 0x141, &[0x0e]);
+    put_pieces(&mut file, &[(0x141, &[0x0e])]).expect(rt, "pieces in the file");
     file
 }
 
@@ -172,38 +179,38 @@ const NAMED: u32 = 0x1028 + 4 * ENTRIES;
 /// Where the second one's begins: 300 `a`, a dot, `#`, 300 zeros in digits, and a seven.
 const NUMBERED: u32 = NAMED + 602;
 
+/// The two texts.
+const FORWARDERS: &[Run] = &[
+    (b'a', 300),
+    (b'.', 1),
+    (b'b', 300),
+    (0, 1),
+    (b'a', 300),
+    (b'.', 1),
+    (b'#', 1),
+    (b'0', 300),
+    (b'7', 1),
+    (0, 1),
+];
+
 /// The image whose export table has these addresses, and the two texts.
 fn forwarders(rt: &impl Abort, alloc: Global, addresses: &[u32; 7]) -> Vec<u8> {
     let mut data = Vec::new(alloc);
-    for field in [0, 0, 0, 0, 1, ENTRIES, 0, 0x1028, 0, 0] {
-        push_number(&mut data, field).expect(rt, "memory");
-    }
-    for address in addresses {
-        push_number(&mut data, *address).expect(rt, "memory");
-    }
-    for (byte, count) in [
-        (b'a', 300),
-        (b'.', 1),
-        (b'b', 300),
-        (0, 1),
-        (b'a', 300),
-        (b'.', 1),
-        (b'#', 1),
-        (b'0', 300),
-        (b'7', 1),
-        (0, 1),
-    ] {
-        push_bytes(rt, &mut data, byte, count);
-    }
+    push_numbers(rt, &mut data, &[0, 0, 0, 0, 1, ENTRIES, 0, 0x1028, 0, 0]);
+    push_numbers(rt, &mut data, addresses);
+    push_runs(rt, &mut data, FORWARDERS);
     with_data(rt, alloc, EXPORTS, &data)
 }
+
+/// How many `a` the module of a forwarder has, and the ordinal that it forwards to, if it is one.
+type Forward = (usize, Option<u16>);
 
 /// Asserts that an ordinal is a forwarder to a module of so many `a`, and that its key is an ordinal or 300 `b`.
 fn assert_forwarder(
     rt: &impl Abort,
     exports: &Exports<'_, Global>,
     ordinal: u32,
-    expected: (usize, Option<u16>),
+    expected: Forward,
 ) {
     let Some(Target::Forward { module, key }) = exports.by_ordinal(ordinal) else {
         panic!(rt; "no forwarder at ordinal {ordinal}");
@@ -221,53 +228,68 @@ fn assert_forwarder(
     assert_holds(rt, ordinal as usize, is_key);
 }
 
+/// Where seven forwarders begin.
+const ENDING_ALIKE: &[u32; 7] = &[
+    NAMED + 100,
+    NAMED,
+    NAMED + 299,
+    NUMBERED + 290,
+    NUMBERED,
+    NAMED + 50,
+    NUMBERED + 1,
+];
+
+/// The ordinal of each, how many `a` its module has, and the ordinal that it forwards to, if it is one.
+const KEYS: &[(u32, Forward)] = &[
+    (1, (200, None)),
+    (2, (300, None)),
+    (3, (1, None)),
+    (4, (10, Some(7))),
+    (5, (300, Some(7))),
+    (6, (250, None)),
+    (7, (299, Some(7))),
+];
+
+/// Asserts what ordinals forward to.
+fn assert_keys(rt: &impl Abort, exports: &Exports<'_, Global>, keys: &[(u32, Forward)]) {
+    for (ordinal, expected) in keys {
+        assert_forwarder(rt, exports, *ordinal, *expected);
+    }
+}
+
 #[test]
 fn forwarders_that_end_alike_have_one_key(rt: HostRuntime) {
-    let addresses = [
-        NAMED + 100,
-        NAMED,
-        NAMED + 299,
-        NUMBERED + 290,
-        NUMBERED,
-        NAMED + 50,
-        NUMBERED + 1,
-    ];
-    let file = forwarders(&rt, rt.alloc(), &addresses);
+    let file = forwarders(&rt, rt.alloc(), ENDING_ALIKE);
     let exports = read_exports(rt.alloc(), &layout_of(&rt, &file)).expect(&rt, "exports");
-    for (ordinal, expected) in [
-        (1, (200, None)),
-        (2, (300, None)),
-        (3, (1, None)),
-        (4, (10, Some(7))),
-        (5, (300, Some(7))),
-        (6, (250, None)),
-        (7, (299, Some(7))),
-    ] {
-        assert_forwarder(&rt, &exports, ordinal, expected);
-    }
+    assert_keys(&rt, &exports, KEYS);
+}
+
+/// Asserts that a text which begins so is no forwarder.
+fn assert_no_forwarder(rt: &impl Abort, alloc: Global, start: u32) {
+    let addresses = [
+        NAMED,
+        NUMBERED,
+        NAMED + 1,
+        NUMBERED + 1,
+        start,
+        NAMED,
+        NAMED,
+    ];
+    let file = forwarders(rt, alloc, &addresses);
+    let error = read_exports(alloc, &layout_of(rt, &file)).err();
+    assert_refused(rt, start as usize, error, (22, 0x1028 + 4 * 4));
 }
 
 #[test]
 fn a_text_from_the_last_dot_on_is_no_forwarder(rt: HostRuntime) {
     for start in [NAMED + 300, NAMED + 301, NUMBERED + 300, NUMBERED + 301] {
-        let addresses = [
-            NAMED,
-            NUMBERED,
-            NAMED + 1,
-            NUMBERED + 1,
-            start,
-            NAMED,
-            NAMED,
-        ];
-        let file = forwarders(&rt, rt.alloc(), &addresses);
-        let error = read_exports(rt.alloc(), &layout_of(&rt, &file)).err();
-        assert_refused(&rt, start as usize, error, (22, 0x1028 + 4 * 4));
+        assert_no_forwarder(&rt, rt.alloc(), start);
     }
 }
 
-/// Pieces of the texts of names: a byte, and how many of it. There are five texts: 600 `a`, the same once more, and three that
-/// have one `b` among 600 bytes: the first, the last, the one in the middle.
-const NAME_TEXTS: &[(u8, usize)] = &[
+/// Five texts of names: 600 `a`, the same once more, and three that have one `b` among 600 bytes: the first, the last, the one in
+/// the middle.
+const NAME_TEXTS: &[Run] = &[
     (b'a', 600),
     (0, 1),
     (b'a', 600),
@@ -284,26 +306,42 @@ const NAME_TEXTS: &[(u8, usize)] = &[
     (0, 1),
 ];
 
-/// Where names begin in these texts, each of which exports an entry of its own; and the pieces of a name that stands first.
-const NAMES: &[(u32, Option<&[(u8, usize)]>)] = &[
-    (300, Some(&[(b'a', 300)])),
-    (0, Some(&[(b'a', 600)])),
-    (601, None),
-    (901, None),
-    (1202, Some(&[(b'b', 1), (b'a', 599)])),
-    (1203, Some(&[(b'a', 599)])),
-    (1803, Some(&[(b'a', 599), (b'b', 1)])),
-    (2404, Some(&[(b'a', 300), (b'b', 1), (b'a', 299)])),
-    (2705, Some(&[(b'a', 299)])),
-    (345, Some(&[(b'a', 255)])),
-    (344, Some(&[(b'a', 256)])),
-    (945, None),
-    (946, None),
-    (1804, Some(&[(b'a', 598), (b'b', 1)])),
+/// How many names there are.
+const COUNT: u32 = 14;
+
+/// Where their texts begin.
+const FIRST_TEXT: u32 = 0x1028 + 10 * COUNT;
+
+/// Where names begin in these texts.
+const STARTS: [u32; 14] = [
+    300, 0, 601, 901, 1202, 1203, 1803, 2404, 2705, 345, 344, 945, 946, 1804,
 ];
 
-/// The pieces of texts that no name has.
-const NO_NAMES: &[&[(u8, usize)]] = &[
+/// The RVA that each name exports: name `index` exports 0x10 + `index`.
+const TARGETS: [u32; 14] = [
+    0x10, 0x11, 0x12, 0x13, 0x14, 0x15, 0x16, 0x17, 0x18, 0x19, 0x1a, 0x1b, 0x1c, 0x1d,
+];
+
+/// The entry of each name, which is its own.
+const NAME_ENTRIES: &[u8; 28] =
+    b"\0\0\x01\0\x02\0\x03\0\x04\0\x05\0\x06\0\x07\0\x08\0\x09\0\x0a\0\x0b\0\x0c\0\x0d\0";
+
+/// The names that stand first: the RVA of each, and its text.
+const FIRST: &[(u32, &[Run])] = &[
+    (0x10, &[(b'a', 300)]),
+    (0x11, &[(b'a', 600)]),
+    (0x14, &[(b'b', 1), (b'a', 599)]),
+    (0x15, &[(b'a', 599)]),
+    (0x16, &[(b'a', 599), (b'b', 1)]),
+    (0x17, &[(b'a', 300), (b'b', 1), (b'a', 299)]),
+    (0x18, &[(b'a', 299)]),
+    (0x19, &[(b'a', 255)]),
+    (0x1a, &[(b'a', 256)]),
+    (0x1d, &[(b'a', 598), (b'b', 1)]),
+];
+
+/// Texts that no name has.
+const NO_NAMES: &[&[Run]] = &[
     &[],
     &[(b'a', 254)],
     &[(b'a', 257)],
@@ -315,78 +353,86 @@ const NO_NAMES: &[&[(u8, usize)]] = &[
     &[(0, 1), (b'a', 600)],
 ];
 
-/// A text of these pieces.
-fn text_of(rt: &impl Abort, alloc: Global, pieces: &[(u8, usize)]) -> Vec<u8> {
-    let mut text = Vec::new(alloc);
-    for (byte, count) in pieces {
-        push_bytes(rt, &mut text, *byte, *count);
+/// Adds where the names' texts begin.
+fn push_starts(rt: &impl Abort, table: &mut Vec<u8>) {
+    for start in STARTS {
+        assert!(rt; start < 0x1000);
+        push_number(table, FIRST_TEXT + start).expect(rt, "memory");
     }
-    text
 }
 
-/// The image whose export table has the names, where name `index` exports the RVA 0x10 + `index`.
+/// The export table of these names.
+fn table_of_names(rt: &impl Abort, alloc: Global) -> Vec<u8> {
+    let mut table = Vec::new(alloc);
+    let (pointers, entries) = (0x1028 + 4 * COUNT, 0x1028 + 8 * COUNT);
+    let head = [0, 0, 0, 0, 1, COUNT, COUNT, 0x1028, pointers, entries];
+    push_numbers(rt, &mut table, &head);
+    push_numbers(rt, &mut table, &TARGETS);
+    push_starts(rt, &mut table);
+    table.extend_from_slice(NAME_ENTRIES).expect(rt, "memory");
+    push_runs(rt, &mut table, NAME_TEXTS);
+    table
+}
+
+/// SizeOfImage, and a directory of 40 bytes.
+const NAMES: &[Piece] = &[(0x91, &[0x40]), (0xb9, &[0x10]), (0xbc, &[0x28])];
+
+/// The image that has it.
 fn named(rt: &impl Abort, alloc: Global) -> Vec<u8> {
-    let count = NAMES.len() as u32;
-    let texts = 0x1028 + 10 * count;
-    let mut data = Vec::new(alloc);
-    for field in [
-        0,
-        0,
-        0,
-        0,
-        1,
-        count,
-        count,
-        0x1028,
-        0x1028 + 4 * count,
-        0x1028 + 8 * count,
-    ] {
-        push_number(&mut data, field).expect(rt, "memory");
+    with_data(rt, alloc, NAMES, &table_of_names(rt, alloc))
+}
+
+/// Asserts that a name exports an RVA, and that it stands at a place of the list.
+fn assert_name(
+    rt: &impl Abort,
+    exports: &Exports<'_, Global>,
+    place: usize,
+    text: &[u8],
+    rva: u32,
+) {
+    let target = Target::Rva(rva);
+    assert_holds(rt, place, exports.by_name(text) == Some(target));
+    let (found, exported) = exports.names().get(place).expect(rt, "a name");
+    assert_holds(rt, place, *found == text && *exported == target);
+}
+
+/// Asserts that these names are exported, and no others.
+fn assert_names(
+    rt: &impl Abort,
+    alloc: Global,
+    exports: &Exports<'_, Global>,
+    names: &[(u32, &[Run])],
+) {
+    for (place, (rva, runs)) in names.iter().enumerate() {
+        let text = text_of(rt, alloc, runs);
+        assert_name(rt, exports, place, &text, *rva);
     }
-    for index in 0..count {
-        push_number(&mut data, 0x10 + index).expect(rt, "memory");
-    }
-    for (start, _) in NAMES {
-        push_number(&mut data, texts + *start).expect(rt, "memory");
-    }
-    for index in 0..count {
-        data.extend_from_slice(&(index as u16).to_le_bytes())
-            .expect(rt, "memory");
-    }
-    data.extend_from_slice(&text_of(rt, alloc, NAME_TEXTS))
-        .expect(rt, "memory");
-    with_data(
-        rt,
-        alloc,
-        &[(0x91, &[0x40]), (0xb9, &[0x10]), (0xbc, &[0x28])],
-        &data,
-    )
+    assert_holds(rt, names.len(), exports.names().len() == names.len());
 }
 
 #[test]
 fn names_that_end_alike_are_found_where_they_stand_first(rt: HostRuntime) {
     let file = named(&rt, rt.alloc());
     let exports = read_exports(rt.alloc(), &layout_of(&rt, &file)).expect(&rt, "exports");
-    let mut listed = exports.names().iter();
-    for (index, (_, name)) in NAMES.iter().enumerate() {
-        let Some(pieces) = name else {
-            continue;
-        };
-        let text = text_of(&rt, rt.alloc(), pieces);
-        let target = Target::Rva(0x10 + index as u32);
-        assert_holds(&rt, index, exports.by_name(&text) == Some(target));
-        let (found, exported) = listed.next().expect(&rt, "a name");
-        assert_holds(&rt, index, *found == text.as_slice() && *exported == target);
+    assert_names(&rt, rt.alloc(), &exports, FIRST);
+}
+
+/// Asserts that no such text exports something.
+fn assert_no_names(
+    rt: &impl Abort,
+    alloc: Global,
+    exports: &Exports<'_, Global>,
+    texts: &[&[Run]],
+) {
+    for (case, runs) in texts.iter().enumerate() {
+        let text = text_of(rt, alloc, runs);
+        assert_holds(rt, case, exports.by_name(&text).is_none());
     }
-    assert_holds(&rt, NAMES.len(), listed.next().is_none());
 }
 
 #[test]
 fn a_text_that_no_name_has_exports_nothing(rt: HostRuntime) {
     let file = named(&rt, rt.alloc());
     let exports = read_exports(rt.alloc(), &layout_of(&rt, &file)).expect(&rt, "exports");
-    for (case, pieces) in NO_NAMES.iter().enumerate() {
-        let text = text_of(&rt, rt.alloc(), pieces);
-        assert_holds(&rt, case, exports.by_name(&text).is_none());
-    }
+    assert_no_names(&rt, rt.alloc(), &exports, NO_NAMES);
 }

@@ -61,16 +61,29 @@ impl Fake {
         }
     }
 
-    /// What is on standard output.
-    pub fn printed(&self) -> io::Result<String> {
-        copy_of(self.alloc, &self.printed)
+    /// Whether this is on standard output.
+    pub fn has_printed(&self, text: &str) -> bool {
+        is_text(&self.printed, text)
     }
 
-    /// Whether `new.dll` was made.
-    pub fn is_made(&self) -> io::Result<bool> {
+    /// Whether standard output has a part.
+    pub fn has_printed_with(&self, part: &str) -> bool {
+        match self.printed.try_borrow() {
+            Ok(found) => found.contains(part),
+            Err(_) => false,
+        }
+    }
+
+    /// Whether this is on standard error.
+    pub fn has_complained(&self, text: &str) -> bool {
+        is_text(&self.complained, text)
+    }
+
+    /// Whether `new.dll` was made, or not, as is said.
+    pub fn has_made(&self, is_made: bool) -> bool {
         match self.made.try_borrow() {
-            Ok(made) => Ok(*made),
-            Err(_) => Err(Error::from(ErrorKind::ResourceBusy)),
+            Ok(made) => *made == is_made,
+            Err(_) => false,
         }
     }
 
@@ -85,17 +98,13 @@ impl Fake {
             (_, Err(_)) => Err(Error::from(ErrorKind::ResourceBusy)),
         }
     }
-
-    /// What is on standard error.
-    pub fn complained(&self) -> io::Result<String> {
-        copy_of(self.alloc, &self.complained)
-    }
 }
 
-fn copy_of(alloc: Global, text: &RefCell<String>) -> io::Result<String> {
-    match text.try_borrow() {
-        Ok(text) => Ok(String::from_str(alloc, text.as_str())?),
-        Err(_) => Err(Error::from(ErrorKind::ResourceBusy)),
+/// Whether a cell holds a text.
+fn is_text(cell: &RefCell<String>, text: &str) -> bool {
+    match cell.try_borrow() {
+        Ok(found) => found.as_str() == text,
+        Err(_) => false,
     }
 }
 

@@ -44,14 +44,18 @@ type Refusal = (
 );
 
 /// Asserts what the program prints of each file that it refuses.
-fn assert_refused(rt: &(impl Abort + AllocGlobal), cases: &[Refusal]) -> Result<(), Fail> {
-    for (words, file, printed, complained) in cases {
-        let system = Fake::new(rt.alloc(), words, Stored::Bytes(file));
-        assert_eq!(rt; run(&system), 1);
-        assert_eq!(rt; system.printed()?.as_str(), *printed);
-        assert_eq!(rt; system.complained()?.as_str(), *complained);
+fn assert_refused(rt: &(impl Abort + AllocGlobal), cases: &[Refusal]) {
+    for (index, (words, file, printed, complained)) in cases.iter().enumerate() {
+        let case = Case {
+            words: *words,
+            file: Stored::Bytes(file),
+            status: 1,
+            printed: *printed,
+            complained: *complained,
+            ..SILENT
+        };
+        assert_end(rt, index, &case);
     }
-    Ok(())
 }
 
 /// A fault of the headers, of a section, of a table, of an object, and of a file to be written at another base.
@@ -89,8 +93,8 @@ const FILES: &[Refusal] = &[
 ];
 
 #[test]
-fn faults_of_files_are_told_in_words(rt: HostRuntime) -> Result<(), Fail> {
-    assert_refused(&rt, FILES)
+fn faults_of_files_are_told_in_words(rt: HostRuntime) {
+    assert_refused(&rt, FILES);
 }
 
 /// A fault of a set, of a base, and of a window; the file that the fault names is the one that is told.
@@ -129,8 +133,8 @@ const SETS: &[Refusal] = &[
 ];
 
 #[test]
-fn faults_of_sets_are_told_in_words(rt: HostRuntime) -> Result<(), Fail> {
-    assert_refused(&rt, SETS)
+fn faults_of_sets_are_told_in_words(rt: HostRuntime) {
+    assert_refused(&rt, SETS);
 }
 
 /// Files that are not what a command reads.
@@ -168,6 +172,6 @@ const KINDS: &[Refusal] = &[
 ];
 
 #[test]
-fn files_of_other_kinds_are_told_for_what_they_are(rt: HostRuntime) -> Result<(), Fail> {
-    assert_refused(&rt, KINDS)
+fn files_of_other_kinds_are_told_for_what_they_are(rt: HostRuntime) {
+    assert_refused(&rt, KINDS);
 }
