@@ -23,7 +23,7 @@ use Rattle.pe_space.proofs.Accepting.{placed}
 use Rattle.pe_space.proofs.Addressing.{Holds, holder_inside, holder_is, placed_at, window_lies}
 use Rattle.pe_space.proofs.Defining.{placements_bared}
 use Rattle.pe_space.proofs.Images.{modules_count, all_got}
-use Rattle.pe_space.proofs.Move.{limit_le}
+use Rattle.pe_space.proofs.Asked.{limit_le}
 use Rattle.pe_space.proofs.SlotsAndFields.{is_in-true, true-is_in}
 use Rattle.pe_tool.specs.MapReport.{image_line, told_line, export_address, bytes_from, refusal_of, window_lines}
 use Rattle.pe_text.specs.Text.{numbered}

@@ -14,3 +14,4 @@ mod plans;
 mod rebased;
 mod refusals;
 mod runs;
+mod spaces;
