@@ -1,8 +1,8 @@
 //! What `coff_object` reads of object files.
 
-use super::o1::{list, o1, reads_as, with_sections};
+use super::o1::{O1_SYMBOLS, list, o1, reads_as, with_sections};
 use crate::tests::asserts::assert_holds;
-use coff_object::{Aux, Object, Symbol, SymbolSection};
+use coff_object::{Aux, Object, ObjectFile, Symbol, SymbolSection};
 use pe_vectors::objects::O1;
 use std::alloc::Global;
 use std::process::Abort;
@@ -11,6 +11,29 @@ use std::process::Abort;
 fn o1_is_read(rt: HostRuntime) {
     let object = o1(&rt, rt.alloc(), b".text$long");
     assert_holds(&rt, 0, reads_as(&rt, rt.alloc(), O1, &object));
+}
+
+#[test]
+fn o1_is_read_without_a_list(rt: HostRuntime) {
+    let object = ObjectFile::new(O1).expect(&rt, "an object");
+    assert!(&rt; object.machine() == 0x8664 && object.optional().is_empty());
+    assert!(&rt; object.time_stamp() == 0 && object.characteristics() == 0);
+    assert!(&rt; object.section_count() == 1 && object.section(1).is_none());
+    let section = object.section(0).expect(&rt, "a section");
+    assert!(&rt; section.name == b".text$long".as_slice() && section.flags == 0x6000_0020);
+    let relocation = section.relocations.get(0).expect(&rt, "a relocation");
+    assert!(&rt; section.relocations.len() == 1 && section.relocations.get(1).is_none());
+    assert!(&rt; (relocation.address, relocation.symbol, relocation.kind) == (1, 3, 4));
+}
+
+#[test]
+fn symbols_have_the_indexes_of_their_records(rt: HostRuntime) {
+    let object = ObjectFile::new(O1).expect(&rt, "an object");
+    let mut symbols = object.symbols();
+    for (index, expected) in [0, 2, 3, 4].iter().zip(O1_SYMBOLS.iter()) {
+        assert!(&rt; symbols.next() == Some((*index, *expected)));
+    }
+    assert!(&rt; symbols.next().is_none() && object.symbol_count() == 4);
 }
 
 #[test]

@@ -9,7 +9,7 @@ use super::plans::{V2, plan_of};
 use super::rebased::{FINE, bytes_of, rebased_over, rebased_v2};
 use crate::tests::asserts::assert_holds;
 use bumpalo::Bump;
-use coff_object::{Object, ObjectError, Symbol, read_object, write_object};
+use coff_object::{Object, ObjectError, ObjectFile, Symbol, read_object, write_object};
 use pe_image::read_image;
 use pe_layout::Layout;
 use pe_set::{Binding, Module, judge};
@@ -643,6 +643,35 @@ fn zero_named<'b>(rt: &impl Abort, ample: &'b Bump) -> Object<'static, &'b Bump>
         optional: b"",
         sections: Vec::new(ample),
         symbols: Vec::from_array(ample, [symbol]).expect(rt, "memory"),
+    }
+}
+
+/// Bytes of O1 and what they are changed to, and the number and the place of the fault that then stands.
+const OBJECT_FAULTS: &[(&[(usize, u8)], u16, u64)] = &[
+    (&[(41, 0x01)], 64, 20),
+    (&[(52, 0xff), (53, 0xff), (59, 0x61)], 65, 20),
+    (&[(53, 0x01)], 66, 20),
+    (&[(13, 0x01)], 67, 8),
+    (&[(166, 0x1a)], 68, 166),
+    (&[(21, 0x33)], 69, 20),
+    (&[(134, 0x19)], 69, 130),
+    (&[(165, 0x01)], 70, 148),
+    (&[(124, 0x02)], 71, 112),
+    (&[(70, 0x05)], 72, 66),
+];
+
+#[test]
+fn faults_of_objects_need_no_memory(rt: HostRuntime) {
+    let arena = no_room(rt.alloc());
+    for (changes, number, offset) in OBJECT_FAULTS {
+        let mut file = *O1;
+        for (place, byte) in *changes {
+            assert!(&rt; *place < file.len());
+            file[*place] = *byte;
+        }
+        let fault = file_fault(*number, *offset);
+        assert!(&rt; fault_of(read_object(&arena, &file).err()) == Some(fault));
+        assert!(&rt; ObjectFile::new(&file).err() == Some(fault));
     }
 }
 
