@@ -57,6 +57,7 @@ placed_alike c d same bound all =
       few_slots = subst (λ (bs : List Binding). length bs < 2 ^ 32) (sym bound) all.few_slots;
       aligned = λ j. subst (λ (p : Placement). p.base % 65536 ≡ 0) (sym (at j)) (all.aligned j);
       room = λ j. subst (λ (p : Placement). p.base + p.size ≤ address_limit p.magic) (sym (at j)) (all.room j);
+      some = λ j lt. subst (λ (p : Placement). 0 < p.size) (sym (at j)) (all.some j (omega (arith, lt, count)));
       apart = λ j k lt lt' ne.
           subst (λ (p : Placement). Apart p.base p.size (nth_image c.images k).base (nth_image c.images k).size) (sym (at j))
           (subst (λ (q : Placement). Apart (nth_image d.images j).base (nth_image d.images j).size q.base q.size) (sym (at k)) (all.apart j k (omega (arith, lt, count)) (omega (arith, lt', count)) ne));
