@@ -1,0 +1,10 @@
+use Rattle.std.proofs.Common.{◌≡◌, ◌++◌, drop}
+use Rattle.std.specs.List.{AllByRecursion}
+use Rattle.pe_numbers.specs.Numbers.{NumberFits, numbers_bytes}
+use Rattle.pe_numbers.proofs.number.push_numbers.Given as goal
+
+abbrev pub invariant-loop-number : goal.invariant-loop-number
+invariant-loop-number g l = record {
+  told : AllByRecursion NumberFits (drop l.number-index l.numbers) → AllByRecursion NumberFits l.numbers;
+  bytes : l.bytes.items ++ numbers_bytes (drop l.number-index l.numbers) ≡ l.initial.bytes.items ++ numbers_bytes l.numbers;
+}

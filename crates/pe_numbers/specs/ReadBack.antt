@@ -1,0 +1,113 @@
+-- Numbers that were written are read back where they stand.
+use Rattle.std.proofs.Common.{◌≡◌, ℕ, zero, suc, ◌+◌, ◌-◌, ◌*◌, ◌/◌, ◌%◌, ◌^◌, ◌<◌, ◌≤◌, List, [], ◌∷◌, ◌++◌, length, Some, None, refl, sym, ap, subst, append_assoc, ◌∙◌, arith, inl, inr, length-append}
+use Rattle.std.specs.Prelude.{nat_lt}
+use Rattle.std.specs.List.{AllByRecursion}
+use Rattle.std.proofs.Math.Nat.{add-mul, add_assoc, div-add-mod', div-div-eq-div-mul, div-one, mod-eq_of_lt, mod-lt, mul-add-mod_self_right, mul-le-mul_right, mul_assoc, one-le-pow, pow-suc}
+use Rattle.std.proofs.lemmas.Bool.{cases_Bool, ltb-false}
+use Rattle.std.proofs.lemmas.Option.{same_Some}
+use Rattle.std.proofs.lemmas.List.{get_or_append_left, get_or-append_right}
+use Rattle.std.proofs.lemmas.List.FromFn.{length-map-range_with_len, get_or-map-range_with_len}
+use Rattle.pe_view.specs.Number.{num, byte_of, digit}
+use Rattle.pe_numbers.specs.declared.number.Number.{Number}
+use Rattle.pe_numbers.specs.StandsAt.{StandsAt, stands_num}
+use Rattle.pe_numbers.specs.Numbers.{width_of, value_of, NumberFits, number_bytes, numbers_bytes, numbers_size, number_at}
+
+-- the two low digits of n, to the bases c and then m
+mod-split : (n : ℕ) {m c : ℕ} → zero < m → zero < c → n % (m * c) ≡ (n / c % m) * c + n % c
+mod-split n {m} {c} hm hc =
+    let a = mod-lt (n / c) hm in
+    let b = mod-lt n hc in
+    let top : (n / c % m + 1) * c ≤ m * c = mul-le-mul_right c (omega arith) in
+    let expand : (n / c % m + 1) * c ≡ n / c % m * c + 1 * c = add-mul (n / c % m) 1 c in
+    let split : n ≡ n / c / m * (m * c) + (n / c % m * c + n % c) =
+    sym (div-add-mod' n c)
+    ∙ ap (λ (x : ℕ). x * c + n % c) (sym (div-add-mod' (n / c) m))
+    ∙ ap (λ (x : ℕ). x + n % c) (add-mul (n / c / m * m) (n / c % m) c ∙ ap (λ (x : ℕ). x + n / c % m * c) (mul_assoc (n / c / m) m c))
+    ∙ add_assoc (n / c / m * (m * c)) (n / c % m * c) (n % c) in
+    ap (λ (x : ℕ). x % (m * c)) split ∙ mul-add-mod_self_right (n / c / m) (m * c) (n / c % m * c + n % c) ∙ mod-eq_of_lt (omega arith)
+
+pow_pos256 : (n : ℕ) → zero < 256 ^ n
+pow_pos256 n = let h = one-le-pow n 256 (omega arith) in omega arith
+
+-- the number in bytes that are those of v from byte j on is what is left of v
+num_of_digits : (byte : ℕ → ℕ) (a j w v : ℕ) → ((k : ℕ) → k < w → byte (a + k) ≡ digit v (j + k)) → num byte a w ≡ v / 256 ^ j % 256 ^ w
+num_of_digits byte a j zero v h = omega arith
+num_of_digits byte a j (suc w) v h =
+    let first : byte a ≡ digit v j = ap byte (omega arith) ∙ h 0 (omega arith) ∙ ap (digit v) (omega arith) in
+    let rest : num byte (a + 1) w ≡ v / 256 ^ suc j % 256 ^ w = num_of_digits byte (a + 1) (suc j) w v (λ k lt. ap byte (omega arith) ∙ h (suc k) (omega arith) ∙ ap (digit v) (omega arith)) in
+    let down : v / 256 ^ suc j ≡ v / 256 ^ j / 256 = ap (λ (p : ℕ). v / p) (pow-suc 256 j) ∙ sym (div-div-eq-div-mul v (256 ^ j) 256) in
+    let split = mod-split (v / 256 ^ j) {m = 256 ^ w} {c = 256} (pow_pos256 w) (omega arith) in
+    rw (first, rest, down, pow-suc 256 w, split) (omega arith)
+
+-- a number that fits is the one in its own bytes
+pub num_of_own_digits : (byte : ℕ → ℕ) (a w v : ℕ) → v < 256 ^ w → ((k : ℕ) → k < w → byte (a + k) ≡ digit v k) → num byte a w ≡ v
+num_of_own_digits byte a w v fits h =
+    num_of_digits byte a 0 w v (λ k lt. h k lt ∙ ap (digit v) (omega arith))
+    ∙ ap (λ (y : ℕ). y % 256 ^ w) (div-one v) ∙ mod-eq_of_lt fits
+
+pub length-number : (n : Number) → length (number_bytes n) ≡ width_of n
+unfolding number_bytes
+length-number n = length-map-range_with_len (digit (value_of n)) 0 (width_of n)
+
+pub length-numbers : (ns : List Number) → length (numbers_bytes ns) ≡ numbers_size ns
+length-numbers [] = refl
+length-numbers (n ∷ ns) = let e = length-numbers ns in let f = length-number n in omega (arith, length-append (number_bytes n) (numbers_bytes ns))
+
+pub size-append : (ms ns : List Number) → numbers_size (ms ++ ns) ≡ numbers_size ms + numbers_size ns
+size-append [] ns = omega arith
+size-append (m ∷ ms) ns = let e = size-append ms ns in omega arith
+
+pub bytes-append : (ms ns : List Number) → numbers_bytes (ms ++ ns) ≡ numbers_bytes ms ++ numbers_bytes ns
+bytes-append [] ns = refl
+bytes-append (m ∷ ms) ns = ap (λ (bs : List ℕ). number_bytes m ++ bs) (bytes-append ms ns) ∙ sym (append_assoc (number_bytes m) (numbers_bytes ms) (numbers_bytes ns))
+
+digit_of : (n : Number) (k : ℕ) → k < width_of n → byte_of (number_bytes n) k ≡ digit (value_of n) k
+unfolding number_bytes
+digit_of n k lt = get_or-map-range_with_len (digit (value_of n)) 0 (width_of n) k k 0 lt (omega arith)
+
+-- what stands at an offset of numbers
+record Stands (ns : List Number) (offset : ℕ) (x : Number) : Type 0 where
+  inside : offset + width_of x ≤ numbers_size ns
+  digits : (k : ℕ) → k < width_of x → byte_of (numbers_bytes ns) (offset + k) ≡ digit (value_of x) k
+  fits : NumberFits x
+
+stands : (ns : List Number) (offset : ℕ) (x : Number) → AllByRecursion NumberFits ns → number_at ns offset ≡ Some x → Stands ns offset x
+stands [] offset x fits at = absurd cc
+stands (n ∷ ns) zero x fits at =
+    let len = length-number n in
+    subst (Stands (n ∷ ns) 0) (same_Some n x at)
+    (record {
+      inside = omega arith;
+      digits = λ k lt. ap (byte_of (numbers_bytes (n ∷ ns))) (let e : 0 + k ≡ k = omega arith in e) ∙ get_or_append_left (number_bytes n) (numbers_bytes ns) 0 k (omega (arith, len, lt)) ∙ digit_of n k lt;
+      fits = fits.0;
+    })
+stands (n ∷ ns) (suc o) x fits at = elim (cases_Bool (nat_lt (suc o) (width_of n))) [
+  | inl before ↦ absurd (let none : number_at (n ∷ ns) (suc o) ≡ None = rw before refl in let e = sym none ∙ at in cc)
+  | inr behind ↦
+      (let same : number_at (n ∷ ns) (suc o) ≡ number_at ns (suc o - width_of n) = rw behind refl in
+      let s = stands ns (suc o - width_of n) x fits.1 (sym same ∙ at) in
+      let le = ltb-false (suc o) (width_of n) behind in
+      let within = s.inside in
+      let len = length-number n in
+      record {
+        inside = omega (arith, le, within);
+        digits = λ k lt.
+            get_or-append_right (number_bytes n) (numbers_bytes ns) (width_of n) (suc o + k) 0 len (omega (arith, le))
+            ∙ ap (byte_of (numbers_bytes ns)) (let e : suc o + k - width_of n ≡ suc o - width_of n + k = omega (arith, le) in e)
+            ∙ s.digits k lt;
+        fits = s.fits;
+      })
+]
+
+-- it fits as all of them do
+pub number_fits : (ns : List Number) (offset : ℕ) (x : Number) → AllByRecursion NumberFits ns → number_at ns offset ≡ Some x → NumberFits x
+number_fits ns offset x fits at = (stands ns offset x fits at).fits
+
+-- a number that stands at an offset of numbers is read back there
+pub number_read : (file : List ℕ) (place : ℕ) (ns : List Number) (offset : ℕ) (x : Number) → AllByRecursion NumberFits ns → StandsAt file place (numbers_bytes ns) → number_at ns offset ≡ Some x
+    → num (byte_of file) (place + offset) (width_of x) ≡ value_of x
+number_read file place ns offset x fits there at =
+    let s = stands ns offset x fits at in
+    let within = s.inside in
+    let len = length-numbers ns in
+    stands_num file place (numbers_bytes ns) offset (width_of x) there (omega (arith, within, len)) ∙ num_of_own_digits (byte_of (numbers_bytes ns)) offset (width_of x) (value_of x) s.fits s.digits
