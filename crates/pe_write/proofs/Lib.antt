@@ -9,7 +9,6 @@ pub mod Kept
 pub mod Lists
 pub mod Moved
 pub mod Numbered
-pub mod Numbers
 pub mod Phases
 pub mod PlanFaults
 pub mod PlanHead
@@ -26,7 +25,6 @@ pub mod RangeSteps
 pub mod Rebasable
 pub mod RebaseRows
 pub mod Rebasing
-pub mod RowsRead
 pub mod SectionSteps
 pub mod Sequence
 pub mod Whole

@@ -1,36 +1,20 @@
 -- The headers of a written file are the plan's.
-use Rattle.std.proofs.Common.{◌≡◌, ℕ, ◌+◌, true, false, List, [], ◌++◌, length, take, Some, None, refl, sym, ap, ◌∙◌, subst}
-use Rattle.std.specs.Prelude.{slice_get, ◌==◌, if◌then◌else◌}
+use Rattle.std.proofs.Common.{◌≡◌, ℕ, ◌+◌, Bool, true, false, cond, List, length, Some, None, refl, sym, ap, ◌∙◌, subst, arith}
+use Rattle.std.specs.Prelude.{◌==◌, if◌then◌else◌}
 use Rattle.std.specs.List.{AllByRecursion}
 use Rattle.pe_view.specs.Number.{num, byte_of}
+use Rattle.pe_numbers.specs.declared.number.Number.{Number}
+use Rattle.pe_numbers.specs.declared.number.Number.TheVariants.{U8, U16, U32, U64}
+use Rattle.pe_numbers.specs.Numbers.{NumberFits, width_of, value_of, number_at, numbers_bytes}
+use Rattle.pe_numbers.specs.StandsAt.{StandsAt}
+use Rattle.pe_numbers.specs.ReadBack.{number_read}
 use Rattle.pe_head.specs.declared.optional.Magic.{Magic}
 use Rattle.pe_head.specs.declared.optional.Magic.TheVariants.{Pe32, Pe32Plus}
 use Rattle.pe_head.specs.Head.{pe_offset, coff_field, field, is_pe32, magic_of, either_field}
 use Rattle.pe_write.specs.declared.plan.Plan.{Plan}
-use Rattle.pe_write.specs.PlanHeaders.{sized, row_bytes, rows_bytes, rows_size, header_rows, optional_size, magic_number, base_of_data_of}
-use Rattle.pe_write.specs.PlanFits.{RowFits}
-use Rattle.pe_write.proofs.RowsRead.{row_at}
+use Rattle.pe_write.specs.PlanHeaders.{header_numbers, optional_size, magic_number, base_of_data_of}
 
--- what is read of a file that begins with the plan's rows, by the form
-module _ {A : Type 0} (plan : Plan A) (rest : List ℕ) (fits : AllByRecursion RowFits (header_rows plan)) where
-  -- the number of row k
-  pub at : (k w v : ℕ) → slice_get (header_rows plan) k ≡ Some (sized w v) → num (byte_of (rows_bytes (header_rows plan) ++ rest)) (0 + rows_size (take k (header_rows plan))) w ≡ v
-  at k w v is = row_at (header_rows plan) [] rest 0 k w v refl fits is
-
-  pub p-is : pe_offset (rows_bytes (header_rows plan) ++ rest) ≡ 0x40
-  p-is = at 2 4 0x40 refl
-
-  pub coff-is : (o w k v : ℕ) → slice_get (header_rows plan) k ≡ Some (sized w v) → 0 + rows_size (take k (header_rows plan)) ≡ 0x40 + 4 + o → coff_field (rows_bytes (header_rows plan) ++ rest) o w ≡ v
-  coff-is o w k v is e =
-      let g : List ℕ = rows_bytes (header_rows plan) ++ rest in
-      ap (λ (p : ℕ). num (byte_of g) (p + 4 + o) w) p-is ∙ ap (λ (x : ℕ). num (byte_of g) x w) (sym e) ∙ at k w v is
-
-  pub field-is : (o w k v : ℕ) → slice_get (header_rows plan) k ≡ Some (sized w v) → 0 + rows_size (take k (header_rows plan)) ≡ 0x40 + 24 + o → field (rows_bytes (header_rows plan) ++ rest) o w ≡ v
-  field-is o w k v is e =
-      let g : List ℕ = rows_bytes (header_rows plan) ++ rest in
-      ap (λ (p : ℕ). num (byte_of g) (p + 24 + o) w) p-is ∙ ap (λ (x : ℕ). num (byte_of g) x w) (sym e) ∙ at k w v is
-
--- every field of the headers up to the directories, in PE32
+-- every field of the headers up to the directories
 pub record Read {A : Type 0} (plan : Plan A) (g : List ℕ) : Type 0 where
   pub mz : num (byte_of g) 0 2 ≡ 0x5a4d
   pub signature : num (byte_of g) (pe_offset g) 4 ≡ 0x4550
@@ -74,132 +58,102 @@ pub record Read {A : Type 0} (plan : Plan A) (g : List ℕ) : Type 0 where
   pub loader : either_field g 88 4 104 4 ≡ 0
   pub number : either_field g 92 4 108 4 ≡ 16
 
--- the plan in the form Pe32
-module _ {A : Type 0} (plan : Plan A) (rest : List ℕ) (fits : AllByRecursion RowFits (header_rows (record plan { magic = Pe32 }))) where
-  narrow-form : is_pe32 (rows_bytes (header_rows (record plan { magic = Pe32 })) ++ rest) ≡ true
-  narrow-form = ap (λ (v : ℕ). v == 0x10b) (field-is (record plan { magic = Pe32 }) rest fits 0 2 11 0x10b refl refl)
+by_form : (P : Magic → Type 0) → P Pe32 → P Pe32Plus → (m : Magic) → P m
+by_form P narrow wide Pe32 = narrow
+by_form P narrow wide Pe32Plus = wide
 
-  narrow-either : (o w o' w' v : ℕ) → field (rows_bytes (header_rows (record plan { magic = Pe32 })) ++ rest) o w ≡ v → either_field (rows_bytes (header_rows (record plan { magic = Pe32 })) ++ rest) o w o' w' ≡ v
-  unfolding row_bytes
-  narrow-either o w o' w' v e = e
+-- a field by the form
+pub either_is : (b : Bool) (m : Magic) (x y v : ℕ) → cond b Pe32 Pe32Plus ≡ m → (m ≡ Pe32 → x ≡ v) → (m ≡ Pe32Plus → y ≡ v) → cond b x y ≡ v
+either_is true m x y v is one other = one (sym is)
+either_is false m x y v is one other = other (sym is)
 
-  narrow-read : Read (record plan { magic = Pe32 }) (rows_bytes (header_rows (record plan { magic = Pe32 })) ++ rest)
-  unfolding row_bytes
-  narrow-read =
-      let F = λ (o w k v : ℕ) (at : slice_get (header_rows (record plan { magic = Pe32 })) k ≡ Some (sized w v)) (e : 0 + rows_size (take k (header_rows (record plan { magic = Pe32 }))) ≡ 0x40 + 24 + o). field-is (record plan { magic = Pe32 }) rest fits o w k v at e in
-      let C = λ (o w k v : ℕ) (at : slice_get (header_rows (record plan { magic = Pe32 })) k ≡ Some (sized w v)) (e : 0 + rows_size (take k (header_rows (record plan { magic = Pe32 }))) ≡ 0x40 + 4 + o). coff-is (record plan { magic = Pe32 }) rest fits o w k v at e in
-      record {
-        mz = at (record plan { magic = Pe32 }) rest fits 0 2 0x5a4d refl;
-        signature = ap (λ (x : ℕ). num (byte_of (rows_bytes (header_rows (record plan { magic = Pe32 })) ++ rest)) x 4) (p-is (record plan { magic = Pe32 }) rest fits) ∙ at (record plan { magic = Pe32 }) rest fits 3 4 0x4550 refl;
-        number_of_magic = F 0 2 11 0x10b refl refl;
-        p = p-is (record plan { magic = Pe32 }) rest fits;
-        machine = C 0 2 4 plan.machine refl refl;
-        count = C 2 2 5 (length plan.sections.items) refl refl;
-        time_stamp = C 4 4 6 plan.time_stamp refl refl;
-        symbols = C 8 4 7 0 refl refl;
-        symbol_count = C 12 4 8 0 refl refl;
-        optional = C 16 2 9 224 refl refl;
-        characteristics = C 18 2 10 plan.characteristics refl refl;
-        magic = refl;
-        linker_major = F 2 1 12 0 refl refl;
-        linker_minor = F 3 1 13 0 refl refl;
-        code = F 4 4 14 0 refl refl;
-        initialized = F 8 4 15 0 refl refl;
-        uninitialized = F 12 4 16 0 refl refl;
-        entry = F 16 4 17 plan.entry refl refl;
-        base_of_code = F 20 4 18 0 refl refl;
-        base_of_data = (ap Some (F 24 4 19 0 refl refl));
-        image_base = narrow-either 28 4 24 8 plan.image_base (F 28 4 20 plan.image_base refl refl);
-        section_alignment = F 32 4 21 plan.section_alignment refl refl;
-        file_alignment = F 36 4 22 plan.file_alignment refl refl;
-        system_major = F 40 2 23 0 refl refl;
-        system_minor = F 42 2 24 0 refl refl;
-        image_major = F 44 2 25 0 refl refl;
-        image_minor = F 46 2 26 0 refl refl;
-        subsystem_major = F 48 2 27 0 refl refl;
-        subsystem_minor = F 50 2 28 0 refl refl;
-        win32 = F 52 4 29 0 refl refl;
-        size_of_image = F 56 4 30 plan.size_of_image refl refl;
-        size_of_headers = F 60 4 31 plan.size_of_headers refl refl;
-        check_sum = F 64 4 32 0 refl refl;
-        subsystem = F 68 2 33 plan.subsystem refl refl;
-        dll = F 70 2 34 plan.dll_characteristics refl refl;
-        stack_reserve = narrow-either 72 4 72 8 0 (F 72 4 35 0 refl refl);
-        stack_commit = narrow-either 76 4 80 8 0 (F 76 4 36 0 refl refl);
-        heap_reserve = narrow-either 80 4 88 8 0 (F 80 4 37 0 refl refl);
-        heap_commit = narrow-either 84 4 96 8 0 (F 84 4 38 0 refl refl);
-        loader = narrow-either 88 4 104 4 0 (F 88 4 39 0 refl refl);
-        number = narrow-either 92 4 108 4 16 (F 92 4 40 16 refl refl);
-      }
+form_of : (m : Magic) → cond (magic_number m == 0x10b) Pe32 Pe32Plus ≡ m
+form_of Pe32 = refl
+form_of Pe32Plus = refl
 
--- the plan in the form Pe32Plus
-module _ {A : Type 0} (plan : Plan A) (rest : List ℕ) (fits : AllByRecursion RowFits (header_rows (record plan { magic = Pe32Plus }))) where
-  wide-form : is_pe32 (rows_bytes (header_rows (record plan { magic = Pe32Plus })) ++ rest) ≡ false
-  wide-form = ap (λ (v : ℕ). v == 0x10b) (field-is (record plan { magic = Pe32Plus }) rest fits 0 2 11 0x20b refl refl)
+data_of : (m : Magic) (b : Bool) (x : ℕ) → cond b Pe32 Pe32Plus ≡ m → (m ≡ Pe32 → x ≡ 0) → cond b (Some x) None ≡ base_of_data_of m
+data_of Pe32 true x is zero_is = ap Some (zero_is refl)
+data_of Pe32 false x is zero_is = absurd cc
+data_of Pe32Plus true x is zero_is = absurd cc
+data_of Pe32Plus false x is zero_is = refl
 
-  wide-either : (o w o' w' v : ℕ) → field (rows_bytes (header_rows (record plan { magic = Pe32Plus })) ++ rest) o' w' ≡ v → either_field (rows_bytes (header_rows (record plan { magic = Pe32Plus })) ++ rest) o w o' w' ≡ v
-  unfolding row_bytes
-  wide-either o w o' w' v e = e
+module _ {A : Type 0} (plan : Plan A) (g : List ℕ) (fits : AllByRecursion NumberFits (header_numbers plan)) (there : StandsAt g 0 (numbers_bytes (header_numbers plan))) where
+  -- the numbers of the plan in a form
+  abbrev formed : Magic → List Number
+  formed m = header_numbers (record plan { magic = m })
 
-  wide-read : Read (record plan { magic = Pe32Plus }) (rows_bytes (header_rows (record plan { magic = Pe32Plus })) ++ rest)
-  unfolding row_bytes
-  wide-read =
-      let F = λ (o w k v : ℕ) (at : slice_get (header_rows (record plan { magic = Pe32Plus })) k ≡ Some (sized w v)) (e : 0 + rows_size (take k (header_rows (record plan { magic = Pe32Plus }))) ≡ 0x40 + 24 + o). field-is (record plan { magic = Pe32Plus }) rest fits o w k v at e in
-      let C = λ (o w k v : ℕ) (at : slice_get (header_rows (record plan { magic = Pe32Plus })) k ≡ Some (sized w v)) (e : 0 + rows_size (take k (header_rows (record plan { magic = Pe32Plus }))) ≡ 0x40 + 4 + o). coff-is (record plan { magic = Pe32Plus }) rest fits o w k v at e in
-      record {
-        mz = at (record plan { magic = Pe32Plus }) rest fits 0 2 0x5a4d refl;
-        signature = ap (λ (x : ℕ). num (byte_of (rows_bytes (header_rows (record plan { magic = Pe32Plus })) ++ rest)) x 4) (p-is (record plan { magic = Pe32Plus }) rest fits) ∙ at (record plan { magic = Pe32Plus }) rest fits 3 4 0x4550 refl;
-        number_of_magic = F 0 2 11 0x20b refl refl;
-        p = p-is (record plan { magic = Pe32Plus }) rest fits;
-        machine = C 0 2 4 plan.machine refl refl;
-        count = C 2 2 5 (length plan.sections.items) refl refl;
-        time_stamp = C 4 4 6 plan.time_stamp refl refl;
-        symbols = C 8 4 7 0 refl refl;
-        symbol_count = C 12 4 8 0 refl refl;
-        optional = C 16 2 9 240 refl refl;
-        characteristics = C 18 2 10 plan.characteristics refl refl;
-        magic = refl;
-        linker_major = F 2 1 12 0 refl refl;
-        linker_minor = F 3 1 13 0 refl refl;
-        code = F 4 4 14 0 refl refl;
-        initialized = F 8 4 15 0 refl refl;
-        uninitialized = F 12 4 16 0 refl refl;
-        entry = F 16 4 17 plan.entry refl refl;
-        base_of_code = F 20 4 18 0 refl refl;
-        base_of_data = refl;
-        image_base = wide-either 28 4 24 8 plan.image_base (F 24 8 19 plan.image_base refl refl);
-        section_alignment = F 32 4 20 plan.section_alignment refl refl;
-        file_alignment = F 36 4 21 plan.file_alignment refl refl;
-        system_major = F 40 2 22 0 refl refl;
-        system_minor = F 42 2 23 0 refl refl;
-        image_major = F 44 2 24 0 refl refl;
-        image_minor = F 46 2 25 0 refl refl;
-        subsystem_major = F 48 2 26 0 refl refl;
-        subsystem_minor = F 50 2 27 0 refl refl;
-        win32 = F 52 4 28 0 refl refl;
-        size_of_image = F 56 4 29 plan.size_of_image refl refl;
-        size_of_headers = F 60 4 30 plan.size_of_headers refl refl;
-        check_sum = F 64 4 31 0 refl refl;
-        subsystem = F 68 2 32 plan.subsystem refl refl;
-        dll = F 70 2 33 plan.dll_characteristics refl refl;
-        stack_reserve = wide-either 72 4 72 8 0 (F 72 8 34 0 refl refl);
-        stack_commit = wide-either 76 4 80 8 0 (F 80 8 35 0 refl refl);
-        heap_reserve = wide-either 80 4 88 8 0 (F 88 8 36 0 refl refl);
-        heap_commit = wide-either 84 4 96 8 0 (F 96 8 37 0 refl refl);
-        loader = wide-either 88 4 104 4 0 (F 104 4 38 0 refl refl);
-        number = wide-either 92 4 108 4 16 (F 108 4 39 16 refl refl);
-      }
+  at : (o place : ℕ) (x : Number) → 0 + o ≡ place → number_at (header_numbers plan) o ≡ Some x → num (byte_of g) place (width_of x) ≡ value_of x
+  at o place x is written = ap (λ (p : ℕ). num (byte_of g) p (width_of x)) (sym is) ∙ number_read g 0 (header_numbers plan) o x fits there written
 
-read_by : {A : Type 0} (plan : Plan A) (rest : List ℕ) (m : Magic) → plan.magic ≡ m → AllByRecursion RowFits (header_rows plan) → Read plan (rows_bytes (header_rows plan) ++ rest)
-read_by {A = A} plan rest Pe32 is fits =
-    let same : record plan { magic = Pe32 } ≡ plan = ap (λ (m : Magic). record plan { magic = m }) (sym is) in
-    let Reads : Plan A → Type 0 = λ q. AllByRecursion RowFits (header_rows q) → Read q (rows_bytes (header_rows q) ++ rest) in
-    subst Reads same (λ f. narrow-read plan rest f) fits
-read_by {A = A} plan rest Pe32Plus is fits =
-    let same : record plan { magic = Pe32Plus } ≡ plan = ap (λ (m : Magic). record plan { magic = m }) (sym is) in
-    let Reads : Plan A → Type 0 = λ q. AllByRecursion RowFits (header_rows q) → Read q (rows_bytes (header_rows q) ++ rest) in
-    subst Reads same (λ f. wide-read plan rest f) fits
+  p-is : pe_offset g ≡ 0x40
+  p-is = at 0x3c 0x3c (U32 0x40) refl refl
 
--- what a file that begins with the plan's rows holds
-pub read : {A : Type 0} (plan : Plan A) (rest : List ℕ) → AllByRecursion RowFits (header_rows plan) → Read plan (rows_bytes (header_rows plan) ++ rest)
-read plan rest fits = read_by plan rest plan.magic refl fits
+  coff-is : (o : ℕ) (x : Number) (place : ℕ) → 0 + place ≡ 0x40 + 4 + o → number_at (header_numbers plan) place ≡ Some x → coff_field g o (width_of x) ≡ value_of x
+  coff-is o x place is written = ap (λ (p : ℕ). num (byte_of g) (p + 4 + o) (width_of x)) p-is ∙ at place (0x40 + 4 + o) x is written
+
+  field-is : (o : ℕ) (x : Number) (place : ℕ) → 0 + place ≡ 0x40 + 24 + o → number_at (header_numbers plan) place ≡ Some x → field g o (width_of x) ≡ value_of x
+  field-is o x place is written = ap (λ (p : ℕ). num (byte_of g) (p + 24 + o) (width_of x)) p-is ∙ at place (0x40 + 24 + o) x is written
+
+  magic-is : magic_of g ≡ plan.magic
+  magic-is = ap (λ (v : ℕ). cond (v == 0x10b) Pe32 Pe32Plus) (field-is 0 (U16 (magic_number plan.magic)) 0x58 refl refl) ∙ form_of plan.magic
+
+  -- a field that stands at one place in both forms
+  same-is : (o : ℕ) (x : Number) (place : ℕ) → 0 + place ≡ 0x40 + 24 + o → number_at (formed Pe32) place ≡ Some x → number_at (formed Pe32Plus) place ≡ Some x → field g o (width_of x) ≡ value_of x
+  same-is o x place is narrow wide = field-is o x place is (by_form (λ m. number_at (formed m) place ≡ Some x) narrow wide plan.magic)
+
+  in_form : (m : Magic) (o : ℕ) (x : Number) (place : ℕ) → 0 + place ≡ 0x40 + 24 + o → number_at (formed m) place ≡ Some x → plan.magic ≡ m → field g o (width_of x) ≡ value_of x
+  in_form m o x place is written form = field-is o x place is (subst (λ (m : Magic). number_at (formed m) place ≡ Some x) (sym form) written)
+
+  -- one that does not
+  form-is : (o p : ℕ) (x y : Number) (v : ℕ) → value_of x ≡ v → value_of y ≡ v → number_at (formed Pe32) (0x58 + o) ≡ Some x → number_at (formed Pe32Plus) (0x58 + p) ≡ Some y
+      → either_field g o (width_of x) p (width_of y) ≡ v
+  form-is o p x y v narrow wide one other =
+      either_is (is_pe32 g) plan.magic _ _ v magic-is
+      (λ m. in_form Pe32 o x (0x58 + o) (omega arith) one m ∙ narrow)
+      (λ m. in_form Pe32Plus p y (0x58 + p) (omega arith) other m ∙ wide)
+
+  -- what a file that begins with the plan's numbers holds
+  pub read : Read plan g
+  read = record {
+    mz = at 0 0 (U16 0x5a4d) refl refl;
+    signature = ap (λ (p : ℕ). num (byte_of g) p 4) p-is ∙ at 0x40 0x40 (U32 0x4550) refl refl;
+    number_of_magic = field-is 0 (U16 (magic_number plan.magic)) 0x58 refl refl;
+    p = p-is;
+    machine = coff-is 0 (U16 plan.machine) 0x44 refl refl;
+    count = coff-is 2 (U16 (length plan.sections.items)) 0x46 refl refl;
+    time_stamp = coff-is 4 (U32 plan.time_stamp) 0x48 refl refl;
+    symbols = coff-is 8 (U32 0) 0x4c refl refl;
+    symbol_count = coff-is 12 (U32 0) 0x50 refl refl;
+    optional = coff-is 16 (U16 (optional_size plan.magic)) 0x54 refl refl;
+    characteristics = coff-is 18 (U16 plan.characteristics) 0x56 refl refl;
+    magic = magic-is;
+    linker_major = field-is 2 (U8 0) 0x5a refl refl;
+    linker_minor = field-is 3 (U8 0) 0x5b refl refl;
+    code = field-is 4 (U32 0) 0x5c refl refl;
+    initialized = field-is 8 (U32 0) 0x60 refl refl;
+    uninitialized = field-is 12 (U32 0) 0x64 refl refl;
+    entry = field-is 16 (U32 plan.entry) 0x68 refl refl;
+    base_of_code = field-is 20 (U32 0) 0x6c refl refl;
+    base_of_data = data_of plan.magic (is_pe32 g) (field g 24 4) magic-is (in_form Pe32 24 (U32 0) 0x70 refl refl);
+    image_base = form-is 28 24 (U32 plan.image_base) (U64 plan.image_base) plan.image_base refl refl refl refl;
+    section_alignment = same-is 32 (U32 plan.section_alignment) 0x78 refl refl refl;
+    file_alignment = same-is 36 (U32 plan.file_alignment) 0x7c refl refl refl;
+    system_major = same-is 40 (U16 0) 0x80 refl refl refl;
+    system_minor = same-is 42 (U16 0) 0x82 refl refl refl;
+    image_major = same-is 44 (U16 0) 0x84 refl refl refl;
+    image_minor = same-is 46 (U16 0) 0x86 refl refl refl;
+    subsystem_major = same-is 48 (U16 0) 0x88 refl refl refl;
+    subsystem_minor = same-is 50 (U16 0) 0x8a refl refl refl;
+    win32 = same-is 52 (U32 0) 0x8c refl refl refl;
+    size_of_image = same-is 56 (U32 plan.size_of_image) 0x90 refl refl refl;
+    size_of_headers = same-is 60 (U32 plan.size_of_headers) 0x94 refl refl refl;
+    check_sum = same-is 64 (U32 0) 0x98 refl refl refl;
+    subsystem = same-is 68 (U16 plan.subsystem) 0x9c refl refl refl;
+    dll = same-is 70 (U16 plan.dll_characteristics) 0x9e refl refl refl;
+    stack_reserve = form-is 72 72 (U32 0) (U64 0) 0 refl refl refl refl;
+    stack_commit = form-is 76 80 (U32 0) (U64 0) 0 refl refl refl refl;
+    heap_reserve = form-is 80 88 (U32 0) (U64 0) 0 refl refl refl refl;
+    heap_commit = form-is 84 96 (U32 0) (U64 0) 0 refl refl refl refl;
+    loader = form-is 88 104 (U32 0) (U32 0) 0 refl refl refl refl;
+    number = form-is 92 108 (U32 16) (U32 16) 16 refl refl refl refl;
+  }

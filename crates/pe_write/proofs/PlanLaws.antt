@@ -1,18 +1,19 @@
 -- What the file of a plan is, by the plan's own tests.
-use Rattle.std.proofs.Common.{◌≡◌, ℕ, zero, suc, ◌-◌, ◌^◌, ◌<◌, ◌≤◌, false, List, [], ◌∷◌, ◌++◌, length, take, None, refl, sym, ap, ◌∙◌, subst, arith, append_assoc}
+use Rattle.std.proofs.Common.{◌≡◌, ℕ, zero, suc, ◌-◌, ◌^◌, ◌<◌, ◌≤◌, false, List, [], ◌∷◌, ◌++◌, length, take, None, refl, sym, ap, ◌∙◌, arith}
 use Rattle.std.specs.Prelude.{replicate, nat_lt, ◌==◌}
 use Rattle.std.specs.List.{flat_map}
 use Rattle.std.proofs.lemmas.List.{take_all}
 use Rattle.std.proofs.lemmas.Bool.{ltb-false, or_parts}
 use Rattle.pe_view.specs.Faults.{first_standing}
 use Rattle.pe_view.specs.FirstStanding.{none_stands, none-append}
+use Rattle.pe_numbers.specs.Numbers.{numbers_bytes}
 use Rattle.pe_head.specs.declared.headers.Headers.{Headers}
 use Rattle.pe_head.specs.Head.{head_of}
 use Rattle.pe_layout.specs.Plain.{plain}
 use Rattle.pe_layout.specs.SectionFaults.{layout_tests, placing_tests}
 use Rattle.pe_write.specs.declared.plan.Plan.{Plan}
 use Rattle.pe_write.specs.PlanFile.{data_from}
-use Rattle.pe_write.specs.PlanHeaders.{rows_bytes, header_rows, section_bytes, table_bytes, header_bytes, plan_file, plan_size, plan_sections, plan_headers, planned}
+use Rattle.pe_write.specs.PlanHeaders.{header_numbers, section_bytes, table_bytes, header_bytes, plan_file, plan_size, plan_sections, plan_headers, planned}
 use Rattle.pe_write.specs.PlanFaults.{is_wide, plan_test, table_end, number_tests, data_tests, places_tests, plan_tests}
 use Rattle.pe_write.specs.PlanFits.{IsPlan}
 use Rattle.pe_write.proofs.DataSteps.{end_most}
@@ -21,18 +22,14 @@ use Rattle.pe_write.proofs.Planned.{data_end}
 use Rattle.pe_write.proofs.PlanRead.{all_read}
 use Rattle.pe_write.proofs.PlanFaults.{Bounded, layout_none}
 use Rattle.pe_write.proofs.PlanPlaces.{sections_none}
-use Rattle.pe_write.proofs.PlanWhole.{table-end, head-planned, plain-planned, headers-length}
+use Rattle.pe_write.proofs.PlanWhole.{table-there, table-end, head-planned, plain-planned, headers-length}
 
 positive : (n : ℕ) → (n == 0) ≡ false → 0 < n
 positive zero is = absurd cc
 positive (suc n) is = omega arith
 
 pub all_of : {A : Type 0} (plan : Plan A) → IsPlan plan → Read plan (plan_file plan)
-unfolding plan_file
-all_of plan fits =
-    let zeros : List ℕ = replicate (plan.size_of_headers - length (table_bytes plan)) 0 in
-    let rest : List ℕ = data_from plan.file_alignment plan.size_of_headers plan.sections.items in
-    subst (λ (g : List ℕ). Read plan g) (sym (append_assoc (table_bytes plan) zeros rest)) (all_read plan (zeros ++ rest) fits)
+all_of plan fits = all_read plan (plan_file plan) fits (table-there plan)
 
 -- its length
 pub size_of_file : {A : Type 0} (plan : Plan A) → IsPlan plan → 0 < plan.file_alignment → table_end plan.magic (length plan.sections.items) ≤ plan.size_of_headers → length (plan_file plan) ≡ plan_size plan
@@ -101,7 +98,7 @@ module _ {A : Type 0} (plan : Plan A) (none : first_standing (plan_tests plan) �
     lays_out r = ap (λ (h : Headers). plain h (plan_file plan) r) (head-planned plan fits) ∙ plain-planned plan fits alignment_some table_held r
 
     -- the parts, one behind the other
-    pub made : (front table headers whole : List ℕ) (n m : ℕ) → length table ≡ n → front ≡ rows_bytes (header_rows plan) → table ≡ front ++ flat_map section_bytes (plan_sections plan)
+    pub made : (front table headers whole : List ℕ) (n m : ℕ) → length table ≡ n → front ≡ numbers_bytes (header_numbers plan) → table ≡ front ++ flat_map section_bytes (plan_sections plan)
         → headers ≡ take plan.size_of_headers table ++ replicate (plan.size_of_headers - n) 0
         → m ≡ plan.size_of_headers → whole ≡ headers ++ data_from plan.file_alignment m plan.sections.items → whole ≡ plan_file plan
     unfolding plan_file

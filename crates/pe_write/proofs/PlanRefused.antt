@@ -1,11 +1,13 @@
 -- A plan whose file has none of faults 1 to 15 is not refused.
-use Rattle.std.proofs.Common.{◌≡◌, ℕ, zero, suc, ◌+◌, ◌^◌, ◌<◌, ◌≤◌, false, List, [], ◌∷◌, length, Some, None, refl, sym, ap, ◌∙◌, subst, arith}
-use Rattle.std.specs.Prelude.{slice_get, nat_lt, ◌==◌, ◌||◌}
+use Rattle.std.proofs.Common.{◌≡◌, ℕ, ◌+◌, ◌^◌, ◌<◌, ◌≤◌, false, List, [], ◌∷◌, length, None, refl, sym, ap, ◌∙◌, subst, arith}
+use Rattle.std.specs.Prelude.{nat_lt, ◌==◌, ◌||◌}
 use Rattle.std.specs.List.{AllByRecursion}
 use Rattle.std.proofs.lemmas.Bool.{ltb-false, le-ltb, or_parts, or_from}
-use Rattle.std.proofs.lemmas.Option.{same_Some}
 use Rattle.pe_view.specs.Faults.{first_standing}
 use Rattle.pe_view.specs.FirstStanding.{none_stands, none-append}
+use Rattle.pe_numbers.specs.declared.number.Number.TheVariants.{U32}
+use Rattle.pe_numbers.specs.Numbers.{NumberFits}
+use Rattle.pe_numbers.specs.ReadBack.{number_fits}
 use Rattle.pe_head.specs.declared.optional.Magic.{Magic}
 use Rattle.pe_head.specs.declared.optional.Magic.TheVariants.{Pe32, Pe32Plus}
 use Rattle.pe_head.specs.declared.section.SectionHeader.{SectionHeader}
@@ -15,24 +17,18 @@ use Rattle.pe_head.specs.HeaderFaults.{head_tests}
 use Rattle.pe_layout.specs.Piece.{end_of}
 use Rattle.pe_layout.specs.SectionFaults.{layout_tests, placing_tests, section_tests, sections_tests}
 use Rattle.pe_write.specs.declared.plan.Plan.{Plan}
-use Rattle.pe_write.specs.PlanHeaders.{Row, sized, header_rows, plan_file, plan_size, plan_sections, plan_headers}
+use Rattle.pe_write.specs.PlanHeaders.{header_numbers, plan_file, plan_size, plan_sections, plan_headers}
 use Rattle.pe_write.specs.PlanFaults.{is_wide, is_misplaced, table_end, places_tests, plan_tests}
-use Rattle.pe_write.specs.PlanFits.{RowFits, IsPlan}
+use Rattle.pe_write.specs.PlanFits.{IsPlan}
 use Rattle.pe_write.proofs.PlanFaults.{not_none}
 use Rattle.pe_write.proofs.PlanLaws.{all_of, size_of_file}
 use Rattle.pe_write.proofs.PlanWhole.{head-planned}
 
--- row k fits
-fits_at : (rows : List Row) (k : ℕ) (r : Row) → slice_get rows k ≡ Some r → AllByRecursion RowFits rows → RowFits r
-fits_at [] k r at fits = absurd cc
-fits_at (q ∷ rows) zero r at fits = subst RowFits (same_Some q r at) fits.0
-fits_at (q ∷ rows) (suc k) r at fits = fits_at rows k r at fits.1
-
-narrow_by : {A : Type 0} (plan : Plan A) (m : Magic) → plan.magic ≡ m → AllByRecursion RowFits (header_rows plan) → is_wide plan.magic plan.image_base ≡ false
+narrow_by : {A : Type 0} (plan : Plan A) (m : Magic) → plan.magic ≡ m → AllByRecursion NumberFits (header_numbers plan) → is_wide plan.magic plan.image_base ≡ false
 narrow_by {A = A} plan Pe32 is fits =
     let same : record plan { magic = Pe32 } ≡ plan = ap (λ (m : Magic). record plan { magic = m }) (sym is) in
-    let Narrow : Plan A → Type 0 = λ q. AllByRecursion RowFits (header_rows q) → is_wide q.magic q.image_base ≡ false in
-    subst Narrow same (λ f. let small = fits_at (header_rows (record plan { magic = Pe32 })) 20 (sized 4 plan.image_base) refl f in le-ltb _ _ (omega arith)) fits
+    let Narrow : Plan A → Type 0 = λ q. AllByRecursion NumberFits (header_numbers q) → is_wide q.magic q.image_base ≡ false in
+    subst Narrow same (λ f. let small = number_fits (header_numbers (record plan { magic = Pe32 })) 0x74 (U32 plan.image_base) f refl in le-ltb _ _ (omega arith)) fits
 narrow_by plan Pe32Plus is fits = ap (λ (m : Magic). is_wide m plan.image_base) is
 
 -- of sections without faults 14 and 15 each lies where it may
@@ -94,7 +90,7 @@ module _ {A : Type 0} (plan : Plan A) (fits : IsPlan plan) (some : 0 < plan.file
   unfolding plan_tests
   not_refused =
       let aligned : (plan.file_alignment == 0) ≡ false = not_none plan.file_alignment some in
-      let narrow = narrow_by plan plan.magic refl fits.rows in
+      let narrow = narrow_by plan plan.magic refl fits.numbers in
       let held : (nat_lt plan.size_of_headers (table_end plan.magic (length plan.sections.items)) || nat_lt plan.size_of_image plan.size_of_headers) ≡ false =
       or_from (nat_lt plan.size_of_headers (table_end plan.magic (length plan.sections.items))) _ (le-ltb _ _ headers_parts.0) (le-ltb _ _ headers_parts.1) in
       rw (aligned, narrow, count_fine, image_fine, held, size_fine) sections_fine

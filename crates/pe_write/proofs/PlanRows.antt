@@ -12,7 +12,8 @@ use Rattle.pe_head.specs.V1.{v1, zeros}
 use Rattle.pe_write.specs.declared.plan.PlanSection.{PlanSection}
 use Rattle.pe_write.specs.declared.plan.Plan.{Plan}
 use Rattle.pe_write.specs.PlanFaults.{places_tests, plan_tests}
-use Rattle.pe_write.specs.PlanHeaders.{plan_file, planned, row_bytes}
+use Rattle.pe_write.specs.PlanHeaders.{plan_file, planned}
+use Rattle.pe_numbers.specs.Numbers.{number_bytes}
 use Rattle.pe_write.specs.PlanFile.{headers_from, file_end}
 
 -- a section whose pointer is of no account
@@ -62,7 +63,7 @@ module _ {A : Type 0} (place : Ptr) (alloc : A) where
   plan = plan_of (data_section ascending ∷ []) (omega arith)
 
   v1_is_written : plan_file plan ≡ v1
-  unfolding plan_file row_bytes
+  unfolding plan_file number_bytes
   v1_is_written = refl
 
   v1_is_fine : first_standing (plan_tests plan) ≡ None
@@ -88,11 +89,11 @@ module _ {A : Type 0} (place : Ptr) (alloc : A) where
 
   -- the section's last byte in the image, and the next, which the file has and the image does not
   last_byte : planned plan 0x100f ≡ 0x0f
-  unfolding row_bytes
+  unfolding number_bytes
   last_byte = refl
 
   past_the_section : planned plan 0x1010 ≡ 0
-  unfolding row_bytes
+  unfolding number_bytes
   past_the_section = refl
 
   -- the same as PE32+
@@ -100,17 +101,17 @@ module _ {A : Type 0} (place : Ptr) (alloc : A) where
   wide = record plan { magic = Pe32Plus; image_base = 0x180000000 }
 
   wide_sizes : part (plan_file wide) 0x54 6 ≡ 0xf0 ∷ 0 ∷ 0x02 ∷ 0x21 ∷ 0x0b ∷ 0x02 ∷ []
-  unfolding plan_file row_bytes
+  unfolding plan_file number_bytes
   wide_sizes = refl
 
   wide_base : part (plan_file wide) 0x70 8 ≡ 0 ∷ 0 ∷ 0 ∷ 0x80 ∷ 1 ∷ 0 ∷ 0 ∷ 0 ∷ []
-  unfolding plan_file row_bytes
+  unfolding plan_file number_bytes
   wide_base = refl
 
   wide_count : part (plan_file wide) 0xc4 4 ≡ 16 ∷ 0 ∷ 0 ∷ 0 ∷ []
-  unfolding plan_file row_bytes
+  unfolding plan_file number_bytes
   wide_count = refl
 
   wide_table : part (plan_file wide) 0x148 8 ≡ 0x2e ∷ 0x64 ∷ 0x61 ∷ 0x74 ∷ 0x61 ∷ 0 ∷ 0 ∷ 0 ∷ []
-  unfolding plan_file row_bytes
+  unfolding plan_file number_bytes
   wide_table = refl

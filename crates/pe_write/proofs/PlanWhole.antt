@@ -1,9 +1,12 @@
 -- A written file has no fault, and lays out what was planned.
-use Rattle.std.proofs.Common.{◌≡◌, ℕ, suc, ◌-◌, ◌*◌, ◌<◌, ◌≤◌, true, false, List, [], ◌∷◌, ◌++◌, length, refl, ap, ◌∙◌, arith, append_assoc, length-append, inl, inr}
+use Rattle.std.proofs.Common.{◌≡◌, ℕ, suc, ◌-◌, ◌*◌, ◌<◌, ◌≤◌, true, false, List, [], ◌∷◌, ◌++◌, length, refl, sym, ap, subst, arith, append_assoc, length-append, inl, inr}
 use Rattle.std.specs.Prelude.{replicate, nat_lt}
 use Rattle.std.specs.List.{flat_map, AllByRecursion}
 use Rattle.std.proofs.lemmas.Bool.{cases_lt, le-ltb, lt-ltb}
 use Rattle.std.proofs.lemmas.List.{length-replicate}
+use Rattle.pe_numbers.specs.Numbers.{numbers_bytes}
+use Rattle.pe_numbers.specs.ReadBack.{length-numbers}
+use Rattle.pe_numbers.specs.StandsAt.{StandsAt, stands_behind}
 use Rattle.pe_head.specs.declared.section.SectionHeader.{SectionHeader}
 use Rattle.pe_head.specs.Head.{head_of}
 use Rattle.pe_layout.specs.Plain.{plain}
@@ -11,11 +14,10 @@ use Rattle.pe_write.specs.declared.plan.Plan.{Plan}
 use Rattle.pe_write.specs.declared.plan.PlanSection.{PlanSection}
 use Rattle.pe_write.specs.PlanFile.{headers_from, data_from, raw_end}
 use Rattle.pe_write.specs.PlanFaults.{table_end}
-use Rattle.pe_write.specs.PlanHeaders.{rows_bytes, section_bytes, header_rows, table_bytes, header_bytes, plan_file, plan_sections, plan_headers, planned}
+use Rattle.pe_write.specs.PlanHeaders.{section_bytes, header_numbers, table_bytes, header_bytes, plan_file, plan_sections, plan_headers, planned}
 use Rattle.pe_write.specs.PlanFits.{IsRow, IsPlan}
-use Rattle.pe_write.proofs.RowsRead.{length-rows}
 use Rattle.pe_write.proofs.Planned.{byte-left, sections_planned}
-use Rattle.pe_write.proofs.PlanRead.{head-is, rows_end, length-section}
+use Rattle.pe_write.proofs.PlanRead.{head-is, numbers_end, length-section}
 
 pub sections-count : (a end : ℕ) (ss : List PlanSection) → length (headers_from a end ss) ≡ length ss
 sections-count a end [] = refl
@@ -29,24 +31,27 @@ forty : (ss : List SectionHeader) → ((s : SectionHeader) → IsRow s → lengt
 forty [] f e = tt
 forty (s ∷ ss) f e = (f s e.0, forty ss f e.1)
 
+-- the file begins with the headers and the section table
+pub table-there : {A : Type 0} (plan : Plan A) → StandsAt (plan_file plan) 0 (table_bytes plan)
+unfolding plan_file
+table-there plan =
+    let zeros : List ℕ = replicate (plan.size_of_headers - length (table_bytes plan)) 0 in
+    let rest : List ℕ = data_from plan.file_alignment plan.size_of_headers plan.sections.items in
+    subst (λ (g : List ℕ). StandsAt g 0 (table_bytes plan)) (sym (append_assoc (table_bytes plan) zeros rest)) (stands_behind [] (table_bytes plan) (zeros ++ rest) 0 refl)
+
 module _ {A : Type 0} (plan : Plan A) (fits : IsPlan plan) where
   -- the section table ends at
   pub table-end : length (table_bytes plan) ≡ table_end plan.magic (length plan.sections.items)
   table-end =
-      let front = length-rows (header_rows plan) in
-      let end = rows_end plan [] fits in
-      let back = table_length (plan_sections plan) (forty (plan_sections plan) (length-section plan [] fits) fits.sections) in
+      let front = length-numbers (header_numbers plan) in
+      let end = numbers_end plan fits in
+      let back = table_length (plan_sections plan) (forty (plan_sections plan) length-section fits.sections) in
       let count = sections-count plan.file_alignment plan.size_of_headers plan.sections.items in
       let many : 40 * length (plan_sections plan) ≡ 40 * length plan.sections.items = ap (λ (n : ℕ). 40 * n) count in
-      omega (arith, length-append (rows_bytes (header_rows plan)) (flat_map section_bytes (plan_sections plan)))
+      omega (arith, length-append (numbers_bytes (header_numbers plan)) (flat_map section_bytes (plan_sections plan)))
 
   pub head-planned : head_of (plan_file plan) ≡ plan_headers plan
-  unfolding plan_file
-  head-planned =
-      let zeros : List ℕ = replicate (plan.size_of_headers - length (table_bytes plan)) 0 in
-      let rest : List ℕ = data_from plan.file_alignment plan.size_of_headers plan.sections.items in
-      ap head_of (append_assoc (table_bytes plan) zeros rest)
-      ∙ head-is plan (zeros ++ rest) fits (sections-count plan.file_alignment plan.size_of_headers plan.sections.items)
+  head-planned = head-is plan (plan_file plan) fits (table-there plan) (sections-count plan.file_alignment plan.size_of_headers plan.sections.items)
 
   module _ (some : 0 < plan.file_alignment) (held : table_end plan.magic (length plan.sections.items) ≤ plan.size_of_headers) where
     pub headers-length : length (header_bytes plan) ≡ plan.size_of_headers

@@ -1,8 +1,9 @@
--- Rows, one behind the other.
+-- Numbers, one behind the other.
 use Rattle.std.proofs.Common.{◌≡◌, ℕ, List, ◌++◌, sym, ap, ◌∙◌, append_assoc}
-use Rattle.pe_write.specs.PlanHeaders.{Row, rows_bytes}
-use Rattle.pe_write.proofs.RowsRead.{rows-append}
+use Rattle.pe_numbers.specs.declared.number.Number.{Number}
+use Rattle.pe_numbers.specs.Numbers.{numbers_bytes}
+use Rattle.pe_numbers.specs.ReadBack.{bytes-append}
 
-pub both : (a b c : List ℕ) (xs ys : List Row) → b ≡ a ++ rows_bytes xs → c ≡ b ++ rows_bytes ys → c ≡ a ++ rows_bytes (xs ++ ys)
+pub both : (a b c : List ℕ) (xs ys : List Number) → b ≡ a ++ numbers_bytes xs → c ≡ b ++ numbers_bytes ys → c ≡ a ++ numbers_bytes (xs ++ ys)
 both a b c xs ys first second =
-    second ∙ ap (λ (l : List ℕ). l ++ rows_bytes ys) first ∙ append_assoc a (rows_bytes xs) (rows_bytes ys) ∙ ap (λ (l : List ℕ). a ++ l) (sym (rows-append xs ys))
+    second ∙ ap (λ (l : List ℕ). l ++ numbers_bytes ys) first ∙ append_assoc a (numbers_bytes xs) (numbers_bytes ys) ∙ ap (λ (l : List ℕ). a ++ l) (sym (bytes-append xs ys))

@@ -1,7 +1,10 @@
--- The file of a plan, and what it lays out. Its headers are rows, one for each field: how many bytes it takes, and its value.
+-- The file of a plan, and what it lays out. Its headers are numbers, one for each field.
 use Rattle.std.specs.Prelude.{ℕ, ◌+◌, ◌-◌, nat_lt, List, [], ◌∷◌, ◌++◌, length, replicate, Option, None, Some, if◌then◌else◌}
 use Rattle.std.specs.List.{flat_map}
-use Rattle.pe_view.specs.Number.{byte_of, little}
+use Rattle.pe_view.specs.Number.{byte_of}
+use Rattle.pe_numbers.specs.declared.number.Number.{Number}
+use Rattle.pe_numbers.specs.declared.number.Number.TheVariants.{U8, U16, U32, U64}
+use Rattle.pe_numbers.specs.Numbers.{numbers_bytes}
 use Rattle.pe_head.specs.declared.optional.Magic.{Magic}
 use Rattle.pe_head.specs.declared.optional.Magic.TheVariants.{Pe32, Pe32Plus}
 use Rattle.pe_head.specs.declared.directory.Directory.{Directory}
@@ -11,24 +14,6 @@ use Rattle.pe_head.specs.Optional.{fixed_size_of}
 use Rattle.pe_write.specs.declared.plan.Plan.{Plan}
 use Rattle.pe_write.specs.PlanFile.{headers_from, data_from, file_end, planned_from}
 
-pub record Row : Type 0 where
-  pub width : ℕ
-  pub value : ℕ
-
-abbrev pub sized : ℕ → ℕ → Row
-sized width value = record { width = width; value = value }
-
--- the field's bytes, the lowest first
-unfoldable pub row_bytes : Row → List ℕ
-row_bytes r = little r.width r.value
-
-abbrev pub rows_bytes : List Row → List ℕ
-rows_bytes rows = flat_map row_bytes rows
-
-abbrev pub rows_size : List Row → ℕ
-rows_size [] = 0
-rows_size (r ∷ rs) = r.width + rows_size rs
-
 -- SizeOfOptionalHeader: with 16 directories
 abbrev pub optional_size : Magic → ℕ
 optional_size magic = fixed_size_of magic + 128
@@ -37,77 +22,69 @@ abbrev pub magic_number : Magic → ℕ
 magic_number Pe32 = 0x10b
 magic_number Pe32Plus = 0x20b
 
+-- a number in the form's width
+abbrev pub word : Magic → ℕ → Number
+word Pe32 value = U32 value
+word Pe32Plus value = U64 value
+
 -- the file's first bytes: `MZ`, zeros, where the signature stands, and the signature
-abbrev pub dos_rows : List Row
-dos_rows = sized 2 0x5a4d ∷ sized 58 0 ∷ sized 4 0x40 ∷ sized 4 0x4550 ∷ []
+abbrev pub dos_numbers : List Number
+dos_numbers = U16 0x5a4d ∷ U16 0 ∷ U64 0 ∷ U64 0 ∷ U64 0 ∷ U64 0 ∷ U64 0 ∷ U64 0 ∷ U64 0 ∷ U32 0x40 ∷ U32 0x4550 ∷ []
 
 -- the COFF header
-abbrev pub coff_rows : {A : Type 0} → Plan A → List Row
-coff_rows plan =
-    sized 2 plan.machine ∷ sized 2 (length plan.sections.items) ∷ sized 4 plan.time_stamp ∷ sized 4 0 ∷ sized 4 0 ∷ sized 2 (optional_size plan.magic) ∷ sized 2 plan.characteristics ∷ []
+abbrev pub coff_numbers : {A : Type 0} → Plan A → List Number
+coff_numbers plan =
+    U16 plan.machine ∷ U16 (length plan.sections.items) ∷ U32 plan.time_stamp ∷ U32 0 ∷ U32 0 ∷ U16 (optional_size plan.magic) ∷ U16 plan.characteristics ∷ []
 
--- the optional header up to BaseOfCode
-abbrev pub standard_rows : {A : Type 0} → Plan A → List Row
-standard_rows plan = sized 2 (magic_number plan.magic) ∷ sized 1 0 ∷ sized 1 0 ∷ sized 4 0 ∷ sized 4 0 ∷ sized 4 0 ∷ sized 4 plan.entry ∷ sized 4 0 ∷ []
+-- the standard fields up to BaseOfCode
+abbrev pub standard_numbers : {A : Type 0} → Plan A → List Number
+standard_numbers plan = U16 (magic_number plan.magic) ∷ U8 0 ∷ U8 0 ∷ U32 0 ∷ U32 0 ∷ U32 0 ∷ U32 plan.entry ∷ U32 0 ∷ []
 
--- BaseOfData, which PE32 alone has, and ImageBase
-abbrev pub base_rows : Magic → ℕ → List Row
-base_rows Pe32 base = sized 4 0 ∷ sized 4 base ∷ []
-base_rows Pe32Plus base = sized 8 base ∷ []
+-- BaseOfData, which PE32 alone has
+abbrev pub base_of_data_numbers : Magic → List Number
+base_of_data_numbers Pe32 = U32 0 ∷ []
+base_of_data_numbers Pe32Plus = []
 
--- the alignments and versions
-abbrev pub alignment_rows : {A : Type 0} → Plan A → List Row
-alignment_rows plan =
-    sized 4 plan.section_alignment ∷ sized 4 plan.file_alignment ∷ sized 2 0 ∷ sized 2 0 ∷ sized 2 0 ∷ sized 2 0 ∷ sized 2 0 ∷ sized 2 0 ∷ sized 4 0 ∷ []
+-- from ImageBase to DllCharacteristics
+abbrev pub image_numbers : {A : Type 0} → Plan A → List Number
+image_numbers plan =
+    word plan.magic plan.image_base ∷ U32 plan.section_alignment ∷ U32 plan.file_alignment ∷ U16 0 ∷ U16 0 ∷ U16 0 ∷ U16 0 ∷ U16 0 ∷ U16 0 ∷ U32 0
+    ∷ U32 plan.size_of_image ∷ U32 plan.size_of_headers ∷ U32 0 ∷ U16 plan.subsystem ∷ U16 plan.dll_characteristics ∷ []
 
--- from SizeOfImage to DllCharacteristics
-abbrev pub size_rows : {A : Type 0} → Plan A → List Row
-size_rows plan = sized 4 plan.size_of_image ∷ sized 4 plan.size_of_headers ∷ sized 4 0 ∷ sized 2 plan.subsystem ∷ sized 2 plan.dll_characteristics ∷ []
-
--- what stack and heap reserve and commit
-abbrev pub reserve_rows : Magic → List Row
-reserve_rows Pe32 = sized 4 0 ∷ sized 4 0 ∷ sized 4 0 ∷ sized 4 0 ∷ []
-reserve_rows Pe32Plus = sized 8 0 ∷ sized 8 0 ∷ sized 8 0 ∷ sized 8 0 ∷ []
-
--- LoaderFlags and NumberOfRvaAndSizes
-abbrev pub count_rows : List Row
-count_rows = sized 4 0 ∷ sized 4 16 ∷ []
+-- what stack and heap reserve and commit, LoaderFlags, and NumberOfRvaAndSizes
+abbrev pub reserve_numbers : Magic → List Number
+reserve_numbers magic = word magic 0 ∷ word magic 0 ∷ word magic 0 ∷ word magic 0 ∷ U32 0 ∷ U32 16 ∷ []
 
 -- the optional header up to its directories
-abbrev pub optional_rows : {A : Type 0} → Plan A → List Row
-optional_rows plan =
-    standard_rows plan ++ (base_rows plan.magic plan.image_base ++ (alignment_rows plan ++ (size_rows plan ++ (reserve_rows plan.magic ++ count_rows))))
+abbrev pub optional_numbers : {A : Type 0} → Plan A → List Number
+optional_numbers plan = standard_numbers plan ++ (base_of_data_numbers plan.magic ++ (image_numbers plan ++ reserve_numbers plan.magic))
 
-abbrev pub directory_rows : Directory → List Row
-directory_rows d = sized 4 d.rva ∷ sized 4 d.size ∷ []
+abbrev pub directory_numbers : Directory → List Number
+directory_numbers d = U32 d.rva ∷ U32 d.size ∷ []
 
 -- the headers up to the directories
-abbrev pub front_rows : {A : Type 0} → Plan A → List Row
-front_rows plan = dos_rows ++ (coff_rows plan ++ optional_rows plan)
+abbrev pub front_numbers : {A : Type 0} → Plan A → List Number
+front_numbers plan = dos_numbers ++ (coff_numbers plan ++ optional_numbers plan)
 
 -- the headers up to the section table
-abbrev pub header_rows : {A : Type 0} → Plan A → List Row
-header_rows plan = front_rows plan ++ flat_map directory_rows plan.directories
+abbrev pub header_numbers : {A : Type 0} → Plan A → List Number
+header_numbers plan = front_numbers plan ++ flat_map directory_numbers plan.directories
 
--- a section's header behind its name: where it lies in the image and in the file, and the rest
-abbrev pub place_rows : SectionHeader → List Row
-place_rows s = sized 4 s.virtual_size ∷ sized 4 s.virtual_address ∷ sized 4 s.size_of_raw_data ∷ sized 4 s.pointer_to_raw_data ∷ []
-
-abbrev pub rest_rows : SectionHeader → List Row
-rest_rows s = sized 4 s.pointer_to_relocations ∷ sized 4 s.pointer_to_linenumbers ∷ sized 2 s.number_of_relocations ∷ sized 2 s.number_of_linenumbers ∷ sized 4 s.characteristics ∷ []
-
-abbrev pub section_rows : SectionHeader → List Row
-section_rows s = place_rows s ++ rest_rows s
+-- a section's header behind its name
+abbrev pub section_numbers : SectionHeader → List Number
+section_numbers s =
+    U32 s.virtual_size ∷ U32 s.virtual_address ∷ U32 s.size_of_raw_data ∷ U32 s.pointer_to_raw_data ∷ U32 s.pointer_to_relocations ∷ U32 s.pointer_to_linenumbers
+    ∷ U16 s.number_of_relocations ∷ U16 s.number_of_linenumbers ∷ U32 s.characteristics ∷ []
 
 abbrev pub section_bytes : SectionHeader → List ℕ
-section_bytes s = s.name ++ rows_bytes (section_rows s)
+section_bytes s = s.name ++ numbers_bytes (section_numbers s)
 
 abbrev pub plan_sections : {A : Type 0} → Plan A → List SectionHeader
 plan_sections plan = headers_from plan.file_alignment plan.size_of_headers plan.sections.items
 
 -- the headers up to the section table's end
 abbrev pub table_bytes : {A : Type 0} → Plan A → List ℕ
-table_bytes plan = rows_bytes (header_rows plan) ++ flat_map section_bytes (plan_sections plan)
+table_bytes plan = numbers_bytes (header_numbers plan) ++ flat_map section_bytes (plan_sections plan)
 
 -- the headers, filled up with zeros to SizeOfHeaders
 abbrev pub header_bytes : {A : Type 0} → Plan A → List ℕ

@@ -1,10 +1,9 @@
-use Rattle.std.proofs.Common.{◌∙◌, ◌≡◌, None, List, ℕ, map, ap, subst}
+use Rattle.std.proofs.Common.{◌∙◌, ◌≡◌, None, List, ℕ, ap, subst}
 use Rattle.std.proofs.lemmas.Result.{err_from_is_err_and}
 use Rattle.pe_view.specs.Faults.{first_standing, Refuses}
 use Rattle.pe_view.specs.FirstStanding.{first-past, refused-in, refused-past}
 use Rattle.pe_layout.specs.Layout.{image_of}
 use Rattle.pe_tables.specs.Import.{slots_of}
-use Rattle.pe_tables.specs.Imports.{imports_of}
 use Rattle.pe_tables.specs.ImportFaults.{import_tests}
 use Rattle.pe_tables.specs.FixupFaults.{fixup_tests}
 use Rattle.pe_image.proofs.Phases.{own_slots}

@@ -2,10 +2,11 @@ use Rattle.std.proofs.Common.{◌∙◌, ◌++◌, ℕ, List, sym, ap, subst}
 use Rattle.std.specs.Prelude.{vec_len}
 use Rattle.std.specs.List.{flat_map, AllByRecursion}
 use Rattle.std.proofs.lemmas.Result.{on_ok_weaker}
+use Rattle.pe_numbers.specs.Numbers.{numbers_bytes}
 use Rattle.pe_write.specs.declared.plan.PlanSection.{PlanSection}
 use Rattle.pe_write.specs.PlanFile.{headers_from, data_from}
 use Rattle.pe_write.specs.PlanFits.{IsPlan, IsRow}
-use Rattle.pe_write.specs.PlanHeaders.{rows_bytes, header_rows, section_bytes}
+use Rattle.pe_write.specs.PlanHeaders.{header_numbers, section_bytes}
 use Rattle.pe_write.proofs.PlanLaws.{alignment_some, headers_some, few, narrow, size_small, made}
 use Rattle.pe_write.proofs.write.push_file.Goals as goal
 
@@ -34,10 +35,10 @@ pub returns-clause-bytes : goal.returns-clause-bytes
 returns-clause-bytes g c =
     let plan = c.args.plan.now in
     let sections = c.as_slice-sections.ensures.value in
-    let front = c.in_ok-push_headers.ensures.bytes ∙ ap (λ (xs : List ℕ). xs ++ rows_bytes (header_rows plan)) c.requires.empty in
+    let front = c.in_ok-push_headers.ensures.bytes ∙ ap (λ (xs : List ℕ). xs ++ numbers_bytes (header_numbers plan)) c.requires.empty in
     let table = c.in_ok-push_table.ensures.bytes ∙ ap (λ (ss : List PlanSection). c.push_headers.new.bytes.items ++ flat_map section_bytes (headers_from plan.file_alignment plan.size_of_headers ss)) sections in
     let fits : IsPlan plan = record {
-      rows = c.in_ok-push_headers.ensures.fits;
+      numbers = c.in_ok-push_headers.ensures.fits;
       directories = c.in_ok-push_headers.ensures.directories;
       sections = subst (λ (ss : List PlanSection). AllByRecursion IsRow (headers_from plan.file_alignment plan.size_of_headers ss)) sections c.in_ok-push_table.ensures.fits;
     } in
