@@ -4,7 +4,8 @@ use Rattle.std.specs.Prelude.{map, filter, ◌||◌}
 use Rattle.std.specs.Str.{bytes_eq}
 use Rattle.std.proofs.lemmas.Bool.{cases_Bool, or_left, or_right}
 use Rattle.std.proofs.lemmas.List.{drop_all, length-map}
-use Rattle.coff_object.specs.Field.{number_bytes}
+use Rattle.pe_numbers.specs.declared.number.Number.TheVariants.{U32}
+use Rattle.pe_numbers.specs.Numbers.{numbers_bytes}
 use Rattle.coff_object.specs.NamePlaces.{place_of, section_places, symbol_places}
 use Rattle.coff_object.specs.Strings.{is_among, with_string, with_strings, offset_from, offset_of, string_bytes}
 use Rattle.coff_object.specs.Names.{decimal_digits, padded, is_long, is_long_section_name}
@@ -152,7 +153,7 @@ symbol_field strings name place is small = elim (cases_Bool (is_long name)) [
   | inl long ↦
       (let at : place ≡ counted (offset_of strings name) = is ∙ rw long refl in
       let same : place ≡ offset_of strings name = omega arith in
-      rw long (ap (λ (n : ℕ). number_bytes 4 0 ++ number_bytes 4 n) same))
+      rw long (ap (λ (n : ℕ). numbers_bytes (U32 0 ∷ U32 n ∷ [])) same))
   | inr short ↦ rw short refl
 ]
 

@@ -1,18 +1,22 @@
 -- A written object, read back whole.
-use Rattle.std.proofs.Common.{◌≡◌, ℕ, suc, ◌+◌, ◌*◌, ◌^◌, ◌<◌, ◌≤◌, Bool, true, false, cond, List, [], ◌∷◌, ◌++◌, length, None, refl, sym, ap, subst, ◌∙◌, length-append, arith, inl, inr}
+use Rattle.std.proofs.Common.{◌≡◌, ℕ, suc, ◌+◌, ◌*◌, ◌^◌, ◌<◌, ◌≤◌, Bool, true, false, cond, List, [], ◌∷◌, ◌++◌, length, Some, None, refl, sym, ap, subst, ◌∙◌, length-append, arith, inl, inr}
 use Rattle.std.specs.Prelude.{map, nat_lt, nat_le, not, ◌==◌, ◌&&◌, ◌||◌}
 use Rattle.std.specs.List.{flat_map, range_with_len, AllByRecursion}
 use Rattle.std.proofs.lemmas.Bool.{cases_Bool, or_from, and_right, le-ltb, le-leb, lt-ltb, ltb-false, ne_eqb}
 use Rattle.pe_view.specs.FirstStanding.{first-past}
 use Rattle.pe_view.specs.Faults.{Test, first_standing}
-use Rattle.coff_object.specs.Field.{field, number_bytes}
+use Rattle.pe_numbers.specs.declared.number.Number.{Number}
+use Rattle.pe_numbers.specs.declared.number.Number.TheVariants.{U16, U32}
+use Rattle.pe_numbers.specs.Numbers.{NumberFits, number_bytes, numbers_bytes, number_at}
+use Rattle.pe_numbers.specs.StandsAt.{StandsAt, stands-front, stands-back, stands_part}
+use Rattle.coff_object.specs.Field.{field}
 use Rattle.coff_object.specs.ObjectFaults.{is_other_file, is_cut_table, header_tests, symbol_table_tests, section_tests, symbol_tests, relocation_tests, record_tests, object_tests, IsObjectOf}
 use Rattle.coff_object.specs.Reading.{section_in, section_start, section_starts, symbol_at, record_start, symbols_from, symbol_indexes}
 use Rattle.coff_object.specs.Records.{Section, Symbol, Object, Fits}
 use Rattle.coff_object.specs.Strings.{is_among, symbol_pointer, record_count, strings_start, strings_size, string_bytes}
 use Rattle.coff_object.specs.WriteFaults.{write_tests}
-use Rattle.coff_object.specs.Written.{strings_of, section_table, symbol_bytes, records_of, bodies_start, symbols_start, has_strings, coff_header, string_table, canon}
-use Rattle.coff_object.proofs.Bytes.{Has, has-back, has-part, field_in, value_2, value_4}
+use Rattle.coff_object.specs.Written.{strings_of, section_table, symbol_bytes, records_of, bodies_start, symbols_start, has_strings, header_numbers, coff_header, string_table, canon}
+use Rattle.coff_object.proofs.Bytes.{field_read}
 use Rattle.coff_object.proofs.Laid.{Laid, laid, end_of_symbols}
 use Rattle.coff_object.proofs.SectionsBack.{AreSectionsFrom, sections_read}
 use Rattle.coff_object.proofs.StringTable.{HasStrings}
@@ -33,17 +37,20 @@ pointer_lt : (b : Bool) (at : ℕ) → at < 2 ^ 32 → cond b at 0 < 2 ^ 32
 pointer_lt true at lt = lt
 pointer_lt false at lt = omega arith
 
-header_read : (file : List ℕ) (o : Object) → Fits o → Has file 0 (coff_header o) → length o.sections ≤ 65535 → length o.optional ≤ 65535 → symbols_start o < 2 ^ 32 → records_of o.symbols < 2 ^ 32 → HeaderIs file o
-unfolding number_bytes
-header_read file o fits has sections optional start records = record {
-  machine = field_in file 0 0 2 (coff_header o) has ∙ value_2 o.machine fits.header.machine;
-  sections = field_in file 0 2 2 (coff_header o) has ∙ value_2 (length o.sections) (omega arith);
-  time_stamp = field_in file 0 4 4 (coff_header o) has ∙ value_4 o.time_stamp fits.header.time_stamp;
-  pointer = field_in file 0 8 4 (coff_header o) has ∙ value_4 _ (pointer_lt (has_strings o) (symbols_start o) start);
-  count = field_in file 0 12 4 (coff_header o) has ∙ value_4 (records_of o.symbols) records;
-  optional = field_in file 0 16 2 (coff_header o) has ∙ value_2 (length o.optional) (omega arith);
-  characteristics = field_in file 0 18 2 (coff_header o) has ∙ value_2 o.characteristics fits.header.characteristics;
-}
+header_read : (file : List ℕ) (o : Object) → Fits o → StandsAt file 0 (coff_header o) → length o.sections ≤ 65535 → length o.optional ≤ 65535 → symbols_start o < 2 ^ 32 → records_of o.symbols < 2 ^ 32 → HeaderIs file o
+header_read file o fits there sections optional start records =
+    let fit : AllByRecursion NumberFits (header_numbers o) =
+    (fits.header.machine, (omega (arith, sections), (fits.header.time_stamp, (pointer_lt (has_strings o) (symbols_start o) start, (records, (omega (arith, optional), (fits.header.characteristics, tt))))))) in
+    let read = λ (k : ℕ) (x : Number) (is : number_at (header_numbers o) k ≡ Some x). field_read file 0 (header_numbers o) k x fit there is in
+    record {
+      machine = read 0 (U16 o.machine) refl;
+      sections = read 2 (U16 (length o.sections)) refl;
+      time_stamp = read 4 (U32 o.time_stamp) refl;
+      pointer = read 8 (U32 (cond (has_strings o) (symbols_start o) 0)) refl;
+      count = read 12 (U32 (records_of o.symbols)) refl;
+      optional = read 16 (U16 (length o.optional)) refl;
+      characteristics = read 18 (U16 o.characteristics) refl;
+    }
 
 no_items : {X : Type 0} (xs : List X) → length xs ≡ 0 → xs ≡ []
 no_items [] e = refl
@@ -62,16 +69,16 @@ unfolding number_bytes
 tables_some file o l h small some =
     let bytes : List ℕ = string_bytes (strings_of o) in
     let q : ℕ = end_of_symbols o in
-    let table : string_table o ≡ number_bytes 4 (4 + length bytes) ++ bytes = rw some refl in
-    let table_len : length (string_table o) ≡ 4 + length bytes = ap length table ∙ length-append (number_bytes 4 (4 + length bytes)) bytes in
+    let table : string_table o ≡ numbers_bytes (U32 (4 + length bytes) ∷ []) ++ bytes = rw some refl in
+    let table_len : length (string_table o) ≡ 4 + length bytes = ap length table ∙ length-append (numbers_bytes (U32 (4 + length bytes) ∷ [])) bytes in
     let size = l.size in
     let pointer : symbol_pointer file ≡ symbols_start o = h.pointer ∙ ap (λ (b : Bool). cond b (symbols_start o) 0) some in
     let not_none : (symbol_pointer file == 0) ≡ false = ap (λ (n : ℕ). n == 0) pointer ∙ ne_eqb (symbols_start o) 0 (λ e. omega arith) in
     let records : record_count file ≡ records_of o.symbols = ap (λ (b : Bool). cond b 0 (field file 0 12 4)) not_none ∙ h.count in
     let start : strings_start file ≡ q = omega arith in
-    let whole : Has file q (number_bytes 4 (4 + length bytes) ++ bytes) = subst (Has file q) table l.strings in
+    let whole : StandsAt file q (numbers_bytes (U32 (4 + length bytes) ∷ []) ++ bytes) = subst (StandsAt file q) table l.strings in
     let written : field file q 0 4 ≡ 4 + length bytes =
-    field_in file q 0 4 (number_bytes 4 (4 + length bytes) ++ bytes) whole ∙ value_4 (4 + length bytes) (omega arith) in
+    field_read file q (U32 (4 + length bytes) ∷ []) 0 (U32 (4 + length bytes)) (omega arith, tt) (stands-front file q (numbers_bytes (U32 (4 + length bytes) ∷ [])) bytes whole) refl in
     let inside : nat_le (strings_start file + 4) (length file) ≡ true = le-leb (strings_start file + 4) (length file) (omega arith) in
     let field_is : field file (strings_start file) 0 4 ≡ 4 + length bytes = ap (λ (n : ℕ). field file n 0 4) start ∙ written in
     let size_is : strings_size file ≡ 4 + length bytes =
@@ -84,7 +91,7 @@ tables_some file o l h small some =
     let cut : is_cut_table (length file) (strings_start file) (strings_size file) ≡ false = and_right _ _ (or_from _ _ not_cut (or_from _ _ (and_right _ _ not_short) not_past)) in
     let first : (not (symbol_pointer file == 0) && nat_lt (length file) (strings_start file)) ≡ false = and_right _ _ no_67 in
     let second : (not (symbol_pointer file == 0) && is_cut_table (length file) (strings_start file) (strings_size file)) ≡ false = and_right _ _ cut in
-    let behind : Has file (strings_start file + 4) bytes = has-back file q (strings_start file + 4) (number_bytes 4 (4 + length bytes)) bytes whole (omega arith) in
+    let behind : StandsAt file (strings_start file + 4) bytes = stands-back file q (strings_start file + 4) (numbers_bytes (U32 (4 + length bytes) ∷ [])) bytes whole (omega arith) in
     record {
       records = records;
       accepted = rw (first, second) refl;
@@ -136,7 +143,7 @@ symbols_all file o (s ∷ ss) e w l h t =
     let start = t.start some in
     let at : symbols_start o ≡ record_start file 0 = omega arith in
     let records = t.records in
-    symbols_read file (strings_of o) (length o.sections) 0 o.symbols w h.sections (omega arith) (subst (λ (n : ℕ). Has file n (flat_map (symbol_bytes (strings_of o)) o.symbols)) at l.symbols) (t.strings some)
+    symbols_read file (strings_of o) (length o.sections) 0 o.symbols w h.sections (omega arith) (subst (λ (n : ℕ). StandsAt file n (flat_map (symbol_bytes (strings_of o)) o.symbols)) at l.symbols) (t.strings some)
 
 pub same_object : (a b c d e f : ℕ) (g h : List ℕ) (ss ts : List Section) (us vs : List Symbol) → a ≡ b → c ≡ d → e ≡ f → g ≡ h → ss ≡ ts → us ≡ vs
     → record { machine = a; time_stamp = c; characteristics = e; optional = g; sections = ss; symbols = us }
@@ -158,7 +165,7 @@ laid_read file o l fits a small other =
     let sections_count = h.sections in
     let table_at : 20 + length o.optional ≡ base + 40 * 0 = omega arith in
     let headers_are : List ℕ = section_table strings (bodies_start o) o.sections in
-    let table : Has file (base + 40 * 0) headers_are = subst (λ (n : ℕ). Has file n headers_are) table_at l.table in
+    let table : StandsAt file (base + 40 * 0) headers_are = subst (λ (n : ℕ). StandsAt file n headers_are) table_at l.table in
     let ss : AreSectionsFrom file base 0 o.sections =
     sections_read file strings count base 0 (bodies_start o) o.sections (sections_writable o fits a) t.records (omega arith) table l.bodies (omega arith) (λ s is. t.strings (any_strings o s.name is)) in
     let us : AreSymbolsFrom file 0 o.symbols = symbols_all file o o.symbols refl (symbols_writable o fits a t.strings_small) l h t in
@@ -180,7 +187,7 @@ laid_read file o l fits a small other =
       accepted =
           first-past (header_tests file) r1 headers ∙ first-past (symbol_table_tests file) r2 t.accepted ∙ first-past (flat_map (section_tests file) (section_starts file)) r3 sections_none
           ∙ first-past (flat_map (symbol_tests file) (symbol_indexes file)) r4 symbols_none ∙ relocations_none;
-      holds = same_object _ _ _ _ _ _ _ _ _ _ _ _ h.machine h.time_stamp h.characteristics (has-part file 20 (field file 0 16 2) o.optional l.optional h.optional)
+      holds = same_object _ _ _ _ _ _ _ _ _ _ _ _ h.machine h.time_stamp h.characteristics (stands_part file 20 (field file 0 16 2) o.optional l.optional h.optional)
           (ap (map (section_in file)) starts ∙ ss.are)
           (ap (map (λ k. symbol_at file (record_start file k))) indexes ∙ us.are);
     }

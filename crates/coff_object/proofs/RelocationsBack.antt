@@ -1,43 +1,47 @@
 -- Written relocations, read back.
-use Rattle.std.proofs.Common.{◌≡◌, ℕ, ◌+◌, ◌*◌, false, List, [], ◌∷◌, length, None, refl, ap, ◌∙◌, arith}
+use Rattle.std.proofs.Common.{◌≡◌, ℕ, ◌+◌, ◌*◌, false, List, [], ◌∷◌, length, Some, None, refl, ap, ◌∙◌, arith}
 use Rattle.std.specs.Prelude.{map, nat_le}
 use Rattle.std.specs.List.{flat_map, range_with_len, list_any, AllByRecursion}
 use Rattle.std.proofs.lemmas.Bool.{or_parts}
 use Rattle.pe_view.specs.Faults.{first_standing}
-use Rattle.coff_object.specs.Field.{field, number_bytes}
+use Rattle.pe_numbers.specs.declared.number.Number.{Number}
+use Rattle.pe_numbers.specs.declared.number.Number.TheVariants.{U16, U32}
+use Rattle.pe_numbers.specs.Numbers.{NumberFits, number_bytes, number_at}
+use Rattle.pe_numbers.specs.StandsAt.{StandsAt, stands-front, stands-back}
+use Rattle.coff_object.specs.Field.{field}
 use Rattle.coff_object.specs.ObjectFaults.{relocation_test}
 use Rattle.coff_object.specs.Reading.{relocation_at}
 use Rattle.coff_object.specs.Records.{RelocationFits}
 use Rattle.coff_object.specs.Strings.{record_count}
-use Rattle.coff_object.specs.Written.{relocation_bytes}
+use Rattle.coff_object.specs.Written.{relocation_numbers, relocation_bytes}
 use Rattle.coff_object.specs.declared.relocation.Relocation.{Relocation}
-use Rattle.coff_object.proofs.Bytes.{Has, has-front, has-back, field_in, value_2, value_4}
+use Rattle.coff_object.proofs.Bytes.{field_read}
 
 same_relocation : (a b c d e f : ℕ) → a ≡ b → c ≡ d → e ≡ f
     → record { address = a; symbol = c; kind = e } ≡ (let r : Relocation = record { address = b; symbol = d; kind = f } in r)
 same_relocation a b c d e f ab cd ef = cc
 
-pub relocation_read : (file : List ℕ) (at : ℕ) (r : Relocation) → Has file at (relocation_bytes r) → RelocationFits r → relocation_at file at ≡ r
-unfolding number_bytes
-relocation_read file at r h fits =
-    let address : field file at 0 4 ≡ r.address = field_in file at 0 4 (relocation_bytes r) h ∙ value_4 r.address fits.address in
-    let symbol : field file at 4 4 ≡ r.symbol = field_in file at 4 4 (relocation_bytes r) h ∙ value_4 r.symbol fits.symbol in
-    let kind : field file at 8 2 ≡ r.kind = field_in file at 8 2 (relocation_bytes r) h ∙ value_2 r.kind fits.kind in
-    same_relocation _ _ _ _ _ _ address symbol kind
+pub relocation_fits : (r : Relocation) → RelocationFits r → AllByRecursion NumberFits (relocation_numbers r)
+relocation_fits r fits = (fits.address, (fits.symbol, (fits.kind, tt)))
+
+pub relocation_read : (file : List ℕ) (at : ℕ) (r : Relocation) → StandsAt file at (relocation_bytes r) → RelocationFits r → relocation_at file at ≡ r
+relocation_read file at r there fits =
+    let read = λ (o : ℕ) (x : Number) (is : number_at (relocation_numbers r) o ≡ Some x). field_read file at (relocation_numbers r) o x (relocation_fits r fits) there is in
+    same_relocation _ _ _ _ _ _ (read 0 (U32 r.address) refl) (read 4 (U32 r.symbol) refl) (read 8 (U16 r.kind) refl)
 
 -- relocations from index i on
-pub relocations_read : (file : List ℕ) (base i : ℕ) (rs : List Relocation) → Has file (base + 10 * i) (flat_map relocation_bytes rs) → AllByRecursion RelocationFits rs
+pub relocations_read : (file : List ℕ) (base i : ℕ) (rs : List Relocation) → StandsAt file (base + 10 * i) (flat_map relocation_bytes rs) → AllByRecursion RelocationFits rs
     → map (λ k. relocation_at file (base + 10 * k)) (range_with_len i (length rs)) ≡ rs
 unfolding number_bytes
 relocations_read file base i [] h fits = refl
 relocations_read file base i (r ∷ rs) h fits =
-    let here = relocation_read file (base + 10 * i) r (has-front file (base + 10 * i) (relocation_bytes r) (flat_map relocation_bytes rs) h) fits.0 in
-    let behind = has-back file (base + 10 * i) (base + 10 * (i + 1)) (relocation_bytes r) (flat_map relocation_bytes rs) h (omega arith) in
+    let here = relocation_read file (base + 10 * i) r (stands-front file (base + 10 * i) (relocation_bytes r) (flat_map relocation_bytes rs) h) fits.0 in
+    let behind = stands-back file (base + 10 * i) (base + 10 * (i + 1)) (relocation_bytes r) (flat_map relocation_bytes rs) h (omega arith) in
     let later = relocations_read file base (i + 1) rs behind fits.1 in
     rw (here, later) refl
 
 -- none of them names a record that isn't there
-pub relocations_accepted : (file : List ℕ) (base i count : ℕ) (rs : List Relocation) → Has file (base + 10 * i) (flat_map relocation_bytes rs) → AllByRecursion RelocationFits rs
+pub relocations_accepted : (file : List ℕ) (base i count : ℕ) (rs : List Relocation) → StandsAt file (base + 10 * i) (flat_map relocation_bytes rs) → AllByRecursion RelocationFits rs
     → record_count file ≡ count → list_any (λ (r : Relocation). nat_le count r.symbol) rs ≡ false
     → first_standing (map (λ k. relocation_test file (base + 10 * k)) (range_with_len i (length rs))) ≡ None
 unfolding number_bytes
@@ -45,7 +49,7 @@ relocations_accepted file base i count [] h fits is none = refl
 relocations_accepted file base i count (r ∷ rs) h fits is none =
     let at : ℕ = base + 10 * i in
     let parts = or_parts (nat_le count r.symbol) (list_any (λ (r : Relocation). nat_le count r.symbol) rs) none in
-    let symbol : field file at 4 4 ≡ r.symbol = ap (λ (r : Relocation). r.symbol) (relocation_read file at r (has-front file at (relocation_bytes r) (flat_map relocation_bytes rs) h) fits.0) in
+    let symbol : field file at 4 4 ≡ r.symbol = ap (λ (r : Relocation). r.symbol) (relocation_read file at r (stands-front file at (relocation_bytes r) (flat_map relocation_bytes rs) h) fits.0) in
     let stands : (relocation_test file at).stands ≡ false = ap (λ (n : ℕ). nat_le n (field file at 4 4)) is ∙ ap (nat_le count) symbol ∙ parts.0 in
-    let behind = has-back file at (base + 10 * (i + 1)) (relocation_bytes r) (flat_map relocation_bytes rs) h (omega arith) in
+    let behind = stands-back file at (base + 10 * (i + 1)) (relocation_bytes r) (flat_map relocation_bytes rs) h (omega arith) in
     rw stands (relocations_accepted file base (i + 1) count rs behind fits.1 is parts.1)

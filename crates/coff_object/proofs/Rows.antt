@@ -4,7 +4,8 @@ use Rattle.std.specs.Prelude.{slice_set, map, drop, replicate}
 use Rattle.pe_view.specs.Faults.{first_standing}
 use Rattle.pe_view.specs.declared.fault.Fault.{Fault}
 use Rattle.pe_view.specs.declared.fault.Place.TheVariants.{File, Item}
-use Rattle.coff_object.specs.Field.{field, number_bytes}
+use Rattle.pe_numbers.specs.Numbers.{number_bytes}
+use Rattle.coff_object.specs.Field.{field}
 use Rattle.coff_object.specs.ObjectFaults.{record_tests, object_tests}
 use Rattle.coff_object.specs.Reading.{object_of}
 use Rattle.coff_object.specs.Records.{Section, Symbol, Object, Bytes}

@@ -7,16 +7,20 @@ use Rattle.std.proofs.lemmas.Bool.{cases_Bool, or_parts, and_right, le-ltb, ltb-
 use Rattle.pe_view.specs.Faults.{first_standing}
 use Rattle.pe_view.specs.Number.{part}
 use Rattle.pe_view.specs.FirstStanding.{first-past}
-use Rattle.coff_object.specs.Field.{field, number_bytes}
+use Rattle.pe_numbers.specs.declared.number.Number.{Number}
+use Rattle.pe_numbers.specs.declared.number.Number.TheVariants.{U16, U32}
+use Rattle.pe_numbers.specs.Numbers.{NumberFits, number_bytes, number_at, width_of}
+use Rattle.pe_numbers.specs.StandsAt.{StandsAt, stands-front, stands-back, stands_part, stands_inside}
+use Rattle.coff_object.specs.Field.{field}
 use Rattle.coff_object.specs.Names.{section_name, section_text, name_offset, decimal_digits, padded, is_long, begins_with_slash, is_long_section_name}
 use Rattle.coff_object.specs.ObjectFaults.{section_tests, relocation_tests, relocation_test}
 use Rattle.coff_object.specs.Reading.{relocation_at, relocation_start, raw_at, is_absent, section_in}
 use Rattle.coff_object.specs.Records.{Raw, Bytes, Absent, RawFits, Section, SectionFits, RelocationsFit, RelocationFits}
 use Rattle.coff_object.specs.Strings.{is_among, record_count, offset_of}
 use Rattle.coff_object.specs.WriteFaults.{has_zero, is_far, has_many_relocations, is_bad_raw, is_bad_section}
-use Rattle.coff_object.specs.Written.{raw_bytes, raw_size, pointer_to, section_body, section_name_field, section_fields, section_header, section_table, relocation_bytes}
+use Rattle.coff_object.specs.Written.{raw_bytes, raw_size, pointer_to, section_body, section_name_field, section_numbers, section_fields, section_header, section_table, relocation_bytes}
 use Rattle.coff_object.specs.declared.relocation.Relocation.{Relocation}
-use Rattle.coff_object.proofs.Bytes.{Has, has-front, has-back, has-part, has-end, field_in, field_behind, value_2, value_4}
+use Rattle.coff_object.proofs.Bytes.{field_read, field_behind}
 use Rattle.coff_object.proofs.NameFields.{up_to_zero-filled, length-padded, inline_offset, length-decimal, long_offset}
 use Rattle.coff_object.proofs.RelocationsBack.{relocations_read, relocations_accepted}
 use Rattle.coff_object.proofs.StringTable.{HasStrings, is_stored, string_read}
@@ -54,7 +58,7 @@ length-name_field strings s near = elim (cases_Bool (is_long_section_name s.name
 section_name_in : (file : List ℕ) (h : ℕ) (field : List ℕ) (name : Option (List ℕ)) → part file h 8 ≡ field → section_text file field (name_offset field) ≡ name → section_name file h ≡ name
 section_name_in file h field name part_is is = ap (λ (bs : List ℕ). section_text file bs (name_offset bs)) part_is ∙ is
 
-pub section_name_read : (file : List ℕ) (strings : List (List ℕ)) (count h : ℕ) (s : Section) → SectionWritable strings count s → Has file h (section_name_field strings s.name)
+pub section_name_read : (file : List ℕ) (strings : List (List ℕ)) (count h : ℕ) (s : Section) → SectionWritable strings count s → StandsAt file h (section_name_field strings s.name)
     → (is_long_section_name s.name ≡ true → HasStrings file strings) → section_name file h ≡ Some s.name
 section_name_read file strings count h s w has table = elim (cases_Bool (is_long_section_name s.name)) [
   | inl long ↦
@@ -62,13 +66,13 @@ section_name_read file strings count h s w has table = elim (cases_Bool (is_long
       let is : section_name_field strings s.name ≡ padded (47 ∷ decimal_digits offset) = rw long refl in
       let stored = is_stored 4 strings s.name (w.stored long) in
       let at = stored.offset in
-      let field : part file h 8 ≡ padded (47 ∷ decimal_digits offset) = has-part file h 8 (section_name_field strings s.name) has (sym (length-name_field strings s w.near)) ∙ is in
+      let field : part file h 8 ≡ padded (47 ∷ decimal_digits offset) = stands_part file h 8 (section_name_field strings s.name) has (sym (length-name_field strings s w.near)) ∙ is in
       section_name_in file h (padded (47 ∷ decimal_digits offset)) (Some s.name) field
       (ap (section_text file (padded (47 ∷ decimal_digits offset))) (long_offset offset (omega arith)) ∙ string_read file strings s.name (table long) (w.stored long) w.no_zero))
   | inr short ↦
       (let is : section_name_field strings s.name ≡ padded s.name = rw short refl in
       let parts = short_name s.name short in
-      let field : part file h 8 ≡ padded s.name = has-part file h 8 (section_name_field strings s.name) has (sym (length-name_field strings s w.near)) ∙ is in
+      let field : part file h 8 ≡ padded s.name = stands_part file h 8 (section_name_field strings s.name) has (sym (length-name_field strings s w.near)) ∙ is in
       section_name_in file h (padded s.name) (Some s.name) field
       (ap (section_text file (padded s.name)) (inline_offset s.name parts.1) ∙ ap Some (up_to_zero-filled s.name (8 - length s.name) w.no_zero)))
 ]
@@ -86,7 +90,7 @@ some_length : (b : List ℕ) → (length b == 0) ≡ false → 0 < length b
 some_length [] some = absurd cc
 some_length (x ∷ b) some = omega arith
 
-raw_read : (file : List ℕ) (at flags : ℕ) (raw : Raw) → 0 < at → Has file at (raw_bytes raw) → is_bad_raw raw flags ≡ false
+raw_read : (file : List ℕ) (at flags : ℕ) (raw : Raw) → 0 < at → StandsAt file at (raw_bytes raw) → is_bad_raw raw flags ≡ false
     → raw_at file (pointer_to at (length (raw_bytes raw))) (raw_size raw) flags ≡ raw
 raw_read file at flags (Absent size) some h good = refl
 raw_read file at flags (Bytes bytes) some h good =
@@ -94,15 +98,15 @@ raw_read file at flags (Bytes bytes) some h good =
     let pointer : pointer_to at (length bytes) ≡ at = rw parts.0 refl in
     let at_some : (at == 0) ≡ false = ne_eqb at 0 (λ e. omega arith) in
     let absent : is_absent at (length bytes) flags ≡ false = rw (at_some, parts.0, parts.1) refl in
-    ap (λ (p : ℕ). raw_at file p (length bytes) flags) pointer ∙ rw absent (ap Bytes (has-part file at (length bytes) bytes h refl))
+    ap (λ (p : ℕ). raw_at file p (length bytes) flags) pointer ∙ rw absent (ap Bytes (stands_part file at (length bytes) bytes h refl))
 
-raw_accepted : (file : List ℕ) (at flags : ℕ) (raw : Raw) → 0 < at → Has file at (raw_bytes raw) → is_bad_raw raw flags ≡ false
+raw_accepted : (file : List ℕ) (at flags : ℕ) (raw : Raw) → 0 < at → StandsAt file at (raw_bytes raw) → is_bad_raw raw flags ≡ false
     → (not (is_absent (pointer_to at (length (raw_bytes raw))) (raw_size raw) flags) && nat_lt (length file) (pointer_to at (length (raw_bytes raw)) + raw_size raw)) ≡ false
 raw_accepted file at flags (Absent size) some h good = refl
 raw_accepted file at flags (Bytes bytes) some h good =
     let parts = or_parts (length bytes == 0) (not (bit_and flags 0x80 == 0)) good in
     let pointer : pointer_to at (length bytes) ≡ at = rw parts.0 refl in
-    let inside = has-end file at bytes h (some_length bytes parts.0) in
+    let inside = stands_inside file at bytes h (some_length bytes parts.0) in
     let fits : nat_lt (length file) (at + length bytes) ≡ false = le-ltb (length file) (at + length bytes) inside in
     ap (λ (p : ℕ). not (is_absent p (length bytes) flags) && nat_lt (length file) (p + length bytes)) pointer ∙ rw fits (and_right _ _ refl)
 
@@ -110,7 +114,14 @@ raw_small : (at : ℕ) (raw : Raw) → RawFits raw → at + length (raw_bytes ra
 raw_small at (Bytes bytes) fits lt = omega arith
 raw_small at (Absent size) fits lt = fits
 
--- the fields of a section's header that stands at h, where its body begins at a place
+-- the numbers of a section's header fit, where its body begins at a place
+section_fits : (at : ℕ) (s : Section) → SectionFits s → has_many_relocations s ≡ false → at + length (section_body s) < 2 ^ 32 → AllByRecursion NumberFits (section_numbers at s)
+section_fits at s fits few small =
+    let body : length (section_body s) ≡ length (raw_bytes s.raw) + length (flat_map relocation_bytes s.relocations) = length-append (raw_bytes s.raw) (flat_map relocation_bytes s.relocations) in
+    let many = ltb-false 65534 (length s.relocations) few in
+    (fits.virtual_size, (fits.virtual_address, (raw_small at s.raw fits.raw (omega arith), (pointer_small at (length (raw_bytes s.raw)) (omega arith), (pointer_small (at + length (raw_bytes s.raw)) (length s.relocations) (omega arith), (omega arith, (omega (arith, many), (omega arith, (fits.flags, tt)))))))))
+
+-- the fields of a section's header that stands at h
 record FieldsAre (file : List ℕ) (h at : ℕ) (s : Section) : Type 0 where
   virtual_size : field file h 8 4 ≡ s.virtual_size
   virtual_address : field file h 12 4 ≡ s.virtual_address
@@ -120,39 +131,36 @@ record FieldsAre (file : List ℕ) (h at : ℕ) (s : Section) : Type 0 where
   count : field file h 32 2 ≡ length s.relocations
   flags : field file h 36 4 ≡ s.flags
 
-fields_read : (file : List ℕ) (h at : ℕ) (s : Section) → SectionFits s → has_many_relocations s ≡ false → Has file (h + 8) (section_fields at s) → at + length (section_body s) < 2 ^ 32 → FieldsAre file h at s
-unfolding number_bytes
-fields_read file h at s fits few has small =
-    let bytes : List ℕ = section_fields at s in
-    let body : length (section_body s) ≡ length (raw_bytes s.raw) + length (flat_map relocation_bytes s.relocations) = length-append (raw_bytes s.raw) (flat_map relocation_bytes s.relocations) in
-    let many = ltb-false 65534 (length s.relocations) few in
+fields_read : (file : List ℕ) (h at : ℕ) (s : Section) → AllByRecursion NumberFits (section_numbers at s) → StandsAt file (h + 8) (section_fields at s) → FieldsAre file h at s
+fields_read file h at s fits there =
+    let read = λ (o : ℕ) (x : Number) (is : number_at (section_numbers at s) o ≡ Some x). field_behind file h (h + 8) 8 o (width_of x) refl ∙ field_read file (h + 8) (section_numbers at s) o x fits there is in
     record {
-      virtual_size = field_behind file h (h + 8) 8 0 4 refl ∙ field_in file (h + 8) 0 4 bytes has ∙ value_4 s.virtual_size fits.virtual_size;
-      virtual_address = field_behind file h (h + 8) 8 4 4 refl ∙ field_in file (h + 8) 4 4 bytes has ∙ value_4 s.virtual_address fits.virtual_address;
-      size = field_behind file h (h + 8) 8 8 4 refl ∙ field_in file (h + 8) 8 4 bytes has ∙ value_4 (raw_size s.raw) (raw_small at s.raw fits.raw (omega arith));
-      pointer = field_behind file h (h + 8) 8 12 4 refl ∙ field_in file (h + 8) 12 4 bytes has ∙ value_4 _ (pointer_small at (length (raw_bytes s.raw)) (omega arith));
-      relocations = field_behind file h (h + 8) 8 16 4 refl ∙ field_in file (h + 8) 16 4 bytes has ∙ value_4 _ (pointer_small (at + length (raw_bytes s.raw)) (length s.relocations) (omega arith));
-      count = field_behind file h (h + 8) 8 24 2 refl ∙ field_in file (h + 8) 24 2 bytes has ∙ value_2 (length s.relocations) (omega arith);
-      flags = field_behind file h (h + 8) 8 28 4 refl ∙ field_in file (h + 8) 28 4 bytes has ∙ value_4 s.flags fits.flags;
+      virtual_size = read 0 (U32 s.virtual_size) refl;
+      virtual_address = read 4 (U32 s.virtual_address) refl;
+      size = read 8 (U32 (raw_size s.raw)) refl;
+      pointer = read 12 (U32 (pointer_to at (length (raw_bytes s.raw)))) refl;
+      relocations = read 16 (U32 (pointer_to (at + length (raw_bytes s.raw)) (length s.relocations))) refl;
+      count = read 24 (U16 (length s.relocations)) refl;
+      flags = read 28 (U32 s.flags) refl;
     }
 
-relocations_of : (file : List ℕ) (at : ℕ) (rs : List Relocation) → Has file at (flat_map relocation_bytes rs) → AllByRecursion RelocationFits rs
+relocations_of : (file : List ℕ) (at : ℕ) (rs : List Relocation) → StandsAt file at (flat_map relocation_bytes rs) → AllByRecursion RelocationFits rs
     → map (λ k. relocation_at file (pointer_to at (length rs) + 10 * k)) (range_with_len 0 (length rs)) ≡ rs
 relocations_of file at [] has fits = refl
 relocations_of file at (r ∷ rs) has fits =
     let pointer = pointer_some at (length (r ∷ rs)) (omega arith) in
     let start : at + 0 ≡ at = omega arith in
-    let here : Has file (at + 0) (flat_map relocation_bytes (r ∷ rs)) = subst (λ (n : ℕ). Has file n (flat_map relocation_bytes (r ∷ rs))) (sym start) has in
+    let here : StandsAt file (at + 0) (flat_map relocation_bytes (r ∷ rs)) = subst (λ (n : ℕ). StandsAt file n (flat_map relocation_bytes (r ∷ rs))) (sym start) has in
     ap (λ (p : ℕ). map (λ k. relocation_at file (p + 10 * k)) (range_with_len 0 (length (r ∷ rs)))) pointer ∙ relocations_read file at 0 (r ∷ rs) here fits
 
-relocations_fine : (file : List ℕ) (at count : ℕ) (rs : List Relocation) → Has file at (flat_map relocation_bytes rs) → AllByRecursion RelocationFits rs → record_count file ≡ count
+relocations_fine : (file : List ℕ) (at count : ℕ) (rs : List Relocation) → StandsAt file at (flat_map relocation_bytes rs) → AllByRecursion RelocationFits rs → record_count file ≡ count
     → list_any (λ (r : Relocation). nat_le count r.symbol) rs ≡ false
     → first_standing (map (λ k. relocation_test file (pointer_to at (length rs) + 10 * k)) (range_with_len 0 (length rs))) ≡ None
 relocations_fine file at count [] has fits is none = refl
 relocations_fine file at count (r ∷ rs) has fits is none =
     let pointer = pointer_some at (length (r ∷ rs)) (omega arith) in
     let start : at + 0 ≡ at = omega arith in
-    let here : Has file (at + 0) (flat_map relocation_bytes (r ∷ rs)) = subst (λ (n : ℕ). Has file n (flat_map relocation_bytes (r ∷ rs))) (sym start) has in
+    let here : StandsAt file (at + 0) (flat_map relocation_bytes (r ∷ rs)) = subst (λ (n : ℕ). StandsAt file n (flat_map relocation_bytes (r ∷ rs))) (sym start) has in
     ap (λ (p : ℕ). first_standing (map (λ k. relocation_test file (p + 10 * k)) (range_with_len 0 (length (r ∷ rs))))) pointer ∙ relocations_accepted file at 0 count (r ∷ rs) here fits is none
 
 pub length-relocations : (rs : List Relocation) → length (flat_map relocation_bytes rs) ≡ 10 * length rs
@@ -160,12 +168,12 @@ unfolding number_bytes
 length-relocations [] = refl
 length-relocations (r ∷ rs) = omega (arith, length-relocations rs)
 
-relocations_inside : (file : List ℕ) (at : ℕ) (rs : List Relocation) → Has file at (flat_map relocation_bytes rs)
+relocations_inside : (file : List ℕ) (at : ℕ) (rs : List Relocation) → StandsAt file at (flat_map relocation_bytes rs)
     → (not (length rs == 0) && nat_lt (length file) (pointer_to at (length rs) + 10 * length rs)) ≡ false
 relocations_inside file at [] has = refl
 relocations_inside file at (r ∷ rs) has =
     let len = length-relocations (r ∷ rs) in
-    let inside = has-end file at (flat_map relocation_bytes (r ∷ rs)) has (omega arith) in
+    let inside = stands_inside file at (flat_map relocation_bytes (r ∷ rs)) has (omega arith) in
     let fits : nat_lt (length file) (at + 10 * length (r ∷ rs)) ≡ false = le-ltb (length file) (at + 10 * length (r ∷ rs)) (omega arith) in
     ap (λ (p : ℕ). not (length (r ∷ rs) == 0) && nat_lt (length file) (p + 10 * length (r ∷ rs))) (pointer_some at (length (r ∷ rs)) (omega arith)) ∙ rw fits (and_right _ _ refl)
 
@@ -181,17 +189,17 @@ same_section : (a b : List ℕ) (c d e f : ℕ) (x y : Raw) (g h : ℕ) (rs qs :
 same_section a b c d e f x y g h rs qs ab cd ef xy gh rq = cc
 
 pub section_read : (file : List ℕ) (strings : List (List ℕ)) (count h at : ℕ) (s : Section) → SectionWritable strings count s → record_count file ≡ count → 0 < at
-    → Has file h (section_header strings at s) → Has file at (section_body s) → at + length (section_body s) < 2 ^ 32 → (is_long_section_name s.name ≡ true → HasStrings file strings)
+    → StandsAt file h (section_header strings at s) → StandsAt file at (section_body s) → at + length (section_body s) < 2 ^ 32 → (is_long_section_name s.name ≡ true → HasStrings file strings)
     → IsSectionAt file h s
 section_read file strings count h at s w records some header body small table =
     let name_field : List ℕ = section_name_field strings s.name in
     let len = length-name_field strings s w.near in
-    let name = section_name_read file strings count h s w (has-front file h name_field (section_fields at s) header) table in
-    let fields : Has file (h + 8) (section_fields at s) = has-back file h (h + 8) name_field (section_fields at s) header (omega arith) in
-    let f = fields_read file h at s w.fits w.few fields small in
+    let name = section_name_read file strings count h s w (stands-front file h name_field (section_fields at s) header) table in
+    let fields : StandsAt file (h + 8) (section_fields at s) = stands-back file h (h + 8) name_field (section_fields at s) header (omega arith) in
+    let f = fields_read file h at s (section_fits at s w.fits w.few small) fields in
     let after : ℕ = at + length (raw_bytes s.raw) in
-    let raw_has : Has file at (raw_bytes s.raw) = has-front file at (raw_bytes s.raw) (flat_map relocation_bytes s.relocations) body in
-    let relocations_has : Has file after (flat_map relocation_bytes s.relocations) = has-back file at after (raw_bytes s.raw) (flat_map relocation_bytes s.relocations) body refl in
+    let raw_has : StandsAt file at (raw_bytes s.raw) = stands-front file at (raw_bytes s.raw) (flat_map relocation_bytes s.relocations) body in
+    let relocations_has : StandsAt file after (flat_map relocation_bytes s.relocations) = stands-back file at after (raw_bytes s.raw) (flat_map relocation_bytes s.relocations) body refl in
     let parts = or_parts (is_bad_raw s.raw s.flags) (list_any (λ (r : Relocation). nat_le count r.symbol) s.relocations) w.good in
     let raw : raw_at file (field file h 20 4) (field file h 16 4) (field file h 36 4) ≡ s.raw =
     ap (λ (p : ℕ). raw_at file p (field file h 16 4) (field file h 36 4)) f.pointer ∙ ap (λ (n : ℕ). raw_at file (pointer_to at (length (raw_bytes s.raw))) n (field file h 36 4)) f.size
@@ -247,7 +255,7 @@ pub record AreSectionsFrom (file : List ℕ) (base i : ℕ) (ss : List Section) 
   pub relocations : first_standing (flat_map (relocation_tests file) (map (λ k. base + 40 * k) (range_with_len i (length ss)))) ≡ None
 
 pub sections_read : (file : List ℕ) (strings : List (List ℕ)) (count base i at : ℕ) (ss : List Section) → AllByRecursion (SectionWritable strings count) ss → record_count file ≡ count → 0 < at
-    → Has file (base + 40 * i) (section_table strings at ss) → Has file at (flat_map section_body ss) → at + length (flat_map section_body ss) < 2 ^ 32
+    → StandsAt file (base + 40 * i) (section_table strings at ss) → StandsAt file at (flat_map section_body ss) → at + length (flat_map section_body ss) < 2 ^ 32
     → ((s : Section) → is_among s.name strings ≡ true → HasStrings file strings)
     → AreSectionsFrom file base i ss
 sections_read file strings count base i at [] w records some headers bodies small table = record { are = refl; accepted = refl; relocations = refl }
@@ -255,13 +263,13 @@ sections_read file strings count base i at (s ∷ ss) w records some headers bod
     let h : ℕ = base + 40 * i in
     let next : ℕ = at + length (section_body s) in
     let both : length (section_body s ++ flat_map section_body ss) ≡ length (section_body s) + length (flat_map section_body ss) = length-append (section_body s) (flat_map section_body ss) in
-    let header : Has file h (section_header strings at s) = has-front file h (section_header strings at s) (section_table strings next ss) headers in
-    let body : Has file at (section_body s) = has-front file at (section_body s) (flat_map section_body ss) bodies in
+    let header : StandsAt file h (section_header strings at s) = stands-front file h (section_header strings at s) (section_table strings next ss) headers in
+    let body : StandsAt file at (section_body s) = stands-front file at (section_body s) (flat_map section_body ss) bodies in
     let mine = w.0 in
     let here : IsSectionAt file h s = section_read file strings count h at s w.0 records some header body (omega arith) (λ long. table s (mine.stored long)) in
     let len = length-header strings at s mine.near in
-    let headers_left : Has file (base + 40 * (i + 1)) (section_table strings next ss) = has-back file h (base + 40 * (i + 1)) (section_header strings at s) (section_table strings next ss) headers (omega arith) in
-    let bodies_left : Has file next (flat_map section_body ss) = has-back file at next (section_body s) (flat_map section_body ss) bodies refl in
+    let headers_left : StandsAt file (base + 40 * (i + 1)) (section_table strings next ss) = stands-back file h (base + 40 * (i + 1)) (section_header strings at s) (section_table strings next ss) headers (omega arith) in
+    let bodies_left : StandsAt file next (flat_map section_body ss) = stands-back file at next (section_body s) (flat_map section_body ss) bodies refl in
     let later = sections_read file strings count base (i + 1) next ss w.1 records (omega arith) headers_left bodies_left (omega arith) table in
     let starts : List ℕ = map (λ k. base + 40 * k) (range_with_len (i + 1) (length ss)) in
     record {

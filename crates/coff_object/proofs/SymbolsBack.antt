@@ -7,17 +7,21 @@ use Rattle.std.proofs.lemmas.Bool.{cases_Bool, or_parts, and_left, and_right, le
 use Rattle.pe_view.specs.FirstStanding.{first-past}
 use Rattle.pe_view.specs.Faults.{first_standing}
 use Rattle.pe_view.specs.Number.{num, byte_of, part}
-use Rattle.coff_object.specs.Field.{field, number_bytes}
+use Rattle.pe_numbers.specs.declared.number.Number.{Number}
+use Rattle.pe_numbers.specs.declared.number.Number.TheVariants.{U8, U16, U32}
+use Rattle.pe_numbers.specs.Numbers.{NumberFits, number_bytes, numbers_bytes, number_at, width_of}
+use Rattle.pe_numbers.specs.StandsAt.{StandsAt, stands-front, stands-back, stands_part}
+use Rattle.coff_object.specs.Field.{field}
 use Rattle.coff_object.specs.Names.{symbol_name, padded, is_long}
 use Rattle.coff_object.specs.ObjectFaults.{symbol_tests}
 use Rattle.coff_object.specs.Reading.{symbol_at, section_of_number, record_start, aux_count, symbols_from}
 use Rattle.coff_object.specs.Records.{Symbol, SymbolFits}
 use Rattle.coff_object.specs.Strings.{is_among, record_count, string_at, offset_of}
 use Rattle.coff_object.specs.WriteFaults.{has_zero, is_bad_number, is_bad_symbol}
-use Rattle.coff_object.specs.Written.{symbol_name_field, section_number, aux_records, symbol_fields, symbol_bytes, records_of}
+use Rattle.coff_object.specs.Written.{symbol_name_field, section_number, aux_records, symbol_numbers, symbol_fields, symbol_bytes, records_of}
 use Rattle.coff_object.specs.declared.symbol.SymbolSection.{SymbolSection}
 use Rattle.coff_object.specs.declared.symbol.SymbolSection.TheVariants as belongs
-use Rattle.coff_object.proofs.Bytes.{Has, has-front, has-back, has-part, field_in, field_behind, value_1, value_2, value_4}
+use Rattle.coff_object.proofs.Bytes.{field_read, field_in, field_behind}
 use Rattle.coff_object.proofs.NameFields.{up_to_zero-filled, length-padded}
 use Rattle.coff_object.proofs.StringTable.{HasStrings, is_stored, string_read}
 
@@ -37,40 +41,41 @@ length-name_field strings name = elim (cases_Bool (is_long name)) [
 ]
 
 -- a short name
-inline_read : (file : List ℕ) (at : ℕ) (name : List ℕ) → length name ≤ 8 → has_zero name ≡ false → Has file at (padded name) → symbol_name file at ≡ Some name
+inline_read : (file : List ℕ) (at : ℕ) (name : List ℕ) → length name ≤ 8 → has_zero name ≡ false → StandsAt file at (padded name) → symbol_name file at ≡ Some name
 unfolding number_bytes
 inline_read file at [] le none has =
-    let first : field file at 0 4 ≡ 0 = field_in file at 0 4 (padded []) has in
-    let second : field file at 4 4 ≡ 0 = field_in file at 4 4 (padded []) has in
+    let first : field file at 0 4 ≡ 0 = field_in file at (padded []) 0 4 has (omega arith) in
+    let second : field file at 4 4 ≡ 0 = field_in file at (padded []) 4 4 has (omega arith) in
     rw (first, second) refl
 inline_read file at (zero ∷ name) le none has = absurd cc
 inline_read file at (suc b ∷ name) le none has =
     let text : List ℕ = suc b ∷ name in
-    let value : field file at 0 4 ≡ suc b + 256 * num (byte_of (padded text ++ has.rest)) 1 3 = field_in file at 0 4 (padded text) has in
+    let eight = length-padded text le in
+    let value : field file at 0 4 ≡ suc b + 256 * num (byte_of (padded text)) 1 3 = field_in file at (padded text) 0 4 has (omega (arith, eight)) in
     let some : (field file at 0 4 == 0) ≡ false = ne_eqb _ 0 (λ e. omega arith) in
-    let bytes : part file at 8 ≡ padded text = has-part file at 8 (padded text) has (sym (length-padded text le)) in
+    let bytes : part file at 8 ≡ padded text = stands_part file at 8 (padded text) has (sym (length-padded text le)) in
     rw (some, bytes) (ap Some (up_to_zero-filled text (8 - length text) none))
 
 -- a name of the string table
-long_read : (file : List ℕ) (at offset : ℕ) (name : List ℕ) → 0 < offset → offset < 2 ^ 32 → Has file at (number_bytes 4 0 ++ number_bytes 4 offset) → string_at file offset ≡ Some name → symbol_name file at ≡ Some name
-unfolding number_bytes
+long_read : (file : List ℕ) (at offset : ℕ) (name : List ℕ) → 0 < offset → offset < 2 ^ 32 → StandsAt file at (numbers_bytes (U32 0 ∷ U32 offset ∷ [])) → string_at file offset ≡ Some name → symbol_name file at ≡ Some name
 long_read file at offset name some small has text =
-    let first : field file at 0 4 ≡ 0 = field_in file at 0 4 (number_bytes 4 0 ++ number_bytes 4 offset) has in
-    let second : field file at 4 4 ≡ offset = field_in file at 4 4 (number_bytes 4 0 ++ number_bytes 4 offset) has ∙ value_4 offset small in
+    let read = λ (o : ℕ) (x : Number) (is : number_at (U32 0 ∷ U32 offset ∷ []) o ≡ Some x). field_read file at (U32 0 ∷ U32 offset ∷ []) o x (omega arith, (small, tt)) has is in
+    let first : field file at 0 4 ≡ 0 = read 0 (U32 0) refl in
+    let second : field file at 4 4 ≡ offset = read 4 (U32 offset) refl in
     let more : (offset == 0) ≡ false = ne_eqb offset 0 (λ e. omega arith) in
     rw (first, second, more) text
 
-symbol_name_read : (file : List ℕ) (strings : List (List ℕ)) (count at : ℕ) (s : Symbol) → SymbolWritable strings count s → Has file at (symbol_name_field strings s.name) → HasStrings file strings → symbol_name file at ≡ Some s.name
+symbol_name_read : (file : List ℕ) (strings : List (List ℕ)) (count at : ℕ) (s : Symbol) → SymbolWritable strings count s → StandsAt file at (symbol_name_field strings s.name) → HasStrings file strings → symbol_name file at ≡ Some s.name
 symbol_name_read file strings count at s w has table = elim (cases_Bool (is_long s.name)) [
   | inl long ↦
       (let offset : ℕ = offset_of strings s.name in
-      let is : symbol_name_field strings s.name ≡ number_bytes 4 0 ++ number_bytes 4 offset = rw long refl in
+      let is : symbol_name_field strings s.name ≡ numbers_bytes (U32 0 ∷ U32 offset ∷ []) = rw long refl in
       let stored = is_stored 4 strings s.name (w.stored long) in
       let place = stored.offset in
-      long_read file at offset s.name (omega arith) w.near (subst (Has file at) is has) (string_read file strings s.name table (w.stored long) w.no_zero))
+      long_read file at offset s.name (omega arith) w.near (subst (StandsAt file at) is has) (string_read file strings s.name table (w.stored long) w.no_zero))
   | inr short ↦
       (let is : symbol_name_field strings s.name ≡ padded s.name = rw short refl in
-      inline_read file at s.name (ltb-false 8 (length s.name) short) w.no_zero (subst (Has file at) is has))
+      inline_read file at s.name (ltb-false 8 (length s.name) short) w.no_zero (subst (StandsAt file at) is has))
 ]
 
 number_read : (count : ℕ) (b : SymbolSection) → is_bad_number count b ≡ false → section_of_number (section_number b) ≡ b
@@ -111,16 +116,16 @@ record FieldsAre (file : List ℕ) (at : ℕ) (s : Symbol) : Type 0 where
   class : field file at 16 1 ≡ s.class
   aux : field file at 17 1 ≡ aux_records s
 
-fields_read : (file : List ℕ) (count at : ℕ) (s : Symbol) → SymbolFits s → is_bad_number count s.section ≡ false → aux_records s < 256 → Has file (at + 8) (symbol_fields s) → FieldsAre file at s
-unfolding number_bytes
-fields_read file count at s fits number few has =
-    let bytes : List ℕ = symbol_fields s in
+fields_read : (file : List ℕ) (count at : ℕ) (s : Symbol) → SymbolFits s → is_bad_number count s.section ≡ false → aux_records s < 256 → StandsAt file (at + 8) (symbol_fields s) → FieldsAre file at s
+fields_read file count at s fits number few there =
+    let fit : AllByRecursion NumberFits (symbol_numbers s) = (fits.value, (number_small count s.section number, (fits.kind, (fits.class, (few, tt))))) in
+    let read = λ (o : ℕ) (x : Number) (is : number_at (symbol_numbers s) o ≡ Some x). field_behind file at (at + 8) 8 o (width_of x) refl ∙ field_read file (at + 8) (symbol_numbers s) o x fit there is in
     record {
-      value = field_behind file at (at + 8) 8 0 4 refl ∙ field_in file (at + 8) 0 4 bytes has ∙ value_4 s.value fits.value;
-      number = field_behind file at (at + 8) 8 4 2 refl ∙ field_in file (at + 8) 4 2 bytes has ∙ value_2 (section_number s.section) (number_small count s.section number);
-      kind = field_behind file at (at + 8) 8 6 2 refl ∙ field_in file (at + 8) 6 2 bytes has ∙ value_2 s.kind fits.kind;
-      class = field_behind file at (at + 8) 8 8 1 refl ∙ field_in file (at + 8) 8 1 bytes has ∙ value_1 s.class fits.class;
-      aux = field_behind file at (at + 8) 8 9 1 refl ∙ field_in file (at + 8) 9 1 bytes has ∙ value_1 (aux_records s) few;
+      value = read 0 (U32 s.value) refl;
+      number = read 4 (U16 (section_number s.section)) refl;
+      kind = read 6 (U16 s.kind) refl;
+      class = read 8 (U8 s.class) refl;
+      aux = read 9 (U8 (aux_records s)) refl;
     }
 
 -- the auxiliary records are whole, and not too many
@@ -152,20 +157,20 @@ same_symbol : (a b : List ℕ) (c d : ℕ) (x y : SymbolSection) (e f g h : ℕ)
     → record { name = a; value = c; section = x; kind = e; class = g; aux = i } ≡ (let s : Symbol = record { name = b; value = d; section = y; kind = f; class = h; aux = j } in s)
 same_symbol a b c d x y e f g h i j ab cd xy ef gh ij = cc
 
-pub symbol_read : (file : List ℕ) (strings : List (List ℕ)) (count at : ℕ) (s : Symbol) → SymbolWritable strings count s → Has file at (symbol_bytes strings s) → HasStrings file strings → IsSymbolAt file at count s
+pub symbol_read : (file : List ℕ) (strings : List (List ℕ)) (count at : ℕ) (s : Symbol) → SymbolWritable strings count s → StandsAt file at (symbol_bytes strings s) → HasStrings file strings → IsSymbolAt file at count s
 unfolding number_bytes
 symbol_read file strings count at s w has table =
     let name_field : List ℕ = symbol_name_field strings s.name in
     let tail : List ℕ = symbol_fields s ++ s.aux in
     let len = length-name_field strings s.name in
-    let name = symbol_name_read file strings count at s w (has-front file at name_field tail has) table in
-    let behind : Has file (at + 8) tail = has-back file at (at + 8) name_field tail has (omega arith) in
+    let name = symbol_name_read file strings count at s w (stands-front file at name_field tail has) table in
+    let behind : StandsAt file (at + 8) tail = stands-back file at (at + 8) name_field tail has (omega arith) in
     let parts = or_parts (is_bad_number count s.section) (not (length s.aux % 18 == 0) || nat_lt 4590 (length s.aux)) w.good in
     let whole = aux_whole count s w.good in
-    let f = fields_read file count at s w.fits parts.0 whole.1 (has-front file (at + 8) (symbol_fields s) s.aux behind) in
-    let aux_has : Has file (at + 18) s.aux = has-back file (at + 8) (at + 18) (symbol_fields s) s.aux behind (omega arith) in
+    let f = fields_read file count at s w.fits parts.0 whole.1 (stands-front file (at + 8) (symbol_fields s) s.aux behind) in
+    let aux_has : StandsAt file (at + 18) s.aux = stands-back file (at + 8) (at + 18) (symbol_fields s) s.aux behind (omega arith) in
     let aux_count_is = f.aux in
-    let aux : part file (at + 18) (18 * field file at 17 1) ≡ s.aux = has-part file (at + 18) (18 * field file at 17 1) s.aux aux_has (omega arith) in
+    let aux : part file (at + 18) (18 * field file at 17 1) ≡ s.aux = stands_part file (at + 18) (18 * field file at 17 1) s.aux aux_has (omega arith) in
     record {
       is = same_symbol _ _ _ _ _ _ _ _ _ _ _ _ (ap (λ (o : Option (List ℕ)). unwrap_or o []) name) f.value (ap section_of_number f.number ∙ number_read count s.section parts.0) f.kind f.class aux;
       name = ap (λ (o : Option (List ℕ)). is_none o) name;
@@ -195,17 +200,17 @@ pub record AreSymbolsFrom (file : List ℕ) (k : ℕ) (ss : List Symbol) : Type 
   pub accepted : first_standing (flat_map (symbol_tests file) (symbols_from file k (records_of ss) 0)) ≡ None
 
 pub symbols_read : (file : List ℕ) (strings : List (List ℕ)) (count k : ℕ) (ss : List Symbol) → AllByRecursion (SymbolWritable strings count) ss → field file 0 2 2 ≡ count
-    → k + records_of ss ≡ record_count file → Has file (record_start file k) (flat_map (symbol_bytes strings) ss) → HasStrings file strings → AreSymbolsFrom file k ss
+    → k + records_of ss ≡ record_count file → StandsAt file (record_start file k) (flat_map (symbol_bytes strings) ss) → HasStrings file strings → AreSymbolsFrom file k ss
 symbols_read file strings count k [] w sections records has table = record { are = refl; accepted = refl }
 symbols_read file strings count k (s ∷ ss) w sections records has table =
     let mine = w.0 in
     let at : ℕ = record_start file k in
     let z : ℕ = aux_records s in
-    let here : IsSymbolAt file at count s = symbol_read file strings count at s w.0 (has-front file at (symbol_bytes strings s) (flat_map (symbol_bytes strings) ss) has) table in
+    let here : IsSymbolAt file at count s = symbol_read file strings count at s w.0 (stands-front file at (symbol_bytes strings s) (flat_map (symbol_bytes strings) ss) has) table in
     let aux : aux_count file k ≡ z = here.aux in
     let len = length-symbol strings count s mine.good in
-    let next : Has file (record_start file (k + 1 + z)) (flat_map (symbol_bytes strings) ss) =
-    has-back file at (record_start file (k + 1 + z)) (symbol_bytes strings s) (flat_map (symbol_bytes strings) ss) has (omega arith) in
+    let next : StandsAt file (record_start file (k + 1 + z)) (flat_map (symbol_bytes strings) ss) =
+    stands-back file at (record_start file (k + 1 + z)) (symbol_bytes strings s) (flat_map (symbol_bytes strings) ss) has (omega arith) in
     let later = symbols_read file strings count (k + 1 + z) ss w.1 sections (omega arith) next table in
     let starts : symbols_from file k (records_of (s ∷ ss)) 0 ≡ k ∷ symbols_from file (k + 1 + z) (records_of ss) 0 =
     ap (λ (n : ℕ). symbols_from file k (1 + n + records_of ss) 0) (sym aux) ∙ symbols-step file k (records_of ss)

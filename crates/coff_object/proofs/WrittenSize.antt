@@ -1,9 +1,13 @@
 -- How many bytes a written object has, and what its first bytes are.
-use Rattle.std.proofs.Common.{◌≡◌, ℕ, ◌+◌, ◌*◌, ◌^◌, ◌<◌, ◌≤◌, Bool, true, false, List, [], ◌∷◌, ◌++◌, length, refl, sym, ap, ◌∙◌, length-append, arith}
+use Rattle.std.proofs.Common.{◌≡◌, ℕ, ◌+◌, ◌*◌, ◌^◌, ◌<◌, ◌≤◌, Bool, true, false, List, [], ◌∷◌, ◌++◌, length, Some, refl, sym, ap, ◌∙◌, length-append, arith}
 use Rattle.std.specs.Prelude.{nat_lt, ◌||◌}
 use Rattle.std.specs.List.{flat_map, list_any, AllByRecursion}
 use Rattle.std.proofs.lemmas.Bool.{le-ltb}
-use Rattle.coff_object.specs.Field.{field, number_bytes}
+use Rattle.pe_numbers.specs.declared.number.Number.{Number}
+use Rattle.pe_numbers.specs.declared.number.Number.TheVariants.{U16, U32}
+use Rattle.pe_numbers.specs.Numbers.{number_bytes, numbers_bytes, number_at}
+use Rattle.pe_numbers.specs.StandsAt.{StandsAt}
+use Rattle.coff_object.specs.Field.{field}
 use Rattle.coff_object.specs.ObjectFaults.{is_other_header, is_other_file}
 use Rattle.coff_object.specs.Records.{Section, Symbol, Object}
 use Rattle.coff_object.specs.Sizes.{symbols_size}
@@ -11,7 +15,7 @@ use Rattle.coff_object.specs.StringTableView.{counted}
 use Rattle.coff_object.specs.Strings.{string_bytes}
 use Rattle.coff_object.specs.WriteFaults.{is_far, is_bad_section, is_bad_symbol, is_bad_object}
 use Rattle.coff_object.specs.Written.{strings_of, section_body, section_table, symbol_name_field, symbol_fields, symbol_bytes, records_of, bodies_start, has_strings, coff_header, string_table, canon}
-use Rattle.coff_object.proofs.Bytes.{Has, has_all, has-front, field_in, value_2, value_4}
+use Rattle.coff_object.proofs.Bytes.{field_read}
 use Rattle.coff_object.proofs.SectionsBack.{length-table}
 use Rattle.coff_object.proofs.SymbolsBack.{length-name_field}
 
@@ -35,8 +39,8 @@ pub table_len : (o : Object) → has_strings o ≡ true → length (string_table
 unfolding number_bytes
 table_len o some =
     let bytes : List ℕ = string_bytes (strings_of o) in
-    let table : string_table o ≡ number_bytes 4 (4 + length bytes) ++ bytes = rw some refl in
-    ap length table ∙ length-append (number_bytes 4 (4 + length bytes)) bytes
+    let table : string_table o ≡ numbers_bytes (U32 (4 + length bytes) ∷ []) ++ bytes = rw some refl in
+    ap length table ∙ length-append (numbers_bytes (U32 (4 + length bytes) ∷ [])) bytes
 
 -- the parts' sizes, where the section table's is `table`
 sum_of : (o : Object) (table : ℕ) → length (section_table (strings_of o) (bodies_start o) o.sections) ≡ table
@@ -77,13 +81,12 @@ pub other_is : (o : Object) → o.machine < 2 ^ 16 → o.time_stamp < 2 ^ 32 →
 unfolding canon number_bytes
 other_is o machine time_stamp few =
     let strings : List (List ℕ) = strings_of o in
-    let rest : List ℕ = o.optional ++ (section_table strings (bodies_start o) o.sections ++ (flat_map section_body o.sections ++ (flat_map (symbol_bytes strings) o.symbols ++ string_table o))) in
-    let has : Has (canon o) 0 (coff_header o) = has-front (canon o) 0 (coff_header o) rest (has_all (canon o)) in
-    let a : field (canon o) 0 0 2 ≡ o.machine = field_in (canon o) 0 0 2 (coff_header o) has ∙ value_2 o.machine machine in
-    let b : field (canon o) 0 2 2 ≡ length o.sections = field_in (canon o) 0 2 2 (coff_header o) has ∙ value_2 (length o.sections) few in
-    let d : field (canon o) 0 4 4 ≡ o.time_stamp = field_in (canon o) 0 4 4 (coff_header o) has ∙ value_4 o.time_stamp time_stamp in
-    ap (λ (n : ℕ). is_other_header n (field (canon o) 0 2 2) (field (canon o) 0 4 4)) a ∙ ap (λ (n : ℕ). is_other_header o.machine n (field (canon o) 0 4 4)) b
-    ∙ ap (is_other_header o.machine (length o.sections)) d
+    let first : List Number = U16 o.machine ∷ U16 (length o.sections) ∷ U32 o.time_stamp ∷ [] in
+    let there : StandsAt (canon o) 0 (numbers_bytes first) = refl in
+    let read = λ (k : ℕ) (x : Number) (is : number_at first k ≡ Some x). field_read (canon o) 0 first k x (machine, (few, (time_stamp, tt))) there is in
+    ap (λ (n : ℕ). is_other_header n (field (canon o) 0 2 2) (field (canon o) 0 4 4)) (read 0 (U16 o.machine) refl)
+    ∙ ap (λ (n : ℕ). is_other_header o.machine n (field (canon o) 0 4 4)) (read 2 (U16 (length o.sections)) refl)
+    ∙ ap (is_other_header o.machine (length o.sections)) (read 4 (U32 o.time_stamp) refl)
 
 -- what is left to ask, once the counts of bytes and sections fit
 pub bad_object : (o : Object) (n : ℕ) (r : Bool) → length o.optional ≤ 65535 → n ≡ length o.sections → n ≤ 65535 → o.machine < 2 ^ 16 → o.time_stamp < 2 ^ 32 → r ≡ is_other_header o.machine n o.time_stamp

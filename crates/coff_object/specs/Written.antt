@@ -2,7 +2,9 @@
 -- string table, with nothing between.
 use Rattle.std.specs.Prelude.{ℕ, ◌+◌, ◌*◌, ◌/◌, ◌==◌, Bool, List, [], ◌∷◌, ◌++◌, length, map, nat_lt, if◌then◌else◌, filter}
 use Rattle.std.specs.List.{flat_map}
-use Rattle.coff_object.specs.Field.{number_bytes}
+use Rattle.pe_numbers.specs.declared.number.Number.{Number}
+use Rattle.pe_numbers.specs.declared.number.Number.TheVariants.{U8, U16, U32}
+use Rattle.pe_numbers.specs.Numbers.{numbers_bytes}
 use Rattle.coff_object.specs.Names.{decimal_digits, padded, is_long, is_long_section_name}
 use Rattle.coff_object.specs.Records.{Raw, Bytes, Absent, Section, Symbol, Object}
 use Rattle.coff_object.specs.Strings.{with_strings, offset_of, string_bytes}
@@ -20,8 +22,11 @@ long_symbol_names symbols = filter is_long (map (λ s. s.name) symbols)
 unfoldable pub strings_of : Object → List (List ℕ)
 strings_of o = with_strings (with_strings [] (long_section_names o.sections)) (long_symbol_names o.symbols)
 
+abbrev pub relocation_numbers : Relocation → List Number
+relocation_numbers r = U32 r.address ∷ U32 r.symbol ∷ U16 r.kind ∷ []
+
 abbrev pub relocation_bytes : Relocation → List ℕ
-relocation_bytes r = number_bytes 4 r.address ++ (number_bytes 4 r.symbol ++ number_bytes 2 r.kind)
+relocation_bytes r = numbers_bytes (relocation_numbers r)
 
 abbrev pub raw_bytes : Raw → List ℕ
 raw_bytes (Bytes bytes) = bytes
@@ -46,18 +51,15 @@ section_name_at offset name = if is_long_section_name name then padded (47 ∷ d
 abbrev pub section_name_field : List (List ℕ) → List ℕ → List ℕ
 section_name_field strings name = section_name_at (offset_of strings name) name
 
--- where a section's bytes, its relocations and its line numbers begin, and how many there are of the last two
-abbrev pub pointer_fields : ℕ → Section → List ℕ
-pointer_fields at s =
-    number_bytes 4 (pointer_to at (length (raw_bytes s.raw)))
-    ++ (number_bytes 4 (pointer_to (at + length (raw_bytes s.raw)) (length s.relocations)) ++ (number_bytes 4 0
-    ++ (number_bytes 2 (length s.relocations) ++ number_bytes 2 0)))
-
 -- the fields of a section's header behind its name, where its body begins at a place
+abbrev pub section_numbers : ℕ → Section → List Number
+section_numbers at s =
+    U32 s.virtual_size ∷ U32 s.virtual_address ∷ U32 (raw_size s.raw)
+    ∷ U32 (pointer_to at (length (raw_bytes s.raw))) ∷ U32 (pointer_to (at + length (raw_bytes s.raw)) (length s.relocations)) ∷ U32 0
+    ∷ U16 (length s.relocations) ∷ U16 0 ∷ U32 s.flags ∷ []
+
 abbrev pub section_fields : ℕ → Section → List ℕ
-section_fields at s =
-    number_bytes 4 s.virtual_size ++ (number_bytes 4 s.virtual_address
-    ++ (number_bytes 4 (raw_size s.raw) ++ (pointer_fields at s ++ number_bytes 4 s.flags)))
+section_fields at s = numbers_bytes (section_numbers at s)
 
 abbrev pub section_header : List (List ℕ) → ℕ → Section → List ℕ
 section_header strings at s = section_name_field strings s.name ++ section_fields at s
@@ -69,7 +71,7 @@ section_table strings at (s ∷ ss) = section_header strings at s ++ section_tab
 
 -- the name field of a symbol, whose name stands at an offset of the string table where it is too long
 abbrev pub symbol_name_at : ℕ → List ℕ → List ℕ
-symbol_name_at offset name = if is_long name then number_bytes 4 0 ++ number_bytes 4 offset else padded name
+symbol_name_at offset name = if is_long name then numbers_bytes (U32 0 ∷ U32 offset ∷ []) else padded name
 
 abbrev pub symbol_name_field : List (List ℕ) → List ℕ → List ℕ
 symbol_name_field strings name = symbol_name_at (offset_of strings name) name
@@ -85,9 +87,11 @@ abbrev pub aux_records : Symbol → ℕ
 aux_records s = length s.aux / 18
 
 -- the fields of a symbol's record behind its name
+abbrev pub symbol_numbers : Symbol → List Number
+symbol_numbers s = U32 s.value ∷ U16 (section_number s.section) ∷ U16 s.kind ∷ U8 s.class ∷ U8 (aux_records s) ∷ []
+
 abbrev pub symbol_fields : Symbol → List ℕ
-symbol_fields s =
-    number_bytes 4 s.value ++ (number_bytes 2 (section_number s.section) ++ (number_bytes 2 s.kind ++ (number_bytes 1 s.class ++ number_bytes 1 (aux_records s))))
+symbol_fields s = numbers_bytes (symbol_numbers s)
 
 -- a symbol's record and its auxiliary records
 abbrev pub symbol_bytes : List (List ℕ) → Symbol → List ℕ
@@ -110,19 +114,18 @@ symbols_start o = bodies_start o + length (flat_map section_body o.sections)
 abbrev pub has_strings : Object → Bool
 has_strings o = nat_lt 0 (length o.symbols + length (strings_of o))
 
--- the fields behind TimeDateStamp
-abbrev pub header_end : Object → List ℕ
-header_end o =
-    number_bytes 4 (if has_strings o then symbols_start o else 0) ++ (number_bytes 4 (records_of o.symbols)
-    ++ (number_bytes 2 (length o.optional) ++ number_bytes 2 o.characteristics))
+abbrev pub header_numbers : Object → List Number
+header_numbers o =
+    U16 o.machine ∷ U16 (length o.sections) ∷ U32 o.time_stamp ∷ U32 (if has_strings o then symbols_start o else 0) ∷ U32 (records_of o.symbols)
+    ∷ U16 (length o.optional) ∷ U16 o.characteristics ∷ []
 
 abbrev pub coff_header : Object → List ℕ
-coff_header o = number_bytes 2 o.machine ++ (number_bytes 2 (length o.sections) ++ (number_bytes 4 o.time_stamp ++ header_end o))
+coff_header o = numbers_bytes (header_numbers o)
 
 -- the string table, with its size field
 abbrev pub string_table : Object → List ℕ
 string_table o =
-    if has_strings o then number_bytes 4 (4 + length (string_bytes (strings_of o))) ++ string_bytes (strings_of o) else []
+    if has_strings o then numbers_bytes (U32 (4 + length (string_bytes (strings_of o))) ∷ []) ++ string_bytes (strings_of o) else []
 
 -- the written form
 unfoldable pub canon : Object → List ℕ

@@ -1,9 +1,8 @@
 ghost use Rattle.std.specs.Prelude.{◌≡◌, ◌+◌, ◌*◌, ◌≤◌, ◌<◌, ◌^◌, ◌++◌, ◌∷◌, length, map, replicate, IsTrue, OnOk};
 ghost use Rattle.std.specs.List.{flat_map, AllByRecursion};
-ghost use Rattle.coff_object.specs.Field.{number_bytes};
 ghost use Rattle.coff_object.specs.Names.{decimal_digits, padded, is_long, is_long_section_name};
 ghost use Rattle.coff_object.specs.Records.{RawFits, RelocationFits, RelocationsFit, SectionFits, SymbolFits};
-ghost use Rattle.coff_object.specs.Written.{relocation_bytes, raw_bytes, pointer_to, raw_size, section_body, section_name_at, pointer_fields, section_fields, symbol_name_at, section_number, aux_records, symbol_fields};
+ghost use Rattle.coff_object.specs.Written.{relocation_bytes, raw_bytes, pointer_to, raw_size, section_body, section_name_at, section_fields, symbol_name_at, section_number, aux_records, symbol_fields};
 ghost use Rattle.coff_object.specs.ObjectView.{raw_view, section_view, symbol_view};
 
 use crate::names::NAME_LEN;
@@ -11,6 +10,8 @@ use crate::relocation::{RELOCATION_LEN, Relocation};
 use crate::section::{ObjSection, RawData};
 use crate::symbol::{Symbol, SymbolSection};
 use itoa::Buffer;
+use pe_numbers::Number::{U8, U16, U32};
+use pe_numbers::{push_record, write_numbers};
 use std::alloc::{AllocError, Allocator};
 
 /// Whether a symbol's name stands in the string table.
@@ -25,33 +26,6 @@ pub(crate) fn is_long_section_name(name: &[u8]) -> bool
     ensures { result ≡ is_long_section_name name.now }
 {
     is_long(name) || name.first() == Some(&b'/')
-}
-
-/// A number's bytes, the lowest first.
-#[tactic(auto, unfolding(crate::specs::Field::number_bytes))]
-fn bytes_of_u8(number: u8) -> [u8; 1]
-    ensures bytes { result ≡ number_bytes 1 number }
-    ensures fits { number < 2 ^ 8 }
-{
-    number.to_le_bytes()
-}
-
-/// Adds a number's bytes, the lowest first.
-#[tactic(auto, unfolding(crate::specs::Field::number_bytes))]
-pub(crate) fn push_u16<A: Allocator>(bytes: &mut Vec<u8, A>, number: u16) -> Result<(), AllocError>
-    ensures bytes { OnOk result (bytes.new.items ≡ bytes.old.items ++ number_bytes 2 number) }
-    ensures fits { number < 2 ^ 16 }
-{
-    bytes.extend_from_slice(&number.to_le_bytes())
-}
-
-/// Adds a number's bytes, the lowest first.
-#[tactic(auto, unfolding(crate::specs::Field::number_bytes))]
-pub(crate) fn push_u32<A: Allocator>(bytes: &mut Vec<u8, A>, number: u32) -> Result<(), AllocError>
-    ensures bytes { OnOk result (bytes.new.items ≡ bytes.old.items ++ number_bytes 4 number) }
-    ensures fits { number < 2 ^ 32 }
-{
-    bytes.extend_from_slice(&number.to_le_bytes())
 }
 
 /// Adds zero bytes, at most eight.
@@ -71,35 +45,6 @@ fn push_padded<A: Allocator>(bytes: &mut Vec<u8, A>, text: &[u8]) -> Result<(), 
     push_zeros(bytes, NAME_LEN - text.len())
 }
 
-/// A number's bytes, the lowest first.
-#[tactic(auto, unfolding(crate::specs::Field::number_bytes))]
-fn bytes_of_u16(number: u16) -> [u8; 2]
-    ensures bytes { result ≡ number_bytes 2 number }
-    ensures fits { number < 2 ^ 16 }
-{
-    number.to_le_bytes()
-}
-
-/// A number's bytes, the lowest first.
-#[tactic(auto, unfolding(crate::specs::Field::number_bytes))]
-fn bytes_of_u32(number: u32) -> [u8; 4]
-    ensures bytes { result ≡ number_bytes 4 number }
-    ensures fits { number < 2 ^ 32 }
-{
-    number.to_le_bytes()
-}
-
-/// The bytes of a relocation of these fields.
-fn relocation_record(address: u32, symbol: u32, kind: u16) -> [u8; 10]
-    ensures bytes { result ≡ relocation_bytes (record { address = address; symbol = symbol; kind = kind }) }
-    ensures fits { RelocationFits (record { address = address; symbol = symbol; kind = kind }) }
-{
-    let [a, b, c, d] = bytes_of_u32(address);
-    let [e, f, g, h] = bytes_of_u32(symbol);
-    let [i, j] = bytes_of_u16(kind);
-    [a, b, c, d, e, f, g, h, i, j]
-}
-
 /// Writes the bytes of relocations into room for as many.
 fn write_relocations(room: &mut [u8], relocations: &[Relocation])
     requires { room.old ≡ replicate (10 * length relocations.now) 0 }
@@ -107,9 +52,15 @@ fn write_relocations(room: &mut [u8], relocations: &[Relocation])
     ensures bytes { room.new ≡ flat_map relocation_bytes relocations.now }
 {
     for (index, relocation) in relocations.iter().enumerate() {
-        let record = relocation_record(relocation.address, relocation.symbol, relocation.kind);
-        let start = record.len() * index;
-        room[start..start + record.len()].copy_from_slice(&record);
+        let start = RELOCATION_LEN as usize * index;
+        write_numbers(
+            &mut room[start..start + RELOCATION_LEN as usize],
+            &[
+                U32(relocation.address),
+                U32(relocation.symbol),
+                U16(relocation.kind),
+            ],
+        );
     }
 }
 
@@ -198,41 +149,6 @@ fn push_section_name<A: Allocator>(
     }
 }
 
-/// The fields of a section's header that tell where its bytes, its relocations and its line numbers begin, and how many there
-/// are of the last two.
-fn section_pointers(raw: u32, relocations: u32, count: u16) -> [u8; 16]
-    ensures { result ≡ number_bytes 4 raw ++ (number_bytes 4 relocations ++ (number_bytes 4 0 ++ (number_bytes 2 count ++ number_bytes 2 0))) }
-{
-    let [a, b, c, d] = bytes_of_u32(raw);
-    let [e, f, g, h] = bytes_of_u32(relocations);
-    let [i, j] = bytes_of_u16(count);
-    [a, b, c, d, e, f, g, h, 0, 0, 0, 0, i, j, 0, 0]
-}
-
-/// Those fields of a section whose body begins at a place.
-fn pointers_of<A: Allocator>(at: u32, section: &ObjSection<A>) -> [u8; 16]
-    requires fits { at + length (section_body (section_view section.now)) < 2 ^ 32 }
-    requires few { length section.now.relocations.items < 2 ^ 16 }
-    ensures { result ≡ pointer_fields at (section_view section.now) }
-{
-    let raw = raw_bytes(section.raw).len();
-    let count = section.relocations.len();
-    let relocations = pointer_to(at + raw as u32, count);
-    section_pointers(pointer_to(at, raw), relocations, count as u16)
-}
-
-/// The sizes and the address in a section's header.
-fn section_sizes(virtual_size: u32, virtual_address: u32, raw_size: u32) -> [u8; 12]
-    ensures bytes { result ≡ number_bytes 4 virtual_size ++ (number_bytes 4 virtual_address ++ number_bytes 4 raw_size) }
-    ensures size { virtual_size < 2 ^ 32 }
-    ensures address { virtual_address < 2 ^ 32 }
-{
-    let [a, b, c, d] = bytes_of_u32(virtual_size);
-    let [e, f, g, h] = bytes_of_u32(virtual_address);
-    let [i, j, k, l] = bytes_of_u32(raw_size);
-    [a, b, c, d, e, f, g, h, i, j, k, l]
-}
-
 /// Adds the fields of a section's header behind its name, where its body begins at a place.
 fn push_section_fields<A: Allocator>(
     bytes: &mut Vec<u8, A>,
@@ -244,11 +160,22 @@ fn push_section_fields<A: Allocator>(
     ensures fits { OnOk result (SectionFits (section_view section.now)) }
     ensures bytes { OnOk result (bytes.new.items ≡ bytes.old.items ++ section_fields at (section_view section.now)) }
 {
-    let raw_size = raw_size(section.raw);
-    let sizes = section_sizes(section.virtual_size, section.virtual_address, raw_size);
-    bytes.extend_from_slice(&sizes)?;
-    bytes.extend_from_slice(&pointers_of(at, section))?;
-    push_u32(bytes, section.flags)
+    let raw = raw_bytes(section.raw).len();
+    let count = section.relocations.len();
+    push_record::<32, A>(
+        bytes,
+        &[
+            U32(section.virtual_size),
+            U32(section.virtual_address),
+            U32(raw_size(section.raw)),
+            U32(pointer_to(at, raw)),
+            U32(pointer_to(at + raw as u32, count)),
+            U32(0),
+            U16(count as u16),
+            U16(0),
+            U32(section.flags),
+        ],
+    )
 }
 
 /// The SectionNumber of a symbol.
@@ -263,14 +190,6 @@ fn section_number(section: SymbolSection) -> u16
     }
 }
 
-/// Adds a name field that holds an offset behind four zero bytes.
-fn push_zero_offset<A: Allocator>(bytes: &mut Vec<u8, A>, offset: u32) -> Result<(), AllocError>
-    ensures { OnOk result (bytes.new.items ≡ bytes.old.items ++ (number_bytes 4 0 ++ number_bytes 4 offset)) }
-{
-    push_u32(bytes, 0)?;
-    push_u32(bytes, offset)
-}
-
 /// Adds the name field of a symbol's record, where the name stands at an offset of the string table if it is too long.
 fn push_symbol_name<A: Allocator>(
     bytes: &mut Vec<u8, A>,
@@ -281,26 +200,10 @@ fn push_symbol_name<A: Allocator>(
     ensures { OnOk result (bytes.new.items ≡ bytes.old.items ++ symbol_name_at place name.now) }
 {
     if is_long(name) {
-        push_zero_offset(bytes, place as u32)
+        push_record::<8, A>(bytes, &[U32(0), U32(place as u32)])
     } else {
         push_padded(bytes, name)
     }
-}
-
-/// The fields of a symbol's record behind its name.
-fn symbol_tail(value: u32, section: u16, kind: u16, class: u8, aux: u8) -> [u8; 10]
-    ensures bytes { result ≡ number_bytes 4 value ++ (number_bytes 2 section ++ (number_bytes 2 kind ++ (number_bytes 1 class ++ number_bytes 1 aux))) }
-    ensures value { value < 2 ^ 32 }
-    ensures section { section < 2 ^ 16 }
-    ensures kind { kind < 2 ^ 16 }
-    ensures class { class < 2 ^ 8 }
-{
-    let [a, b, c, d] = bytes_of_u32(value);
-    let [e, f] = bytes_of_u16(section);
-    let [g, h] = bytes_of_u16(kind);
-    let [i] = bytes_of_u8(class);
-    let [j] = bytes_of_u8(aux);
-    [a, b, c, d, e, f, g, h, i, j]
 }
 
 /// Adds the fields of a symbol's record behind its name.
@@ -312,10 +215,16 @@ fn push_symbol_fields<A: Allocator>(
     ensures fits { OnOk result (SymbolFits (symbol_view symbol.now)) }
     ensures bytes { OnOk result (bytes.new.items ≡ bytes.old.items ++ symbol_fields (symbol_view symbol.now)) }
 {
-    let section = section_number(symbol.section);
-    let records = (symbol.aux.len() / 18) as u8;
-    let tail = symbol_tail(symbol.value, section, symbol.kind, symbol.class, records);
-    bytes.extend_from_slice(&tail)
+    push_record::<10, A>(
+        bytes,
+        &[
+            U32(symbol.value),
+            U16(section_number(symbol.section)),
+            U16(symbol.kind),
+            U8(symbol.class),
+            U8((symbol.aux.len() / 18) as u8),
+        ],
+    )
 }
 
 /// Adds the header of a section whose body begins at a file offset, and whose name at an offset of the string table if it is too

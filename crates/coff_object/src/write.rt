@@ -9,7 +9,7 @@ ghost use Rattle.pe_view.specs.declared.fault.Fault as code_fault;
 ghost use Rattle.coff_object.specs.StringTableView.{counted};
 ghost use Rattle.coff_object.specs.StringTableWords.{texts_in};
 ghost use Rattle.coff_object.specs.Strings.{string_bytes};
-ghost use Rattle.coff_object.specs.Written.{bodies_start, has_strings, symbols_start, header_end, coff_header, string_table, canon, strings_of, section_body, section_table, symbol_bytes, aux_records, records_of};
+ghost use Rattle.coff_object.specs.Written.{bodies_start, has_strings, symbols_start, coff_header, string_table, canon, strings_of, section_body, section_table, symbol_bytes, aux_records, records_of};
 ghost use Rattle.coff_object.specs.NamePlaces.{section_places, symbol_places, ArePlacesOf};
 ghost use Rattle.coff_object.specs.Writable.{IsWritable};
 ghost use Rattle.coff_object.specs.WriteFaults.{name_tests, section_tests, form_tests, write_tests, is_far, has_many_relocations, is_bad_symbol, is_bad_object};
@@ -18,7 +18,7 @@ ghost use Rattle.pe_view.specs.declared.refusal.Refusal.{Refusal};
 use crate::error::ObjectError;
 use crate::layout::{NamePlaces, bodies_size, body_size, place_names, record_count, symbols_size};
 use crate::object::Object;
-use crate::record_bytes::{push_body, push_section_header, push_symbol, push_u16, push_u32};
+use crate::record_bytes::{push_body, push_section_header, push_symbol};
 use crate::refusal::{
     any_bad_section, any_bad_symbol, crowded_section, far_section, is_other_header,
     zero_in_sections, zero_in_symbols,
@@ -26,6 +26,8 @@ use crate::refusal::{
 use crate::section::ObjSection;
 use crate::string_table::StringTable;
 use crate::symbol::Symbol;
+use pe_numbers::Number::{U16, U32};
+use pe_numbers::push_numbers;
 use pe_view::{Fault, Place};
 use std::alloc::{AllocError, Allocator};
 
@@ -180,24 +182,6 @@ fn is_bad_object<A: Allocator + Copy>(object: &Object<A>) -> bool
     any_bad_symbol(symbols, sections.len())
 }
 
-/// Adds the fields of the COFF header behind TimeDateStamp, with the symbol table at a place.
-fn push_header_end<A: Allocator + Copy>(
-    bytes: &mut Vec<u8, A>,
-    object: &Object<A>,
-    symbols_at: u32,
-) -> Result<(), AllocError>
-    requires start { symbols_at ≡ (if has_strings (object_view object.now) then symbols_start (object_view object.now) else 0) }
-    requires form { IsWritable (object_view object.now) }
-    ensures fits { OnOk result ((object_view object.now).characteristics < 2 ^ 16) }
-    ensures bytes { OnOk result (bytes.new.items ≡ bytes.old.items ++ header_end (object_view object.now)) }
-{
-    let records = record_count(object.symbols.as_slice()) as u32;
-    push_u32(bytes, symbols_at)?;
-    push_u32(bytes, records)?;
-    push_u16(bytes, object.optional.len() as u16)?;
-    push_u16(bytes, object.characteristics)
-}
-
 /// Adds the COFF header, with the symbol table at a place.
 fn push_coff_header<A: Allocator + Copy>(
     bytes: &mut Vec<u8, A>,
@@ -209,11 +193,18 @@ fn push_coff_header<A: Allocator + Copy>(
     ensures fits { OnOk result (HeaderFits (object_view object.now)) }
     ensures bytes { OnOk result (bytes.new.items ≡ bytes.old.items ++ coff_header (object_view object.now)) }
 {
-    let sections = object.sections.as_slice().len() as u16;
-    push_u16(bytes, object.machine)?;
-    push_u16(bytes, sections)?;
-    push_u32(bytes, object.time_stamp)?;
-    push_header_end(bytes, object, symbols_at)
+    push_numbers(
+        bytes,
+        &[
+            U16(object.machine),
+            U16(object.sections.as_slice().len() as u16),
+            U32(object.time_stamp),
+            U32(symbols_at),
+            U32(record_count(object.symbols.as_slice()) as u32),
+            U16(object.optional.len() as u16),
+            U16(object.characteristics),
+        ],
+    )
 }
 
 /// Adds the string table.
@@ -229,7 +220,7 @@ fn push_strings<A: Allocator + Copy>(
     if !has_strings(object, strings) {
         return Ok(());
     }
-    push_u32(bytes, strings.size() as u32)?;
+    push_numbers(bytes, &[U32(strings.size() as u32)])?;
     strings.push_bytes(bytes)
 }
 

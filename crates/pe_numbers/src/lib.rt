@@ -9,4 +9,4 @@
 pub mod laws;
 mod number;
 
-pub use number::{Number, push_numbers, write_numbers};
+pub use number::{Number, push_numbers, push_record, write_numbers};

@@ -1,6 +1,6 @@
 //! Numbers in the widths that the format has, and their bytes.
 
-ghost use Rattle.std.specs.Prelude.{◌≡◌, ◌≤◌, ◌++◌, drop, length, OnOk};
+ghost use Rattle.std.specs.Prelude.{◌≡◌, ◌≤◌, ◌<◌, ◌^◌, ◌++◌, drop, length, OnOk};
 ghost use Rattle.std.specs.List.{AllByRecursion};
 ghost use Rattle.pe_numbers.specs.Numbers.{NumberFits, number_bytes, numbers_bytes, numbers_size, width_of};
 
@@ -48,6 +48,7 @@ pub fn push_numbers<A: Allocator>(
 }
 
 /// Writes a number's bytes to the front of a room, the lowest first, and answers how many they are.
+#[inline(always)]
 #[tactic(auto, unfolding(crate::specs::Numbers::number_bytes))]
 fn write_number(room: &mut [u8], number: Number) -> usize
     requires { width_of number ≤ length room.old }
@@ -76,6 +77,7 @@ fn write_number(room: &mut [u8], number: Number) -> usize
 }
 
 /// Writes the bytes of numbers into room for them, one behind the other, the lowest byte of each first.
+#[inline(always)]
 pub fn write_numbers(room: &mut [u8], numbers: &[Number])
     requires { length room.old ≡ numbers_size numbers.now }
     ensures fits { AllByRecursion NumberFits numbers.now }
@@ -85,4 +87,20 @@ pub fn write_numbers(room: &mut [u8], numbers: &[Number])
     for number in numbers {
         start += write_number(&mut room[start..], *number);
     }
+}
+
+/// Adds the bytes of numbers that take `N` bytes together, as [`push_numbers`] does, but all at once.
+#[inline(always)]
+pub fn push_record<const N: usize, A: Allocator>(
+    bytes: &mut Vec<u8, A>,
+    numbers: &[Number],
+) -> Result<(), AllocError>
+    requires size { numbers_size numbers.now ≡ N }
+    requires small { N < 2 ^ 32 }
+    ensures fits { AllByRecursion NumberFits numbers.now }
+    ensures bytes { OnOk result (bytes.new.items ≡ bytes.old.items ++ numbers_bytes numbers.now) }
+{
+    let mut record = [0; N];
+    write_numbers(&mut record, numbers);
+    bytes.extend_from_slice(&record)
 }
