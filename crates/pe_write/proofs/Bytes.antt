@@ -5,7 +5,7 @@ use Rattle.std.proofs.lemmas.Bool.{cases_lt}
 use Rattle.std.proofs.lemmas.List.{get_or_past}
 use Rattle.std.proofs.lemmas.List.FromFn.{length-map-range_with_len, get_or-map-range_with_len}
 use Rattle.pe_view.specs.Number.{byte_of, digit, num}
-use Rattle.pe_write.specs.Writes.{Write, covers, byte_by, byte_with, with_writes}
+use Rattle.pe_write.proofs.Writes.{Write, covers, byte_by, byte_with, with_writes}
 
 pub length-writes : (ws : List Write) (file : List ℕ) → length (with_writes ws file) ≡ length file
 length-writes ws file = length-map-range_with_len (byte_with ws file) 0 (length file)

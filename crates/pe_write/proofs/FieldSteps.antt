@@ -14,7 +14,8 @@ use Rattle.pe_tables.specs.Patch.{shifted_at}
 use Rattle.pe_tables.specs.declared.fixups.Fixup.{Fixup}
 use Rattle.pe_write.specs.Rebase.{keeps, raw_section, place_in, place_of}
 use Rattle.pe_write.specs.RebaseFaults.{field_test, fields_tests}
-use Rattle.pe_write.specs.Rewriting.{AreLaid, IsHolder, moved_all}
+use Rattle.pe_write.specs.Rewriting.{AreLaid, IsHolder}
+use Rattle.pe_write.specs.Rebase.{moved_all}
 use Rattle.pe_write.proofs.Lists.{FoundAt, found, find_first}
 use Rattle.pe_write.proofs.Kept.{rawlen_most, width_some}
 

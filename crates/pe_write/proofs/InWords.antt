@@ -9,8 +9,9 @@ use Rattle.pe_layout.specs.Image.{image_of_file}
 use Rattle.pe_tables.specs.Fixups.{width_of, fixups_of}
 use Rattle.pe_tables.specs.declared.fixups.Fixup.{Fixup}
 use Rattle.pe_tables.specs.Relocated.{shifted}
-use Rattle.pe_write.specs.Writes.{covers}
-use Rattle.pe_write.specs.Rebase.{IsFree, place_of, check_sum_place, field_write, rebase_writes, rebased_from}
+use Rattle.pe_write.proofs.Writes.{covers}
+use Rattle.pe_write.specs.Rebase.{IsFree, place_of, check_sum_place}
+use Rattle.pe_write.proofs.Writes.{field_write, rebase_writes, rebased_from}
 use Rattle.pe_write.specs.Rebased.{IsFieldByte, IsRebased}
 use Rattle.pe_write.proofs.Lists.{each_at, find_first, in_range, range_parts, find_none}
 use Rattle.pe_write.proofs.Bytes.{byte_kept, byte_written, length-writes}

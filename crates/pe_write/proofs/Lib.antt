@@ -28,3 +28,4 @@ pub mod Rebasing
 pub mod SectionSteps
 pub mod Sequence
 pub mod Whole
+pub mod Writes

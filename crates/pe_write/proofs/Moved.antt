@@ -17,8 +17,9 @@ use Rattle.pe_layout.specs.Plain.{plain, section_byte}
 use Rattle.pe_tables.specs.Fixups.{width_of, fixups_of}
 use Rattle.pe_tables.specs.declared.fixups.Fixup.{Fixup}
 use Rattle.pe_tables.specs.Relocated.{in_field, shifted, relocated, relocated_by}
-use Rattle.pe_write.specs.Writes.{Write, covers}
-use Rattle.pe_write.specs.Rebase.{IsFree, place_of, image_base_place, check_sum_place, field_write, rebase_writes, rebased_from}
+use Rattle.pe_write.proofs.Writes.{Write, covers}
+use Rattle.pe_write.specs.Rebase.{IsFree, place_of, image_base_place, check_sum_place}
+use Rattle.pe_write.proofs.Writes.{field_write, rebase_writes, rebased_from}
 use Rattle.pe_write.proofs.Lists.{Each, each_map, each_found, found, find_none, find_same, find-map, same_bool, in_range, range_parts, below_range, above_range, some_or_none}
 use Rattle.pe_write.proofs.Bytes.{byte_kept, byte_written}
 use Rattle.pe_write.proofs.Kept.{Kept, Lies, Where, where_at, holder}

@@ -25,9 +25,10 @@ use Rattle.pe_tables.specs.declared.fixups.Fixup.{Fixup}
 use Rattle.pe_tables.specs.FixupFaults.{fixup_tests}
 use Rattle.pe_tables.specs.Imports.{imports_of}
 use Rattle.pe_tables.specs.ImportFaults.{import_tests}
-use Rattle.pe_write.specs.Writes.{covers}
+use Rattle.pe_write.proofs.Writes.{covers}
 use Rattle.pe_set.specs.Placement.{address_limit}
-use Rattle.pe_write.specs.Rebase.{IsFree, rebased_from, rebase_writes, image_base_write, check_sum_write, check_sum_place}
+use Rattle.pe_write.specs.Rebase.{IsFree, check_sum_place}
+use Rattle.pe_write.proofs.Writes.{rebased_from, rebase_writes, image_base_write, check_sum_write}
 use Rattle.pe_write.specs.RebaseFaults.{own_base_tests, fields_tests, ranges_tests, data_tests, tables_tests, rebase_tests}
 use Rattle.pe_write.specs.Rewriting.{AreLaid}
 use Rattle.pe_write.proofs.Lists.{Each, each_at, in_range, below_range, above_range}

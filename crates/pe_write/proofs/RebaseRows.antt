@@ -3,16 +3,15 @@ use Rattle.std.proofs.Common.{◌≡◌, ℕ, List, [], ◌∷◌, ◌++◌, Som
 use Rattle.std.specs.List.{range_with_len}
 use Rattle.pe_view.specs.Faults.{first_standing}
 use Rattle.pe_view.specs.declared.fault.Place.TheVariants.{File, Rva, Address}
-use Rattle.pe_head.specs.Head.{head_of}
 use Rattle.pe_head.specs.HeaderFaults.{head_tests}
 use Rattle.pe_head.specs.V1.{put, v1, zeros}
-use Rattle.pe_layout.specs.Image.{image_of_file}
 use Rattle.pe_layout.specs.SectionFaults.{sections_tests}
 use Rattle.pe_tables.specs.FixupFaults.{blocks_tests, entries_tests}
 use Rattle.pe_tables.specs.Relocated.{shift}
-use Rattle.pe_write.specs.Rebase.{rebase_writes}
+use Rattle.pe_tables.specs.Patch.{patch, shifted_at}
+use Rattle.pe_view.specs.Number.{byte_of}
+use Rattle.pe_write.specs.Rebase.{rebased, put_header}
 use Rattle.pe_write.specs.RebaseFaults.{fields_tests, ranges_tests, rebase_tests}
-use Rattle.pe_write.specs.Writes.{byte_with}
 
 -- one block, for the page 0x1000, with this entry and one that fills it up
 abbrev block : ℕ → ℕ → List ℕ
@@ -35,30 +34,30 @@ v3 =
 
 -- the byte at an offset of the file at a base
 abbrev at : List ℕ → ℕ → ℕ → ℕ
-at file base o = byte_with (rebase_writes (head_of file) (image_of_file 0 file) base) file o
+at file base o = byte_of (rebased file base) o
 
 v2_has_none : first_standing (rebase_tests v2 0x20000000) ≡ None
 unfolding rebase_tests head_tests sections_tests blocks_tests entries_tests fields_tests ranges_tests
 v2_has_none = refl
 
 v2_base : at v2 0x20000000 0x77 ≡ 0x20
-unfolding shift
+unfolding rebased put_header patch shifted_at shift
 v2_base = refl
 
 v2_field_first : at v2 0x20000000 0x208 ≡ 0x08
-unfolding shift
+unfolding rebased put_header patch shifted_at shift
 v2_field_first = refl
 
 v2_field_last : at v2 0x20000000 0x20b ≡ 0x20
-unfolding shift
+unfolding rebased put_header patch shifted_at shift
 v2_field_last = refl
 
 v2_past_field : at v2 0x20000000 0x20c ≡ 0x0c
-unfolding shift
+unfolding rebased put_header patch shifted_at shift
 v2_past_field = refl
 
 v2_check_sum : at (put 0x98 (1 ∷ 2 ∷ 3 ∷ 4 ∷ []) v2) 0x20000000 0x9b ≡ 0
-unfolding shift
+unfolding rebased put_header patch shifted_at shift
 v2_check_sum = refl
 
 v3_has_none : first_standing (rebase_tests v3 0x140000000) ≡ None
@@ -66,15 +65,15 @@ unfolding rebase_tests head_tests sections_tests blocks_tests entries_tests fiel
 v3_has_none = refl
 
 v3_base : at v3 0x140000000 0x73 ≡ 0x40
-unfolding shift
+unfolding rebased put_header patch shifted_at shift
 v3_base = refl
 
 v3_field : at v3 0x140000000 0x20b ≡ 0x40
-unfolding shift
+unfolding rebased put_header patch shifted_at shift
 v3_field = refl
 
 v3_field_high : at v3 0x140000000 0x20c ≡ 0x01
-unfolding shift
+unfolding rebased put_header patch shifted_at shift
 v3_field_high = refl
 
 -- V2 with ImageBase 0x10008000 and two fields of 2 bytes: LOW at 0x1008, HIGH at 0x100a
@@ -86,15 +85,15 @@ unfolding rebase_tests head_tests sections_tests blocks_tests entries_tests fiel
 halves_have_none = refl
 
 halves_low : at halves 0x20000000 0x209 ≡ 0x90
-unfolding shift
+unfolding rebased put_header patch shifted_at shift
 halves_low = refl
 
 halves_high : at halves 0x20000000 0x20a ≡ 0xff
-unfolding shift
+unfolding rebased put_header patch shifted_at shift
 halves_high = refl
 
 halves_high_below : at halves 0x10000000 0x20b ≡ 0x0f
-unfolding shift
+unfolding rebased put_header patch shifted_at shift
 halves_high_below = refl
 
 -- a field that begins four bytes before the image's end, in a gap

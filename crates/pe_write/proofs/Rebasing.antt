@@ -1,6 +1,5 @@
 -- The phases of a rebase, joined.
 use Rattle.std.proofs.Common.{◌≡◌, ℕ, List, Some, None, ap, ◌∙◌}
-use Rattle.std.specs.Prelude.{pos, ◌-ℤ◌}
 use Rattle.pe_view.specs.declared.fault.Fault.{Fault}
 use Rattle.pe_view.specs.Faults.{first_standing, Refuses}
 use Rattle.pe_view.specs.FirstStanding.{first-past, first-in, refused-in, refused-past}
@@ -14,7 +13,7 @@ use Rattle.pe_layout.specs.SectionFaults.{layout_tests}
 use Rattle.pe_tables.specs.Fixups.{fixups_of}
 use Rattle.pe_write.specs.Rebase.{rebased}
 use Rattle.pe_write.specs.RebaseFaults.{own_base_tests, data_tests, tables_tests, rebase_tests}
-use Rattle.pe_write.specs.Rewriting.{put_header, moved_all}
+use Rattle.pe_write.proofs.Writes.{rebased_from}
 use Rattle.pe_view.specs.declared.refusal.Refusal.{Refusal}
 use Rattle.pe_write.proofs.Rebasable.{IsSound, lies, kept}
 use Rattle.pe_write.proofs.Whole.{whole}
@@ -53,7 +52,7 @@ module _ (file : List ℕ) (base : ℕ) where
         unfolding rebase_tests
         all_but_data = first-past (layout_tests 0 file) _ laid ∙ first-past (tables_tests (image_of_file 0 file)) _ read ∙ first-past (own_base_tests (head_of file).magic (image_of_file 0 file) base) (data_tests (head_of file) (fixups_of (image_of_file 0 file))) based
 
-  -- the bytes that the writes leave are the rebased file
-  pub made : IsSound file base → moved_all (head_of file) (pos base -ℤ pos (head_of file).image_base) (fixups_of (image_of_file 0 file)) (put_header (head_of file) base file) ≡ rebased file base
+  -- the rebased file, by what is written into it
+  pub made : IsSound file base → rebased file base ≡ rebased_from (head_of file) file base
   unfolding rebased
   made n = whole (head_of file) file base (lies file base n) (kept file base n) n.apart

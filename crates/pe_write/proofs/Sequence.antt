@@ -11,9 +11,10 @@ use Rattle.pe_tables.specs.declared.fixups.Fixup.{Fixup}
 use Rattle.pe_tables.specs.Patch.{bytes, shifted_at}
 use Rattle.pe_tables.specs.Patched.{length-patch, length-bytes_from, written_in, written_out}
 use Rattle.pe_tables.specs.Relocated.{shift}
-use Rattle.pe_write.specs.Writes.{Write, covers, byte_by, byte_with, with_writes}
-use Rattle.pe_write.specs.Rebase.{place_of, field_write}
-use Rattle.pe_write.specs.Rewriting.{put, moved_all}
+use Rattle.pe_write.proofs.Writes.{Write, covers, byte_by, byte_with, with_writes}
+use Rattle.pe_write.specs.Rebase.{place_of}
+use Rattle.pe_write.proofs.Writes.{field_write}
+use Rattle.pe_write.specs.Rebase.{put, moved_all}
 use Rattle.pe_write.proofs.Lists.{Each, each_map, find_none, in_range, range_parts, above_range, below_range}
 use Rattle.pe_write.proofs.Bytes.{same_num}
 

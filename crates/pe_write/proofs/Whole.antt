@@ -15,9 +15,10 @@ use Rattle.pe_tables.specs.Fixups.{width_of, range_of, fixups_of}
 use Rattle.pe_tables.specs.Ranges.{AreApart}
 use Rattle.pe_tables.specs.declared.fixups.Fixup.{Fixup}
 use Rattle.pe_tables.specs.Relocated.{in_field}
-use Rattle.pe_write.specs.Writes.{Write}
-use Rattle.pe_write.specs.Rebase.{place_of, image_base_write, check_sum_write, field_write, rebase_writes, rebased_from}
-use Rattle.pe_write.specs.Rewriting.{put, put_header, moved_all}
+use Rattle.pe_write.proofs.Writes.{Write}
+use Rattle.pe_write.specs.Rebase.{place_of}
+use Rattle.pe_write.proofs.Writes.{image_base_write, check_sum_write, field_write, rebase_writes, rebased_from}
+use Rattle.pe_write.specs.Rebase.{put, put_header, moved_all}
 use Rattle.pe_write.proofs.Lists.{Each, each_map, in_range}
 use Rattle.pe_write.proofs.Bytes.{same_num}
 use Rattle.pe_write.proofs.Kept.{Kept, Lies, where_at, holder}

@@ -7,4 +7,3 @@ pub mod Rebase
 pub mod Rebased
 pub mod RebaseFaults
 pub mod Rewriting
-pub mod Writes

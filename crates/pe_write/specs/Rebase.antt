@@ -1,15 +1,15 @@
 -- A file whose image is to stand at another base.
-use Rattle.std.specs.Prelude.{◌≡◌, false, ℕ, ◌+◌, ◌-◌, ◌&&◌, Bool, nat_le, find, map, List, ◌∷◌, Option, None, Some}
+use Rattle.std.specs.Prelude.{◌≡◌, false, ℕ, ℤ, pos, ◌+◌, ◌-◌, ◌-ℤ◌, ◌&&◌, Bool, nat_le, find, List, [], ◌∷◌, Option, None, Some}
+use Rattle.pe_view.specs.Number.{is_in}
 use Rattle.pe_head.specs.declared.section.SectionHeader.{SectionHeader}
 use Rattle.pe_head.specs.declared.headers.Headers.{Headers}
 use Rattle.pe_head.specs.Head.{head_of}
 use Rattle.pe_head.specs.Optional.{image_base_offset, image_base_width}
 use Rattle.pe_head.specs.Section.{rawlen}
-use Rattle.pe_layout.specs.Image.{LaidOut, image_from}
+use Rattle.pe_layout.specs.Image.{image_of_file}
 use Rattle.pe_tables.specs.Fixups.{width_of, fixups_of}
-use Rattle.pe_tables.specs.Relocated.{shifted}
+use Rattle.pe_tables.specs.Patch.{patch, bytes, shifted_at}
 use Rattle.pe_tables.specs.declared.fixups.Fixup.{Fixup}
-use Rattle.pe_write.specs.Writes.{Write, covers, with_writes}
 
 -- `len` bytes at an RVA are all of the section's raw data
 abbrev pub keeps : ℕ → ℕ → SectionHeader → Bool
@@ -34,27 +34,24 @@ image_base_place h = h.pe_offset + 24 + image_base_offset h.magic
 abbrev pub check_sum_place : Headers → ℕ
 check_sum_place h = h.pe_offset + 24 + 64
 
-abbrev pub image_base_write : Headers → ℕ → Write
-image_base_write h base = record { offset = image_base_place h; width = image_base_width h.magic; value = base }
+-- with the lowest `width` bytes of a value at a place
+abbrev pub put : List ℕ → ℕ → ℕ → ℕ → List ℕ
+put xs at width v = patch xs at (bytes width v)
 
-abbrev pub check_sum_write : Headers → Write
-check_sum_write h = record { offset = check_sum_place h; width = 4; value = 0 }
+-- with the base as ImageBase, and 0 as CheckSum
+unfoldable pub put_header : Headers → ℕ → List ℕ → List ℕ
+put_header h base xs = put (put xs (image_base_place h) (image_base_width h.magic) base) (check_sum_place h) 4 0
 
--- a field as it is in the image at the base
-abbrev pub field_write : Headers → LaidOut → ℕ → Fixup → Write
-field_write h i base f = record { offset = place_of h f; width = width_of f.kind; value = shifted i base f }
+-- with every field moved on by d, in order
+abbrev pub moved_all : Headers → ℤ → List Fixup → List ℕ → List ℕ
+moved_all h d [] xs = xs
+moved_all h d (f ∷ fs) xs = moved_all h d fs (shifted_at d f.kind (place_of h f) xs)
 
--- what is written: the base as ImageBase, 0 as CheckSum, and every fixup's field
-abbrev pub rebase_writes : Headers → LaidOut → ℕ → List Write
-rebase_writes h i base = image_base_write h base ∷ check_sum_write h ∷ map (field_write h i base) (fixups_of i)
-
--- the file of an image with these headers, at the base
-abbrev pub rebased_from : Headers → List ℕ → ℕ → List ℕ
-rebased_from h file base = with_writes (rebase_writes h (image_from 0 h file) base) file
-
--- the file at the base
+-- the file at the base: its fields moved on from ImageBase to it, in the file with the base in its headers
 unfoldable pub rebased : List ℕ → ℕ → List ℕ
-rebased file base = rebased_from (head_of file) file base
+rebased file base =
+    let h = head_of file in
+    moved_all h (pos base -ℤ pos h.image_base) (fixups_of (image_of_file 0 file)) (put_header h base file)
 
 -- the headers of the file at the base
 abbrev pub rebased_head : Headers → ℕ → Headers
@@ -62,5 +59,5 @@ rebased_head h base = record h { image_base = base; check_sum = 0 }
 
 -- an offset is none of ImageBase's or CheckSum's
 pub record IsFree (h : Headers) (o : ℕ) : Type 0 where
-  pub image_base : covers o (image_base_write h 0) ≡ false
-  pub check_sum : covers o (check_sum_write h) ≡ false
+  pub image_base : is_in (image_base_place h) (image_base_width h.magic) o ≡ false
+  pub check_sum : is_in (check_sum_place h) 4 o ≡ false

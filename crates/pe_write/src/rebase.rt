@@ -4,10 +4,10 @@ ghost use Rattle.pe_view.specs.Faults.{Answers, first_standing, AnswersOrWants};
 ghost use Rattle.pe_layout.specs.SectionFaults.{layout_tests};
 ghost use Rattle.pe_layout.specs.Layout.{headers_of, image_of, IsLayoutOf};
 ghost use Rattle.pe_tables.specs.Fixups.{fixups_of};
-ghost use Rattle.pe_write.specs.Rebase.{rebased, check_sum_place};
+ghost use Rattle.pe_write.specs.Rebase.{rebased, check_sum_place, put_header, moved_all};
 ghost use Rattle.pe_write.specs.Rebased.{IsRebased};
 ghost use Rattle.pe_write.specs.RebaseFaults.{own_base_tests, fields_tests, data_tests, tables_tests, rebase_tests};
-ghost use Rattle.pe_write.specs.Rewriting.{AreLaid, put_header, moved_all};
+ghost use Rattle.pe_write.specs.Rewriting.{AreLaid};
 ghost use Rattle.pe_view.specs.declared.refusal.Refusal.{Refusal};
 
 use crate::error::WriteError;

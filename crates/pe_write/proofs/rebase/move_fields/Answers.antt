@@ -7,7 +7,7 @@ use Rattle.pe_tables.specs.Patch.{shifted_at}
 use Rattle.pe_tables.specs.declared.fixups.Fixup.{Fixup}
 use Rattle.pe_tables.specs.declared.fixups.FixupKind.TheVariants.{Bits32}
 use Rattle.pe_write.specs.Rebase.{place_of}
-use Rattle.pe_write.specs.Rewriting.{moved_all}
+use Rattle.pe_write.specs.Rebase.{moved_all}
 use Rattle.pe_write.proofs.FieldSteps.{spot, goes_on, stops, moves_on, ends, moves_end}
 use Rattle.pe_write.proofs.rebase.move_fields.Goals as goal
 

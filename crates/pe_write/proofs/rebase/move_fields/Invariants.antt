@@ -3,7 +3,8 @@ use Rattle.std.specs.Prelude.{pos, ◌-ℤ◌}
 use Rattle.pe_view.specs.Faults.{first_standing}
 use Rattle.pe_layout.specs.Layout.{headers_of}
 use Rattle.pe_write.specs.RebaseFaults.{fields_tests}
-use Rattle.pe_write.specs.Rewriting.{IsHolder, moved_all}
+use Rattle.pe_write.specs.Rewriting.{IsHolder}
+use Rattle.pe_write.specs.Rebase.{moved_all}
 use Rattle.pe_write.proofs.rebase.move_fields.Given as goal
 
 abbrev pub invariant-loop-fixup : goal.invariant-loop-fixup

@@ -1,6 +1,6 @@
 use Rattle.std.proofs.Common.{◌∙◌, ◌+◌, ℕ, List, ap}
 use Rattle.pe_write.specs.Rebase.{image_base_place, check_sum_place}
-use Rattle.pe_write.specs.Rewriting.{put, put_header}
+use Rattle.pe_write.specs.Rebase.{put, put_header}
 use Rattle.pe_write.proofs.rebase.put_header.Goals as goal
 
 pub returns : goal.returns

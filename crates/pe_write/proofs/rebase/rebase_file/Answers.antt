@@ -12,7 +12,7 @@ use Rattle.pe_tables.specs.declared.fixups.Fixup.{Fixup}
 use Rattle.pe_write.specs.Rebase.{rebased}
 use Rattle.pe_write.specs.Rebased.{IsRebased}
 use Rattle.pe_write.specs.RebaseFaults.{tables_tests}
-use Rattle.pe_write.specs.Rewriting.{moved_all, put_header}
+use Rattle.pe_write.specs.Rebase.{moved_all, put_header}
 use Rattle.pe_write.proofs.InWords.{in_words}
 use Rattle.pe_write.proofs.Rebasable.{Laws, sound, laid_of, own_fields}
 use Rattle.pe_write.proofs.Rebasing.{refused_layout, refused_tables, refused_base, same_base, same_data, all_but_data, made}
@@ -65,6 +65,7 @@ returns-in_err-rewrite-clause-exact g c =
     rw (p.1, p.2) (all_but_data file c.args.base laid.0 read based ∙ found)
 
 pub returns-clause-exact : goal.returns-clause-exact
+unfolding rebased
 returns-clause-exact g c =
     let laws : Laws = record { behind = c.sections_are_apart.ensures.behind; apart = c.sections_are_apart.ensures.apart; held = c.sections_are_apart.ensures.held; fields = c.fields_are_apart.ensures.apart } in
     let file = c.args.file.now in
@@ -81,11 +82,11 @@ returns-clause-exact g c =
     ∙ ap (λ (bs : List ℕ). moved_all (headers_of c.in_ok-layout.layout) (pos base -ℤ pos (headers_of c.in_ok-layout.layout).image_base) c.deref.result.now (put_header (headers_of c.in_ok-layout.layout) base bs)) copied
     ∙ ap (λ (fs : List Fixup). moved_all (headers_of c.in_ok-layout.layout) (pos base -ℤ pos (headers_of c.in_ok-layout.layout).image_base) fs (put_header (headers_of c.in_ok-layout.layout) base file)) fixups
     ∙ ap (λ (h : Headers). moved_all h (pos base -ℤ pos h.image_base) (fixups_of (image_of_file 0 file)) (put_header h base file)) laid.1.headers in
-    (none, take_at c.rewrite.new.bytes _ c.in_ok-bytes.bytes.len (c.rewrite.auto.bytes ∙ c.deref_mut.ensures.len) ∙ written ∙ made file base (sound laws file base none))
+    (none, take_at c.rewrite.new.bytes _ c.in_ok-bytes.bytes.len (c.rewrite.auto.bytes ∙ c.deref_mut.ensures.len) ∙ written)
 
 pub returns-clause-bytes : goal.returns-clause-bytes
-unfolding rebased
 returns-clause-bytes g c =
     let laws : Laws = record { behind = c.sections_are_apart.ensures.behind; apart = c.sections_are_apart.ensures.apart; held = c.sections_are_apart.ensures.held; fields = c.fields_are_apart.ensures.apart } in
     let exact = returns-clause-exact g c in
-    subst (IsRebased c.args.file.now c.args.base) (sym exact.1) (in_words c.args.file.now c.args.base (sound laws c.args.file.now c.args.base exact.0))
+    let n = sound laws c.args.file.now c.args.base exact.0 in
+    subst (IsRebased c.args.file.now c.args.base) (sym (exact.1 ∙ made c.args.file.now c.args.base n)) (in_words c.args.file.now c.args.base n)

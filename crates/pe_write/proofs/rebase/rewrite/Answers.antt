@@ -6,7 +6,7 @@ use Rattle.pe_head.specs.declared.headers.Headers.{Headers}
 use Rattle.pe_layout.specs.Layout.{headers_of}
 use Rattle.pe_write.proofs.Phases.{answers-past}
 use Rattle.pe_write.specs.RebaseFaults.{fields_tests, ranges_tests}
-use Rattle.pe_write.specs.Rewriting.{moved_all, put_header}
+use Rattle.pe_write.specs.Rebase.{moved_all, put_header}
 use Rattle.pe_write.proofs.rebase.rewrite.Goals as goal
 
 pub returns-in_err-move_fields : goal.returns-in_err-move_fields
