@@ -1,5 +1,5 @@
 -- The fields of bytes that stand at a place of a file.
-use Rattle.std.proofs.Common.{◌≡◌, ℕ, ◌+◌, ◌≤◌, List, length, Some, ap, arith}
+use Rattle.std.proofs.Common.{◌≡◌, ℕ, ◌+◌, ◌≤◌, List, length, Some, ap, ◌∙◌, arith}
 use Rattle.std.specs.List.{AllByRecursion}
 use Rattle.pe_view.specs.Number.{num, byte_of}
 use Rattle.pe_numbers.specs.declared.number.Number.{Number}
@@ -19,7 +19,10 @@ pub field_in : (file : List ℕ) (place : ℕ) (bytes : List ℕ) (offset width 
 unfolding field
 field_in file place bytes offset width there inside = stands_num file place bytes offset width there inside
 
--- a field behind the front of a record
-pub field_behind : (file : List ℕ) (place next front offset width : ℕ) → next ≡ place + front → field file place (front + offset) width ≡ field file next offset width
+-- a number that was written behind the eight bytes of a record's name
+pub field_read-behind : (file : List ℕ) (place : ℕ) (ns : List Number) (offset : ℕ) (x : Number) → AllByRecursion NumberFits ns → StandsAt file (place + 8) (numbers_bytes ns) → number_at ns offset ≡ Some x
+    → field file place (8 + offset) (width_of x) ≡ value_of x
 unfolding field
-field_behind file place next front offset width e = ap (λ (n : ℕ). num (byte_of file) n width) (let sum : place + (front + offset) ≡ next + offset = omega arith in sum)
+field_read-behind file place ns offset x fits there at =
+    let same : place + (8 + offset) ≡ place + 8 + offset = omega arith in
+    ap (λ (n : ℕ). num (byte_of file) n (width_of x)) same ∙ number_read file (place + 8) ns offset x fits there at

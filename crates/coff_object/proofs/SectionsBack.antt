@@ -9,7 +9,7 @@ use Rattle.pe_view.specs.Number.{part}
 use Rattle.pe_view.specs.FirstStanding.{first-past}
 use Rattle.pe_numbers.specs.declared.number.Number.{Number}
 use Rattle.pe_numbers.specs.declared.number.Number.TheVariants.{U16, U32}
-use Rattle.pe_numbers.specs.Numbers.{NumberFits, number_bytes, number_at, width_of}
+use Rattle.pe_numbers.specs.Numbers.{NumberFits, number_bytes, number_at}
 use Rattle.pe_numbers.specs.StandsAt.{StandsAt, stands-front, stands-back, stands_part, stands_inside}
 use Rattle.coff_object.specs.Field.{field}
 use Rattle.coff_object.specs.Names.{section_name, section_text, name_offset, decimal_digits, padded, is_long, begins_with_slash, is_long_section_name}
@@ -20,7 +20,7 @@ use Rattle.coff_object.specs.Strings.{is_among, record_count, offset_of}
 use Rattle.coff_object.specs.WriteFaults.{has_zero, is_far, has_many_relocations, is_bad_raw, is_bad_section}
 use Rattle.coff_object.specs.Written.{raw_bytes, raw_size, pointer_to, section_body, section_name_field, section_numbers, section_fields, section_header, section_table, relocation_bytes}
 use Rattle.coff_object.specs.declared.relocation.Relocation.{Relocation}
-use Rattle.coff_object.proofs.Bytes.{field_read, field_behind}
+use Rattle.coff_object.proofs.Bytes.{field_read-behind}
 use Rattle.coff_object.proofs.NameFields.{up_to_zero-filled, length-padded, inline_offset, length-decimal, long_offset}
 use Rattle.coff_object.proofs.RelocationsBack.{relocations_read, relocations_accepted}
 use Rattle.coff_object.proofs.StringTable.{HasStrings, is_stored, string_read}
@@ -121,29 +121,6 @@ section_fits at s fits few small =
     let many = ltb-false 65534 (length s.relocations) few in
     (fits.virtual_size, (fits.virtual_address, (raw_small at s.raw fits.raw (omega arith), (pointer_small at (length (raw_bytes s.raw)) (omega arith), (pointer_small (at + length (raw_bytes s.raw)) (length s.relocations) (omega arith), (omega arith, (omega (arith, many), (omega arith, (fits.flags, tt)))))))))
 
--- the fields of a section's header that stands at h
-record FieldsAre (file : List ℕ) (h at : ℕ) (s : Section) : Type 0 where
-  virtual_size : field file h 8 4 ≡ s.virtual_size
-  virtual_address : field file h 12 4 ≡ s.virtual_address
-  size : field file h 16 4 ≡ raw_size s.raw
-  pointer : field file h 20 4 ≡ pointer_to at (length (raw_bytes s.raw))
-  relocations : field file h 24 4 ≡ pointer_to (at + length (raw_bytes s.raw)) (length s.relocations)
-  count : field file h 32 2 ≡ length s.relocations
-  flags : field file h 36 4 ≡ s.flags
-
-fields_read : (file : List ℕ) (h at : ℕ) (s : Section) → AllByRecursion NumberFits (section_numbers at s) → StandsAt file (h + 8) (section_fields at s) → FieldsAre file h at s
-fields_read file h at s fits there =
-    let read = λ (o : ℕ) (x : Number) (is : number_at (section_numbers at s) o ≡ Some x). field_behind file h (h + 8) 8 o (width_of x) refl ∙ field_read file (h + 8) (section_numbers at s) o x fits there is in
-    record {
-      virtual_size = read 0 (U32 s.virtual_size) refl;
-      virtual_address = read 4 (U32 s.virtual_address) refl;
-      size = read 8 (U32 (raw_size s.raw)) refl;
-      pointer = read 12 (U32 (pointer_to at (length (raw_bytes s.raw)))) refl;
-      relocations = read 16 (U32 (pointer_to (at + length (raw_bytes s.raw)) (length s.relocations))) refl;
-      count = read 24 (U16 (length s.relocations)) refl;
-      flags = read 28 (U32 s.flags) refl;
-    }
-
 relocations_of : (file : List ℕ) (at : ℕ) (rs : List Relocation) → StandsAt file at (flat_map relocation_bytes rs) → AllByRecursion RelocationFits rs
     → map (λ k. relocation_at file (pointer_to at (length rs) + 10 * k)) (range_with_len 0 (length rs)) ≡ rs
 relocations_of file at [] has fits = refl
@@ -196,38 +173,43 @@ section_read file strings count h at s w records some header body small table =
     let len = length-name_field strings s w.near in
     let name = section_name_read file strings count h s w (stands-front file h name_field (section_fields at s) header) table in
     let fields : StandsAt file (h + 8) (section_fields at s) = stands-back file h (h + 8) name_field (section_fields at s) header (omega arith) in
-    let f = fields_read file h at s (section_fits at s w.fits w.few small) fields in
+    let read = λ (o : ℕ) (x : Number) (is : number_at (section_numbers at s) o ≡ Some x). field_read-behind file h (section_numbers at s) o x (section_fits at s w.fits w.few small) fields is in
+    let size_is : field file h 16 4 ≡ raw_size s.raw = read 8 (U32 (raw_size s.raw)) refl in
+    let pointer_is : field file h 20 4 ≡ pointer_to at (length (raw_bytes s.raw)) = read 12 (U32 (pointer_to at (length (raw_bytes s.raw)))) refl in
+    let relocations_are : field file h 24 4 ≡ pointer_to (at + length (raw_bytes s.raw)) (length s.relocations) = read 16 (U32 (pointer_to (at + length (raw_bytes s.raw)) (length s.relocations))) refl in
+    let count_is : field file h 32 2 ≡ length s.relocations = read 24 (U16 (length s.relocations)) refl in
+    let flags_are : field file h 36 4 ≡ s.flags = read 28 (U32 s.flags) refl in
     let after : ℕ = at + length (raw_bytes s.raw) in
     let raw_has : StandsAt file at (raw_bytes s.raw) = stands-front file at (raw_bytes s.raw) (flat_map relocation_bytes s.relocations) body in
     let relocations_has : StandsAt file after (flat_map relocation_bytes s.relocations) = stands-back file at after (raw_bytes s.raw) (flat_map relocation_bytes s.relocations) body refl in
     let parts = or_parts (is_bad_raw s.raw s.flags) (list_any (λ (r : Relocation). nat_le count r.symbol) s.relocations) w.good in
     let raw : raw_at file (field file h 20 4) (field file h 16 4) (field file h 36 4) ≡ s.raw =
-    ap (λ (p : ℕ). raw_at file p (field file h 16 4) (field file h 36 4)) f.pointer ∙ ap (λ (n : ℕ). raw_at file (pointer_to at (length (raw_bytes s.raw))) n (field file h 36 4)) f.size
-    ∙ ap (raw_at file (pointer_to at (length (raw_bytes s.raw))) (raw_size s.raw)) f.flags ∙ raw_read file at s.flags s.raw some raw_has parts.0 in
+    ap (λ (p : ℕ). raw_at file p (field file h 16 4) (field file h 36 4)) pointer_is ∙ ap (λ (n : ℕ). raw_at file (pointer_to at (length (raw_bytes s.raw))) n (field file h 36 4)) size_is
+    ∙ ap (raw_at file (pointer_to at (length (raw_bytes s.raw))) (raw_size s.raw)) flags_are ∙ raw_read file at s.flags s.raw some raw_has parts.0 in
     let pointed : ℕ = pointer_to after (length s.relocations) in
     let relocations : map (λ k. relocation_at file (relocation_start file h k)) (range_with_len 0 (field file h 32 2)) ≡ s.relocations =
-    ap (λ (p : ℕ). map (λ k. relocation_at file (p + 10 * k)) (range_with_len 0 (field file h 32 2))) f.relocations
-    ∙ ap (λ (n : ℕ). map (λ k. relocation_at file (pointed + 10 * k)) (range_with_len 0 n)) f.count
+    ap (λ (p : ℕ). map (λ k. relocation_at file (p + 10 * k)) (range_with_len 0 (field file h 32 2))) relocations_are
+    ∙ ap (λ (n : ℕ). map (λ k. relocation_at file (pointed + 10 * k)) (range_with_len 0 n)) count_is
     ∙ relocations_of file after s.relocations relocations_has w.relocations in
     let no_relocation : first_standing (relocation_tests file h) ≡ None =
-    ap (λ (p : ℕ). first_standing (map (λ k. relocation_test file (p + 10 * k)) (range_with_len 0 (field file h 32 2)))) f.relocations
-    ∙ ap (λ (n : ℕ). first_standing (map (λ k. relocation_test file (pointed + 10 * k)) (range_with_len 0 n))) f.count
+    ap (λ (p : ℕ). first_standing (map (λ k. relocation_test file (p + 10 * k)) (range_with_len 0 (field file h 32 2)))) relocations_are
+    ∙ ap (λ (n : ℕ). first_standing (map (λ k. relocation_test file (pointed + 10 * k)) (range_with_len 0 n))) count_is
     ∙ relocations_fine file after count s.relocations relocations_has w.relocations records parts.1 in
     let many = ltb-false 65534 (length s.relocations) w.few in
     let no_64 : (not (is_absent (field file h 20 4) (field file h 16 4) (field file h 36 4)) && nat_lt (length file) (field file h 20 4 + field file h 16 4)) ≡ false =
-    ap (λ (p : ℕ). not (is_absent p (field file h 16 4) (field file h 36 4)) && nat_lt (length file) (p + field file h 16 4)) f.pointer
-    ∙ ap (λ (n : ℕ). not (is_absent (pointer_to at (length (raw_bytes s.raw))) n (field file h 36 4)) && nat_lt (length file) (pointer_to at (length (raw_bytes s.raw)) + n)) f.size
-    ∙ ap (λ (x : ℕ). not (is_absent (pointer_to at (length (raw_bytes s.raw))) (raw_size s.raw) x) && nat_lt (length file) (pointer_to at (length (raw_bytes s.raw)) + raw_size s.raw)) f.flags
+    ap (λ (p : ℕ). not (is_absent p (field file h 16 4) (field file h 36 4)) && nat_lt (length file) (p + field file h 16 4)) pointer_is
+    ∙ ap (λ (n : ℕ). not (is_absent (pointer_to at (length (raw_bytes s.raw))) n (field file h 36 4)) && nat_lt (length file) (pointer_to at (length (raw_bytes s.raw)) + n)) size_is
+    ∙ ap (λ (x : ℕ). not (is_absent (pointer_to at (length (raw_bytes s.raw))) (raw_size s.raw) x) && nat_lt (length file) (pointer_to at (length (raw_bytes s.raw)) + raw_size s.raw)) flags_are
     ∙ raw_accepted file at s.flags s.raw some raw_has parts.0 in
-    let not_most : (field file h 32 2 == 0xffff) ≡ false = ap (λ (n : ℕ). n == 0xffff) f.count ∙ ne_eqb (length s.relocations) 0xffff (λ e. omega arith) in
+    let not_most : (field file h 32 2 == 0xffff) ≡ false = ap (λ (n : ℕ). n == 0xffff) count_is ∙ ne_eqb (length s.relocations) 0xffff (λ e. omega arith) in
     let no_65 : (not (bit_and (field file h 36 4) 0x0100_0000 == 0) && field file h 32 2 == 0xffff) ≡ false = and_right _ _ not_most in
     let no_66 : (not (field file h 32 2 == 0) && nat_lt (length file) (relocation_start file h (field file h 32 2))) ≡ false =
-    ap (λ (p : ℕ). not (field file h 32 2 == 0) && nat_lt (length file) (p + 10 * field file h 32 2)) f.relocations
-    ∙ ap (λ (n : ℕ). not (n == 0) && nat_lt (length file) (pointed + 10 * n)) f.count
+    ap (λ (p : ℕ). not (field file h 32 2 == 0) && nat_lt (length file) (p + 10 * field file h 32 2)) relocations_are
+    ∙ ap (λ (n : ℕ). not (n == 0) && nat_lt (length file) (pointed + 10 * n)) count_is
     ∙ relocations_inside file after s.relocations relocations_has in
     let no_69 : is_none (section_name file h) ≡ false = ap (λ (o : Option (List ℕ)). is_none o) name in
     record {
-      is = same_section _ _ _ _ _ _ _ _ _ _ _ _ (ap (λ (o : Option (List ℕ)). unwrap_or o []) name) f.virtual_size f.virtual_address raw f.flags relocations;
+      is = same_section _ _ _ _ _ _ _ _ _ _ _ _ (ap (λ (o : Option (List ℕ)). unwrap_or o []) name) (read 0 (U32 s.virtual_size) refl) (read 4 (U32 s.virtual_address) refl) raw flags_are relocations;
       accepted = rw (no_64, no_65, no_66, no_69) refl;
       relocations = no_relocation;
     }

@@ -9,7 +9,7 @@ use Rattle.pe_view.specs.Faults.{first_standing}
 use Rattle.pe_view.specs.Number.{num, byte_of, part}
 use Rattle.pe_numbers.specs.declared.number.Number.{Number}
 use Rattle.pe_numbers.specs.declared.number.Number.TheVariants.{U8, U16, U32}
-use Rattle.pe_numbers.specs.Numbers.{NumberFits, number_bytes, numbers_bytes, number_at, width_of}
+use Rattle.pe_numbers.specs.Numbers.{NumberFits, number_bytes, numbers_bytes, number_at}
 use Rattle.pe_numbers.specs.StandsAt.{StandsAt, stands-front, stands-back, stands_part}
 use Rattle.coff_object.specs.Field.{field}
 use Rattle.coff_object.specs.Names.{symbol_name, padded, is_long}
@@ -21,7 +21,7 @@ use Rattle.coff_object.specs.WriteFaults.{has_zero, is_bad_number, is_bad_symbol
 use Rattle.coff_object.specs.Written.{symbol_name_field, section_number, aux_records, symbol_numbers, symbol_fields, symbol_bytes, records_of}
 use Rattle.coff_object.specs.declared.symbol.SymbolSection.{SymbolSection}
 use Rattle.coff_object.specs.declared.symbol.SymbolSection.TheVariants as belongs
-use Rattle.coff_object.proofs.Bytes.{field_read, field_in, field_behind}
+use Rattle.coff_object.proofs.Bytes.{field_read, field_read-behind, field_in}
 use Rattle.coff_object.proofs.NameFields.{up_to_zero-filled, length-padded}
 use Rattle.coff_object.proofs.StringTable.{HasStrings, is_stored, string_read}
 
@@ -109,25 +109,6 @@ number_small count (belongs.Section k) good =
     let low = ltb-false 0xfffd k more.1 in
     omega arith
 
-record FieldsAre (file : List ℕ) (at : ℕ) (s : Symbol) : Type 0 where
-  value : field file at 8 4 ≡ s.value
-  number : field file at 12 2 ≡ section_number s.section
-  kind : field file at 14 2 ≡ s.kind
-  class : field file at 16 1 ≡ s.class
-  aux : field file at 17 1 ≡ aux_records s
-
-fields_read : (file : List ℕ) (count at : ℕ) (s : Symbol) → SymbolFits s → is_bad_number count s.section ≡ false → aux_records s < 256 → StandsAt file (at + 8) (symbol_fields s) → FieldsAre file at s
-fields_read file count at s fits number few there =
-    let fit : AllByRecursion NumberFits (symbol_numbers s) = (fits.value, (number_small count s.section number, (fits.kind, (fits.class, (few, tt))))) in
-    let read = λ (o : ℕ) (x : Number) (is : number_at (symbol_numbers s) o ≡ Some x). field_behind file at (at + 8) 8 o (width_of x) refl ∙ field_read file (at + 8) (symbol_numbers s) o x fit there is in
-    record {
-      value = read 0 (U32 s.value) refl;
-      number = read 4 (U16 (section_number s.section)) refl;
-      kind = read 6 (U16 s.kind) refl;
-      class = read 8 (U8 s.class) refl;
-      aux = read 9 (U8 (aux_records s)) refl;
-    }
-
 -- the auxiliary records are whole, and not too many
 aux_whole : (count : ℕ) (s : Symbol) → is_bad_symbol count s ≡ false → (length s.aux ≡ 18 * aux_records s) × (aux_records s < 256)
 aux_whole count s good =
@@ -167,15 +148,18 @@ symbol_read file strings count at s w has table =
     let behind : StandsAt file (at + 8) tail = stands-back file at (at + 8) name_field tail has (omega arith) in
     let parts = or_parts (is_bad_number count s.section) (not (length s.aux % 18 == 0) || nat_lt 4590 (length s.aux)) w.good in
     let whole = aux_whole count s w.good in
-    let f = fields_read file count at s w.fits parts.0 whole.1 (stands-front file (at + 8) (symbol_fields s) s.aux behind) in
+    let fits = w.fits in
+    let fit : AllByRecursion NumberFits (symbol_numbers s) = (fits.value, (number_small count s.section parts.0, (fits.kind, (fits.class, (whole.1, tt))))) in
+    let read = λ (o : ℕ) (x : Number) (is : number_at (symbol_numbers s) o ≡ Some x). field_read-behind file at (symbol_numbers s) o x fit (stands-front file (at + 8) (symbol_fields s) s.aux behind) is in
+    let number_is : field file at 12 2 ≡ section_number s.section = read 4 (U16 (section_number s.section)) refl in
     let aux_has : StandsAt file (at + 18) s.aux = stands-back file (at + 8) (at + 18) (symbol_fields s) s.aux behind (omega arith) in
-    let aux_count_is = f.aux in
+    let aux_count_is : field file at 17 1 ≡ aux_records s = read 9 (U8 (aux_records s)) refl in
     let aux : part file (at + 18) (18 * field file at 17 1) ≡ s.aux = stands_part file (at + 18) (18 * field file at 17 1) s.aux aux_has (omega arith) in
     record {
-      is = same_symbol _ _ _ _ _ _ _ _ _ _ _ _ (ap (λ (o : Option (List ℕ)). unwrap_or o []) name) f.value (ap section_of_number f.number ∙ number_read count s.section parts.0) f.kind f.class aux;
+      is = same_symbol _ _ _ _ _ _ _ _ _ _ _ _ (ap (λ (o : Option (List ℕ)). unwrap_or o []) name) (read 0 (U32 s.value) refl) (ap section_of_number number_is ∙ number_read count s.section parts.0) (read 6 (U16 s.kind) refl) (read 8 (U8 s.class) refl) aux;
       name = ap (λ (o : Option (List ℕ)). is_none o) name;
-      aux = f.aux;
-      number = ap (λ (n : ℕ). nat_lt count n && nat_lt n 0xfffe) f.number ∙ number_accepted count s.section parts.0;
+      aux = aux_count_is;
+      number = ap (λ (n : ℕ). nat_lt count n && nat_lt n 0xfffe) number_is ∙ number_accepted count s.section parts.0;
     }
 
 -- auxiliary records begin no symbol
