@@ -1,8 +1,9 @@
 //! The program's command line, as clap reads it.
 
+use crate::builders::{new_command, required_argument, with_argument, with_subcommand};
 use crate::map_words::map_command;
 use crate::rebase_words::rebase_command;
-use clap::{Arg, Command};
+use clap::Command;
 use std::alloc::{AllocError, Global};
 
 /// The program's version, which `--version` prints behind its name.
@@ -24,6 +25,12 @@ const DUMP_ABOUT: &str =
 const OBJECT_ABOUT: &str =
     "Prints what a COFF object holds, a line for each section, relocation, symbol and auxiliary record, or its first fault";
 
+/// What help says of the file of `check` and `dump`.
+const IMAGE_FILE: &str = "The image's file, or - for standard input";
+
+/// What help says of the file of `object`.
+const OBJECT_FILE: &str = "The object's file, or - for standard input";
+
 /// What `--help` says behind the commands and the options.
 const NOTES: &str = "\
 A FILE that is - is standard input.
@@ -38,43 +45,55 @@ Exit statuses:
 A fault is a line on standard output, and on standard error it is told in words.
 docs/FAULTS.md explains each fault by its number.";
 
+/// A subcommand that takes one file.
+fn file_command<'a>(
+    alloc: Global,
+    name: &'a str,
+    about: &'a str,
+    file: &'a str,
+) -> Result<Command<'a>, AllocError> {
+    with_argument(
+        Ok(new_command(alloc, name, about)),
+        required_argument(alloc, "FILE", file),
+    )
+}
+
+/// The program, with what help says of it.
+fn described<'a>(alloc: Global) -> Command<'a> {
+    new_command(alloc, "petool", ABOUT)
+        .version(VERSION)
+        .after_help(NOTES)
+}
+
+/// The program, with no command yet.
+fn program<'a>(alloc: Global) -> Result<Command<'a>, AllocError> {
+    described(alloc)
+        .no_binary_name(true)
+        .subcommand_required(true)
+        .arg_required_else_help(true)
+        .bin_name("petool")
+}
+
 /// The subcommand `check`.
 fn check_command<'a>(alloc: Global) -> Result<Command<'a>, AllocError> {
-    let file = Arg::new(alloc, "FILE")
-        .required(true)
-        .help("The image's file, or - for standard input");
-    Command::new(alloc, "check").about(CHECK_ABOUT).arg(file)
+    file_command(alloc, "check", CHECK_ABOUT, IMAGE_FILE)
 }
 
 /// The subcommand `dump`.
 fn dump_command<'a>(alloc: Global) -> Result<Command<'a>, AllocError> {
-    let file = Arg::new(alloc, "FILE")
-        .required(true)
-        .help("The image's file, or - for standard input");
-    Command::new(alloc, "dump").about(DUMP_ABOUT).arg(file)
+    file_command(alloc, "dump", DUMP_ABOUT, IMAGE_FILE)
 }
 
 /// The subcommand `object`.
 fn object_command<'a>(alloc: Global) -> Result<Command<'a>, AllocError> {
-    let file = Arg::new(alloc, "FILE")
-        .required(true)
-        .help("The object's file, or - for standard input");
-    Command::new(alloc, "object").about(OBJECT_ABOUT).arg(file)
+    file_command(alloc, "object", OBJECT_ABOUT, OBJECT_FILE)
 }
 
 /// The program's command line.
 pub(crate) fn command<'a>(alloc: Global) -> Result<Command<'a>, AllocError> {
-    Command::new(alloc, "petool")
-        .about(ABOUT)
-        .version(VERSION)
-        .after_help(NOTES)
-        .bin_name("petool")?
-        .no_binary_name(true)
-        .subcommand_required(true)
-        .arg_required_else_help(true)
-        .subcommand(check_command(alloc)?)?
-        .subcommand(dump_command(alloc)?)?
-        .subcommand(object_command(alloc)?)?
-        .subcommand(map_command(alloc)?)?
-        .subcommand(rebase_command(alloc)?)
+    let command = with_subcommand(program(alloc), check_command(alloc));
+    let command = with_subcommand(command, dump_command(alloc));
+    let command = with_subcommand(command, object_command(alloc));
+    let command = with_subcommand(command, map_command(alloc));
+    with_subcommand(command, rebase_command(alloc))
 }

@@ -13,6 +13,7 @@
 //! ```
 #![tactic(auto)]
 
+mod builders;
 mod commands;
 mod job;
 mod map_words;

@@ -1,5 +1,6 @@
 //! The words of `petool map`.
 
+use crate::builders::{argument, new_command, required_argument, with_argument};
 use crate::job::MapFile;
 use crate::word_values::{BadValue, address_of};
 use clap::{Arg, ArgAction, ArgMatches, Command};
@@ -21,6 +22,17 @@ Example:
   0x0000000010001000 00 01 02 03 04 05 06 07 08 09 0a 0b 0c 0d 0e 0f
   0x0000000010001010 00
   end";
+
+/// What help says of `--known`.
+const KNOWN: &str =
+    "Leaves the slot of an import whose module is not among the files as it stands in its file";
+
+/// What help says of `--window`.
+const WINDOW: &str = "Prints the bytes from this address on, 16 a line";
+
+/// What help says of the files.
+const FILES: &str =
+    "The base of an image and its file, or - for standard input; the file's name is the module's";
 
 /// What `map` is asked for.
 #[derive(Drop)]
@@ -51,51 +63,40 @@ impl<'a, T: Drop> From<AllocFailed<T>> for NoMap<'a> {
 
 /// The flag `--known`.
 fn known_flag<'a>(alloc: Global) -> Arg<'a> {
-    Arg::new(alloc, "known")
+    argument(alloc, "known", KNOWN)
         .long("known")
         .action(ArgAction::SetTrue)
-        .help(
-            "Leaves the slot of an import whose module is not among the files as it stands in its file",
-        )
 }
 
 /// The option `--window`.
 fn window_option<'a>(alloc: Global) -> Arg<'a> {
-    Arg::new(alloc, "window")
+    argument(alloc, "window", WINDOW)
         .long("window")
         .value_name("HEX")
-        .help("Prints the bytes from this address on, 16 a line")
 }
 
 /// The option `--count`.
 fn count_option<'a>(alloc: Global) -> Arg<'a> {
-    Arg::new(alloc, "count")
+    argument(alloc, "count", "How many bytes the window has, 1 to 4096")
         .long("count")
         .value_name("N")
         .default_value("16")
-        .help("How many bytes the window has, 1 to 4096")
 }
 
 /// The files that are to be mapped.
 fn file_arguments<'a>(alloc: Global) -> Arg<'a> {
-    Arg::new(alloc, "HEX=FILE")
-        .required(true)
+    required_argument(alloc, "HEX=FILE", FILES)
         .action(ArgAction::Append)
         .num_args(1..)
-        .help(
-            "The base of an image and its file, or - for standard input; the file's name is the module's",
-        )
 }
 
 /// The subcommand `map`.
 pub(crate) fn map_command<'a>(alloc: Global) -> Result<Command<'a>, AllocError> {
-    Command::new(alloc, "map")
-        .about(ABOUT)
-        .after_help(EXAMPLE)
-        .arg(known_flag(alloc))?
-        .arg(window_option(alloc))?
-        .arg(count_option(alloc))?
-        .arg(file_arguments(alloc))
+    let command = Ok(new_command(alloc, "map", ABOUT).after_help(EXAMPLE));
+    let command = with_argument(command, known_flag(alloc));
+    let command = with_argument(command, window_option(alloc));
+    let command = with_argument(command, count_option(alloc));
+    with_argument(command, file_arguments(alloc))
 }
 
 /// The number of bytes that decimal digits give, 1 to 4,096.
@@ -148,25 +149,27 @@ fn parts_of(value: &str) -> Result<(u64, &str, &str), &'static str> {
     Ok((base, path, name))
 }
 
+/// The file that a word names.
+fn file_of<'a>(alloc: Global, value: &'a str) -> Result<MapFile, NoMap<'a>> {
+    match parts_of(value) {
+        Ok((base, path, name)) => Ok(MapFile {
+            base,
+            path: String::from_str(alloc, path)?,
+            name: String::from_str(alloc, name)?,
+        }),
+        Err(reason) => Err(NoMap::Bad(BadValue {
+            value,
+            argument: "<HEX=FILE>...",
+            reason,
+        })),
+    }
+}
+
 /// The files that are to be mapped.
 fn files_of<'a>(alloc: Global, found: &ArgMatches<'a>) -> Result<Vec<MapFile>, NoMap<'a>> {
     let mut files = Vec::new(alloc);
     for value in found.get_strs("HEX=FILE").unwrap_or(&[]) {
-        let (base, path, name) = match parts_of(value) {
-            Ok(parts) => parts,
-            Err(reason) => {
-                return Err(NoMap::Bad(BadValue {
-                    value,
-                    argument: "<HEX=FILE>...",
-                    reason,
-                }));
-            }
-        };
-        files.push(MapFile {
-            base,
-            path: String::from_str(alloc, path)?,
-            name: String::from_str(alloc, name)?,
-        })?;
+        files.push(file_of(alloc, value)?)?;
     }
     Ok(files)
 }

@@ -1,29 +1,30 @@
 //! The words of `petool rebase`.
 
+use crate::builders::{new_command, required_argument, with_argument};
 use crate::word_values::{BadValue, address_of};
-use clap::{Arg, ArgMatches, Command};
+use clap::{ArgMatches, Command};
 use std::alloc::{AllocError, Global};
 
 /// What `rebase` does.
 const ABOUT: &str =
     "Writes the file of an image that is to stand at another base, and prints the base, or the first fault";
 
+/// What help says of the base.
+const BASE: &str = "The base at which the image is to stand";
+
+/// What help says of the file that is read.
+const SOURCE: &str = "The image's file";
+
+/// What help says of the file that is written.
+const TARGET: &str =
+    "The file to be written, which may not be IN; it is left alone where IN is refused";
+
 /// The subcommand `rebase`.
 pub(crate) fn rebase_command<'a>(alloc: Global) -> Result<Command<'a>, AllocError> {
-    let base = Arg::new(alloc, "HEX")
-        .required(true)
-        .help("The base at which the image is to stand");
-    let source = Arg::new(alloc, "IN")
-        .required(true)
-        .help("The image's file");
-    let target = Arg::new(alloc, "OUT").required(true).help(
-        "The file to be written, which may not be IN; it is left alone where IN is refused",
-    );
-    Command::new(alloc, "rebase")
-        .about(ABOUT)
-        .arg(base)?
-        .arg(source)?
-        .arg(target)
+    let command = Ok(new_command(alloc, "rebase", ABOUT));
+    let command = with_argument(command, required_argument(alloc, "HEX", BASE));
+    let command = with_argument(command, required_argument(alloc, "IN", SOURCE));
+    with_argument(command, required_argument(alloc, "OUT", TARGET))
 }
 
 /// The base that the words of `rebase` name.

@@ -4,9 +4,9 @@ use crate::commands::command;
 use crate::job::{Job, WordsError};
 use crate::map_words::{MapWords, NoMap, map_command, map_words};
 use crate::rebase_words::{base_of, rebase_command};
-use crate::word_values::bad_value;
+use crate::word_values::{BadValue, bad_value};
 use clap::error::ErrorKind;
-use clap::{ArgMatches, Error};
+use clap::{ArgMatches, Command, Error};
 use std::alloc::{AllocError, Global};
 
 /// What the program prints where clap finds no job in the words.
@@ -21,6 +21,14 @@ fn refusal(alloc: Global, error: Error) -> WordsError {
         WordsError::Bad(text)
     } else {
         WordsError::Help(text)
+    }
+}
+
+/// What the program prints of a bad value of a command.
+fn value_refusal(alloc: Global, command: Command<'_>, name: &str, bad: BadValue<'_>) -> WordsError {
+    match bad_value(alloc, command, name, bad) {
+        Ok(error) => refusal(alloc, error),
+        Err(_) => WordsError::Memory,
     }
 }
 
@@ -48,10 +56,7 @@ fn map_job<P: Copy>(
             window,
             files,
         }),
-        Err(NoMap::Bad(bad)) => {
-            let command = map_command(alloc)?.bin_name("petool map")?;
-            Err(refusal(alloc, bad_value(alloc, command, bad)?))
-        }
+        Err(NoMap::Bad(bad)) => Err(value_refusal(alloc, map_command(alloc)?, "petool map", bad)),
         Err(NoMap::Memory) => Err(WordsError::Memory),
     }
 }
@@ -64,10 +69,7 @@ fn rebase_job<P: Copy>(alloc: Global, found: &ArgMatches<'_>) -> Result<Job<P>, 
             source: file_of(alloc, found, "IN")?,
             target: file_of(alloc, found, "OUT")?,
         }),
-        Err(bad) => {
-            let command = rebase_command(alloc)?.bin_name("petool rebase")?;
-            Err(refusal(alloc, bad_value(alloc, command, bad)?))
-        }
+        Err(bad) => Err(value_refusal(alloc, rebase_command(alloc)?, "petool rebase", bad)),
     }
 }
 
@@ -76,6 +78,21 @@ fn no_command(alloc: Global) -> WordsError {
     match String::from_str(alloc, "error: no command\n") {
         Ok(text) => WordsError::Bad(text),
         Err(_) => WordsError::Memory,
+    }
+}
+
+/// What the words of a command that takes one file ask for.
+fn file_job<P: Copy>(
+    alloc: Global,
+    name: &str,
+    found: &ArgMatches<'_>,
+) -> Result<Job<P>, WordsError> {
+    let file = file_of(alloc, found, "FILE")?;
+    match name {
+        "check" => Ok(Job::Check { file }),
+        "dump" => Ok(Job::Dump { file }),
+        "object" => Ok(Job::Object { file }),
+        _ => Err(no_command(alloc)),
     }
 }
 
@@ -88,18 +105,17 @@ fn job_of<P: Copy>(
     known: P,
 ) -> Result<Job<P>, WordsError> {
     match name {
-        "check" => Ok(Job::Check {
-            file: file_of(alloc, found, "FILE")?,
-        }),
-        "dump" => Ok(Job::Dump {
-            file: file_of(alloc, found, "FILE")?,
-        }),
-        "object" => Ok(Job::Object {
-            file: file_of(alloc, found, "FILE")?,
-        }),
         "map" => map_job(alloc, found, strict, known),
         "rebase" => rebase_job(alloc, found),
-        _ => Err(no_command(alloc)),
+        _ => file_job(alloc, name, found),
+    }
+}
+
+/// What clap finds in the words after the program's name.
+fn matches_of<'a>(alloc: Global, words: &'a [String]) -> Result<ArgMatches<'a>, WordsError> {
+    match command(alloc)?.try_get_matches_from(words) {
+        Ok(found) => Ok(found),
+        Err(error) => Err(refusal(alloc, error)),
     }
 }
 
@@ -112,10 +128,7 @@ pub fn parse_words<P: Copy>(
     strict: P,
     known: P,
 ) -> Result<Job<P>, WordsError> {
-    let found = match command(alloc)?.try_get_matches_from(words) {
-        Ok(found) => found,
-        Err(error) => return Err(refusal(alloc, error)),
-    };
+    let found = matches_of(alloc, words)?;
     match found.subcommand() {
         Some((name, inner)) => job_of(alloc, name, inner, strict, known),
         None => Err(no_command(alloc)),
