@@ -1,6 +1,7 @@
 -- A fault in words: what stands at its place, and which rule does not hold of it.
 use Rattle.std.specs.Prelude.{ℕ, false, ◌==◌, if◌then◌else◌, List, [], ◌∷◌, ◌++◌, codes, decimal, Option, None, Some, unwrap_or, map}
 use Rattle.std.specs.Fmt.{digits}
+use denote.Bor.{Bor}
 use Rattle.pe_text.specs.declared.fault_text.TheConstants.{RULES}
 use Rattle.pe_text.specs.declared.fault_text.FaultWords.{FaultWords}
 use Rattle.pe_view.specs.declared.fault.Place.{Place}
@@ -18,6 +19,10 @@ words_view w = (w.subject.now, w.rule.now)
 abbrev pub words_in : List (ℕ × Words) → ℕ → Option Words
 words_in [] number = None
 words_in (row ∷ rows) number = if number == row.0 then Some row.1 else words_in rows number
+
+-- a row of a table of numbers and words, as the code holds it
+abbrev pub rule_view : ℕ × Bor (List ℕ) × Bor (List ℕ) → ℕ × Words
+rule_view row = (row.0, (row.1.now, row.2.now))
 
 -- the words of each fault, by its number
 unfoldable pub rules : List (ℕ × Words)

@@ -1,7 +1,7 @@
 //! Faults in words.
 
-ghost use Rattle.std.specs.Prelude.{◌≡◌, Some, option_map};
-ghost use Rattle.pe_text.specs.FaultWords.{rules, words_view, words_in, words_of, sentence};
+ghost use Rattle.std.specs.Prelude.{◌≡◌, Some, option_map, map};
+ghost use Rattle.pe_text.specs.FaultWords.{rules, rule_view, words_view, words_in, words_of, sentence};
 
 use pe_view::{Fault, Place};
 use std::fmt::{self, Display};
@@ -296,16 +296,23 @@ static RULES: [(u16, &str, &str); 69] = [
     (85, "object", "a part of it does not fit the format"),
 ];
 
-/// The words of a fault by its number, and `None` for a number that belongs to no fault.
-pub fn fault_words(number: u16) -> Option<FaultWords>
-    ensures { option_map words_view result ≡ words_in rules number }
+/// The words of a number among these.
+fn words_among(rules: &[(u16, &'static str, &'static str)], number: u16) -> Option<FaultWords>
+    ensures { option_map words_view result ≡ words_in (map rule_view rules.now) number }
 {
-    for (of, subject, rule) in &RULES {
+    for (of, subject, rule) in rules {
         if *of == number {
             return Some(FaultWords { subject, rule });
         }
     }
     None
+}
+
+/// The words of a fault by its number, and `None` for a number that belongs to no fault.
+pub fn fault_words(number: u16) -> Option<FaultWords>
+    ensures { option_map words_view result ≡ words_in rules number }
+{
+    words_among(&RULES, number)
 }
 
 /// The words of a number, which no fault may have.
