@@ -1,6 +1,6 @@
 -- The runs of an image.
-use Rattle.std.proofs.Common.{◌≡◌, ℕ, ◌+◌, ◌-◌, ◌<◌, ◌≤◌, Bool, true, false, cond, length, take, drop, ◌++◌, List, Some, None, refl, sym, ap, ◌∙◌, append_assoc, append-nil, [], arith}
-use Rattle.std.specs.Prelude.{nat_lt, map, min, replicate}
+use Rattle.std.proofs.Common.{◌≡◌, ℕ, ◌+◌, ◌-◌, ◌<◌, ◌≤◌, Bool, true, false, cond, length, take, drop, ◌++◌, List, Some, None, refl, sym, ap, ◌∙◌, append_assoc, append-nil, [], length-append, Result, Ok, Err, is_ok, arith}
+use Rattle.std.specs.Prelude.{nat_lt, map, min, replicate, OnOk}
 use Rattle.std.specs.List.{range_with_len}
 use Rattle.std.proofs.lemmas.Bool.{lt-ltb, le-ltb, ltb-true, ltb-false}
 use borrow.Rule.Slice.PartMut.{put_mid}
@@ -134,3 +134,19 @@ fill_step g rva done more old buffer rest le is next =
     ap (λ (xs : List ℕ). take done buffer ++ (rest ++ xs)) nothing ∙ ap (λ (xs : List ℕ). take done buffer ++ xs) (append-nil rest)
     ∙ ap (λ (xs : List ℕ). xs ++ rest) first ∙ ap (λ (xs : List ℕ). front ++ xs) (next ∙ ap (λ (xs : List ℕ). written ++ xs) rest_is)
     ∙ sym (append_assoc front written (drop (done + more) old)) ∙ sym (ap (λ (xs : List ℕ). xs ++ drop (done + more) old) (map_split g rva done more))
+
+-- one more run is added to the first bytes
+pub push_step : (g : ℕ → ℕ) (first run new : List ℕ) (start n : ℕ) → start ≡ length first → first ≡ map g (range_with_len 0 (length first)) → map g (range_with_len start n) ≡ run → new ≡ first ++ run
+    → new ≡ map g (range_with_len 0 (length new))
+push_step g first run new start n here is next added =
+    let count : length run ≡ n = ap length (sym next) ∙ length-map-range_with_len g start n in
+    let all : length new ≡ length first + n = ap length added ∙ length-append first run ∙ ap (λ (m : ℕ). length first + m) count in
+    let place : start ≡ 0 + length first = omega (arith, here) in
+    added ∙ ap (λ (xs : List ℕ). xs ++ run) is
+    ∙ ap (λ (xs : List ℕ). map g (range_with_len 0 (length first)) ++ xs) (sym next ∙ ap (λ (r : ℕ). map g (range_with_len r n)) place)
+    ∙ sym (map_split g 0 (length first) n) ∙ ap (λ (m : ℕ). map g (range_with_len 0 m)) (sym all)
+
+-- what holds of an answer that is Ok
+pub on_ok : {T E : Type 0} (r : Result T E) (P : Type 0) → (is_ok r ≡ true → P) → OnOk r P
+on_ok (Ok x) P holds = holds refl
+on_ok (Err e) P holds = tt

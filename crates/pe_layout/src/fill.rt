@@ -1,4 +1,4 @@
-ghost use Rattle.std.specs.Prelude.{◌≡◌, ◌+◌, ◌<◌, ◌≤◌, ◌↔◌, IsTrue, SomeIff, length, drop, ◌++◌};
+ghost use Rattle.std.specs.Prelude.{◌≡◌, ◌+◌, ◌<◌, ◌≤◌, ◌↔◌, IsTrue, SomeIff, IfOk, OnOk, length, drop, ◌++◌};
 ghost use Rattle.std.specs.Bool.{OnTrue, OnFalse};
 ghost use Rattle.pe_layout.specs.Piece.{end_of};
 ghost use Rattle.pe_layout.specs.Run.{IsRun, rest_of};
@@ -8,6 +8,7 @@ ghost use Rattle.pe_layout.specs.Layout.{headers_of, file_of, image_of};
 use crate::layout::Layout;
 use crate::locate::Spot;
 use pe_head::SectionHeader;
+use std::alloc::{AllocError, Allocator};
 
 /// Bytes of an image that come from one place.
 pub(crate) enum Run {
@@ -99,6 +100,37 @@ impl<'a> Layout<'a> {
             done += self.fill_run(rva + done as u32, &mut buffer[done..]);
         }
         true
+    }
+
+    /// Adds the run behind the first bytes of the image to them.
+    #[tactic(auto, unfolding(crate::specs::Layout::image_of))]
+    fn push_run<A: Allocator + Copy>(&self, bytes: &mut Vec<u8, A>) -> Result<(), AllocError>
+        requires first { bytes.old.items ≡ bytes_at (image_of self.now) 0 (length bytes.old.items) }
+        requires more { length bytes.old.items < (image_of self.now).size }
+        ensures first { OnOk result (bytes.new.items ≡ bytes_at (image_of self.now) 0 (length bytes.new.items)) }
+        ensures more { OnOk result (length bytes.old.items < length bytes.new.items) }
+        ensures inside { OnOk result (length bytes.new.items ≤ (image_of self.now).size) }
+    {
+        match self.run_at(bytes.len() as u32) {
+            Run::Raw { file, len } => {
+                bytes.extend_from_slice(self.view.slice(file, u64::from(len)).unwrap())
+            }
+            Run::Zeros { len } => bytes.resize(bytes.len() + len as usize, 0),
+        }
+    }
+
+    /// All bytes of the image, SizeOfImage of them, in memory of their own. Each is written once: a run of the file is copied
+    /// and zero fill is cleared. The error is want of memory.
+    #[tactic(auto, unfolding(crate::specs::Layout::image_of))]
+    pub fn bytes<A: Allocator + Copy>(&self, alloc: A) -> Result<Vec<u8, A>, AllocError>
+        ensures { IfOk result (λ bytes. bytes.items ≡ bytes_at (image_of self.now) 0 (image_of self.now).size) }
+    {
+        let size = self.size() as usize;
+        let mut bytes = Vec::with_capacity(alloc, size)?;
+        while bytes.len() < size {
+            self.push_run(&mut bytes)?;
+        }
+        Ok(bytes)
     }
 
     /// The byte at an RVA, or `None` past the image.

@@ -498,3 +498,13 @@ fn fill_gives_what_byte_gives_for_every_range(rt: HostRuntime) {
     // a range that would wrap
     assert_filled(&rt, &layout, &image, 0xffff_ffff, 2);
 }
+
+#[test]
+fn bytes_are_those_of_the_whole_image(rt: HostRuntime) {
+    let mut file = [0; 0x180];
+    put_pieces(&mut file, SMALL).expect(&rt, "pieces in the file");
+    let image = laid_out(&rt, rt.alloc(), &file);
+    let bytes = layout_of(&rt, &file).bytes(rt.alloc());
+    let bytes = bytes.expect(&rt, "memory");
+    assert_holds(&rt, 0, bytes.as_slice() == image.as_slice());
+}
