@@ -1,27 +1,10 @@
--- The classes in which a set is asked for its faults, one after another.
-use Rattle.std.proofs.Common.{◌≡◌, ◌∙◌, ◌≤◌, ◌+◌, ℕ, List, [], ◌∷◌, ◌++◌, length, ap, sym, subst, refl, None, arith}
+-- A set has as many images as entries.
+use Rattle.std.proofs.Common.{◌≡◌, ◌∙◌, ◌≤◌, ◌+◌, ℕ, List, [], ◌∷◌, length, ap, sym, subst, refl, arith}
 use Rattle.std.proofs.lemmas.List.{length-map}
-use Rattle.pe_view.specs.Faults.{Test, first_standing}
-use Rattle.pe_view.specs.FirstStanding.{first-past, first-in}
 use Rattle.pe_set.specs.Set.{Entry, modules_from, modules_of}
-use Rattle.pe_set.specs.SetFaults.{Refuses, RefusesClass}
 use Rattle.pe_set.specs.SetView.{entry_view, entries_of, module_view, modules_view}
 use Rattle.pe_set.specs.declared.entry.SetEntry.{SetEntry}
 use Rattle.pe_set.specs.declared.reading.Module as code_module
-use Rattle.pe_set.specs.declared.error.MapError.{MapError}
-use Rattle.pe_set.specs.declared.error.MapError.TheVariants as errors
-
--- the first class refuses
-pub refused_in : (front rest : List Test) (error : MapError) → RefusesClass front error → Refuses (front ++ rest) error
-refused_in front rest errors.Memory refused = tt
-refused_in front rest (errors.Fault y) refused = first-in front rest y refused
-refused_in front rest (errors.Cycle y length) refused = absurd refused
-
--- a later class refuses
-pub refused_past : (front rest : List Test) (error : MapError) → first_standing front ≡ None → Refuses rest error → Refuses (front ++ rest) error
-refused_past front rest errors.Memory none refused = tt
-refused_past front rest (errors.Fault y) none refused = first-past front rest none ∙ refused
-refused_past front rest (errors.Cycle y length) none refused = first-past front rest none ∙ refused
 
 pub few_images : (set : List SetEntry) → length (entries_of set) ≤ 256 → length set ≤ 256
 few_images set few = subst (λ (n : ℕ). n ≤ 256) (length-map set entry_view) few

@@ -4,13 +4,13 @@ use Rattle.std.specs.Prelude.{slice_get}
 use Rattle.std.specs.List.{flat_map}
 use Rattle.std.proofs.lemmas.Option.{same_Some}
 use Rattle.pe_view.specs.declared.fault.Fault.{Fault}
-use Rattle.pe_view.specs.Faults.{first_standing}
+use Rattle.pe_view.specs.Faults.{Test, first_standing}
 use Rattle.pe_set.specs.Numbered.{numbered}
 use Rattle.pe_set.specs.Search.{resolve}
 use Rattle.pe_set.specs.SearchEnds.{EndsAs}
 use Rattle.pe_set.specs.Set.{Entry, Module, modules_of}
 use Rattle.pe_set.specs.SetFaults.{names_tests, files_tests, places_tests}
-use Rattle.pe_set.specs.SetErrors.{slot_fault, end_errors, import_errors, imports_errors, first_error, error_or, set_error, IsCycleOf}
+use Rattle.pe_set.specs.SetErrors.{slot_fault, end_errors, import_errors, imports_errors, first_error, faults_in, set_errors, set_error, IsCycleOf}
 use Rattle.pe_set.specs.declared.entry.Policy.{Policy}
 use Rattle.pe_set.specs.declared.entry.Policy.TheVariants.{Strict, Known}
 use Rattle.pe_set.specs.declared.search.Resolution.{Resolution}
@@ -18,6 +18,7 @@ use Rattle.pe_set.specs.declared.search.Resolution.TheVariants.{Bound, Missing, 
 use Rattle.pe_set.specs.declared.error.MapError.{MapError}
 use Rattle.pe_set.specs.declared.error.MapError.TheVariants as errors
 use Rattle.pe_set.proofs.Ending.{ends}
+use Rattle.pe_set.proofs.Errors.{error_or, class_first}
 
 -- which item of a list has the first error
 in_flat_step : {X : Type 0} (f : X → List MapError) (xs : List X) (error : MapError) (x : X) (own : List MapError)
@@ -68,9 +69,13 @@ endless_end policy i slot (Endless own) fault length is =
     let same = same_Some (errors.Cycle (slot_fault 50 i slot) own) (errors.Cycle fault length) is in
     (ap (λ e. Endless (length_or_0 e)) same, sym (ap (λ e. fault_or_none e fault) same))
 
-behind : (o : Option Fault) (later : Option MapError) (fault : Fault) (length : ℕ) → error_or o later ≡ Some (errors.Cycle fault length) → later ≡ Some (errors.Cycle fault length)
-behind None later fault length is = is
-behind (Some other) later fault length is = absurd cc
+behind_fault : (o : Option Fault) (later : Option MapError) (fault : Fault) (length : ℕ) → error_or o later ≡ Some (errors.Cycle fault length) → later ≡ Some (errors.Cycle fault length)
+behind_fault None later fault length is = is
+behind_fault (Some other) later fault length is = absurd cc
+
+behind : (tests : List Test) (later : List MapError) (fault : Fault) (length : ℕ) → first_error (faults_in tests ++ later) ≡ Some (errors.Cycle fault length)
+    → first_error later ≡ Some (errors.Cycle fault length)
+behind tests later fault length is = behind_fault (first_standing tests) (first_error later) fault length (sym (class_first tests later) ∙ is)
 
 import_cycle : (policy : Policy) (s : List Module) (fault : Fault) (length : ℕ) → first_error (imports_errors policy s) ≡ Some (errors.Cycle fault length) → IsCycleOf s fault length
 unfolding imports_errors
@@ -93,13 +98,11 @@ import_cycle policy s fault length is =
     }
 
 pub set_cycle : (policy : Policy) (es : List Entry) (fault : Fault) (length : ℕ) → set_error policy es ≡ Some (errors.Cycle fault length) → IsCycleOf (modules_of es) fault length
-unfolding set_error
+unfolding set_errors
 set_cycle policy es fault length is =
     let s = modules_of es in
-    let imports = first_error (imports_errors policy s) in
-    let places = error_or (first_standing (places_tests s)) imports in
-    let files = error_or (first_standing (files_tests es)) places in
+    let places = faults_in (places_tests s) ++ imports_errors policy s in
     import_cycle policy s fault length
-    (behind (first_standing (places_tests s)) imports fault length
-    (behind (first_standing (files_tests es)) places fault length
-    (behind (first_standing (names_tests es)) files fault length is)))
+    (behind (places_tests s) (imports_errors policy s) fault length
+    (behind (files_tests es) places fault length
+    (behind (names_tests es) (faults_in (files_tests es) ++ places) fault length is)))

@@ -8,7 +8,8 @@ use Rattle.pe_view.specs.Faults.{first_standing}
 use Rattle.pe_view.specs.FirstStanding.{none_stands}
 use Rattle.pe_set.specs.Placement.{Placement, overlap, placement_at, others_than, move_tests}
 use Rattle.pe_set.specs.Set.{Entry, Module, modules_from, modules_of, placement_of, bases_of, at_bases, rebased}
-use Rattle.pe_set.specs.SetFaults.{has_other_magic, places_tests, set_tests}
+use Rattle.pe_set.specs.SetFaults.{has_other_magic, places_tests}
+use Rattle.pe_set.specs.SetErrors.{set_error}
 use Rattle.pe_set.specs.declared.entry.Policy.{Policy}
 use Rattle.pe_set.proofs.Bases.{images_at}
 use Rattle.pe_set.proofs.Faultless.{classes}
@@ -144,9 +145,9 @@ module _ (s : List Module) (i base : ℕ) (before : first_standing (places_tests
   ])
 
 -- a set that is accepted is accepted with an image moved, where the move has no fault
-pub accepted_moved : (policy : Policy) (es : List Entry) (i base : ℕ) → first_standing (set_tests policy es) ≡ None
+pub accepted_moved : (policy : Policy) (es : List Entry) (i base : ℕ) → set_error policy es ≡ None
     → first_standing (move_tests (map placement_of (modules_of es)) i base) ≡ None
-    → first_standing (set_tests policy (at_bases (slice_set (bases_of es) i base) es)) ≡ None
+    → set_error policy (at_bases (slice_set (bases_of es) i base) es) ≡ None
 accepted_moved policy es i base none move =
     accepted_at policy es (slice_set (bases_of es) i base) none
     (ap (λ s. first_standing (places_tests s)) (images_moved es i base) ∙ moved_stand (modules_of es) i base (classes policy es none).places move)

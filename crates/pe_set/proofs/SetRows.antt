@@ -1,6 +1,7 @@
 -- Sets of images as the definitions see them, written out: their places, their searches, their bindings.
 use Rattle.std.proofs.Common.{◌≡◌, ℕ, ◌+◌, ◌-◌, false, List, [], ◌∷◌, ◌++◌, Some, None, get_or, map, refl, codes}
 use Rattle.std.specs.List.{range_with_len}
+use Rattle.pe_view.specs.declared.fault.Fault.{Fault}
 use Rattle.pe_view.specs.declared.fault.Place.TheVariants.{Rva, Address, Item}
 use Rattle.pe_view.specs.Faults.{first_standing}
 use Rattle.pe_head.specs.declared.optional.Magic.TheVariants.{Pe32, Pe32Plus}
@@ -12,7 +13,9 @@ use Rattle.pe_set.specs.Set.{Module, named, rebased}
 use Rattle.pe_set.specs.Search.{resolve}
 use Rattle.pe_set.specs.SearchEnds.{hop, after}
 use Rattle.pe_set.specs.Bindings.{bindings_of}
-use Rattle.pe_set.specs.SetFaults.{placing_tests, places_tests, imports_tests}
+use Rattle.pe_set.specs.SetFaults.{placing_tests, places_tests}
+use Rattle.pe_set.specs.SetErrors.{imports_errors, first_error}
+use Rattle.pe_set.specs.declared.error.MapError.TheVariants as errors
 use Rattle.pe_set.specs.declared.entry.Policy.TheVariants.{Strict, Known}
 use Rattle.pe_set.specs.declared.search.Resolution.TheVariants.{Bound, Missing, Unknown, Endless}
 
@@ -178,20 +181,24 @@ bound_at_other_bases : bindings_of (rebased (0x30000000 ∷ 0x40000000 ∷ []) t
 unfolding bindings_of resolve
 bound_at_other_bases = refl
 
--- ---- faults of imports
+-- ---- errors of imports
+-- a fault at a slot
+abbrev fault : ℕ → ℕ → ℕ → Fault
+fault number image slot = record { number = number; image = image; place = Rva slot }
+
 -- none, where all searches come to an RVA
-all_bound : first_standing (imports_tests Strict three) ≡ None
-unfolding imports_tests resolve
+all_bound : imports_errors Strict three ≡ []
+unfolding imports_errors resolve
 all_bound = refl
 
 -- 48: without `b.dll`
-not_there : first_standing (imports_tests Strict (forwarding ∷ importing_f ∷ [])) ≡ Some (record { number = 48; image = 1; place = Rva 0x1030 })
-unfolding imports_tests resolve
+not_there : first_error (imports_errors Strict (forwarding ∷ importing_f ∷ [])) ≡ Some (errors.Fault (fault 48 1 0x1030))
+unfolding imports_errors resolve
 not_there = refl
 
 -- that is no fault where only what is known is bound
-left_alone : first_standing (imports_tests Known (forwarding ∷ importing_f ∷ [])) ≡ None
-unfolding imports_tests resolve
+left_alone : imports_errors Known (forwarding ∷ importing_f ∷ []) ≡ []
+unfolding imports_errors resolve
 left_alone = refl
 
 -- and such a slot is not bound
@@ -200,8 +207,8 @@ unfolding bindings_of resolve
 left_unbound = refl
 
 -- 48: alone
-all_alone : first_standing (imports_tests Strict (importing_f ∷ [])) ≡ Some (record { number = 48; image = 0; place = Rva 0x1030 })
-unfolding imports_tests resolve
+all_alone : first_error (imports_errors Strict (importing_f ∷ [])) ≡ Some (errors.Fault (fault 48 0 0x1030))
+unfolding imports_errors resolve
 all_alone = refl
 
 -- `c.exe` imports a number that `b.dll` does not export
@@ -209,18 +216,18 @@ abbrev importing_6 : Module
 importing_6 = importing (import (codes "b.dll") (Ordinal 6) 0x1030 ∷ [])
 
 -- 49: the module is there and the export is not
-not_exported : first_standing (imports_tests Strict (exporting ∷ importing_6 ∷ [])) ≡ Some (record { number = 49; image = 1; place = Rva 0x1030 })
-unfolding imports_tests resolve
+not_exported : first_error (imports_errors Strict (exporting ∷ importing_6 ∷ [])) ≡ Some (errors.Fault (fault 49 1 0x1030))
+unfolding imports_errors resolve
 not_exported = refl
 
 -- and also where only what is known is bound: the module is known
-not_exported_known : first_standing (imports_tests Known (exporting ∷ importing_6 ∷ [])) ≡ Some (record { number = 49; image = 1; place = Rva 0x1030 })
-unfolding imports_tests resolve
+not_exported_known : first_error (imports_errors Known (exporting ∷ importing_6 ∷ [])) ≡ Some (errors.Fault (fault 49 1 0x1030))
+unfolding imports_errors resolve
 not_exported_known = refl
 
 -- 49: also behind 65 forwarders
-not_exported_far : first_standing (imports_tests Strict (chain 65 (Forward (codes "f") (Ordinal 67)) ∷ importing_1 ∷ [])) ≡ Some (record { number = 49; image = 1; place = Rva 0x1030 })
-unfolding imports_tests resolve
+not_exported_far : first_error (imports_errors Strict (chain 65 (Forward (codes "f") (Ordinal 67)) ∷ importing_1 ∷ [])) ≡ Some (errors.Fault (fault 49 1 0x1030))
+unfolding imports_errors resolve
 not_exported_far = refl
 
 -- `a.dll` forwards `f` to itself
@@ -228,8 +235,8 @@ abbrev circling : Module
 circling = with_tables (codes "a.dll") 0x10000000 (image 0 0 [] 0x10000000) [] ((codes "f", Forward (codes "a") (Name (codes "f"))) ∷ []) []
 
 -- 50: a cycle of one
-endless : first_standing (imports_tests Known (circling ∷ importing_f ∷ [])) ≡ Some (record { number = 50; image = 1; place = Rva 0x1030 })
-unfolding imports_tests resolve
+endless : first_error (imports_errors Known (circling ∷ importing_f ∷ [])) ≡ Some (errors.Cycle (fault 50 1 0x1030) 1)
+unfolding imports_errors resolve
 endless = refl
 
 cycle_of_one : resolve (circling ∷ importing_f ∷ []) (codes "A.DLL") (Name (codes "f")) ≡ Endless 1
@@ -240,8 +247,8 @@ cycle_of_one = refl
 abbrev circling_by_two : List Module
 circling_by_two = forwarding ∷ with_tables (codes "b.dll") 0x20000000 (image 1 0 [] 0x20000000) ((7, Forward (codes "a") (Name (codes "f"))) ∷ []) [] [] ∷ importing_f ∷ []
 
-endless_by_two : first_standing (imports_tests Strict circling_by_two) ≡ Some (record { number = 50; image = 2; place = Rva 0x1030 })
-unfolding imports_tests resolve
+endless_by_two : first_error (imports_errors Strict circling_by_two) ≡ Some (errors.Cycle (fault 50 2 0x1030) 2)
+unfolding imports_errors resolve
 endless_by_two = refl
 
 cycle_of_two : resolve circling_by_two (codes "A.DLL") (Name (codes "f")) ≡ Endless 2
@@ -255,9 +262,9 @@ unfolding resolve
 met_twice = refl
 
 -- the first import with a fault decides, whatever its number
-first_import : first_standing (imports_tests Strict (exporting ∷ importing (import (codes "b.dll") (Ordinal 5) 0x1030 ∷ import (codes "b.dll") (Ordinal 6) 0x1034 ∷ import (codes "d.dll") (Ordinal 5) 0x1038 ∷ []) ∷ []))
-    ≡ Some (record { number = 49; image = 1; place = Rva 0x1034 })
-unfolding imports_tests resolve
+first_import : first_error (imports_errors Strict (exporting ∷ importing (import (codes "b.dll") (Ordinal 5) 0x1030 ∷ import (codes "b.dll") (Ordinal 6) 0x1034 ∷ import (codes "d.dll") (Ordinal 5) 0x1038 ∷ []) ∷ []))
+    ≡ Some (errors.Fault (fault 49 1 0x1034))
+unfolding imports_errors resolve
 first_import = refl
 
 -- ---- faults of places

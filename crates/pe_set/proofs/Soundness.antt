@@ -17,7 +17,8 @@ use Rattle.pe_set.specs.Placement.{address_limit}
 use Rattle.pe_set.specs.Search.{resolve}
 use Rattle.pe_set.specs.SearchEnds.{EndsAs}
 use Rattle.pe_set.specs.Set.{Entry, Module, modules_of, placement_of}
-use Rattle.pe_set.specs.SetFaults.{places_tests, set_tests}
+use Rattle.pe_set.specs.SetFaults.{places_tests}
+use Rattle.pe_set.specs.SetErrors.{set_error}
 use Rattle.pe_set.specs.Sound.{IsSoundImage, IsSoundBinding, SlotsApart, IsSound, slot_of}
 use Rattle.pe_set.specs.declared.binding.Binding.{Binding}
 use Rattle.pe_set.specs.declared.entry.Policy.{Policy}
@@ -132,7 +133,7 @@ module _ (s : List Module) (none : first_standing (places_tests s) ≡ None) whe
       (none_before (placement_of other) s i j m (stands s none j other at_j).fits.free lt at_i))
 
 -- an accepted set is sound
-pub accepted_sound : Laws → (policy : Policy) (es : List Entry) → first_standing (set_tests policy es) ≡ None → IsSound (modules_of es)
+pub accepted_sound : Laws → (policy : Policy) (es : List Entry) → set_error policy es ≡ None → IsSound (modules_of es)
 accepted_sound laws policy es none =
     let s = modules_of es in
     let ok = classes policy es none in

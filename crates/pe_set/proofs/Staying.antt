@@ -4,13 +4,15 @@ use Rattle.std.specs.Prelude.{◌||◌}
 use Rattle.std.specs.List.{list_any, flat_map}
 use Rattle.pe_view.specs.declared.fault.Place.TheVariants.{Item}
 use Rattle.pe_view.specs.Faults.{Test, test, first_standing}
-use Rattle.pe_view.specs.FirstStanding.{first-past}
 use Rattle.pe_tables.specs.Imports.{Import}
 use Rattle.pe_image.specs.ImageTests.{image_tests}
 use Rattle.pe_set.specs.Numbered.{numbered}
 use Rattle.pe_set.specs.Set.{Entry, Module, modules_of, at_bases, rebased, same_name}
-use Rattle.pe_set.specs.SetFaults.{name_tests, names_tests, files_tests, places_tests, end_tests, import_tests, imports_tests, set_tests}
+use Rattle.pe_set.specs.SetFaults.{name_tests, names_tests, files_tests, places_tests}
+use Rattle.pe_set.specs.SetErrors.{end_errors, import_errors, imports_errors, first_error, set_error}
 use Rattle.pe_set.specs.declared.entry.Policy.{Policy}
+use Rattle.pe_set.specs.declared.error.MapError.{MapError}
+use Rattle.pe_set.proofs.Errors.{of_imports}
 use Rattle.pe_set.proofs.Faultless.{classes}
 use Rattle.pe_set.proofs.Bases.{images_at, resolve_rebased}
 
@@ -50,44 +52,40 @@ files_stay bases es = files_from 0 bases es
 
 -- ---- imports
 module _ (policy : Policy) (bases : List ℕ) (s : List Module) where
-  import_stays : (i : ℕ) (x : Import) → import_tests policy (rebased bases s) i x ≡ import_tests policy s i x
-  import_stays i x = ap (end_tests policy i x.slot) (resolve_rebased bases s x.module_name x.key)
+  import_stays : (i : ℕ) (x : Import) → import_errors policy (rebased bases s) i x ≡ import_errors policy s i x
+  import_stays i x = ap (end_errors policy i x.slot) (resolve_rebased bases s x.module_name x.key)
 
-  imports_of_image : (i : ℕ) (xs : List Import) → flat_map (import_tests policy (rebased bases s) i) xs ≡ flat_map (import_tests policy s i) xs
+  imports_of_image : (i : ℕ) (xs : List Import) → flat_map (import_errors policy (rebased bases s) i) xs ≡ flat_map (import_errors policy s i) xs
   imports_of_image i [] = refl
   imports_of_image i (x ∷ xs) =
-      ap (λ (ts : List Test). ts ++ flat_map (import_tests policy (rebased bases s) i) xs) (import_stays i x)
-      ∙ ap (λ (ts : List Test). import_tests policy s i x ++ ts) (imports_of_image i xs)
+      ap (λ (own : List MapError). own ++ flat_map (import_errors policy (rebased bases s) i) xs) (import_stays i x)
+      ∙ ap (λ (rest : List MapError). import_errors policy s i x ++ rest) (imports_of_image i xs)
 
   -- the same of the images t of the set
   imports_within : (n : ℕ) (t : List Module)
-      → numbered (λ i (m : Module). flat_map (import_tests policy (rebased bases s) i) m.imports) n t ≡ numbered (λ i (m : Module). flat_map (import_tests policy s i) m.imports) n t
+      → numbered (λ i (m : Module). flat_map (import_errors policy (rebased bases s) i) m.imports) n t ≡ numbered (λ i (m : Module). flat_map (import_errors policy s i) m.imports) n t
   imports_within n [] = refl
   imports_within n (m ∷ t) =
-      ap (λ (ts : List Test). ts ++ numbered (λ i (m : Module). flat_map (import_tests policy (rebased bases s) i) m.imports) (n + 1) t) (imports_of_image n m.imports)
-      ∙ ap (λ (ts : List Test). flat_map (import_tests policy s n) m.imports ++ ts) (imports_within (n + 1) t)
+      ap (λ (own : List MapError). own ++ numbered (λ i (m : Module). flat_map (import_errors policy (rebased bases s) i) m.imports) (n + 1) t) (imports_of_image n m.imports)
+      ∙ ap (λ (rest : List MapError). flat_map (import_errors policy s n) m.imports ++ rest) (imports_within (n + 1) t)
 
 imports_from : (policy : Policy) (s : List Module) (n : ℕ) (bases : List ℕ) (t : List Module)
-    → numbered (λ i (m : Module). flat_map (import_tests policy s i) m.imports) n (rebased bases t) ≡ numbered (λ i (m : Module). flat_map (import_tests policy s i) m.imports) n t
+    → numbered (λ i (m : Module). flat_map (import_errors policy s i) m.imports) n (rebased bases t) ≡ numbered (λ i (m : Module). flat_map (import_errors policy s i) m.imports) n t
 imports_from policy s n [] t = refl
 imports_from policy s n (base ∷ bases) [] = refl
-imports_from policy s n (base ∷ bases) (m ∷ t) = ap (λ (ts : List Test). flat_map (import_tests policy s n) m.imports ++ ts) (imports_from policy s (n + 1) bases t)
+imports_from policy s n (base ∷ bases) (m ∷ t) = ap (λ (rest : List MapError). flat_map (import_errors policy s n) m.imports ++ rest) (imports_from policy s (n + 1) bases t)
 
-imports_rebased : (policy : Policy) (bases : List ℕ) (s : List Module) → imports_tests policy (rebased bases s) ≡ imports_tests policy s
-unfolding imports_tests
+imports_rebased : (policy : Policy) (bases : List ℕ) (s : List Module) → imports_errors policy (rebased bases s) ≡ imports_errors policy s
+unfolding imports_errors
 imports_rebased policy bases s = imports_within policy bases s 0 (rebased bases s) ∙ imports_from policy s 0 bases s
 
-imports_stay : (policy : Policy) (bases : List ℕ) (es : List Entry) → imports_tests policy (modules_of (at_bases bases es)) ≡ imports_tests policy (modules_of es)
-imports_stay policy bases es = ap (imports_tests policy) (images_at bases es) ∙ imports_rebased policy bases (modules_of es)
+imports_stay : (policy : Policy) (bases : List ℕ) (es : List Entry) → imports_errors policy (modules_of (at_bases bases es)) ≡ imports_errors policy (modules_of es)
+imports_stay policy bases es = ap (imports_errors policy) (images_at bases es) ∙ imports_rebased policy bases (modules_of es)
 
 -- a set that is accepted is accepted at all bases at which its images may stand
-pub accepted_at : (policy : Policy) (es : List Entry) (bases : List ℕ) → first_standing (set_tests policy es) ≡ None
-    → first_standing (places_tests (modules_of (at_bases bases es))) ≡ None → first_standing (set_tests policy (at_bases bases es)) ≡ None
-unfolding set_tests
+pub accepted_at : (policy : Policy) (es : List Entry) (bases : List ℕ) → set_error policy es ≡ None
+    → first_standing (places_tests (modules_of (at_bases bases es))) ≡ None → set_error policy (at_bases bases es) ≡ None
 accepted_at policy es bases none placed =
     let ok = classes policy es none in
-    let now = at_bases bases es in
-    first-past (names_tests now) _ (ap first_standing (names_stay bases es) ∙ ok.names)
-    ∙ first-past (files_tests now) _ (ap first_standing (files_stay bases es) ∙ ok.files)
-    ∙ first-past (places_tests (modules_of now)) _ placed
-    ∙ ap first_standing (imports_stay policy bases es) ∙ ok.imports
+    of_imports policy (at_bases bases es) (ap first_standing (names_stay bases es) ∙ ok.names) (ap first_standing (files_stay bases es) ∙ ok.files) placed
+    ∙ ap first_error (imports_stay policy bases es) ∙ ok.imports

@@ -1,9 +1,9 @@
 -- The errors by which sets are refused: the first fault, and of a cycle of forwarders also how long it is.
-use Rattle.std.specs.Prelude.{◌≡◌, ℕ, List, [], ◌∷◌, Option, Some, None, Result, Ok, Err, if◌then◌else◌, slice_get}
+use Rattle.std.specs.Prelude.{◌≡◌, ℕ, List, [], ◌∷◌, ◌++◌, Option, Some, None, Result, Ok, Err, if◌then◌else◌, slice_get}
 use Rattle.std.specs.List.{flat_map}
 use Rattle.pe_view.specs.declared.fault.Fault.{Fault}
 use Rattle.pe_view.specs.declared.fault.Place.TheVariants.{Rva}
-use Rattle.pe_view.specs.Faults.{first_standing}
+use Rattle.pe_view.specs.Faults.{Test}
 use Rattle.pe_tables.specs.Imports.{Import}
 use Rattle.pe_set.specs.Numbered.{numbered}
 use Rattle.pe_set.specs.Search.{resolve}
@@ -38,17 +38,22 @@ abbrev pub first_error : List MapError → Option MapError
 first_error [] = None
 first_error (error ∷ later) = Some error
 
-abbrev pub error_or : Option Fault → Option MapError → Option MapError
-error_or None later = later
-error_or (Some fault) later = Some (errors.Fault fault)
+-- the faults that stand, as errors
+abbrev pub faults_in : List Test → List MapError
+faults_in [] = []
+faults_in (t ∷ ts) = if t.stands then errors.Fault t.fault ∷ faults_in ts else faults_in ts
 
--- the error of a set: the first fault of its names, else of its files, else of its places, else the first error of an import
-unfoldable pub set_error : Policy → List Entry → Option MapError
-set_error policy es =
-    error_or (first_standing (names_tests es))
-    (error_or (first_standing (files_tests es))
-    (error_or (first_standing (places_tests (modules_of es)))
-    (first_error (imports_errors policy (modules_of es)))))
+-- all errors of a set, in the order in which they count: of its names, of its files, of its places, of its imports
+unfoldable pub set_errors : Policy → List Entry → List MapError
+set_errors policy es =
+    faults_in (names_tests es)
+    ++ (faults_in (files_tests es)
+    ++ (faults_in (places_tests (modules_of es))
+    ++ imports_errors policy (modules_of es)))
+
+-- the error of a set: the first that counts
+abbrev pub set_error : Policy → List Entry → Option MapError
+set_error policy es = first_error (set_errors policy es)
 
 -- an error is this one, or want of memory
 abbrev pub ErrorIs : Option MapError → MapError → Type 0
@@ -60,12 +65,6 @@ ErrorIs first (errors.Cycle fault length) = first ≡ Some (errors.Cycle fault l
 abbrev pub SetAnswers : {X : Type 0} → Option MapError → (X → Type 0) → Result X MapError → Type 0
 SetAnswers first P (Ok x) = (first ≡ None) × P x
 SetAnswers first P (Err error) = ErrorIs first error
-
--- the fault that an error tells of
-abbrev pub fault_in : MapError → Option Fault
-fault_in errors.Memory = None
-fault_in (errors.Fault fault) = Some fault
-fault_in (errors.Cycle fault length) = Some fault
 
 -- ---- what a cycle tells of
 -- import number `index` of an image has the fault at its slot, and the search for it never ends, in a cycle of this length

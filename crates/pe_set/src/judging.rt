@@ -1,7 +1,7 @@
 ghost use Rattle.std.specs.Prelude.{◌≡◌, ◌≢◌, ◌<◌, ◌⊎◌, Err, None, IsErrOf, length};
 ghost use Rattle.pe_view.specs.Faults.{first_standing};
 ghost use Rattle.pe_set.specs.SetView.{entries_of, IsAcceptedFrom};
-ghost use Rattle.pe_set.specs.SetFaults.{MapAnswers, names_tests, set_tests};
+ghost use Rattle.pe_set.specs.SetFaults.{names_tests};
 ghost use Rattle.pe_set.specs.SetErrors.{SetAnswers, set_error};
 
 use crate::binding::{Binding, bind};
@@ -36,8 +36,7 @@ pub fn judge<'a, A: Allocator + Copy>(
     set: &[SetEntry<'a>],
     policy: Policy,
 ) -> Result<Accepted<'a, A>, MapError>
-    ensures exact { MapAnswers (set_tests policy (entries_of set.now)) (IsAcceptedFrom (entries_of set.now)) result }
-    ensures error { SetAnswers (set_error policy (entries_of set.now)) (λ _. Unit {0}) result }
+    ensures exact { SetAnswers (set_error policy (entries_of set.now)) (IsAcceptedFrom (entries_of set.now)) result }
     ensures no_memory { (length set.now ≡ 0) ⊎ (256 < length set.now) → result ≢ Err MapError.Memory }
     ensures named { IsErrOf result MapError.Memory → first_standing (names_tests (entries_of set.now)) ≡ None }
 {

@@ -1,7 +1,7 @@
 //! What the definitions mean, as laws. The contract of each function here is a law, and its body only calls the laws of other
 //! crates on which that rests.
 
-ghost use Rattle.std.specs.Prelude.{◌≡◌, ◌≤◌, ◌^◌, ◌↔◌, ℕ, List, None, Some, slice_set, map, option_and_then};
+ghost use Rattle.std.specs.Prelude.{◌≡◌, ◌≤◌, ◌^◌, ◌↔◌, ℕ, List, [], None, Some, slice_set, map};
 ghost use Rattle.pe_view.specs.Faults.{first_standing};
 ghost use Rattle.pe_view.specs.declared.fault.Fault.{Fault};
 ghost use Rattle.pe_tables.specs.Key.{Key};
@@ -14,14 +14,14 @@ ghost use Rattle.pe_set.specs.Bindings.{binding_of, bindings_of};
 ghost use Rattle.pe_set.specs.BoundImports.{IsBindingOf};
 ghost use Rattle.pe_set.specs.declared.binding.Binding.{Binding};
 ghost use Rattle.pe_set.specs.Placement.{move_tests};
-ghost use Rattle.pe_set.specs.SetFaults.{set_tests, names_tests, files_tests, places_tests};
-ghost use Rattle.pe_set.specs.SetErrors.{set_error, fault_in, IsCycleOf};
-ghost use Rattle.pe_set.specs.declared.error.MapError.TheVariants.{Cycle};
+ghost use Rattle.pe_set.specs.SetFaults.{names_tests, files_tests, places_tests};
+ghost use Rattle.pe_set.specs.SetErrors.{imports_errors, first_error, set_error, IsCycleOf};
+ghost use Rattle.pe_set.specs.declared.error.MapError.TheVariants as errors;
 ghost use Rattle.pe_set.specs.Sound.{IsSound};
 ghost use Rattle.pe_set.specs.declared.entry.Policy.{Policy};
 
 /// Each search ends in exactly one way: bound to an RVA of an image, at a module that is not in the set, at an export that is
-/// not there, or with a further forwarder after all the hops that it may make.
+/// not there, or never, in a cycle of so many hops.
 pub fn searches_end_in_one_way()
     ensures ends { (s : List Module) (name : List ℕ) (key : Key) → EndsAs s (name, key) (resolve s name key) }
     ensures one { (s : List Module) (name : List ℕ) (key : Key) (end : Resolution) → EndsAs s (name, key) end → end ≡ resolve s name key }
@@ -42,21 +42,36 @@ pub fn slots_are_bound_to_their_exports()
     searches_end_in_one_way();
 }
 
-/// The error of a set tells of its first fault, and a set without an error has none.
-pub fn errors_are_faults()
-    ensures { (policy : Policy) (es : List Entry) → option_and_then fault_in (set_error policy es) ≡ first_standing (set_tests policy es) }
+/// The errors of a set count class by class: the first fault of its names, else of its files, else of its places, else the first
+/// error of an import.
+pub fn errors_count_class_by_class()
+    ensures names { (policy : Policy) (es : List Entry) (fault : Fault) → first_standing (names_tests es) ≡ Some fault → set_error policy es ≡ Some (errors.Fault fault) }
+    ensures files { (policy : Policy) (es : List Entry) (fault : Fault) → first_standing (names_tests es) ≡ None → first_standing (files_tests es) ≡ Some fault
+        → set_error policy es ≡ Some (errors.Fault fault) }
+    ensures places { (policy : Policy) (es : List Entry) (fault : Fault) → first_standing (names_tests es) ≡ None → first_standing (files_tests es) ≡ None
+        → first_standing (places_tests (modules_of es)) ≡ Some fault → set_error policy es ≡ Some (errors.Fault fault) }
+    ensures imports { (policy : Policy) (es : List Entry) → first_standing (names_tests es) ≡ None → first_standing (files_tests es) ≡ None
+        → first_standing (places_tests (modules_of es)) ≡ None → set_error policy es ≡ first_error (imports_errors policy (modules_of es)) }
+{}
+
+/// The names of a set that is accepted, its files and its places have no fault, and its imports no error.
+pub fn accepted_sets_have_no_fault()
+    ensures names { (policy : Policy) (es : List Entry) → set_error policy es ≡ None → first_standing (names_tests es) ≡ None }
+    ensures files { (policy : Policy) (es : List Entry) → set_error policy es ≡ None → first_standing (files_tests es) ≡ None }
+    ensures places { (policy : Policy) (es : List Entry) → set_error policy es ≡ None → first_standing (places_tests (modules_of es)) ≡ None }
+    ensures imports { (policy : Policy) (es : List Entry) → set_error policy es ≡ None → imports_errors policy (modules_of es) ≡ [] }
 {}
 
 /// The error of a set is a cycle only where the search for one of its imports never ends and runs in a cycle of this length: its
 /// fault is 50, at the slot of that import.
 pub fn cycles_are_of_endless_searches()
-    ensures { (policy : Policy) (es : List Entry) (fault : Fault) (length : ℕ) → set_error policy es ≡ Some (Cycle fault length) → IsCycleOf (modules_of es) fault length }
+    ensures { (policy : Policy) (es : List Entry) (fault : Fault) (length : ℕ) → set_error policy es ≡ Some (errors.Cycle fault length) → IsCycleOf (modules_of es) fault length }
 {}
 
 /// The fields and bound slots of an accepted set lie in its images and share no byte, the exports to which they are bound lie in
 /// its images, and its images share no address.
 pub fn accepted_sets_are_sound()
-    ensures { (policy : Policy) (es : List Entry) → first_standing (set_tests policy es) ≡ None → IsSound (modules_of es) }
+    ensures { (policy : Policy) (es : List Entry) → set_error policy es ≡ None → IsSound (modules_of es) }
 {
     pe_layout::laws::images_are_small();
     pe_tables::laws::slots_are_apart();
@@ -85,13 +100,13 @@ pub fn bases_change_no_binding()
 /// The bases of a set bear on faults 44 to 47 alone: a set that is accepted at some bases is accepted at all others at which its
 /// images may stand.
 pub fn accepted_where_placed()
-    ensures { (policy : Policy) (es : List Entry) (bases : List ℕ) → first_standing (set_tests policy es) ≡ None
-        → first_standing (places_tests (modules_of (at_bases bases es))) ≡ None → first_standing (set_tests policy (at_bases bases es)) ≡ None }
+    ensures { (policy : Policy) (es : List Entry) (bases : List ℕ) → set_error policy es ≡ None
+        → first_standing (places_tests (modules_of (at_bases bases es))) ≡ None → set_error policy (at_bases bases es) ≡ None }
 {}
 
 /// A set that is accepted is still accepted after a move of one of its images, where the move has no fault.
 pub fn moves_keep_acceptance()
-    ensures { (policy : Policy) (es : List Entry) (i base : ℕ) → first_standing (set_tests policy es) ≡ None
+    ensures { (policy : Policy) (es : List Entry) (i base : ℕ) → set_error policy es ≡ None
         → first_standing (move_tests (map placement_of (modules_of es)) i base) ≡ None
-        → first_standing (set_tests policy (at_bases (slice_set (bases_of es) i base) es)) ≡ None }
+        → set_error policy (at_bases (slice_set (bases_of es) i base) es) ≡ None }
 {}

@@ -15,12 +15,12 @@ use Rattle.pe_set.specs.Sound.{IsSound, IsSoundImage, IsSoundBinding}
 use Rattle.pe_set.specs.declared.binding.Binding.{Binding}
 use Rattle.pe_space.specs.Content.{SpaceImage, nth_image, slot_width}
 use Rattle.pe_space.specs.SetContent.{image_content, laid_out}
-use Rattle.pe_space.specs.Fresh.{fresh_of, IsFit}
+use Rattle.pe_space.specs.Relocated.{relocated_of, FieldsFit}
 use Rattle.pe_space.specs.Memory.{shifted_all, memory_of}
-use Rattle.pe_space.specs.Held.{Held, images_of, memories_of}
-use Rattle.pe_space.specs.Kept.{kept_content, IsFresh}
-use Rattle.pe_space.specs.Placing.{IsPlaced}
-use Rattle.pe_space.specs.Tied.{Each, Apart, FieldsApart, IsImage, IsSlot, IsTied, SlotsApart}
+use Rattle.pe_space.specs.InMemory.{InMemory, images_of, memories_of}
+use Rattle.pe_space.specs.MappedSpaceView.{mapped_content, SlotsUnbound}
+use Rattle.pe_space.specs.ImagesApart.{ImagesApart}
+use Rattle.pe_space.specs.FieldsAndSlots.{Each, Apart, FieldsApart, IsImage, IsSlot, FieldsAndSlotsApart, SlotsApart}
 use Rattle.pe_space.proofs.Images.{module_got, past_end, image_got, got_below, all_got, pair_got, each_of_all, pairs_of_all}
 use Rattle.pe_space.proofs.Lists.{each_map}
 
@@ -67,9 +67,9 @@ module _ (s : List Module) (sound : IsSound s) where
       subst (λ (g : SpaceImage). Apart b.slot (slot_width g.magic) e.slot (slot_width g.magic)) (sym (image_got s b.image fine.importer fine.imports))
       (sound.slots_apart i j d lt below fine.importer fine.imports same)
 
-  pub tied : IsTied (laid_out s)
+  pub fields_and_slots : FieldsAndSlotsApart (laid_out s)
   unfolding laid_out
-  tied = record {
+  fields_and_slots = record {
     images = image_at;
     slots = each_map (IsSoundBinding s) (IsSlot images) (bindings_of s) slot_at (each_of_all (IsSoundBinding s) (bindings_of s) sound.slots);
     apart = pairs_of_all (SlotsApart images) (bindings_of s) slots_apart;
@@ -107,7 +107,7 @@ module _ (s : List Module) (sound : IsSound s) where
       let got = module_got s j lt in
       subst (λ (g : SpaceImage). 0 < g.size) (sym got.2) (all_got IsSoundImage s j got.0 sound.images got.1).some
 
-  pub placed : IsPlaced (laid_out s)
+  pub placed : ImagesApart (laid_out s)
   unfolding laid_out
   placed =
       let count = length-map s image_content in
@@ -135,44 +135,44 @@ module _ (s : List Module) (sound : IsSound s) where
   unfolding laid_out
   small = small_from
 
-  fit_of : (m : Module) → IsSoundImage m → IsFit m
+  fit_of : (m : Module) → IsSoundImage m → FieldsFit m
   fit_of m fine =
       let few = fine.few in
       record { inside = each_of_all (λ (f : Fixup). f.field + width_of f.kind ≤ m.image.size) m.fixups fine.inside; few = omega (arith, few) }
 
   -- the fields of each image are fit
-  pub fit : Each IsFit s
-  fit = each_map IsSoundImage IsFit s fit_of (each_of_all IsSoundImage s sound.images)
+  pub fit : Each FieldsFit s
+  fit = each_map IsSoundImage FieldsFit s fit_of (each_of_all IsSoundImage s sound.images)
 
   -- the fields of each lie in it
   pub fields_inside : (j : ℕ) (m : Module) → slice_get s j ≡ Some m → Each (λ (f : Fixup). f.field + width_of f.kind ≤ m.image.size) m.fixups
   fields_inside j m at = each_of_all (λ (f : Fixup). f.field + width_of f.kind ≤ m.image.size) m.fixups (all_got IsSoundImage s j m sound.images at).inside
 
 -- ---- images that have just been placed
-image_fresh : (m : Module) → (fresh_of m).image ≡ image_content m
+image_fresh : (m : Module) → (relocated_of m).image ≡ image_content m
 image_fresh m = ap (λ (n : ℕ). record (image_content m) { size = n }) (length-map-range_with_len m.image.byte 0 m.image.size)
 
-pub images_fresh : (s : List Module) → images_of (map fresh_of s) ≡ map image_content s
+pub images_fresh : (s : List Module) → images_of (map relocated_of s) ≡ map image_content s
 images_fresh [] = refl
-images_fresh (m ∷ s) = ap (λ (i : SpaceImage). i ∷ images_of (map fresh_of s)) (image_fresh m) ∙ ap (λ (is : List SpaceImage). image_content m ∷ is) (images_fresh s)
+images_fresh (m ∷ s) = ap (λ (i : SpaceImage). i ∷ images_of (map relocated_of s)) (image_fresh m) ∙ ap (λ (is : List SpaceImage). image_content m ∷ is) (images_fresh s)
 
-pub content_fresh : (s : List Module) → kept_content (map fresh_of s) (bindings_of s) ≡ laid_out s
+pub content_fresh : (s : List Module) → mapped_content (map relocated_of s) (bindings_of s) ≡ laid_out s
 unfolding laid_out
 content_fresh s = ap (λ (is : List SpaceImage). record { images = is; bindings = bindings_of s }) (images_fresh s)
 
-fresh_whole : (s : List Module) (j : ℕ) → length (nth_image (images_of (map fresh_of s)) j).plain ≡ (nth_image (images_of (map fresh_of s)) j).size
+fresh_whole : (s : List Module) (j : ℕ) → length (nth_image (images_of (map relocated_of s)) j).plain ≡ (nth_image (images_of (map relocated_of s)) j).size
 fresh_whole [] j = refl
 fresh_whole (m ∷ s) zero = refl
 fresh_whole (m ∷ s) (suc j) = fresh_whole s j
 
-fresh_fields : (s : List Module) (j : ℕ) → (let i : SpaceImage = nth_image (images_of (map fresh_of s)) j in memory_of (memories_of (map fresh_of s)) j ≡ shifted_all (pos i.base -ℤ pos i.image_base) i.fixups i.plain)
+fresh_fields : (s : List Module) (j : ℕ) → (let i : SpaceImage = nth_image (images_of (map relocated_of s)) j in memory_of (memories_of (map relocated_of s)) j ≡ shifted_all (pos i.base -ℤ pos i.image_base) i.fixups i.plain)
 fresh_fields [] j = refl
 fresh_fields (m ∷ s) zero = refl
 fresh_fields (m ∷ s) (suc j) = fresh_fields s j
 
-pub fresh : (s : List Module) → IsFresh (kept_content (map fresh_of s) (bindings_of s)) (memories_of (map fresh_of s))
+pub fresh : (s : List Module) → SlotsUnbound (mapped_content (map relocated_of s) (bindings_of s)) (memories_of (map relocated_of s))
 fresh s = record {
-  count = length-map (map fresh_of s) (λ (h : Held). h.memory) ∙ sym (length-map (map fresh_of s) (λ (h : Held). h.image));
+  count = length-map (map relocated_of s) (λ (h : InMemory). h.memory) ∙ sym (length-map (map relocated_of s) (λ (h : InMemory). h.image));
   whole = fresh_whole s;
   fields = fresh_fields s;
 }

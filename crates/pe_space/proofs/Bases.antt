@@ -5,11 +5,11 @@ use Rattle.pe_set.specs.Bindings.{bindings_of}
 use Rattle.pe_set.specs.Set.{Module, rebased}
 use Rattle.pe_set.specs.Sound.{IsSound}
 use Rattle.pe_set.specs.declared.binding.Binding.{Binding}
-use Rattle.pe_space.specs.Bare.{bare, images_at, set_at}
+use Rattle.pe_space.specs.Unbound.{unbound, images_at, set_at}
 use Rattle.pe_space.specs.Content.{SpaceImage, Content, nth_image, byte_at}
 use Rattle.pe_space.specs.SetContent.{image_content, laid_out, content_of, defined_byte}
-use Rattle.pe_space.proofs.Accepting.{tied, fields_inside}
-use Rattle.pe_space.proofs.Baring.{content_at_bases}
+use Rattle.pe_space.proofs.Accepting.{fields_and_slots, fields_inside}
+use Rattle.pe_space.proofs.Unbinding.{content_at_bases}
 use Rattle.pe_space.proofs.Defining.{address_same, laid_defined}
 
 images_rebased : (bases : List ℕ) (s : List Module) → map image_content (rebased bases s) ≡ images_at bases (map image_content s)
@@ -26,7 +26,7 @@ laid_at bases s t images bound =
 
 pub content_at : (bases : List ℕ) (s t : List Module) → t ≡ rebased bases s → bindings_of t ≡ bindings_of s → set_at bases (content_of s) ≡ content_of t
 unfolding content_of
-content_at bases s t images bound = content_at_bases bases (laid_out s) ∙ ap bare (laid_at bases s t images bound)
+content_at bases s t images bound = content_at_bases bases (laid_out s) ∙ ap unbound (laid_at bases s t images bound)
 
 whole_from : (s : List Module) (j : ℕ) → length (nth_image (map image_content s) j).plain ≡ (nth_image (map image_content s) j).size
 whole_from [] j = refl
@@ -40,7 +40,7 @@ whole_at s j = whole_from s j
 -- what is kept says at each address what the set defines there
 pub bytes_defined : (s : List Module) (a : ℕ) → IsSound s → byte_at (content_of s) a ≡ defined_byte s a
 unfolding content_of
-bytes_defined s a sound = address_same (laid_out s) a (tied s sound) (whole_at s) ∙ laid_defined s (fields_inside s sound) a
+bytes_defined s a sound = address_same (laid_out s) a (fields_and_slots s sound) (whole_at s) ∙ laid_defined s (fields_inside s sound) a
 
 pub bytes_at_bases : (bases : List ℕ) (s t : List Module) (a : ℕ) → t ≡ rebased bases s → bindings_of t ≡ bindings_of s → IsSound t → byte_at (set_at bases (content_of s)) a ≡ defined_byte t a
 bytes_at_bases bases s t a images bound sound = ap (λ (c : Content). byte_at c a) (content_at bases s t images bound) ∙ bytes_defined t a sound

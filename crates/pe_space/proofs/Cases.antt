@@ -15,13 +15,13 @@ use Rattle.pe_space.specs.ByteCases.{HasByte, InBoundSlot, InFixup, IsOutside}
 use Rattle.pe_space.specs.Content.{SpaceImage, Content, nth_image, is_in, in_field, in_slot, fixed_byte, byte_by, byte_held, byte_in}
 use Rattle.pe_space.specs.Number.{digit, number_in, shift}
 use Rattle.pe_space.specs.SetContent.{image_content, laid_out, byte_in_image, defined_from, defined_byte}
-use Rattle.pe_space.specs.Tied.{Each}
-use Rattle.pe_space.proofs.Accepting.{tied, placed, fields_inside}
+use Rattle.pe_space.specs.FieldsAndSlots.{Each}
+use Rattle.pe_space.proofs.Accepting.{fields_and_slots, placed, fields_inside}
 use Rattle.pe_space.proofs.Addressing.{holder_is}
 use Rattle.pe_space.proofs.Defining.{laid_defined, number_plain, plain_at}
 use Rattle.pe_space.proofs.Lists.{each_at, none_found}
 use Rattle.pe_space.proofs.Images.{image_got, got_below}
-use Rattle.pe_space.proofs.Laying.{width_in}
+use Rattle.pe_space.proofs.Written.{width_in}
 use Rattle.pe_space.proofs.SlotsAndFields.{slot_byte, field_byte, in_slot-true, is_in-true, true-is_in}
 
 each_contains : {X : Type 0} (P : X → Type 0) (xs : List X) (x : X) → Each P xs → Contains xs x → P x
@@ -58,7 +58,7 @@ module _ (s : List Module) (sound : IsSound s) where
   unfolding laid_out
   in_slots i r k m exporter b has at exports =
       let stands = each_contains (λ (b : Binding). (r : ℕ) → b.slot ≤ r → r < b.slot + width_in c.images b → byte_in c b.image r ≡ digit ((nth_image c.images b.exporter).base + b.rva) (r - b.slot))
-      (bindings_of s) b (slot_byte c (tied s sound)) at.bound in
+      (bindings_of s) b (slot_byte c (fields_and_slots s sound)) at.bound in
       let place = at.place in
       let small = at.small in
       let width : width_in c.images b ≡ slot_width_of m.magic = ap (λ (j : ℕ). slot_width_of (nth_image c.images j).magic) at.image ∙ ap (λ (g : SpaceImage). slot_width_of g.magic) (image_got s i m has.image) in
@@ -76,7 +76,7 @@ module _ (s : List Module) (sound : IsSound s) where
       let place = at.place in
       let small = at.small in
       let back : r - f.field ≡ k = omega (arith, place) in
-      let stands = each_contains _ (nth_image c.images i).fixups f (field_byte c i (tied s sound)) listed r (omega (arith, place)) (omega (arith, place, small)) in
+      let stands = each_contains _ (nth_image c.images i).fixups f (field_byte c i (fields_and_slots s sound)) listed r (omega (arith, place)) (omega (arith, place, small)) in
       let inside = each_contains (λ (f : Fixup). f.field + width_of f.kind ≤ m.image.size) m.fixups f (fields_inside s sound i m has.image) at.fixup in
       here i r m has ∙ ap (λ (v : ℕ). Some v) stands
       ∙ ap (λ (g : SpaceImage). Some (digit (shift f.kind (number_in g.plain f.field (width_of f.kind)) (pos g.base -ℤ pos g.image_base)) (r - f.field))) image

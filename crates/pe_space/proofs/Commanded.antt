@@ -8,9 +8,9 @@ use Rattle.pe_set.specs.Bindings.{bindings_of}
 use Rattle.pe_set.specs.Placement.{Placement, move_tests}
 use Rattle.pe_set.specs.Set as sets
 use Rattle.pe_set.specs.Set.{Entry, Module, modules_from, modules_of, at_bases, rebased}
-use Rattle.pe_set.specs.SetFaults.{set_tests}
+use Rattle.pe_set.specs.SetErrors.{set_error}
 use Rattle.pe_set.specs.declared.entry.Policy.{Policy}
-use Rattle.pe_space.specs.Bare as kept
+use Rattle.pe_space.specs.Unbound as kept
 use Rattle.pe_space.specs.Commands.{after, after_all, moved_unless}
 use Rattle.pe_space.specs.Content.{SpaceImage, Content, nth_image, placement_of}
 use Rattle.pe_space.specs.Moves.{move_fault, moved}
@@ -80,15 +80,15 @@ moved_is c i base = ap (λ (images : List SpaceImage). record c { images = image
 pub record Serves (policy : Policy) (es : List Entry) (c : Content) : Type 0 where
   pub now : List Entry
   pub same : AreSame es now
-  pub accepted : first_standing (set_tests policy now) ≡ None
+  pub accepted : set_error policy now ≡ None
   pub content : c ≡ content_of (modules_of now)
 
 module _ (policy : Policy)
-    (moves : (es : List Entry) (i base : ℕ) → first_standing (set_tests policy es) ≡ None → first_standing (move_tests (map sets.placement_of (modules_of es)) i base) ≡ None
-    → first_standing (set_tests policy (at_bases (slice_set (sets.bases_of es) i base) es)) ≡ None)
+    (moves : (es : List Entry) (i base : ℕ) → set_error policy es ≡ None → first_standing (move_tests (map sets.placement_of (modules_of es)) i base) ≡ None
+    → set_error policy (at_bases (slice_set (sets.bases_of es) i base) es) ≡ None)
     (images : (bases : List ℕ) (es : List Entry) → modules_of (at_bases bases es) ≡ rebased bases (modules_of es))
     (bindings : (bases : List ℕ) (es : List Entry) → bindings_of (modules_of (at_bases bases es)) ≡ bindings_of (modules_of es)) where
-  move_serves : (es : List Entry) (i base : ℕ) (o : Option Fault) → first_standing (set_tests policy es) ≡ None → move_fault (content_of (modules_of es)) i base ≡ o
+  move_serves : (es : List Entry) (i base : ℕ) (o : Option Fault) → set_error policy es ≡ None → move_fault (content_of (modules_of es)) i base ≡ o
       → Serves policy es (moved_unless (content_of (modules_of es)) i base o)
   move_serves es i base None none fault =
       let c = content_of (modules_of es) in
@@ -103,13 +103,13 @@ module _ (policy : Policy)
       }
   move_serves es i base (Some y) none fault = record { now = es; same = own_bases es; accepted = none; content = refl }
 
-  serves : (es : List Entry) (command : Command) → first_standing (set_tests policy es) ≡ None → Serves policy es (after command (content_of (modules_of es)))
+  serves : (es : List Entry) (command : Command) → set_error policy es ≡ None → Serves policy es (after command (content_of (modules_of es)))
   serves es (Byte address) none = record { now = es; same = own_bases es; accepted = none; content = refl }
   serves es (Window address count) none = record { now = es; same = own_bases es; accepted = none; content = refl }
   serves es (Move i base) none = move_serves es i base (move_fault (content_of (modules_of es)) i base) none refl
   serves es (Base i) none = record { now = es; same = own_bases es; accepted = none; content = refl }
 
-  pub all_serve : (es : List Entry) (commands : List Command) → first_standing (set_tests policy es) ≡ None → Serves policy es (after_all commands (content_of (modules_of es)))
+  pub all_serve : (es : List Entry) (commands : List Command) → set_error policy es ≡ None → Serves policy es (after_all commands (content_of (modules_of es)))
   all_serve es [] none = record { now = es; same = own_bases es; accepted = none; content = refl }
   all_serve es (command ∷ commands) none =
       let one = serves es command none in

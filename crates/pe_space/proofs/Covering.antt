@@ -9,10 +9,10 @@ use Rattle.pe_tables.specs.declared.fixups.Fixup.{Fixup}
 use Rattle.pe_tables.specs.declared.fixups.FixupKind.{FixupKind}
 use Rattle.pe_tables.specs.declared.fixups.FixupKind.TheVariants.{Bits32, Bits64, High, Low}
 use Rattle.pe_set.specs.declared.binding.Binding.{Binding}
-use Rattle.pe_space.specs.Bare.{bare}
+use Rattle.pe_space.specs.Unbound.{unbound}
 use Rattle.pe_space.specs.Number.{digit}
 use Rattle.pe_space.specs.Content.{SpaceImage, Content, nth_image, width_of, slot_width, is_in, in_field, in_slot, fixed_byte, byte_by, byte_in}
-use Rattle.pe_space.specs.Tied.{FieldsApart, IsImage, IsTied}
+use Rattle.pe_space.specs.FieldsAndSlots.{FieldsApart, IsImage, FieldsAndSlotsApart}
 use Rattle.pe_space.specs.Windows.{fixed_at, fixed_bytes}
 use Rattle.pe_space.proofs.Defining.{plain_at, byte_same}
 use Rattle.pe_space.proofs.Lists.{each_contains, find_in, finds_each}
@@ -80,22 +80,22 @@ slot_width_small Pe32Plus = omega arith
 abbrev pub in_slot_of : ℕ → ℕ → Binding → Bool
 in_slot_of width r b = is_in b.slot width r
 
-module _ (c : Content) (tied : IsTied c) (whole : (j : ℕ) → length (nth_image c.images j).plain ≡ (nth_image c.images j).size) (j : ℕ) (here : j < length c.images) where
+module _ (c : Content) (fields_and_slots : FieldsAndSlotsApart c) (whole : (j : ℕ) → length (nth_image c.images j).plain ≡ (nth_image c.images j).size) (j : ℕ) (here : j < length c.images) where
   -- before any slot is laid on
   pub slots_still : (width : ℕ) (slots : List Binding) (start n : ℕ) (window : List ℕ) → width ≡ slot_width (nth_image c.images j).magic
       → window ≡ fixed_bytes (nth_image c.images j) start n
       → ((b : Binding) → Contains c.bindings b → b.image ≡ j → start < b.slot + 8 → b.slot < start + n → Contains slots b)
-      → Still (byte_in (bare c) j) (in_slot_of width) start slots window
+      → Still (byte_in (unbound c) j) (in_slot_of width) start slots window
   unfolding fixed_bytes
   slots_still width slots start n window wide filled all k lt =
       let len : length window ≡ n = ap length filled ∙ length-map-range_with_len (fixed_at (nth_image c.images j)) start n in
       by_found len (find (in_slot j (nth_image c.images j).magic (start + k)) c.bindings) refl
     where
       by_found : length window ≡ n → (o : Option Binding) → find (in_slot j (nth_image c.images j).magic (start + k)) c.bindings ≡ o
-          → (get_or window k 0 ≡ byte_in (bare c) j (start + k)) ⊎ AnyOf (in_slot_of width (start + k)) slots
+          → (get_or window k 0 ≡ byte_in (unbound c) j (start + k)) ⊎ AnyOf (in_slot_of width (start + k)) slots
       by_found len None is =
           inl (ap (λ (l : List ℕ). get_or l k 0) filled ∙ get_or-map-range_with_len (fixed_at (nth_image c.images j)) start n k (start + k) 0 (omega (arith, lt, len)) refl
-          ∙ sym (byte_same c tied whole j here (start + k) ∙ ap (byte_by c j (start + k)) is))
+          ∙ sym (byte_same c fields_and_slots whole j here (start + k) ∙ ap (byte_by c j (start + k)) is))
       by_found len (Some b) is =
           let both = find_in (in_slot j (nth_image c.images j).magic (start + k)) c.bindings b is in
           let range = in_slot-true j (nth_image c.images j).magic (start + k) b both.1 in
@@ -107,8 +107,8 @@ module _ (c : Content) (tied : IsTied c) (whole : (j : ℕ) → length (nth_imag
 
   -- the byte of a slot
   pub slot_at : (b : Binding) (r : ℕ) → Contains c.bindings b → b.image ≡ j → b.slot ≤ r → r < b.slot + slot_width (nth_image c.images j).magic
-      → byte_in (bare c) j r ≡ digit ((nth_image c.images b.exporter).base + b.rva) (r - b.slot)
+      → byte_in (unbound c) j r ≡ digit ((nth_image c.images b.exporter).base + b.rva) (r - b.slot)
   slot_at b r held there low high =
-      byte_same c tied whole j here r
+      byte_same c fields_and_slots whole j here r
       ∙ subst (λ (i : ℕ). r < b.slot + slot_width (nth_image c.images i).magic → byte_in c i r ≡ digit ((nth_image c.images b.exporter).base + b.rva) (r - b.slot)) there
-      (each_contains _ c.bindings b (slot_byte c tied) held r low) high
+      (each_contains _ c.bindings b (slot_byte c fields_and_slots) held r low) high

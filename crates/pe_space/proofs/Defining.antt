@@ -19,12 +19,12 @@ use Rattle.pe_tables.specs.declared.fixups.Fixup.{Fixup}
 use Rattle.pe_set.specs.declared.binding.Binding.{Binding}
 use Rattle.pe_space.specs.Number.{digit, number_in, shift}
 use Rattle.pe_space.specs.Content.{SpaceImage, Content, placement_of, placed_from, nth_image, slot_width, is_in, in_slot, in_field, fixed_byte, byte_by, byte_in, holder_from, byte_held, byte_at, bytes_from, window_image, image_at, window_in, window_at}
-use Rattle.pe_space.specs.Bare.{without_slots, bared, bare}
-use Rattle.pe_space.specs.Tied.{Each, Apart, IsSlot, IsTied}
+use Rattle.pe_space.specs.Unbound.{without_slots, unbound_images, unbound}
+use Rattle.pe_space.specs.FieldsAndSlots.{Each, Apart, IsSlot, FieldsAndSlotsApart}
 use Rattle.pe_space.proofs.Lists.{each_map, each_both}
 use Rattle.pe_space.proofs.Numbers.{same_number}
-use Rattle.pe_space.proofs.Baring.{bare_same, image_bared}
-use Rattle.pe_space.proofs.Laying.{cases_in, width_in}
+use Rattle.pe_space.proofs.Unbinding.{bare_same, image_bared}
+use Rattle.pe_space.proofs.Written.{cases_in, width_in}
 use Rattle.pe_space.proofs.SlotsAndFields.{true-in_slot, is_in-true}
 use Rattle.pe_space.proofs.Addressing.{holder_inside}
 
@@ -46,21 +46,21 @@ each_missed p [] is = tt
 each_missed p (x ∷ xs) is = let both = missed_step p x (find p xs) (p x) refl is in (both.0, each_missed p xs both.1)
 
 -- ---- the content with 0 in bound slots
-pub placements_bared : (k : ℕ) (bs : List Binding) (images : List SpaceImage) → map placement_of (bared k bs images) ≡ map placement_of images
+pub placements_bared : (k : ℕ) (bs : List Binding) (images : List SpaceImage) → map placement_of (unbound_images k bs images) ≡ map placement_of images
 placements_bared k bs [] = refl
 placements_bared k bs (image ∷ images) = ap (λ (ps : List Placement). placement_of image ∷ ps) (placements_bared (k + 1) bs images)
 
-holder_bared : (bs : List Binding) (images : List SpaceImage) (a : ℕ) → holder_from 0 (bared 0 bs images) a ≡ holder_from 0 images a
+holder_bared : (bs : List Binding) (images : List SpaceImage) (a : ℕ) → holder_from 0 (unbound_images 0 bs images) a ≡ holder_from 0 images a
 holder_bared bs images a = ap (λ (ps : List Placement). placed_from 0 ps a) (placements_bared 0 bs images)
 
-module _ (c : Content) (tied : IsTied c) (whole : (j : ℕ) → length (nth_image c.images j).plain ≡ (nth_image c.images j).size) (i : ℕ) (lt : i < length c.images) where
+module _ (c : Content) (fields_and_slots : FieldsAndSlotsApart c) (whole : (j : ℕ) → length (nth_image c.images j).plain ≡ (nth_image c.images j).size) (i : ℕ) (lt : i < length c.images) where
   abbrev own : SpaceImage
   own = nth_image c.images i
 
   abbrev bare_plain : List ℕ
   bare_plain = without_slots (0 + i) (slot_width (nth_image c.images i).magic) c.bindings (nth_image c.images i).plain
 
-  bare_is : nth_image (bare c).images i ≡ record (nth_image c.images i) { plain = bare_plain }
+  bare_is : nth_image (unbound c).images i ≡ record (nth_image c.images i) { plain = bare_plain }
   bare_is = image_bared 0 c.bindings c.images i lt
 
   free : (q : ℕ) → Each (λ (b : Binding). b.image ≡ i → Apart b.slot (width_in c.images b) q 1) c.bindings → get_or bare_plain q 0 ≡ get_or own.plain q 0
@@ -70,7 +70,7 @@ module _ (c : Content) (tied : IsTied c) (whole : (j : ℕ) → length (nth_imag
         (let inside = both.1.inside in let size : (nth_image c.images b.image).size ≡ own.size = ap (λ (j : ℕ). (nth_image c.images j).size) here in let all = whole i in omega arith),
         elim (both.0 here) [ inl before ↦ inr (omega arith) | inr after ↦ inl (omega arith) ],
       )))
-      (each_both (λ (b : Binding). b.image ≡ i → Apart b.slot (width_in c.images b) q 1) (IsSlot c.images) c.bindings apart tied.slots))
+      (each_both (λ (b : Binding). b.image ≡ i → Apart b.slot (width_in c.images b) q 1) (IsSlot c.images) c.bindings apart fields_and_slots.slots))
 
   -- outside all slots
   off_slots : (r : ℕ) → find (in_slot i own.magic r) c.bindings ≡ None → Each (λ (b : Binding). b.image ≡ i → Apart b.slot (width_in c.images b) r 1) c.bindings
@@ -96,57 +96,57 @@ module _ (c : Content) (tied : IsTied c) (whole : (j : ℕ) → length (nth_imag
       each_map (IsSlot c.images) (λ (b : Binding). b.image ≡ i → Apart b.slot (width_in c.images b) f.field (width_of f.kind)) c.bindings
       (λ b slot same. (each_found (λ (f : Fixup). Apart b.slot (width_in c.images b) f.field (width_of f.kind)) (in_field r) own.fixups f
       (subst (λ (j : ℕ). Each (λ (f : Fixup). Apart b.slot (width_in c.images b) f.field (width_of f.kind)) (nth_image c.images j).fixups) same slot.off_fields) is).0)
-      tied.slots in
+      fields_and_slots.slots in
       ap (λ (v : ℕ). digit (shift f.kind v (pos own.base -ℤ pos own.image_base)) (r - f.field))
       (same_number bare_plain own.plain f.field f.field (width_of f.kind) (λ q small. off_field f q apart small))
 
-  slot_same : (r : ℕ) (o : Option Binding) → find (in_slot i own.magic r) c.bindings ≡ o → byte_by (bare c) i r o ≡ byte_by c i r o
+  slot_same : (r : ℕ) (o : Option Binding) → find (in_slot i own.magic r) c.bindings ≡ o → byte_by (unbound c) i r o ≡ byte_by c i r o
   slot_same r None is =
       ap (λ (m : SpaceImage). fixed_byte m r (find (in_field r) m.fixups)) bare_is
       ∙ field_same r (find (in_field r) own.fixups) refl is
   slot_same r (Some b) is =
-      let slot : IsSlot c.images b = (each_found (IsSlot c.images) (in_slot i own.magic r) c.bindings b tied.slots is).0 in
+      let slot : IsSlot c.images b = (each_found (IsSlot c.images) (in_slot i own.magic r) c.bindings b fields_and_slots.slots is).0 in
       ap (λ (m : SpaceImage). digit (m.base + b.rva) (r - b.slot)) (image_bared 0 c.bindings c.images b.exporter slot.exporter)
 
-  pub byte_same : (r : ℕ) → byte_in (bare c) i r ≡ byte_in c i r
+  pub byte_same : (r : ℕ) → byte_in (unbound c) i r ≡ byte_in c i r
   byte_same r =
-      ap (λ (m : SpaceImage). byte_by (bare c) i r (find (in_slot i m.magic r) c.bindings)) bare_is
+      ap (λ (m : SpaceImage). byte_by (unbound c) i r (find (in_slot i m.magic r) c.bindings)) bare_is
       ∙ slot_same r (find (in_slot i own.magic r) c.bindings) refl
 
-  pub base_same : (nth_image (bare c).images i).base ≡ own.base
+  pub base_same : (nth_image (unbound c).images i).base ≡ own.base
   base_same = ap (λ (m : SpaceImage). m.base) bare_is
 
 -- the same byte stands at each address
-pub address_same : (c : Content) (a : ℕ) → IsTied c → ((j : ℕ) → length (nth_image c.images j).plain ≡ (nth_image c.images j).size) → byte_at (bare c) a ≡ byte_at c a
-address_same c a tied whole =
-    ap (byte_held (bare c) a) (holder_bared c.bindings c.images a) ∙ by_holder (holder_from 0 c.images a) refl
+pub address_same : (c : Content) (a : ℕ) → FieldsAndSlotsApart c → ((j : ℕ) → length (nth_image c.images j).plain ≡ (nth_image c.images j).size) → byte_at (unbound c) a ≡ byte_at c a
+address_same c a fields_and_slots whole =
+    ap (byte_held (unbound c) a) (holder_bared c.bindings c.images a) ∙ by_holder (holder_from 0 c.images a) refl
   where
-    by_holder : (o : Option ℕ) → holder_from 0 c.images a ≡ o → byte_held (bare c) a o ≡ byte_held c a o
+    by_holder : (o : Option ℕ) → holder_from 0 c.images a ≡ o → byte_held (unbound c) a o ≡ byte_held c a o
     by_holder None is = refl
     by_holder (Some j) is =
         let inside = holder_inside 0 c.images a j is in
         let same = inside.1 in
         let below = inside.2.0 in
         let lt : j < length c.images = omega (arith, same, below) in
-        ap (λ (b : ℕ). Some (byte_in (bare c) j (a - b))) (base_same c tied whole j lt)
-        ∙ ap (λ (n : ℕ). Some n) (byte_same c tied whole j lt (a - (nth_image c.images j).base))
+        ap (λ (b : ℕ). Some (byte_in (unbound c) j (a - b))) (base_same c fields_and_slots whole j lt)
+        ∙ ap (λ (n : ℕ). Some n) (byte_same c fields_and_slots whole j lt (a - (nth_image c.images j).base))
 
 -- the same bytes stand in each window
-pub bytes_same : (c : Content) (n a : ℕ) → IsTied c → ((j : ℕ) → length (nth_image c.images j).plain ≡ (nth_image c.images j).size) → bytes_from (bare c) a n ≡ bytes_from c a n
-bytes_same c zero a tied whole = refl
-bytes_same c (suc n) a tied whole =
-    ap (λ (o : Option ℕ). unwrap_or o 0 ∷ bytes_from (bare c) (a + 1) n) (address_same c a tied whole)
-    ∙ ap (λ (xs : List ℕ). unwrap_or (byte_at c a) 0 ∷ xs) (bytes_same c n (a + 1) tied whole)
+pub bytes_same : (c : Content) (n a : ℕ) → FieldsAndSlotsApart c → ((j : ℕ) → length (nth_image c.images j).plain ≡ (nth_image c.images j).size) → bytes_from (unbound c) a n ≡ bytes_from c a n
+bytes_same c zero a fields_and_slots whole = refl
+bytes_same c (suc n) a fields_and_slots whole =
+    ap (λ (o : Option ℕ). unwrap_or o 0 ∷ bytes_from (unbound c) (a + 1) n) (address_same c a fields_and_slots whole)
+    ∙ ap (λ (xs : List ℕ). unwrap_or (byte_at c a) 0 ∷ xs) (bytes_same c n (a + 1) fields_and_slots whole)
 
 -- where no image stands
-pub byte_nowhere : (c : Content) (a : ℕ) → holder_from 0 c.images a ≡ None → byte_at (bare c) a ≡ None
-byte_nowhere c a none = ap (byte_held (bare c) a) (holder_bared c.bindings c.images a ∙ none)
+pub byte_nowhere : (c : Content) (a : ℕ) → holder_from 0 c.images a ≡ None → byte_at (unbound c) a ≡ None
+byte_nowhere c a none = ap (byte_held (unbound c) a) (holder_bared c.bindings c.images a ∙ none)
 
 -- what a window holds, by where it lies
-pub window_told : (c : Content) (a n : ℕ) (o : Result ℕ Fault) → (n == 0) ≡ false → window_image (map placement_of c.images) a n ≡ o → window_at (bare c) a n ≡ window_in (bare c) a n o
+pub window_told : (c : Content) (a n : ℕ) (o : Result ℕ Fault) → (n == 0) ≡ false → window_image (map placement_of c.images) a n ≡ o → window_at (unbound c) a n ≡ window_in (unbound c) a n o
 window_told c a n o some is =
-    ap (λ (b : Bool). cond b (Ok []) (window_in (bare c) a n (window_image (map placement_of (bare c).images) a n))) some
-    ∙ ap (window_in (bare c) a n) (ap (λ (ps : List Placement). window_image ps a n) (placements_bared 0 c.bindings c.images) ∙ is)
+    ap (λ (b : Bool). cond b (Ok []) (window_in (unbound c) a n (window_image (map placement_of (unbound c).images) a n))) some
+    ∙ ap (window_in (unbound c) a n) (ap (λ (ps : List Placement). window_image ps a n) (placements_bared 0 c.bindings c.images) ∙ is)
 
 -- ---- the files as they are laid out
 pub plain_at : (i : layout.LaidOut) (r : ℕ) → r < i.size → get_or (layout.bytes_at i 0 i.size) r 0 ≡ i.byte r
@@ -166,9 +166,9 @@ base_got (m ∷ s) (suc j) = base_got s j
 abbrev AreInside : Module → Type 0
 AreInside m = Each (λ (f : Fixup). f.field + width_of f.kind ≤ m.image.size) m.fixups
 
-unbound : (m : Module) (r : ℕ) (o : Option Fixup) → AreInside m → find (in_field r) m.fixups ≡ o → r < m.image.size → fixed_byte (image_content m) r o ≡ relocated_by m.image m.base r o
-unbound m r None inside is lt = plain_at m.image r lt
-unbound m r (Some f) inside is lt =
+fixed_is : (m : Module) (r : ℕ) (o : Option Fixup) → AreInside m → find (in_field r) m.fixups ≡ o → r < m.image.size → fixed_byte (image_content m) r o ≡ relocated_by m.image m.base r o
+fixed_is m r None inside is lt = plain_at m.image r lt
+fixed_is m r (Some f) inside is lt =
     ap (λ (v : ℕ). digit (shift f.kind v (pos m.base -ℤ pos m.image.image_base)) (r - f.field))
     (number_plain m.image f.field (width_of f.kind) (each_found (λ (f : Fixup). f.field + width_of f.kind ≤ m.image.size) (in_field r) m.fixups f inside is).0)
 
@@ -179,7 +179,7 @@ module _ (s : List Module) (inside : (j : ℕ) (m : Module) → slice_get s j �
   by_slot : (n : ℕ) (m : Module) (r : ℕ) (o : Option Binding) → slice_get s n ≡ Some m → r < m.image.size → byte_by c n r o ≡ byte_of_image s m r o
   by_slot n m r None at lt =
       ap (λ (g : SpaceImage). fixed_byte g r (find (in_field r) g.fixups)) (image_got s n m at)
-      ∙ unbound m r (find (in_field r) m.fixups) (inside n m at) refl lt
+      ∙ fixed_is m r (find (in_field r) m.fixups) (inside n m at) refl lt
   by_slot n m r (Some b) at lt = ap (λ (v : ℕ). digit (v + b.rva) (r - b.slot)) (base_got s b.exporter)
 
   in_image : (n : ℕ) (m : Module) (r : ℕ) → slice_get s n ≡ Some m → r < m.image.size → byte_in c n r ≡ byte_in_image s n r m
@@ -211,7 +211,7 @@ module _ (s : List Module) (inside : (j : ℕ) (m : Module) → slice_get s j �
   laid_defined a = at_from 0 s a (λ i m at. let here : 0 + i ≡ i = omega arith in subst (λ (k : ℕ). slice_get s k ≡ Some m) (sym here) at)
 
 -- which image holds what was asked
-pub image_told : (c s : Content) (a n : ℕ) (o : Result ℕ Fault) → bare c ≡ s → o ≡ image_at s a n → window_image (map placement_of c.images) a n ≡ o
+pub image_told : (c s : Content) (a n : ℕ) (o : Result ℕ Fault) → unbound c ≡ s → o ≡ image_at s a n → window_image (map placement_of c.images) a n ≡ o
 image_told c s a n o view is =
     ap (λ (ps : List Placement). window_image ps a n) (sym (placements_bared 0 c.bindings c.images)) ∙ ap (λ (x : Content). image_at x a n) view ∙ sym is
 

@@ -5,7 +5,7 @@ use Rattle.std.proofs.lemmas.Option.{same_Some}
 use Rattle.pe_set.specs.Set.{Entry, Module, modules_from, modules_of}
 use Rattle.pe_space.specs.Content.{nth_image, no_image}
 use Rattle.pe_space.specs.SetContent.{image_content}
-use Rattle.pe_space.specs.Tied.{Each, EachPair}
+use Rattle.pe_space.specs.FieldsAndSlots.{Each, EachPair}
 
 pub module_got : (s : List Module) (j : ℕ) → j < length s → (m : Module) × (slice_get s j ≡ Some m) × (nth_image (map image_content s) j ≡ image_content m)
 module_got [] j lt = absurd (omega arith)

@@ -1,17 +1,13 @@
 -- What a set that was accepted gives to those who keep its images, one by one.
-use Rattle.std.proofs.Common.{◌≡◌, ◌∙◌, ◌≤◌, ◌++◌, [], ◌∷◌, ℕ, List, map, length, ap, sym, refl, append_assoc, append-nil, None, arith, length-append}
+use Rattle.std.proofs.Common.{◌≡◌, ◌∙◌, ◌≤◌, ◌++◌, [], ◌∷◌, ℕ, List, map, length, ap, sym, refl, append_assoc, append-nil, arith, length-append}
 use Rattle.std.proofs.lemmas.List.{length-map}
-use Rattle.pe_view.specs.Faults.{first_standing}
-use Rattle.pe_view.specs.FirstStanding.{none-append}
 use Rattle.pe_set.specs.Bindings.{bindings_of}
-use Rattle.pe_set.specs.Set.{Entry, Module, modules_of}
-use Rattle.pe_set.specs.SetFaults.{names_tests, set_tests}
+use Rattle.pe_set.specs.Set.{Module, modules_of}
 use Rattle.pe_set.specs.SetView.{entry_view, entries_of, module_view, modules_view}
 use Rattle.pe_set.specs.Sound.{IsSound}
-use Rattle.pe_set.specs.declared.entry.Policy.{Policy}
 use Rattle.pe_set.specs.declared.entry.SetEntry.{SetEntry}
 use Rattle.pe_set.specs.declared.reading.Module as code_module
-use Rattle.pe_space.specs.Bare.{bare}
+use Rattle.pe_space.specs.Unbound.{unbound}
 use Rattle.pe_space.specs.Content.{Content}
 use Rattle.pe_space.specs.SetContent.{laid_out, content_of}
 use Rattle.pe_space.proofs.Images.{modules_count}
@@ -21,9 +17,9 @@ none_left [] e = refl
 none_left (x ∷ xs) e = absurd (omega (arith, e))
 
 -- with 0 in its bound slots what is laid out is the set's content
-pub content_is : (c : Content) (s : List Module) → c ≡ laid_out s → bare c ≡ content_of s
+pub content_is : (c : Content) (s : List Module) → c ≡ laid_out s → unbound c ≡ content_of s
 unfolding content_of
-content_is c s is = ap bare is
+content_is c s is = ap unbound is
 
 -- it has few images, as many as entries
 pub few_entries : (set : List SetEntry) → IsSound (modules_of (entries_of set)) → length set ≤ 256
@@ -34,11 +30,6 @@ few_entries set sound =
 
 pub count_modules : {A : Type 0} (set : List SetEntry) (ms : List (code_module.Module A)) → modules_view ms ≡ modules_of (entries_of set) → length ms ≡ length set
 count_modules set ms is = sym (length-map ms module_view) ∙ ap length is ∙ modules_count (entries_of set) ∙ length-map set entry_view
-
--- its names have no fault
-pub names_fine : (policy : Policy) (es : List Entry) → first_standing (set_tests policy es) ≡ None → first_standing (names_tests es) ≡ None
-unfolding set_tests
-names_fine policy es none = (none-append (names_tests es) _ none).0
 
 -- an empty set has no image, and no slot that is bound
 pub no_images : {Y : Type 0} (make : Module → Y) (set : List SetEntry) → length set ≡ 0 → length (map make (modules_of (entries_of set))) ≡ 0

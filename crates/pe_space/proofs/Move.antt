@@ -9,13 +9,13 @@ use Rattle.pe_space.specs.Content.{SpaceImage, Content, nth_image, placement_of,
 use Rattle.pe_space.specs.ByBase.{IsByBase}
 use Rattle.pe_space.specs.Memory.{shifted_all, memory_of, bound, ends_in}
 use Rattle.pe_space.specs.declared.by_base.NumberAt.{NumberAt}
-use Rattle.pe_space.specs.Held.{Held, images_of, memories_of, rebased_held}
-use Rattle.pe_space.specs.Tied.{Each, Apart, IsSlot}
+use Rattle.pe_space.specs.InMemory.{InMemory, images_of, memories_of, rebased_image}
+use Rattle.pe_space.specs.FieldsAndSlots.{Each, Apart, IsSlot}
 use Rattle.pe_space.specs.Ordered.{IsOrdered, exporter_of}
-use Rattle.pe_space.specs.Placing.{IsPlaced}
+use Rattle.pe_space.specs.ImagesApart.{ImagesApart}
 use Rattle.pe_space.specs.Moves.{move_fault, moved, moved_counts}
 use Rattle.pe_space.specs.declared.space.Moved.{Moved}
-use Rattle.pe_space.specs.Bare.{without_slots, bared, bare}
+use Rattle.pe_space.specs.Unbound.{without_slots, unbound_images, unbound}
 use Rattle.pe_space.proofs.Addressing.{placed_at}
 use Rattle.pe_space.proofs.Asked.{limit_le}
 use Rattle.pe_space.proofs.Defining.{placements_bared}
@@ -26,10 +26,10 @@ use Rattle.pe_tables.specs.Ranges.{meets}
 use Rattle.pe_view.specs.FirstStanding.{none_stands}
 use Rattle.std.specs.List.{Contains}
 use Rattle.std.proofs.lemmas.List.Sorted.{Contains-permutation, IsPermutation-sym, sum_by-IsPermutation}
-use Rattle.pe_space.specs.Kept.{kept_content, IsKept}
+use Rattle.pe_space.specs.MappedSpaceView.{mapped_content, MappedSpaceHolds}
 use Rattle.pe_space.proofs.Lists.{each_in, each_contains, others_free}
 use Rattle.pe_space.proofs.Moving.{AreEnding, part_kept, image_moved, image_kept, tied_moved, laid_moved, moved_memory}
-use Rattle.pe_space.proofs.Holding.{image_read, memory_read}
+use Rattle.pe_space.proofs.MemoryWrites.{image_read, memory_read}
 
 not_false : (b : Bool) → not b ≡ false → b ≡ true
 not_false true h = refl
@@ -85,7 +85,7 @@ by_base_moved c i base order order_after images lt is by_base reordered =
     ap (map placement_of) is ∙ map-set placement_of c.images i (record (nth_image c.images i) { base = base }) ∙ ap (λ (p : Placement). slice_set ps i (record p { base = base })) (sym (placed_at c.images i)) in
     subst (λ (qs : List Placement). IsByBase qs order_after) (sym there) (reordered ps (omega arith) by_base)
 
-pub placed_moved : (c : Content) (i base : ℕ) → Accepts c i base → IsPlaced c → IsPlaced (moved c i base)
+pub placed_moved : (c : Content) (i base : ℕ) → Accepts c i base → ImagesApart c → ImagesApart (moved c i base)
 placed_moved c i base ok placed = record {
   few = rw (length-set c.images i (record (nth_image c.images i) { base = base })) placed.few;
   few_slots = placed.few_slots;
@@ -127,13 +127,13 @@ placed_moved c i base ok placed = record {
     ]
 
 -- the lists once the image has its new base
-pub rebased_content : (hs : List Held) (bs : List Binding) (i base : ℕ) (h new : Held) → i < length hs → h ≡ get_or hs i h → new ≡ rebased_held base h
-    → (images_of (slice_set hs i new) ≡ (moved (kept_content hs bs) i base).images)
+pub rebased_content : (hs : List InMemory) (bs : List Binding) (i base : ℕ) (h new : InMemory) → i < length hs → h ≡ get_or hs i h → new ≡ rebased_image base h
+    → (images_of (slice_set hs i new) ≡ (moved (mapped_content hs bs) i base).images)
     × (memories_of (slice_set hs i new) ≡ slice_set (memories_of hs) i (shifted_all (pos base -ℤ pos (nth_image (images_of hs) i).base) (nth_image (images_of hs) i).fixups (memory_of (memories_of hs) i)))
 rebased_content hs bs i base h new lt is made =
     let image = image_read hs i h lt is in (
-      map-set (λ (x : Held). x.image) hs i new ∙ ap (slice_set (images_of hs) i) (ap (λ (x : Held). x.image) made ∙ ap (λ (m : SpaceImage). record m { base = base }) image),
-      map-set (λ (x : Held). x.memory) hs i new ∙ ap (slice_set (memories_of hs) i) (ap (λ (x : Held). x.memory) made
+      map-set (λ (x : InMemory). x.image) hs i new ∙ ap (slice_set (images_of hs) i) (ap (λ (x : InMemory). x.image) made ∙ ap (λ (m : SpaceImage). record m { base = base }) image),
+      map-set (λ (x : InMemory). x.memory) hs i new ∙ ap (slice_set (memories_of hs) i) (ap (λ (x : InMemory). x.memory) made
           ∙ ap (λ (m : SpaceImage). shifted_all (pos base -ℤ pos m.base) m.fixups h.memory) image
           ∙ ap (shifted_all (pos base -ℤ pos (nth_image (images_of hs) i).base) (nth_image (images_of hs) i).fixups) (memory_read hs i h lt is)),
     )
@@ -152,16 +152,16 @@ pub count_ending : (bs slots l : List Binding) (i n : ℕ) → IsOrdered exporte
 count_ending bs slots l i n ordered same is = is ∙ ap (count_by (ends_in i)) same ∙ sum_by-IsPermutation (λ (b : Binding). cond (ends_in i b) 1 0) bs slots ordered.same
 
 -- where the image has been put at its base: what is asked of the slots before they are bound, and what is kept once they are
-module _ (hs first : List Held) (order : List NumberAt) (bs slots : List Binding) (i base : ℕ) (h new : Held) (kept : IsKept hs order bs slots) (none : move_fault (kept_content hs bs) i base ≡ None)
-    (is : h ≡ get_or hs i h) (made : new ≡ rebased_held base h) (first_is : first ≡ slice_set hs i new) where
+module _ (hs first : List InMemory) (order : List NumberAt) (bs slots : List Binding) (i base : ℕ) (h new : InMemory) (kept : MappedSpaceHolds hs order bs slots) (none : move_fault (mapped_content hs bs) i base ≡ None)
+    (is : h ≡ get_or hs i h) (made : new ≡ rebased_image base h) (first_is : first ≡ slice_set hs i new) where
   abbrev c : Content
-  c = kept_content hs bs
+  c = mapped_content hs bs
 
   ok : Accepts c i base
   ok = accepts c i base none
 
   pub below : i < length hs
-  below = let n = length-map hs (λ (x : Held). x.image) in let m = ok.image in omega arith
+  below = let n = length-map hs (λ (x : InMemory). x.image) in let m = ok.image in omega arith
 
   both : (images_of (slice_set hs i new) ≡ (moved c i base).images)
       × (memories_of (slice_set hs i new) ≡ slice_set (memories_of hs) i (shifted_all (pos base -ℤ pos (nth_image (images_of hs) i).base) (nth_image (images_of hs) i).fixups (memory_of (memories_of hs) i)))
@@ -177,22 +177,22 @@ module _ (hs first : List Held) (order : List NumberAt) (bs slots : List Binding
       subst (λ (x : List SpaceImage). (nth_image x j).base + (nth_image x j).size ≤ 2 ^ 64) (sym images_first) (omega arith)
 
   pub slots_first : (lent : List Binding) → AreEnding c i lent → Each (IsSlot (images_of first)) lent
-  slots_first lent ending = rw images_first (each_in (IsSlot (moved c i base).images) lent (λ b held. each_contains (IsSlot (moved c i base).images) bs b (tied_moved c i base ok.image kept.tied).slots (ending.held b held).0))
+  slots_first lent ending = rw images_first (each_in (IsSlot (moved c i base).images) lent (λ b held. each_contains (IsSlot (moved c i base).images) bs b (tied_moved c i base ok.image kept.fields_and_slots).slots (ending.held b held).0))
 
-  pub kept_moved : (after : List Held) (lent : List Binding) (order_after : List NumberAt) → AreEnding c i lent
+  pub kept_moved : (after : List InMemory) (lent : List Binding) (order_after : List NumberAt) → AreEnding c i lent
       → ((ps : List Placement) → i < length ps → IsByBase ps order → IsByBase (slice_set ps i (record (placement_at ps i) { base = base })) order_after)
       → images_of after ≡ images_of first → memories_of after ≡ bound (images_of first) lent (memories_of first)
-      → IsKept after order_after bs slots × (kept_content after bs ≡ moved c i base)
+      → MappedSpaceHolds after order_after bs slots × (mapped_content after bs ≡ moved c i base)
   kept_moved after lent order_after ending reordered same written =
       let images : images_of after ≡ (moved c i base).images = same ∙ images_first in
-      let content : kept_content after bs ≡ moved c i base = ap (λ (x : List SpaceImage). record { images = x; bindings = bs }) images in
+      let content : mapped_content after bs ≡ moved c i base = ap (λ (x : List SpaceImage). record { images = x; bindings = bs }) images in
       let memory : memories_of after ≡ moved_memory c i base lent (memories_of hs) =
       written ∙ ap (λ (x : List SpaceImage). bound x lent (memories_of first)) images_first
       ∙ ap (bound (moved c i base).images lent) (ap memories_of first_is ∙ both.1) in (
         record {
-          tied = rw content (tied_moved c i base ok.image kept.tied);
+          fields_and_slots = rw content (tied_moved c i base ok.image kept.fields_and_slots);
           placed = rw content (placed_moved c i base ok kept.placed);
-          laid = rw (content, memory) (laid_moved c i base lent (memories_of hs) ok.image ok.aligned (kept.placed.aligned i) ending kept.tied kept.laid);
+          memory_holds = rw (content, memory) (laid_moved c i base lent (memories_of hs) ok.image ok.aligned (kept.placed.aligned i) ending kept.fields_and_slots kept.memory_holds);
           whole = λ j. ap (λ (x : List SpaceImage). length (nth_image x j).plain) images ∙ part_kept (λ (m : SpaceImage). length m.plain) c i base j ok.image (λ m. refl)
               ∙ kept.whole j ∙ sym (ap (λ (x : List SpaceImage). (nth_image x j).size) images ∙ part_kept (λ (m : SpaceImage). m.size) c i base j ok.image (λ m. refl));
           by_base = by_base_moved c i base order order_after (images_of after) ok.image images kept.by_base reordered;
@@ -202,20 +202,20 @@ module _ (hs first : List Held) (order : List NumberAt) (bs slots : List Binding
       )
 
 -- ---- the same of the content with 0 in its bound slots
-bared_set : (k i base : ℕ) (bs : List Binding) (images : List SpaceImage) → bared k bs (slice_set images i (record (nth_image images i) { base = base }))
-    ≡ slice_set (bared k bs images) i (record (nth_image (bared k bs images) i) { base = base })
+bared_set : (k i base : ℕ) (bs : List Binding) (images : List SpaceImage) → unbound_images k bs (slice_set images i (record (nth_image images i) { base = base }))
+    ≡ slice_set (unbound_images k bs images) i (record (nth_image (unbound_images k bs images) i) { base = base })
 bared_set k i base bs [] = refl
 bared_set k zero base bs (m ∷ images) = refl
 bared_set k (suc i) base bs (m ∷ images) =
     ap (λ (rest : List SpaceImage). record m { plain = without_slots k (slot_width m.magic) bs m.plain } ∷ rest) (bared_set (k + 1) i base bs images)
 
-pub bare_moved : (c : Content) (i base : ℕ) → bare (moved c i base) ≡ moved (bare c) i base
+pub bare_moved : (c : Content) (i base : ℕ) → unbound (moved c i base) ≡ moved (unbound c) i base
 bare_moved c i base = ap (λ (images : List SpaceImage). record c { images = images }) (bared_set 0 i base c.bindings c.images)
 
-pub fault_bare : (c : Content) (i base : ℕ) → move_fault (bare c) i base ≡ move_fault c i base
+pub fault_bare : (c : Content) (i base : ℕ) → move_fault (unbound c) i base ≡ move_fault c i base
 fault_bare c i base = ap (λ (ps : List Placement). first_standing (move_tests ps i base)) (placements_bared 0 c.bindings c.images)
 
-fields_bared : (k : ℕ) (bs : List Binding) (images : List SpaceImage) (i : ℕ) → length (nth_image (bared k bs images) i).fixups ≡ length (nth_image images i).fixups
+fields_bared : (k : ℕ) (bs : List Binding) (images : List SpaceImage) (i : ℕ) → length (nth_image (unbound_images k bs images) i).fixups ≡ length (nth_image images i).fixups
 fields_bared k bs [] i = refl
 fields_bared k bs (m ∷ images) zero = refl
 fields_bared k bs (m ∷ images) (suc i) = fields_bared (k + 1) bs images i
@@ -223,6 +223,6 @@ fields_bared k bs (m ∷ images) (suc i) = fields_bared (k + 1) bs images i
 counted : ℕ → ℕ → Moved
 counted fields slots = record { fields = fields; slots = slots }
 
-pub counts_bare : (c : Content) (i : ℕ) → moved_counts (bare c) i ≡ moved_counts c i
+pub counts_bare : (c : Content) (i : ℕ) → moved_counts (unbound c) i ≡ moved_counts c i
 unfolding counted
 counts_bare c i = ap (λ (n : ℕ). counted n (count_by (ends_in i) c.bindings)) (fields_bared 0 c.bindings c.images i)

@@ -11,12 +11,12 @@ use Rattle.pe_space.specs.Number.{digit, number_in, shift}
 use Rattle.pe_space.specs.Content.{SpaceImage, Content, nth_image, no_image, width_of, slot_width, in_field, in_slot, fixed_byte, byte_by, byte_in}
 use Rattle.pe_space.specs.Moves.{moved}
 use Rattle.pe_space.specs.Memory.{shifted_all, memory_of, address_of, bound}
-use Rattle.pe_space.specs.Tied.{Each, SlotsApart, IsImage, IsSlot, IsTied, IsLaid}
+use Rattle.pe_space.specs.FieldsAndSlots.{Each, SlotsApart, IsImage, IsSlot, FieldsAndSlotsApart, MemoryHolds}
 use Rattle.pe_tables.proofs.Shifts.{shift_lt, shift-shift}
 use Rattle.pe_space.proofs.Numbers.{number_of_own_digits}
 use Rattle.pe_space.proofs.Lists.{each_map, each_both, each_in, each_contains, pair_map}
 use Rattle.pe_space.proofs.SlotsAndFields.{slot_byte, field_byte, value_of, slot_found, in_fields}
-use Rattle.pe_space.proofs.Laying.{InField, IsAt, InSlot, in_one, width_in, Fits, StillFields, StillSlots, laid_fields, laid_slots, bound_lengths, length-shifted_all}
+use Rattle.pe_space.proofs.Written.{InField, IsAt, InSlot, in_one, width_in, Fits, StillFields, StillSlots, laid_fields, laid_slots, bound_lengths, length-shifted_all}
 
 -- ---- the content after a move
 pub image_moved : (c : Content) (i base : ℕ) → i < length c.images → nth_image (moved c i base).images i ≡ record (nth_image c.images i) { base = base }
@@ -32,11 +32,11 @@ part_kept part c i base j lt same = elim (cases_eq j i) [
   | inr ne ↦ ap part (image_kept c i base j ne)
 ]
 
-pub tied_moved : (c : Content) (i base : ℕ) → i < length c.images → IsTied c → IsTied (moved c i base)
-tied_moved c i base lt tied = record {
+pub tied_moved : (c : Content) (i base : ℕ) → i < length c.images → FieldsAndSlotsApart c → FieldsAndSlotsApart (moved c i base)
+tied_moved c i base lt fields_and_slots = record {
   images = λ j. image j;
-  slots = each_map (IsSlot c.images) (IsSlot (moved c i base).images) c.bindings slot tied.slots;
-  apart = pair_map (SlotsApart c.images) (SlotsApart (moved c i base).images) c.bindings (λ b e apart same. rw (width b.image) (apart same)) tied.apart;
+  slots = each_map (IsSlot c.images) (IsSlot (moved c i base).images) c.bindings slot fields_and_slots.slots;
+  apart = pair_map (SlotsApart c.images) (SlotsApart (moved c i base).images) c.bindings (λ b e apart same. rw (width b.image) (apart same)) fields_and_slots.apart;
 }
   where
     size : (j : ℕ) → (nth_image (moved c i base).images j).size ≡ (nth_image c.images j).size
@@ -52,7 +52,7 @@ tied_moved c i base lt tied = record {
     count = length-set c.images i _
 
     image : (j : ℕ) → IsImage (nth_image (moved c i base).images j)
-    image j = record { inside = rw (size j, fixups j) (tied.images j).inside; apart = rw (fixups j) (tied.images j).apart }
+    image j = record { inside = rw (size j, fixups j) (fields_and_slots.images j).inside; apart = rw (fixups j) (fields_and_slots.images j).apart }
 
     slot : (b : Binding) → IsSlot c.images b → IsSlot (moved c i base).images b
     slot b s = record {
@@ -117,9 +117,9 @@ moved_memory c i base bs ms =
     (slice_set ms i (shifted_all (pos base -ℤ pos (nth_image c.images i).base) (nth_image c.images i).fixups (memory_of ms i)))
 
 -- the memories after a move are those of the content after the move
-pub laid_moved : (c : Content) (i base : ℕ) (bs : List Binding) (ms : List (List ℕ)) → i < length c.images → base % 65536 ≡ 0 → (nth_image c.images i).base % 65536 ≡ 0 → AreEnding c i bs → IsTied c → IsLaid c ms → IsLaid (moved c i base) (moved_memory c i base bs ms)
-laid_moved c i base bs ms lt aligned was_aligned ending tied laid = record {
-  count = ends.0 ∙ length-set ms i _ ∙ laid.count ∙ sym (length-set c.images i _);
+pub laid_moved : (c : Content) (i base : ℕ) (bs : List Binding) (ms : List (List ℕ)) → i < length c.images → base % 65536 ≡ 0 → (nth_image c.images i).base % 65536 ≡ 0 → AreEnding c i bs → FieldsAndSlotsApart c → MemoryHolds c ms → MemoryHolds (moved c i base) (moved_memory c i base bs ms)
+laid_moved c i base bs ms lt aligned was_aligned ending fields_and_slots memory_holds = record {
+  count = ends.0 ∙ length-set ms i _ ∙ memory_holds.count ∙ sym (length-set c.images i _);
   lengths = λ j. ends.1 j ∙ size_first j ∙ sym (size j);
   each = λ j r small. bytes j r (rw (← size j) small);
 }
@@ -130,14 +130,14 @@ laid_moved c i base bs ms lt aligned was_aligned ending tied laid = record {
     size : (j : ℕ) → (nth_image (moved c i base).images j).size ≡ (nth_image c.images j).size
     size j = part_kept (λ (m : SpaceImage). m.size) c i base j lt (λ m. refl)
 
-    tied_after : IsTied (moved c i base)
-    tied_after = tied_moved c i base lt tied
+    tied_after : FieldsAndSlotsApart (moved c i base)
+    tied_after = tied_moved c i base lt fields_and_slots
 
     old : List ℕ
     old = memory_of ms i
 
     in_old : Each (λ (f : Fixup). f.field + width_of f.kind ≤ length old) image.fixups
-    in_old = rw (laid.lengths i) (tied.images i).inside
+    in_old = rw (memory_holds.lengths i) (fields_and_slots.images i).inside
 
     first : List ℕ
     first = shifted_all (pos base -ℤ pos image.base) image.fixups old
@@ -146,12 +146,12 @@ laid_moved c i base bs ms lt aligned was_aligned ending tied laid = record {
     next = slice_set ms i first
 
     here : i < length ms
-    here = rw laid.count lt
+    here = rw memory_holds.count lt
 
     size_first : (j : ℕ) → length (memory_of next j) ≡ (nth_image c.images j).size
     size_first j = elim (cases_eq j i) [
-      | inl same ↦ rw same (ap length (get_or-set_same ms i first [] here) ∙ length-shifted_all (pos base -ℤ pos image.base) image.fixups old in_old ∙ laid.lengths i)
-      | inr ne ↦ ap length (get_or-set_other ms i j first [] ne) ∙ laid.lengths j
+      | inl same ↦ rw same (ap length (get_or-set_same ms i first [] here) ∙ length-shifted_all (pos base -ℤ pos image.base) image.fixups old in_old ∙ memory_holds.lengths i)
+      | inr ne ↦ ap length (get_or-set_other ms i j first [] ne) ∙ memory_holds.lengths j
     ]
 
     after : List SpaceImage
@@ -165,7 +165,7 @@ laid_moved c i base bs ms lt aligned was_aligned ending tied laid = record {
     of_ending P all = each_in P bs (λ b held. each_contains P c.bindings b all (ending.held b held).0)
 
     fits : Each (Fits after next) bs
-    fits = of_ending (Fits after next) (each_map (IsSlot after) (Fits after next) c.bindings (λ b slot. record { image = rw (length-set ms i first, laid.count, ← length-set c.images i (record image { base = base })) slot.image; inside = rw (size_first b.image, ← size b.image) slot.inside }) tied_after.slots)
+    fits = of_ending (Fits after next) (each_map (IsSlot after) (Fits after next) c.bindings (λ b slot. record { image = rw (length-set ms i first, memory_holds.count, ← length-set c.images i (record image { base = base })) slot.image; inside = rw (size_first b.image, ← size b.image) slot.inside }) tied_after.slots)
 
     ends : (length (bound after bs next) ≡ length next) × ((j : ℕ) → length (memory_of (bound after bs next) j) ≡ length (memory_of next j))
     ends = bound_lengths after bs next fits
@@ -182,8 +182,8 @@ laid_moved c i base bs ms lt aligned was_aligned ending tied laid = record {
     held = each_map _ _ image.fixups
         (λ f both. number_of_own_digits old f.field (width_of f.kind) (value_of image f) (shift_lt _ f.kind _)
         (λ k small. (let inside = both.0 in let back : f.field + k - f.field ≡ k = omega arith in
-        laid.each i (f.field + k) (omega arith) ∙ both.1 (f.field + k) (omega arith) (omega arith) ∙ ap (digit (value_of image f)) back)))
-        (each_both (λ (f : Fixup). f.field + width_of f.kind ≤ image.size) (λ (f : Fixup). (r : ℕ) → f.field ≤ r → r < f.field + width_of f.kind → byte_in c i r ≡ digit (value_of image f) (r - f.field)) image.fixups (tied.images i).inside (field_byte c i tied))
+        memory_holds.each i (f.field + k) (omega arith) ∙ both.1 (f.field + k) (omega arith) (omega arith) ∙ ap (digit (value_of image f)) back)))
+        (each_both (λ (f : Fixup). f.field + width_of f.kind ≤ image.size) (λ (f : Fixup). (r : ℕ) → f.field ≤ r → r < f.field + width_of f.kind → byte_in c i r ≡ digit (value_of image f) (r - f.field)) image.fixups (fields_and_slots.images i).inside (field_byte c i fields_and_slots))
 
     wanted_fields : Each (λ (f : Fixup). (r : ℕ) → f.field ≤ r → r < f.field + width_of f.kind → byte_in (moved c i base) i r ≡ digit (shift f.kind (value_of image f) (pos base -ℤ pos image.base)) (r - f.field)) image.fixups
     wanted_fields = each_map (λ (f : Fixup). (r : ℕ) → f.field ≤ r → r < f.field + width_of f.kind → byte_in (moved c i base) i r ≡ digit (value_of (record image { base = base }) f) (r - f.field)) _ image.fixups
@@ -192,20 +192,20 @@ laid_moved c i base bs ms lt aligned was_aligned ending tied laid = record {
 
     still_fields : StillFields (byte_in (moved c i base) i) (λ r. InSlot after i r bs) image.size image.fixups old
     still_fields r small = elim (changes c i base lt i r) [
-      | inl same ↦ inl (laid.each i r small ∙ same)
+      | inl same ↦ inl (memory_holds.each i r small ∙ same)
       | inr (inl in_f) ↦ inr (inl in_f.1)
       | inr (inr in_s) ↦ inr (inr (in_ending i r in_s))
     ]
 
     fields : (r : ℕ) → r < image.size → (get_or first r 0 ≡ byte_in (moved c i base) i r) ⊎ InSlot after i r bs
-    fields = laid_fields (pos base -ℤ pos image.base) image.size (byte_in (moved c i base) i) (λ r. InSlot after i r bs) (value_of image) image.fixups old in_old (tied.images i).apart held wanted_fields still_fields
+    fields = laid_fields (pos base -ℤ pos image.base) image.size (byte_in (moved c i base) i) (λ r. InSlot after i r bs) (value_of image) image.fixups old in_old (fields_and_slots.images i).apart held wanted_fields still_fields
 
     still_slots : StillSlots after (byte_in (moved c i base)) (λ j. (nth_image c.images j).size) bs next
     still_slots j r small = elim (cases_eq j i) [
       | inl same ↦ subst (λ (k : ℕ). (r : ℕ) → r < (nth_image c.images k).size → (get_or (memory_of next k) r 0 ≡ byte_in (moved c i base) k r) ⊎ InSlot after k r bs) (sym same)
           (λ r small. rw (get_or-set_same ms i first [] here) (fields r small)) r small
       | inr ne ↦ elim (changes c i base lt j r) [
-        | inl kept ↦ inl (ap (λ (m : List ℕ). get_or m r 0) (get_or-set_other ms i j first [] ne) ∙ laid.each j r small ∙ kept)
+        | inl kept ↦ inl (ap (λ (m : List ℕ). get_or m r 0) (get_or-set_other ms i j first [] ne) ∙ memory_holds.each j r small ∙ kept)
         | inr (inl in_f) ↦ absurd (ne in_f.0)
         | inr (inr in_s) ↦ inr (in_ending j r in_s)
       ]

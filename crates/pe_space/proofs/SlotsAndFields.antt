@@ -9,9 +9,9 @@ use Rattle.pe_set.specs.declared.binding.Binding.{Binding}
 use Rattle.pe_head.specs.declared.optional.Magic.{Magic}
 use Rattle.pe_space.specs.Number.{digit, number_in, shift}
 use Rattle.pe_space.specs.Content.{SpaceImage, Content, nth_image, width_of, slot_width, is_in, in_field, in_slot, fixed_byte, byte_by, byte_in}
-use Rattle.pe_space.specs.Tied.{Each, Apart, FieldsApart, SlotsApart, IsSlot, IsTied}
+use Rattle.pe_space.specs.FieldsAndSlots.{Each, Apart, FieldsApart, SlotsApart, IsSlot, FieldsAndSlotsApart}
 use Rattle.pe_space.proofs.Lists.{each_map, each_both, each_all, each_swap, none_found, find_in, Finds, finds_each}
-use Rattle.pe_space.proofs.Laying.{InField, IsAt, width_in}
+use Rattle.pe_space.proofs.Written.{InField, IsAt, width_in}
 
 -- ---- tests on ranges
 both_true : (a b : Bool) → (a && b) ≡ true → (a ≡ true) × (b ≡ true)
@@ -31,12 +31,12 @@ pub true-in_slot : (magic : Magic) (r : ℕ) (b : Binding) → b.slot ≤ r → 
 true-in_slot magic r b low high = rw (eq-eqb b.image b.image refl, true-is_in b.slot (slot_width magic) r low high) refl
 
 -- ---- the byte of a slot and of a field
-pub slot_byte : (c : Content) → IsTied c → Each (λ (b : Binding). (r : ℕ) → b.slot ≤ r → r < b.slot + width_in c.images b → byte_in c b.image r ≡ digit ((nth_image c.images b.exporter).base + b.rva) (r - b.slot)) c.bindings
-slot_byte c tied =
+pub slot_byte : (c : Content) → FieldsAndSlotsApart c → Each (λ (b : Binding). (r : ℕ) → b.slot ≤ r → r < b.slot + width_in c.images b → byte_in c b.image r ≡ digit ((nth_image c.images b.exporter).base + b.rva) (r - b.slot)) c.bindings
+slot_byte c fields_and_slots =
     each_map (Finds (SlotsApart c.images) c.bindings)
     (λ (b : Binding). (r : ℕ) → b.slot ≤ r → r < b.slot + width_in c.images b → byte_in c b.image r ≡ digit ((nth_image c.images b.exporter).base + b.rva) (r - b.slot)) c.bindings
     (λ b finds r low high. ap (byte_by c b.image r) (finds (in_slot b.image (nth_image c.images b.image).magic r) (true-in_slot _ r b low high) (λ e apart passes. clash b e r low high apart passes)))
-    (finds_each (SlotsApart c.images) c.bindings tied.apart)
+    (finds_each (SlotsApart c.images) c.bindings fields_and_slots.apart)
   where
     clash : (b e : Binding) (r : ℕ) → b.slot ≤ r → r < b.slot + width_in c.images b → SlotsApart c.images e b → in_slot b.image (nth_image c.images b.image).magic r e ≡ true → ⊥
     clash b e r low high apart passes =
@@ -46,10 +46,10 @@ slot_byte c tied =
         let d = in_e.2 in
         elim (apart in_e.0) [ inl before ↦ absurd (omega arith) | inr after ↦ absurd (omega arith) ]
 
-pub no_slot : (c : Content) (j : ℕ) → IsTied c → Each (λ (f : Fixup). Each (λ (b : Binding). b.image ≡ j → Apart b.slot (width_in c.images b) f.field (width_of f.kind)) c.bindings) (nth_image c.images j).fixups
-no_slot c j tied =
+pub no_slot : (c : Content) (j : ℕ) → FieldsAndSlotsApart c → Each (λ (f : Fixup). Each (λ (b : Binding). b.image ≡ j → Apart b.slot (width_in c.images b) f.field (width_of f.kind)) c.bindings) (nth_image c.images j).fixups
+no_slot c j fields_and_slots =
     each_swap (λ (b : Binding) (f : Fixup). b.image ≡ j → Apart b.slot (width_in c.images b) f.field (width_of f.kind)) c.bindings (nth_image c.images j).fixups
-    (each_map (IsSlot c.images) (λ (b : Binding). Each (λ (f : Fixup). b.image ≡ j → Apart b.slot (width_in c.images b) f.field (width_of f.kind)) (nth_image c.images j).fixups) c.bindings (λ b slot. off b slot) tied.slots)
+    (each_map (IsSlot c.images) (λ (b : Binding). Each (λ (f : Fixup). b.image ≡ j → Apart b.slot (width_in c.images b) f.field (width_of f.kind)) (nth_image c.images j).fixups) c.bindings (λ b slot. off b slot) fields_and_slots.slots)
   where
     off : (b : Binding) → IsSlot c.images b → Each (λ (f : Fixup). b.image ≡ j → Apart b.slot (width_in c.images b) f.field (width_of f.kind)) (nth_image c.images j).fixups
     off b slot = elim (cases_eq b.image j) [
@@ -62,14 +62,14 @@ no_slot c j tied =
 abbrev pub value_of : SpaceImage → Fixup → ℕ
 value_of image f = shift f.kind (number_in image.plain f.field (width_of f.kind)) (pos image.base -ℤ pos image.image_base)
 
-pub field_byte : (c : Content) (j : ℕ) → IsTied c → Each (λ (f : Fixup). (r : ℕ) → f.field ≤ r → r < f.field + width_of f.kind → byte_in c j r ≡ digit (value_of (nth_image c.images j) f) (r - f.field)) (nth_image c.images j).fixups
-field_byte c j tied =
+pub field_byte : (c : Content) (j : ℕ) → FieldsAndSlotsApart c → Each (λ (f : Fixup). (r : ℕ) → f.field ≤ r → r < f.field + width_of f.kind → byte_in c j r ≡ digit (value_of (nth_image c.images j) f) (r - f.field)) (nth_image c.images j).fixups
+field_byte c j fields_and_slots =
     each_map (λ (f : Fixup). Finds FieldsApart fs f × Each (λ (b : Binding). b.image ≡ j → Apart b.slot (width_in c.images b) f.field (width_of f.kind)) c.bindings)
     (λ (f : Fixup). (r : ℕ) → f.field ≤ r → r < f.field + width_of f.kind → byte_in c j r ≡ digit (value_of (nth_image c.images j) f) (r - f.field)) fs
     (λ f both r low high.
     ap (byte_by c j r) (none_found (in_slot j (nth_image c.images j).magic r) c.bindings (each_map _ _ c.bindings (λ b apart passes. off f b r low high apart passes) both.1))
     ∙ ap (fixed_byte (nth_image c.images j) r) (both.0 (in_field r) (true-is_in f.field (width_of f.kind) r low high) (λ g apart passes. clash f g r low high apart passes)))
-    (each_both _ _ fs (finds_each FieldsApart fs (tied.images j).apart) (no_slot c j tied))
+    (each_both _ _ fs (finds_each FieldsApart fs (fields_and_slots.images j).apart) (no_slot c j fields_and_slots))
   where
     fs : List Fixup
     fs = (nth_image c.images j).fixups

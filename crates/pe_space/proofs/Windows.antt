@@ -9,7 +9,7 @@ use Rattle.pe_space.specs.Number.{digit}
 use Rattle.pe_space.specs.Content.{is_in}
 use Rattle.pe_space.specs.Windows.{laid_on}
 use Rattle.pe_tables.specs.Patched.{length-bytes_from, bytes_from-get}
-use Rattle.pe_space.proofs.Laying.{cases_in}
+use Rattle.pe_space.proofs.Written.{cases_in}
 use Rattle.pe_space.proofs.SlotsAndFields.{true-is_in, is_in-true}
 
 pub length-laid_on : (start place w v : ℕ) (xs : List ℕ) → length (laid_on start place w v xs) ≡ length xs

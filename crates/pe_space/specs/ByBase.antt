@@ -3,7 +3,7 @@ use Rattle.std.specs.Prelude.{ℕ, ◌≡◌, ◌<◌, ◌≤◌, ◌==◌, if�
 use Rattle.std.specs.List.{Contains}
 use Rattle.std.specs.List.Sorted.{IsNonDecreasingBy}
 use Rattle.pe_set.specs.Placement.{Placement, placement_at}
-use Rattle.pe_space.specs.Tied.{Apart}
+use Rattle.pe_space.specs.FieldsAndSlots.{Apart}
 use Rattle.pe_space.specs.declared.by_base.NumberAt.{NumberAt}
 
 abbrev pub base_of : NumberAt → ℕ

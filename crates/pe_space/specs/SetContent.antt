@@ -9,7 +9,7 @@ use Rattle.pe_space.specs.Number.{digit}
 use Rattle.pe_set.specs.Set.{Module}
 use Rattle.pe_set.specs.Bindings.{bindings_of}
 use Rattle.pe_space.specs.Content.{SpaceImage, Content, is_in, in_field, in_slot}
-use Rattle.pe_space.specs.Bare.{bare}
+use Rattle.pe_space.specs.Unbound.{unbound}
 
 -- an image as its file lays it out
 abbrev pub image_content : Module → SpaceImage
@@ -29,7 +29,7 @@ laid_out s = record { images = map image_content s; bindings = bindings_of s }
 
 -- what is kept of them: their bytes with 0 in bound slots
 unfoldable pub content_of : List Module → Content
-content_of s = bare (laid_out s)
+content_of s = unbound (laid_out s)
 
 -- ---- the byte that a set defines at an address
 -- byte k of the address that a slot is bound to

@@ -4,7 +4,7 @@ ghost use Rattle.std.specs.Prelude.{◌≡◌, ◌+◌, ◌≤◌, length, pos, 
 ghost use Rattle.pe_layout.specs.Image.{slot_width_of};
 ghost use Rattle.pe_tables.specs.Fixups.{width_of};
 ghost use Rattle.pe_space.specs.Memory.{shifted_all};
-ghost use Rattle.pe_space.specs.Tied.{Each};
+ghost use Rattle.pe_space.specs.FieldsAndSlots.{Each};
 
 use pe_head::Magic;
 use pe_tables::{Fixup, shift_field};

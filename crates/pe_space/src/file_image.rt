@@ -2,10 +2,10 @@ ghost use Rattle.std.specs.Prelude.{◌≡◌, ◌+◌, ◌≤◌, ◌<◌, leng
 ghost use Rattle.pe_set.specs.SetView.{module_view};
 ghost use Rattle.pe_tables.specs.Fixups.{width_of};
 ghost use Rattle.pe_tables.specs.declared.fixups.Fixup.{Fixup};
-ghost use Rattle.pe_space.specs.Fresh.{IsFit};
+ghost use Rattle.pe_space.specs.Relocated.{FieldsFit};
 ghost use Rattle.pe_space.specs.Number.{number_in, shift};
 ghost use Rattle.pe_space.specs.SetContent.{image_content};
-ghost use Rattle.pe_space.specs.Tied.{IsImage};
+ghost use Rattle.pe_space.specs.FieldsAndSlots.{IsImage};
 ghost use Rattle.pe_space.specs.Windows.{fixed_bytes};
 
 use crate::ordered::{ByField, between, put_in_order};
@@ -81,7 +81,7 @@ impl<'a, A: Allocator + Copy> FileImage<'a, A> {
     /// An image that was read, at its base.
     #[tactic(auto, unfolding(pe_set::specs::SetView::module_view))]
     pub(crate) fn new(own: Module<'a, A>) -> FileImage<'a, A>
-        requires { IsFit (module_view own) }
+        requires { FieldsFit (module_view own) }
         ensures { result ≡ image_content (module_view own.entry) }
     {
         let (base, layout) = (own.base, own.image.layout);

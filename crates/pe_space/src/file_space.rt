@@ -1,10 +1,10 @@
 ghost use Rattle.std.specs.Prelude.{◌≡◌, ◌+◌, ◌≤◌, ◌<◌, ◌^◌, ℕ, [], Contains, length, count_by, slice_index, IsOk, IfOk};
 ghost use Rattle.pe_set.specs.declared.binding.Binding.{Binding};
-ghost use Rattle.pe_space.specs.Bare.{bare};
+ghost use Rattle.pe_space.specs.Unbound.{unbound};
 ghost use Rattle.pe_space.specs.Content.{nth_image};
-ghost use Rattle.pe_space.specs.Filed.{filed_content, AreCounts};
-ghost use Rattle.pe_space.specs.Placing.{IsPlaced};
-ghost use Rattle.pe_space.specs.Tied.{Each, IsTied};
+ghost use Rattle.pe_space.specs.FileSpaceView.{file_content, SlotCounts};
+ghost use Rattle.pe_space.specs.ImagesApart.{ImagesApart};
+ghost use Rattle.pe_space.specs.FieldsAndSlots.{Each, FieldsAndSlotsApart};
 ghost use Rattle.pe_space.specs.Windows.{bytes_in};
 
 use crate::by_base::{NumberAt, by_base, rebase};
@@ -21,7 +21,7 @@ use std::marker::Model;
 
 /// As many counts of 0 as there are images.
 fn no_slots<A: Allocator + Copy>(alloc: A, images: usize) -> Result<Vec<u32, A>, AllocError>
-    ensures counts { IfOk result (λ counts. AreCounts images [] counts.items) }
+    ensures counts { IfOk result (λ counts. SlotCounts images [] counts.items) }
     ensures empty { images ≡ 0 → IsOk result }
 {
     let mut counts = Vec::with_capacity(alloc, images)?;
@@ -39,7 +39,7 @@ fn count_slots<A: Allocator + Copy>(
 ) -> Result<Vec<u32, A>, AllocError>
     requires few { length bindings.now < 2 ^ 32 }
     requires exporters { Each (λ b. b.exporter < images) bindings.now }
-    ensures counts { IfOk result (λ counts. AreCounts images bindings.now counts.items) }
+    ensures counts { IfOk result (λ counts. SlotCounts images bindings.now counts.items) }
     ensures empty { images ≡ 0 → IsOk result }
 {
     let mut counts = no_slots(alloc, images)?;
@@ -65,12 +65,12 @@ impl<'a, A: Allocator> Model for FileSpace<'a, A> {
 
     ghost Value = { Content };
 
-    ghost use Rattle.pe_space.specs.Bare.{bare};
-    ghost use Rattle.pe_space.specs.Filed.{filed_content, IsFiled};
+    ghost use Rattle.pe_space.specs.Unbound.{unbound};
+    ghost use Rattle.pe_space.specs.FileSpaceView.{file_content, FileSpaceHolds};
 
-    ghost view = { λ s. bare (filed_content s.images.items s.bindings.items) };
+    ghost view = { λ s. unbound (file_content s.images.items s.bindings.items) };
 
-    ghost invariant = { λ s. IsFiled s.images.items s.order.items s.bindings.items s.slots.items s.counts.items };
+    ghost invariant = { λ s. FileSpaceHolds s.images.items s.order.items s.bindings.items s.slots.items s.counts.items };
 }
 
 impl<'a, A: Allocator + Copy> FileSpace<'a, A> {
@@ -80,11 +80,11 @@ impl<'a, A: Allocator + Copy> FileSpace<'a, A> {
         images: Vec<FileImage<'a, A>, A>,
         bindings: Vec<Binding, A>,
     ) -> Result<FileSpace<'a, A>, AllocError>
-        requires tied { IsTied (filed_content images.items bindings.items) }
-        requires placed { IsPlaced (filed_content images.items bindings.items) }
+        requires fields_and_slots { FieldsAndSlotsApart (file_content images.items bindings.items) }
+        requires placed { ImagesApart (file_content images.items bindings.items) }
         requires whole { (j : ℕ) → length (nth_image images.items j).plain ≡ (nth_image images.items j).size }
         requires small { (j : ℕ) → (nth_image images.items j).size ≤ 2 ^ 31 }
-        ensures content { IfOk result (λ space. space ≡ bare (filed_content images.entry.items bindings.items)) }
+        ensures content { IfOk result (λ space. space ≡ unbound (file_content images.entry.items bindings.items)) }
         ensures empty { length images.entry.items ≡ 0 → length bindings.items ≡ 0 → IsOk result }
     {
         let order = by_base(alloc, images.as_slice())?;

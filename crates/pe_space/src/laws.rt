@@ -1,30 +1,29 @@
 //! What the definitions mean, as laws: their contracts are the laws, and a body at most names the laws below on which one rests.
 
-ghost use Rattle.std.specs.Prelude.{◌≡◌, ◌+◌, ℕ, List, None, Some, slice_get};
-ghost use Rattle.pe_view.specs.Faults.{first_standing};
+ghost use Rattle.std.specs.Prelude.{◌≡◌, ◌+◌, ◌<◌, ℕ, List, None, Some, Ok, length, slice_get, slice_index};
 ghost use Rattle.pe_view.specs.Number.{digit};
 ghost use Rattle.pe_tables.specs.Relocated.{shifted};
 ghost use Rattle.pe_tables.specs.declared.fixups.Fixup.{Fixup};
 ghost use Rattle.pe_set.specs.Bindings.{bindings_of};
 ghost use Rattle.pe_set.specs.Set.{Entry, Module, modules_of, at_bases};
-ghost use Rattle.pe_set.specs.SetFaults.{set_tests};
+ghost use Rattle.pe_set.specs.SetErrors.{set_error};
 ghost use Rattle.pe_set.specs.declared.binding.Binding.{Binding};
 ghost use Rattle.pe_set.specs.declared.entry.Policy.{Policy};
-ghost use Rattle.pe_space.specs.Bare.{bases_of, set_at};
+ghost use Rattle.pe_space.specs.Unbound.{bases_of, set_at};
 ghost use Rattle.pe_space.specs.ByteCases.{HasByte, InBoundSlot, InFixup, IsOutside};
 ghost use Rattle.pe_space.specs.Commands.{after_all};
-ghost use Rattle.pe_space.specs.Content.{byte_at};
+ghost use Rattle.pe_space.specs.Content.{Content, byte_at, window_at};
 ghost use Rattle.pe_space.specs.declared.reply.Command.{Command};
 ghost use Rattle.pe_space.specs.SetContent.{content_of, defined_byte};
 
 /// The byte that an accepted set defines at an address, by cases: of the address to which a slot is bound; of a field, moved on by
 /// as much as its image stands above its ImageBase; as the file lays it out, outside both; none where no image stands.
 pub fn bytes_stand_by_cases()
-    ensures slot { (policy : Policy) (es : List Entry) (i r k : ℕ) (m exporter : Module) (b : Binding) → first_standing (set_tests policy es) ≡ None → let s = modules_of es in
+    ensures slot { (policy : Policy) (es : List Entry) (i r k : ℕ) (m exporter : Module) (b : Binding) → set_error policy es ≡ None → let s = modules_of es in
         HasByte s i m r → InBoundSlot s i m r b k → slice_get s b.exporter ≡ Some exporter → defined_byte s (m.base + r) ≡ Some (digit (exporter.base + b.rva) k) }
-    ensures field { (policy : Policy) (es : List Entry) (i r k : ℕ) (m : Module) (f : Fixup) → first_standing (set_tests policy es) ≡ None → let s = modules_of es in
+    ensures field { (policy : Policy) (es : List Entry) (i r k : ℕ) (m : Module) (f : Fixup) → set_error policy es ≡ None → let s = modules_of es in
         HasByte s i m r → InFixup m r f k → defined_byte s (m.base + r) ≡ Some (digit (shifted m.image m.base f) k) }
-    ensures plain { (policy : Policy) (es : List Entry) (i r : ℕ) (m : Module) → first_standing (set_tests policy es) ≡ None → let s = modules_of es in
+    ensures plain { (policy : Policy) (es : List Entry) (i r : ℕ) (m : Module) → set_error policy es ≡ None → let s = modules_of es in
         HasByte s i m r → ((b : Binding) (k : ℕ) → InBoundSlot s i m r b k → ⊥) → ((f : Fixup) (k : ℕ) → InFixup m r f k → ⊥)
         → defined_byte s (m.base + r) ≡ Some (m.image.byte r) }
     ensures none { (es : List Entry) (a : ℕ) → IsOutside (modules_of es) a → defined_byte (modules_of es) a ≡ None }
@@ -32,11 +31,18 @@ pub fn bytes_stand_by_cases()
     pe_set::laws::accepted_sets_are_sound();
 }
 
+/// A window that is answered has as many bytes as it was asked for, and each is the one that stands at its address: an image stands
+/// at each of them.
+pub fn windows_have_each_byte()
+    ensures count { (c : Content) (address n : ℕ) (bytes : List ℕ) → window_at c address n ≡ Ok bytes → length bytes ≡ n }
+    ensures each { (c : Content) (address n k : ℕ) (bytes : List ℕ) → window_at c address n ≡ Ok bytes → k < n → byte_at c (address + k) ≡ Some (slice_index bytes k) }
+{}
+
 /// Other bases change the bases of what is kept of a set and nothing else, so that what is kept serves at all bases.
 pub fn content_serves_at_all_bases()
     ensures content { (bases : List ℕ) (es : List Entry) → set_at bases (content_of (modules_of es)) ≡ content_of (modules_of (at_bases bases es)) }
     ensures bindings { (es : List Entry) → (content_of (modules_of es)).bindings ≡ bindings_of (modules_of es) }
-    ensures bytes { (policy : Policy) (es : List Entry) (a : ℕ) → first_standing (set_tests policy es) ≡ None
+    ensures bytes { (policy : Policy) (es : List Entry) (a : ℕ) → set_error policy es ≡ None
         → byte_at (content_of (modules_of es)) a ≡ defined_byte (modules_of es) a }
 {
     pe_set::laws::accepted_sets_are_sound();
@@ -47,11 +53,11 @@ pub fn content_serves_at_all_bases()
 /// holds is what the same files give at the bases of that moment, at which they are accepted: so each address holds the byte that
 /// the format defines from the files at the present bases, also where the space holds no file.
 pub fn commands_keep_what_files_define()
-    ensures accepted { (policy : Policy) (es : List Entry) (commands : List Command) → first_standing (set_tests policy es) ≡ None → let c = after_all commands (content_of (modules_of es)) in
-        first_standing (set_tests policy (at_bases (bases_of c) es)) ≡ None }
-    ensures content { (policy : Policy) (es : List Entry) (commands : List Command) → first_standing (set_tests policy es) ≡ None → let c = after_all commands (content_of (modules_of es)) in
+    ensures accepted { (policy : Policy) (es : List Entry) (commands : List Command) → set_error policy es ≡ None → let c = after_all commands (content_of (modules_of es)) in
+        set_error policy (at_bases (bases_of c) es) ≡ None }
+    ensures content { (policy : Policy) (es : List Entry) (commands : List Command) → set_error policy es ≡ None → let c = after_all commands (content_of (modules_of es)) in
         c ≡ content_of (modules_of (at_bases (bases_of c) es)) }
-    ensures bytes { (policy : Policy) (es : List Entry) (commands : List Command) (a : ℕ) → first_standing (set_tests policy es) ≡ None → let c = after_all commands (content_of (modules_of es)) in
+    ensures bytes { (policy : Policy) (es : List Entry) (commands : List Command) (a : ℕ) → set_error policy es ≡ None → let c = after_all commands (content_of (modules_of es)) in
         byte_at c a ≡ defined_byte (modules_of (at_bases (bases_of c) es)) a }
 {
     pe_set::laws::accepted_sets_are_sound();

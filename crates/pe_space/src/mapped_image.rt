@@ -2,8 +2,8 @@ ghost use Rattle.std.specs.Prelude.{◌≡◌, ◌+◌, ◌≤◌, ◌<◌, ◌^
 ghost use Rattle.pe_layout.specs.Image.{slot_width_of};
 ghost use Rattle.pe_tables.specs.Fixups.{width_of};
 ghost use Rattle.pe_space.specs.Memory.{patch, bytes};
-ghost use Rattle.pe_space.specs.Held.{fresh_held, rebased_held};
-ghost use Rattle.pe_space.specs.Tied.{Each};
+ghost use Rattle.pe_space.specs.InMemory.{relocated_image, rebased_image};
+ghost use Rattle.pe_space.specs.FieldsAndSlots.{Each};
 
 use crate::bytes::{shift_fields, slot_width};
 use pe_head::Magic;
@@ -27,13 +27,13 @@ pub(crate) struct MappedImage<A: Allocator> {
 }
 
 impl<A: Allocator> Model for MappedImage<A> {
-    ghost use Rattle.pe_space.specs.Held.{Held};
+    ghost use Rattle.pe_space.specs.InMemory.{InMemory};
 
-    ghost Value = { Held };
+    ghost Value = { InMemory };
 
     ghost use Rattle.std.specs.Prelude.{length, ◌≡◌, ◌+◌, ◌≤◌, ◌<◌, ◌^◌};
     ghost use Rattle.pe_tables.specs.Fixups.{width_of};
-    ghost use Rattle.pe_space.specs.Tied.{Each};
+    ghost use Rattle.pe_space.specs.FieldsAndSlots.{Each};
 
     ghost view = { λ m. record {
       image = record { base = m.base; size = m.size; magic = m.magic; image_base = m.image_base; is_stripped = m.is_stripped; plain = m.plain.value.items; fixups = m.fixups.items };
@@ -73,19 +73,19 @@ impl<A: Allocator + Copy> MappedImage<A> {
     /// An image at a base, by its plain bytes: its fields are moved on from its ImageBase, and its slots are still to be bound.
     pub(crate) fn new(
         base: u64,
+        size: u32,
         magic: Magic,
         image_base: u64,
         is_stripped: bool,
         fixups: Vec<Fixup, A>,
         plain: Vec<u8, A>,
     ) -> MappedImage<A>
-        requires size { vec_len plain < 2 ^ 32 }
+        requires size { length plain.items ≡ size }
         requires few { vec_len fixups < 2 ^ 32 }
         requires inside { Each (λ f. f.field + width_of f.kind ≤ length plain.items) fixups.items }
-        ensures { result ≡ fresh_held base magic image_base is_stripped fixups.items plain.items }
+        ensures { result ≡ relocated_image base magic image_base is_stripped fixups.items plain.items }
     {
         let mut memory = plain;
-        let size = memory.len() as u32;
         let plain = Snapshot::of(&memory);
         shift_fields(memory.as_mut_slice(), fixups.as_slice(), image_base, base);
         MappedImage {
@@ -125,7 +125,7 @@ impl<A: Allocator + Copy> MappedImage<A> {
 
     /// Moves each field on to a new base.
     pub(crate) fn rebase(&mut self, base: u64)
-        ensures { self.new ≡ rebased_held base self.old }
+        ensures { self.new ≡ rebased_image base self.old }
     {
         shift_fields(
             self.memory.as_mut_slice(),

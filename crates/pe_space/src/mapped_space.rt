@@ -1,14 +1,14 @@
 ghost use Rattle.std.specs.Prelude.{◌≡◌, ◌+◌, ◌≤◌, ◌^◌, ℕ, Contains, IfOk, IsOk, length, count_by};
 ghost use Rattle.std.specs.List.Sorted.{IsNonDecreasingBy};
 ghost use Rattle.pe_set.specs.declared.binding.Binding.{Binding};
-ghost use Rattle.pe_space.specs.Bare.{bare};
+ghost use Rattle.pe_space.specs.Unbound.{unbound};
 ghost use Rattle.pe_space.specs.Content.{nth_image};
 ghost use Rattle.pe_space.specs.Memory.{put_slot, bound, ends_in};
-ghost use Rattle.pe_space.specs.Held.{images_of, memories_of};
+ghost use Rattle.pe_space.specs.InMemory.{images_of, memories_of};
 ghost use Rattle.pe_space.specs.Ordered.{exporter_of};
-ghost use Rattle.pe_space.specs.Tied.{Each, IsSlot, IsTied};
-ghost use Rattle.pe_space.specs.Placing.{IsPlaced};
-ghost use Rattle.pe_space.specs.Kept.{kept_content, IsFresh};
+ghost use Rattle.pe_space.specs.FieldsAndSlots.{Each, IsSlot, FieldsAndSlotsApart};
+ghost use Rattle.pe_space.specs.ImagesApart.{ImagesApart};
+ghost use Rattle.pe_space.specs.MappedSpaceView.{mapped_content, SlotsUnbound};
 
 use crate::by_base::{NumberAt, by_base, rebase};
 use crate::mapped_image::MappedImage;
@@ -35,12 +35,12 @@ impl<A: Allocator> Model for MappedSpace<A> {
 
     ghost Value = { Content };
 
-    ghost use Rattle.pe_space.specs.Bare.{bare};
-    ghost use Rattle.pe_space.specs.Kept.{kept_content, IsKept};
+    ghost use Rattle.pe_space.specs.Unbound.{unbound};
+    ghost use Rattle.pe_space.specs.MappedSpaceView.{mapped_content, MappedSpaceHolds};
 
-    ghost view = { λ s. bare (kept_content s.images.items s.bindings.items) };
+    ghost view = { λ s. unbound (mapped_content s.images.items s.bindings.items) };
 
-    ghost invariant = { λ s. IsKept s.images.items s.order.items s.bindings.items s.slots.items };
+    ghost invariant = { λ s. MappedSpaceHolds s.images.items s.order.items s.bindings.items s.slots.items };
 }
 
 /// Writes an address into the slot of a binding.
@@ -83,10 +83,10 @@ impl<A: Allocator + Copy> MappedSpace<A> {
         mut images: Vec<MappedImage<A>, A>,
         bindings: Vec<Binding, A>,
     ) -> Result<MappedSpace<A>, AllocError>
-        requires tied { IsTied (kept_content images.items bindings.items) }
-        requires placed { IsPlaced (kept_content images.items bindings.items) }
-        requires fresh { IsFresh (kept_content images.items bindings.items) (memories_of images.items) }
-        ensures content { IfOk result (λ space. space ≡ bare (kept_content images.items bindings.items)) }
+        requires fields_and_slots { FieldsAndSlotsApart (mapped_content images.items bindings.items) }
+        requires placed { ImagesApart (mapped_content images.items bindings.items) }
+        requires slots_unbound { SlotsUnbound (mapped_content images.items bindings.items) (memories_of images.items) }
+        ensures content { IfOk result (λ space. space ≡ unbound (mapped_content images.items bindings.items)) }
         ensures empty { length images.items ≡ 0 → length bindings.items ≡ 0 → IsOk result }
     {
         let order = by_base(alloc, images.as_slice())?;

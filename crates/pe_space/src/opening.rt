@@ -1,12 +1,9 @@
-ghost use Rattle.std.specs.Prelude.{◌≡◌, ◌≢◌, ◌<◌, ◌⊎◌, None, IfOk, Err, List, ℕ, length, IsErrOf};
+ghost use Rattle.std.specs.Prelude.{◌≡◌, ◌≢◌, ◌<◌, ◌⊎◌, None, Err, length, IsErrOf};
 ghost use Rattle.pe_view.specs.Faults.{first_standing};
-ghost use Rattle.pe_set.specs.Set.{modules_of, at_bases};
 ghost use Rattle.pe_set.specs.SetView.{entries_of};
-ghost use Rattle.pe_set.specs.SetFaults.{MapAnswers, names_tests, set_tests};
+ghost use Rattle.pe_set.specs.SetFaults.{names_tests};
 ghost use Rattle.pe_set.specs.SetErrors.{SetAnswers, set_error};
-ghost use Rattle.pe_space.specs.Bare.{set_at};
-ghost use Rattle.pe_space.specs.Content.{byte_at};
-ghost use Rattle.pe_space.specs.SetContent.{content_of, defined_byte};
+ghost use Rattle.pe_space.specs.SpaceOf.{IsSpaceOf};
 
 use crate::file_image::FileImage;
 use crate::file_space::FileSpace;
@@ -24,13 +21,11 @@ pub fn open_space<'a, A: Allocator + Copy>(
     set: &'a [SetEntry<'a>],
     policy: Policy,
 ) -> Result<FileSpace<'a, A>, MapError>
-    ensures exact { MapAnswers (set_tests policy (entries_of set.now)) (λ space. space ≡ content_of (modules_of (entries_of set.now))) result }
-    ensures bytes { IfOk result (λ space. (bases : List ℕ) (a : ℕ) → first_standing (set_tests policy (at_bases bases (entries_of set.now))) ≡ None
-        → byte_at (set_at bases space) a ≡ defined_byte (modules_of (at_bases bases (entries_of set.now))) a) }
-    ensures error { SetAnswers (set_error policy (entries_of set.now)) (λ _. Unit {0}) result }
+    ensures exact { SetAnswers (set_error policy (entries_of set.now)) (IsSpaceOf policy (entries_of set.now)) result }
     ensures no_memory { (length set.now ≡ 0) ⊎ (256 < length set.now) → result ≢ Err MapError.Memory }
     ensures named { IsErrOf result MapError.Memory → first_standing (names_tests (entries_of set.now)) ≡ None }
 {
+    pe_set::laws::accepted_sets_have_no_fault();
     pe_set::laws::accepted_sets_are_sound();
     pe_set::laws::bases_change_no_binding();
     let Accepted { modules, bindings } = judge(alloc, set, policy)?;

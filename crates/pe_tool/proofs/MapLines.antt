@@ -5,9 +5,7 @@ use Rattle.std.proofs.lemmas.List.{length-take-le}
 use Rattle.std.proofs.lemmas.List.FromFn.{length-map-range_with_len}
 use Rattle.std.proofs.Math.Seq.{take-append_seam}
 use Rattle.pe_space.specs.Content.{Content, byte_at, window_at}
-use Rattle.pe_view.specs.Faults.{first_standing}
 use Rattle.pe_set.specs.Set.{Entry, modules_of}
-use Rattle.pe_set.specs.SetFaults.{set_tests}
 use Rattle.pe_set.specs.SetErrors.{set_error}
 use Rattle.pe_set.specs.declared.entry.Policy.{Policy}
 use Rattle.pe_text.specs.declared.outcome.Outcome.{Outcome}
@@ -30,8 +28,8 @@ bytes_read c a n room buffer after r ok le all on_ok =
     ∙ ap (λ (m : ℕ). take m (bytes_from (byte_at c) a n ++ after)) (sym count)
     ∙ take-append_seam (bytes_from (byte_at c) a n) after
 
--- what is written of a set that has no fault is its report
-pub told_whole : (policy : Policy) (es : List Entry) (window : Option (ℕ × ℕ)) (outcome : Outcome) (text : List ℕ) → first_standing (set_tests policy es) ≡ None → set_error policy es ≡ None
+-- what is written of a set that has no error is its report
+pub told_whole : (policy : Policy) (es : List Entry) (window : Option (ℕ × ℕ)) (outcome : Outcome) (text : List ℕ) → set_error policy es ≡ None
     → IsSpaceText (modules_of es) window outcome text → IsMapText policy es window outcome text
-told_whole policy es window Done text none no_error told = (rw none told.0, told.1)
-told_whole policy es window (Refused fault) text none no_error told = (rw none told.0, rw no_error told.1)
+told_whole policy es window Done text none told = (none, told.0, told.1)
+told_whole policy es window (Refused fault) text none told = rw none told

@@ -16,9 +16,9 @@ use Rattle.pe_set.specs.declared.binding.Binding.{Binding}
 use Rattle.pe_set.specs.declared.entry.SetEntry.{SetEntry}
 use Rattle.pe_space.specs.Content as contents
 use Rattle.pe_space.specs.Content.{SpaceImage, Content, placement_of, nth_image, is_in, holder_from, byte_at, size_in, base_in, window_image_by, window_image, window_in, window_at}
-use Rattle.pe_space.specs.Placing.{IsPlaced}
+use Rattle.pe_space.specs.ImagesApart.{ImagesApart}
 use Rattle.pe_space.specs.SetContent.{image_content, laid_out, content_of}
-use Rattle.pe_space.specs.Tied.{Apart}
+use Rattle.pe_space.specs.FieldsAndSlots.{Apart}
 use Rattle.pe_space.proofs.Accepting.{placed}
 use Rattle.pe_space.proofs.Addressing.{Holds, holder_inside, holder_is, placed_at, window_lies}
 use Rattle.pe_space.proofs.Defining.{placements_bared}
@@ -46,7 +46,7 @@ unfolding laid_out
 bindings_laid s = refl
 
 -- that images stand where they may is said of their placements
-placed_alike : (c d : Content) → map placement_of c.images ≡ map placement_of d.images → c.bindings ≡ d.bindings → IsPlaced d → IsPlaced c
+placed_alike : (c d : Content) → map placement_of c.images ≡ map placement_of d.images → c.bindings ≡ d.bindings → ImagesApart d → ImagesApart c
 placed_alike c d same bound all =
     let at : (j : ℕ) → placement_of (nth_image c.images j) ≡ placement_of (nth_image d.images j) =
     λ j. sym (placed_at c.images j) ∙ ap (λ (ps : List Placement). placement_at ps j) same ∙ placed_at d.images j in
@@ -63,7 +63,7 @@ placed_alike c d same bound all =
           (subst (λ (q : Placement). Apart (nth_image d.images j).base (nth_image d.images j).size q.base q.size) (sym (at k)) (all.apart j k (omega (arith, lt, count)) (omega (arith, lt', count)) ne));
     }
 
-pub placed_kept : (s : List Module) → IsSound s → IsPlaced (content_of s)
+pub placed_kept : (s : List Module) → IsSound s → ImagesApart (content_of s)
 placed_kept s sound =
     placed_alike (content_of s) (laid_out s) (placements_kept s ∙ sym (placements_laid s)) (bindings_kept s ∙ sym (bindings_laid s)) (placed s sound)
 
@@ -137,7 +137,7 @@ given c a n j held fits =
     ap (λ (t : Bool). cond t (Ok []) (window_in c a (suc n) (window_image ps a (suc n)))) (not_empty n) ∙ ap (window_in c a (suc n)) image
 
 -- a part of it is a window too
-part_of : (c : Content) → IsPlaced c → (a n j : ℕ) → LiesIn c a n j → (k m : ℕ) → k + suc m ≤ n → window_at c (a + k) (suc m) ≡ Ok (bytes_from (byte_at c) (a + k) (suc m))
+part_of : (c : Content) → ImagesApart c → (a n j : ℕ) → LiesIn c a n j → (k m : ℕ) → k + suc m ≤ n → window_at c (a + k) (suc m) ≡ Ok (bytes_from (byte_at c) (a + k) (suc m))
 part_of c all a n j there k m fits =
     let first = holder_inside 0 c.images a j there.held in
     let number : first.0 ≡ j = let e = first.1 in omega (arith, e) in
@@ -150,13 +150,13 @@ part_of c all a n j there k m fits =
     given c (a + k) m j (holder_is c (a + k) j all here) (omega (arith, end, fits))
     ∙ ap (λ (bytes : List ℕ). Ok bytes) (window_bytes c (a + k) (suc m))
 
-pub inside : (c : Content) → IsPlaced c → (a n : ℕ) → refusal_of (window_at c a n) ≡ None → (k m : ℕ) → k + m ≤ n → window_at c (a + k) m ≡ Ok (bytes_from (byte_at c) (a + k) m)
+pub inside : (c : Content) → ImagesApart c → (a n : ℕ) → refusal_of (window_at c a n) ≡ None → (k m : ℕ) → k + m ≤ n → window_at c (a + k) m ≡ Ok (bytes_from (byte_at c) (a + k) m)
 inside c all a n none k zero fits = refl
 inside c all a zero none k (suc m) fits = absurd (omega (arith, fits))
 inside c all a (suc n) none k (suc m) fits = let there = lies_where c a n none in part_of c all a (suc n) there.0 there.1 k m fits
 
 -- it ends where the addresses do, at the latest
-pub ends : (c : Content) → IsPlaced c → (a n : ℕ) → refusal_of (window_at c a n) ≡ None → 0 < n → a + n ≤ 2 ^ 64
+pub ends : (c : Content) → ImagesApart c → (a n : ℕ) → refusal_of (window_at c a n) ≡ None → 0 < n → a + n ≤ 2 ^ 64
 ends c all a zero none some = absurd (omega (arith, some))
 ends c all a (suc n) none some =
     let there = lies_where c a n none in

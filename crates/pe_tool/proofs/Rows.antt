@@ -1,5 +1,5 @@
 -- Lines of the report of a mapped set as the definitions give them, written out.
-use Rattle.std.proofs.Common.{◌≡◌, ℕ, ◌%◌, [], ◌∷◌, Option, None, Some, refl, codes}
+use Rattle.std.proofs.Common.{◌≡◌, ℕ, ◌%◌, [], Option, None, Some, refl, codes}
 use Rattle.std.specs.Fmt.{digits}
 use Rattle.pe_text.specs.Text.{hex, escaped, quoted}
 use Rattle.pe_tool.specs.MapReport.{image_line, bind_line, bytes_line, window_lines}

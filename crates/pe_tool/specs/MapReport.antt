@@ -2,17 +2,15 @@
 use Rattle.std.specs.Prelude.{◌≡◌, ℕ, ◌+◌, ◌-◌, ◌*◌, ◌/◌, List, [], ◌∷◌, ◌++◌, codes, decimal, flat_map, map, min, Option, None, Some, unwrap_or, Result, Ok, Err}
 use Rattle.std.specs.List.{range_with_len}
 use Rattle.pe_view.specs.declared.fault.Fault.{Fault}
-use Rattle.pe_view.specs.Faults.{first_standing}
 use Rattle.pe_set.specs.Bindings.{bindings_of}
 use Rattle.pe_set.specs.Placement.{Placement}
 use Rattle.pe_set.specs.Set.{Entry, Module, modules_of, placement_of}
-use Rattle.pe_set.specs.SetFaults.{set_tests}
 use Rattle.pe_set.specs.SetErrors.{set_error}
 use Rattle.pe_set.specs.declared.binding.Binding.{Binding}
 use Rattle.pe_set.specs.declared.error.MapError.{MapError}
 use Rattle.pe_set.specs.declared.error.MapError.TheVariants as errors
 use Rattle.pe_set.specs.declared.entry.Policy.{Policy}
-use Rattle.pe_space.specs.Content.{SpaceImage, nth_image, window_at, base_in, size_in}
+use Rattle.pe_space.specs.Content.{window_at, base_in, size_in}
 use Rattle.pe_space.specs.SetContent.{content_of, defined_byte}
 use Rattle.pe_text.specs.declared.outcome.Outcome.{Outcome}
 use Rattle.pe_text.specs.declared.outcome.Outcome.TheVariants.{Done, Refused}
@@ -77,27 +75,19 @@ abbrev pub window_fault : List Module → Option (ℕ × ℕ) → Option Fault
 window_fault s None = None
 window_fault s (Some w) = refusal_of (window_at (content_of s) w.0 w.1)
 
-abbrev pub fault_or : Option Fault → Option Fault → Option Fault
-fault_or None other = other
-fault_or (Some fault) other = Some fault
-
--- what is written of a set that has no fault: its report, or fault 54
+-- what is written of a set that has no error: its report, or fault 54
 abbrev pub IsSpaceText : List Module → Option (ℕ × ℕ) → Outcome → List ℕ → Type 0
 IsSpaceText s window Done text = (window_fault s window ≡ None) × (text ≡ map_text s window)
 IsSpaceText s window (Refused fault) text = (window_fault s window ≡ Some fault) × (text ≡ fault_line fault)
 
--- the first fault of the set, else that of the window
-abbrev pub map_fault : Policy → List Entry → Option (ℕ × ℕ) → Option Fault
-map_fault policy es window = fault_or (first_standing (set_tests policy es)) (window_fault (modules_of es) window)
-
--- the line of a refusal: where the error of the set is a cycle, with its length
-abbrev pub refusal_line : Option MapError → Fault → List ℕ
-refusal_line None fault = fault_line fault
-refusal_line (Some errors.Memory) fault = fault_line fault
-refusal_line (Some (errors.Fault own)) fault = fault_line fault
-refusal_line (Some (errors.Cycle own length)) fault = cycle_line fault length
+-- a refusal and the line that tells of it: of the error of the set, else of fault 54 of the window
+abbrev pub IsRefusalText : Option MapError → Option Fault → Fault → List ℕ → Type 0
+IsRefusalText None window fault text = (window ≡ Some fault) × (text ≡ fault_line fault)
+IsRefusalText (Some errors.Memory) window fault text = ⊥
+IsRefusalText (Some (errors.Fault own)) window fault text = (fault ≡ own) × (text ≡ fault_line own)
+IsRefusalText (Some (errors.Cycle own length)) window fault text = (fault ≡ own) × (text ≡ cycle_line own length)
 
 -- what `map_report` writes
 abbrev pub IsMapText : Policy → List Entry → Option (ℕ × ℕ) → Outcome → List ℕ → Type 0
-IsMapText policy es window Done text = (map_fault policy es window ≡ None) × (text ≡ map_text (modules_of es) window)
-IsMapText policy es window (Refused fault) text = (map_fault policy es window ≡ Some fault) × (text ≡ refusal_line (set_error policy es) fault)
+IsMapText policy es window Done text = (set_error policy es ≡ None) × (window_fault (modules_of es) window ≡ None) × (text ≡ map_text (modules_of es) window)
+IsMapText policy es window (Refused fault) text = IsRefusalText (set_error policy es) (window_fault (modules_of es) window) fault text

@@ -1,41 +1,39 @@
 -- Each class is asked behind classes without a fault.
-use Rattle.std.proofs.Common.{◌≡◌, ◌∙◌, ◌++◌, ◌≤◌, ◌^◌, List, length, ap, subst, sym, arith, inl, inr, None}
+use Rattle.std.proofs.Common.{◌≡◌, ◌∙◌, ◌≤◌, ◌^◌, List, length, ap, subst, sym, arith, inl, inr, None}
 use Rattle.std.proofs.lemmas.Result.{err_from_is_err_and}
 use Rattle.pe_view.specs.Faults.{first_standing}
-use Rattle.pe_view.specs.FirstStanding.{first-past}
 use Rattle.pe_set.specs.Bindings.{bindings_of}
 use Rattle.pe_set.specs.NamesView.{AreDistinct}
 use Rattle.pe_set.specs.Search.{pairs_of}
 use Rattle.pe_set.specs.Set.{Module, modules_of}
-use Rattle.pe_set.specs.SetFaults.{RefusesClass, set_tests, names_tests, files_tests, places_tests, imports_tests}
-use Rattle.pe_set.specs.SetErrors.{ErrorIs, first_error, imports_errors, set_error}
+use Rattle.pe_set.specs.SetFaults.{RefusesClass, names_tests, files_tests, places_tests}
+use Rattle.pe_set.specs.SetErrors.{ErrorIs, first_error, imports_errors, set_errors}
 use Rattle.pe_set.specs.SetView.{entries_of, modules_view}
-use Rattle.pe_set.proofs.Classes.{refused_in, refused_past, few_images, count_modules}
+use Rattle.pe_set.proofs.Classes.{few_images, count_modules}
 use Rattle.pe_set.proofs.Distinct.{few_entries, distinct}
-use Rattle.pe_set.proofs.Errors.{imports_refuse, none_standing, in_class, past_class, past_none}
+use Rattle.pe_set.proofs.Errors.{in_class, past, past_class}
 use Rattle.pe_set.proofs.judging.judge.Goals as goal
 
 pub returns-in_err-check_names-clause-exact : goal.returns-in_err-check_names-clause-exact
-unfolding set_tests
+unfolding set_errors
 returns-in_err-check_names-clause-exact g c =
     let es = entries_of c.args.set.now in
     let s = modules_of es in
     let p = err_from_is_err_and c.from_residual.result c.from_residual.ensures.1 in
-    rw (p.1, p.2) (refused_in (names_tests es) (files_tests es ++ (places_tests s ++ imports_tests c.args.policy s)) c.in_err-check_names.field-0.0 c.in_err-check_names.ensures.exact)
+    rw (p.1, p.2) (in_class (names_tests es) _ c.in_err-check_names.field-0.0 c.in_err-check_names.ensures.exact)
 
 pub read_modules-requires : goal.read_modules-requires
 read_modules-requires g c = few_images c.args.set.now (few_entries (entries_of c.args.set.now) c.in_ok-check_names.ensures.exact.0)
 
 pub returns-in_err-modules-clause-exact : goal.returns-in_err-modules-clause-exact
-unfolding set_tests
+unfolding set_errors
 returns-in_err-modules-clause-exact g c =
     let es = entries_of c.args.set.now in
-    let s = modules_of es in
     let p = err_from_is_err_and c.from_residual-in_err-modules.result c.from_residual-in_err-modules.ensures.1 in
     let error = c.in_err-modules.field-0.0 in
     rw (p.1, p.2)
-    (refused_past (names_tests es) (files_tests es ++ (places_tests s ++ imports_tests c.args.policy s)) error c.in_ok-check_names.ensures.exact.0
-    (refused_in (files_tests es) (places_tests s ++ imports_tests c.args.policy s) error c.in_err-modules.ensures.exact))
+    (past_class (names_tests es) _ error c.in_ok-check_names.ensures.exact.0
+    (in_class (files_tests es) _ error c.in_err-modules.ensures.exact))
 
 pub check_places-requires : goal.check_places-requires
 check_places-requires g c =
@@ -44,7 +42,7 @@ check_places-requires g c =
     rw c.deref.ensures.value (omega arith)
 
 pub returns-in_err-check_places-clause-exact : goal.returns-in_err-check_places-clause-exact
-unfolding set_tests
+unfolding set_errors
 returns-in_err-check_places-clause-exact g c =
     let es = entries_of c.args.set.now in
     let s = modules_of es in
@@ -53,9 +51,9 @@ returns-in_err-check_places-clause-exact g c =
     let is = ap modules_view c.deref.ensures.value ∙ c.in_ok-modules.ensures.exact.1 in
     let refused = subst (λ (s : List Module). RefusesClass (places_tests s) error) is c.in_err-check_places.ensures.exact in
     rw (p.1, p.2)
-    (refused_past (names_tests es) (files_tests es ++ (places_tests s ++ imports_tests c.args.policy s)) error c.in_ok-check_names.ensures.exact.0
-    (refused_past (files_tests es) (places_tests s ++ imports_tests c.args.policy s) error c.in_ok-modules.ensures.exact.0
-    (refused_in (places_tests s) (imports_tests c.args.policy s) error refused)))
+    (past_class (names_tests es) _ error c.in_ok-check_names.ensures.exact.0
+    (past_class (files_tests es) _ error c.in_ok-modules.ensures.exact.0
+    (in_class (places_tests s) _ error refused)))
 
 pub new-requires : goal.new-requires
 new-requires g c =
@@ -75,7 +73,7 @@ bind-requires-clause-few_exports g c =
     subst (λ (s : List Module). pairs_of s ≤ 2 ^ 25) (sym is) (c.sets_export_little.ensures es c.in_ok-check_names.ensures.exact.0 c.in_ok-modules.ensures.exact.0)
 
 pub returns-in_err-bindings-clause-exact : goal.returns-in_err-bindings-clause-exact
-unfolding set_tests
+unfolding set_errors
 returns-in_err-bindings-clause-exact g c =
     let es = entries_of c.args.set.now in
     let s = modules_of es in
@@ -84,25 +82,22 @@ returns-in_err-bindings-clause-exact g c =
     let placed = ap modules_view c.deref.ensures.value ∙ c.in_ok-modules.ensures.exact.1 in
     let none = subst (λ (s : List Module). first_standing (places_tests s) ≡ None) placed c.in_ok-check_places.ensures.exact.0 in
     let is = ap modules_view c.deref-3.ensures.value ∙ c.in_ok-modules.ensures.exact.1 in
-    let refused = imports_refuse c.args.policy s error (subst (λ (s : List Module). ErrorIs (first_error (imports_errors c.args.policy s)) error) is c.in_err-bindings.ensures.exact) in
+    let own = subst (λ (s : List Module). ErrorIs (first_error (imports_errors c.args.policy s)) error) is c.in_err-bindings.ensures.exact in
     rw (p.1, p.2)
-    (refused_past (names_tests es) (files_tests es ++ (places_tests s ++ imports_tests c.args.policy s)) error c.in_ok-check_names.ensures.exact.0
-    (refused_past (files_tests es) (places_tests s ++ imports_tests c.args.policy s) error c.in_ok-modules.ensures.exact.0
-    (refused_past (places_tests s) (imports_tests c.args.policy s) error none refused)))
+    (past_class (names_tests es) _ error c.in_ok-check_names.ensures.exact.0
+    (past_class (files_tests es) _ error c.in_ok-modules.ensures.exact.0
+    (past_class (places_tests s) _ error none own)))
 
 pub returns-clause-exact : goal.returns-clause-exact
-unfolding set_tests
+unfolding set_errors
 returns-clause-exact g c =
     let es = entries_of c.args.set.now in
     let s = modules_of es in
     let placed = ap modules_view c.deref.ensures.value ∙ c.in_ok-modules.ensures.exact.1 in
     let none = subst (λ (s : List Module). first_standing (places_tests s) ≡ None) placed c.in_ok-check_places.ensures.exact.0 in
     let is = ap modules_view c.deref-3.ensures.value ∙ c.in_ok-modules.ensures.exact.1 in
-    let no_import = none_standing c.args.policy s (subst (λ (s : List Module). first_error (imports_errors c.args.policy s) ≡ None) is c.in_ok-bindings.ensures.exact.0) in (
-      first-past (names_tests es) (files_tests es ++ (places_tests s ++ imports_tests c.args.policy s)) c.in_ok-check_names.ensures.exact.0
-          ∙ first-past (files_tests es) (places_tests s ++ imports_tests c.args.policy s) c.in_ok-modules.ensures.exact.0
-          ∙ first-past (places_tests s) (imports_tests c.args.policy s) none
-          ∙ no_import,
+    let no_import = subst (λ (s : List Module). first_error (imports_errors c.args.policy s) ≡ None) is c.in_ok-bindings.ensures.exact.0 in (
+      past (names_tests es) _ c.in_ok-check_names.ensures.exact.0 ∙ past (files_tests es) _ c.in_ok-modules.ensures.exact.0 ∙ past (places_tests s) _ none ∙ no_import,
       record { modules = c.in_ok-modules.ensures.exact.1; bindings = c.in_ok-bindings.ensures.exact.1 ∙ ap bindings_of is },
     )
 
@@ -122,63 +117,3 @@ returns-in_err-bindings-clause-no_memory g c = λ e refused.
     let few = few_images c.args.set.now (few_entries (entries_of c.args.set.now) c.in_ok-check_names.ensures.exact.0) in
     let count = count_modules c.args.set.now c.in_ok-modules.modules.items c.in_ok-modules.ensures.exact.1 in
     elim e [ inl none ↦ (let h = c.in_err-bindings.ensures.empty (ap length c.deref-3.ensures.value ∙ count ∙ none) in absurd cc) | inr many ↦ absurd (omega arith) ]
-
--- ---- the error of the set, class by class
-pub returns-in_err-check_names-clause-error : goal.returns-in_err-check_names-clause-error
-unfolding set_error
-returns-in_err-check_names-clause-error g c =
-    let es = entries_of c.args.set.now in
-    let s = modules_of es in
-    let p = err_from_is_err_and c.from_residual.result c.from_residual.ensures.1 in
-    rw (p.1, p.2) (in_class (names_tests es) _ c.in_err-check_names.field-0.0 c.in_err-check_names.ensures.exact)
-
-pub returns-in_err-modules-clause-error : goal.returns-in_err-modules-clause-error
-unfolding set_error
-returns-in_err-modules-clause-error g c =
-    let es = entries_of c.args.set.now in
-    let p = err_from_is_err_and c.from_residual-in_err-modules.result c.from_residual-in_err-modules.ensures.1 in
-    let error = c.in_err-modules.field-0.0 in
-    rw (p.1, p.2)
-    (past_class (names_tests es) _ error c.in_ok-check_names.ensures.exact.0
-    (in_class (files_tests es) _ error c.in_err-modules.ensures.exact))
-
-pub returns-in_err-check_places-clause-error : goal.returns-in_err-check_places-clause-error
-unfolding set_error
-returns-in_err-check_places-clause-error g c =
-    let es = entries_of c.args.set.now in
-    let s = modules_of es in
-    let p = err_from_is_err_and c.from_residual-in_err-check_places.result c.from_residual-in_err-check_places.ensures.1 in
-    let error = c.in_err-check_places.field-0.0 in
-    let is = ap modules_view c.deref.ensures.value ∙ c.in_ok-modules.ensures.exact.1 in
-    let refused = subst (λ (s : List Module). RefusesClass (places_tests s) error) is c.in_err-check_places.ensures.exact in
-    rw (p.1, p.2)
-    (past_class (names_tests es) _ error c.in_ok-check_names.ensures.exact.0
-    (past_class (files_tests es) _ error c.in_ok-modules.ensures.exact.0
-    (in_class (places_tests s) _ error refused)))
-
-pub returns-in_err-bindings-clause-error : goal.returns-in_err-bindings-clause-error
-unfolding set_error
-returns-in_err-bindings-clause-error g c =
-    let es = entries_of c.args.set.now in
-    let s = modules_of es in
-    let p = err_from_is_err_and c.from_residual-in_err-bindings.result c.from_residual-in_err-bindings.ensures.1 in
-    let error = c.in_err-bindings.field-0.0 in
-    let placed = ap modules_view c.deref.ensures.value ∙ c.in_ok-modules.ensures.exact.1 in
-    let none = subst (λ (s : List Module). first_standing (places_tests s) ≡ None) placed c.in_ok-check_places.ensures.exact.0 in
-    let is = ap modules_view c.deref-3.ensures.value ∙ c.in_ok-modules.ensures.exact.1 in
-    let own = subst (λ (s : List Module). ErrorIs (first_error (imports_errors c.args.policy s)) error) is c.in_err-bindings.ensures.exact in
-    rw (p.1, p.2)
-    (past_class (names_tests es) _ error c.in_ok-check_names.ensures.exact.0
-    (past_class (files_tests es) _ error c.in_ok-modules.ensures.exact.0
-    (past_class (places_tests s) _ error none own)))
-
-pub returns-clause-error : goal.returns-clause-error
-unfolding set_error
-returns-clause-error g c =
-    let es = entries_of c.args.set.now in
-    let s = modules_of es in
-    let placed = ap modules_view c.deref.ensures.value ∙ c.in_ok-modules.ensures.exact.1 in
-    let none = subst (λ (s : List Module). first_standing (places_tests s) ≡ None) placed c.in_ok-check_places.ensures.exact.0 in
-    let is = ap modules_view c.deref-3.ensures.value ∙ c.in_ok-modules.ensures.exact.1 in
-    let no_import = subst (λ (s : List Module). first_error (imports_errors c.args.policy s) ≡ None) is c.in_ok-bindings.ensures.exact.0 in
-    (past_none (names_tests es) _ c.in_ok-check_names.ensures.exact.0 (past_none (files_tests es) _ c.in_ok-modules.ensures.exact.0 (past_none (places_tests s) _ none no_import)), tt)

@@ -1,6 +1,6 @@
 use Rattle.std.proofs.Common.{take}
-use Rattle.pe_space.specs.Filed.{AreCounts}
+use Rattle.pe_space.specs.FileSpaceView.{SlotCounts}
 use Rattle.pe_space.proofs.file_space.count_slots.Given as goal
 
 abbrev pub invariant-loop-binding : goal.invariant-loop-binding
-invariant-loop-binding g l = AreCounts l.images (take l.binding-index l.bindings) l.counts.items
+invariant-loop-binding g l = SlotCounts l.images (take l.binding-index l.bindings) l.counts.items

@@ -1,4 +1,4 @@
-use Rattle.pe_space.proofs.Filing.{AreZeros}
+use Rattle.pe_space.proofs.FileSpaces.{AreZeros}
 use Rattle.pe_space.proofs.file_space.no_slots.Given as goal
 
 abbrev pub invariant-loop : goal.invariant-loop

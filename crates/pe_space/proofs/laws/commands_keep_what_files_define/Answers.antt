@@ -1,7 +1,6 @@
 use Rattle.std.proofs.Common.{◌≡◌, ◌∙◌, List, None, sym, ap, subst}
-use Rattle.pe_view.specs.Faults.{first_standing}
 use Rattle.pe_set.specs.Set.{Entry, modules_of}
-use Rattle.pe_set.specs.SetFaults.{set_tests}
+use Rattle.pe_set.specs.SetErrors.{set_error}
 use Rattle.pe_space.specs.Commands.{after_all}
 use Rattle.pe_space.specs.Content.{Content, byte_at}
 use Rattle.pe_space.specs.SetContent.{content_of, defined_byte}
@@ -12,7 +11,7 @@ use Rattle.pe_space.proofs.laws.commands_keep_what_files_define.Goals as goal
 pub returns-clause-accepted : goal.returns-clause-accepted
 returns-clause-accepted c = λ policy es commands none.
     let served = all_serve policy (c.moves_keep_acceptance.ensures policy) c.bases_change_no_binding.ensures.images c.bases_change_no_binding.ensures.bindings es commands none in
-    subst (λ (x : List Entry). first_standing (set_tests policy x) ≡ None) (sym (served_now policy es (after_all commands (content_of (modules_of es))) served)) served.accepted
+    subst (λ (x : List Entry). set_error policy x ≡ None) (sym (served_now policy es (after_all commands (content_of (modules_of es))) served)) served.accepted
 
 pub returns-clause-content : goal.returns-clause-content
 returns-clause-content c = λ policy es commands none.

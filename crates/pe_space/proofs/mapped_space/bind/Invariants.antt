@@ -1,5 +1,5 @@
 use Rattle.std.proofs.Common.{◌≡◌, drop}
-use Rattle.pe_space.specs.Held.{images_of, memories_of}
+use Rattle.pe_space.specs.InMemory.{images_of, memories_of}
 use Rattle.pe_space.specs.Memory.{bound}
 use Rattle.pe_space.proofs.mapped_space.bind.Given as goal
 

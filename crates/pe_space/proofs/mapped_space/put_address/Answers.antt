@@ -1,4 +1,4 @@
-use Rattle.pe_space.proofs.Holding.{put_here}
+use Rattle.pe_space.proofs.MemoryWrites.{put_here}
 use Rattle.pe_space.proofs.mapped_space.put_address.Goals as goal
 
 pub returns-clause-images : goal.returns-clause-images

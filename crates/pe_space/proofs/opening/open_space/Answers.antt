@@ -3,23 +3,23 @@ use Rattle.pe_set.specs.Bindings.{bindings_of}
 use Rattle.pe_set.specs.Set.{Module, modules_of, at_bases}
 use Rattle.pe_set.specs.SetView.{entries_of, modules_view}
 use Rattle.pe_set.specs.declared.binding.Binding.{Binding}
-use Rattle.pe_space.specs.Bare.{set_at}
+use Rattle.pe_space.specs.Unbound.{set_at}
 use Rattle.pe_space.specs.Content.{SpaceImage, Content, nth_image, byte_at}
-use Rattle.pe_space.specs.Fresh.{IsFit}
-use Rattle.pe_space.specs.Placing.{IsPlaced}
-use Rattle.pe_space.specs.Tied.{Each, IsTied}
+use Rattle.pe_space.specs.Relocated.{FieldsFit}
+use Rattle.pe_space.specs.ImagesApart.{ImagesApart}
+use Rattle.pe_space.specs.FieldsAndSlots.{Each, FieldsAndSlotsApart}
 use Rattle.pe_space.proofs.Bases.{bytes_at_bases, whole_at}
-use Rattle.pe_space.proofs.Judged.{content_is, few_entries, count_modules, names_fine, one_more, all_made, none_to_make, no_images, no_bindings}
-use Rattle.pe_space.specs.Filed.{filed_content}
+use Rattle.pe_space.proofs.Judged.{content_is, few_entries, count_modules, one_more, all_made, none_to_make, no_images, no_bindings}
+use Rattle.pe_space.specs.FileSpaceView.{file_content}
 use Rattle.pe_space.specs.SetContent.{image_content, laid_out}
-use Rattle.pe_space.proofs.Accepting.{fit, tied, placed, small}
+use Rattle.pe_space.proofs.Accepting.{fit, fields_and_slots, placed, small}
 use Rattle.pe_space.proofs.Judged.{made_and_left}
 use Rattle.pe_space.proofs.opening.open_space.Goals as goal
 
 -- what has been opened and bound is what the set lays out
-filed_is : (images : List SpaceImage) (bs : List Binding) (s : List Module) → images ≡ map image_content s → bs ≡ bindings_of s → filed_content images bs ≡ laid_out s
+filed_is : (images : List SpaceImage) (bs : List Binding) (s : List Module) → images ≡ map image_content s → bs ≡ bindings_of s → file_content images bs ≡ laid_out s
 unfolding laid_out
-filed_is images bs s opened bound = ap (λ (x : List SpaceImage). filed_content x bs) opened ∙ ap (filed_content (map image_content s)) bound
+filed_is images bs s opened bound = ap (λ (x : List SpaceImage). file_content x bs) opened ∙ ap (file_content (map image_content s)) bound
 
 pub loop-own-init : goal.loop-own-init
 loop-own-init g c =
@@ -28,26 +28,26 @@ loop-own-init g c =
     let is = ap modules_view gives.0 ∙ c.in_ok-modules.ensures.exact.1.modules in
     record {
       made = ap (λ (ys : List _). made_and_left image_content ys c.into_iter-own-iterator.result.rest.items) c.in_ok-images.ensures.items ∙ ap (map image_content) is;
-      fit = subst (Each IsFit) (sym is) (fit (modules_of es) (c.accepted_sets_are_sound.ensures c.args.policy es c.in_ok-modules.ensures.exact.0));
+      fit = subst (Each FieldsFit) (sym is) (fit (modules_of es) (c.accepted_sets_are_sound.ensures c.args.policy es c.in_ok-modules.ensures.exact.0));
     }
 
 pub new-requires : goal.new-requires
-new-requires g c = (subst (λ ms. Each IsFit (modules_view ms)) c.in-Some.ensures.steps.0 c.loop-own.invariant.fit).0
+new-requires g c = (subst (λ ms. Each FieldsFit (modules_view ms)) c.in-Some.ensures.steps.0 c.loop-own.invariant.fit).0
 
 pub loop-own-preserved : goal.loop-own-preserved
 loop-own-preserved g c = record {
   made = one_more image_content c.loop-own.images.items c.push.new.self.items c.in-Some.own c.loop-own.own-iterator.rest.items c.next.new.self.rest.items c.new.result _ c.loop-own.invariant.made c.in-Some.ensures.steps.0 c.new.ensures c.in_ok-push.ensures.items;
-  fit = (subst (λ ms. Each IsFit (modules_view ms)) c.in-Some.ensures.steps.0 c.loop-own.invariant.fit).1;
+  fit = (subst (λ ms. Each FieldsFit (modules_view ms)) c.in-Some.ensures.steps.0 c.loop-own.invariant.fit).1;
 }
 
-pub new-requires-2-clause-tied : goal.new-requires-2-clause-tied
-new-requires-2-clause-tied g c =
+pub new-requires-2-clause-fields_and_slots : goal.new-requires-2-clause-fields_and_slots
+new-requires-2-clause-fields_and_slots g c =
     let es = entries_of c.args.set.now in
     let s = modules_of es in
     let sound = c.accepted_sets_are_sound.ensures c.args.policy es c.in_ok-modules.ensures.exact.0 in
     let all = all_made image_content c.loop-own.images.items c.loop-own.own-iterator.rest.items c.loop-own.own-iterator.rest.len s c.loop-own.invariant.made (sym c.loop-own.own-iterator.rest.ok.0) c.in-None.ensures.steps.0 in
     let is = filed_is c.loop-own.images.items c.in_ok-modules.field-0.bindings.items s all c.in_ok-modules.ensures.exact.1.bindings in
-    subst IsTied (sym is) (tied s sound)
+    subst FieldsAndSlotsApart (sym is) (fields_and_slots s sound)
 
 pub new-requires-2-clause-placed : goal.new-requires-2-clause-placed
 new-requires-2-clause-placed g c =
@@ -56,7 +56,7 @@ new-requires-2-clause-placed g c =
     let sound = c.accepted_sets_are_sound.ensures c.args.policy es c.in_ok-modules.ensures.exact.0 in
     let all = all_made image_content c.loop-own.images.items c.loop-own.own-iterator.rest.items c.loop-own.own-iterator.rest.len s c.loop-own.invariant.made (sym c.loop-own.own-iterator.rest.ok.0) c.in-None.ensures.steps.0 in
     let is = filed_is c.loop-own.images.items c.in_ok-modules.field-0.bindings.items s all c.in_ok-modules.ensures.exact.1.bindings in
-    subst IsPlaced (sym is) (placed s sound)
+    subst ImagesApart (sym is) (placed s sound)
 
 pub new-requires-2-clause-whole : goal.new-requires-2-clause-whole
 new-requires-2-clause-whole g c = λ j.
@@ -83,18 +83,16 @@ returns-clause-exact g c =
     let sound = c.accepted_sets_are_sound.ensures c.args.policy es c.in_ok-modules.ensures.exact.0 in
     let all = all_made image_content c.loop-own.images.items c.loop-own.own-iterator.rest.items c.loop-own.own-iterator.rest.len s c.loop-own.invariant.made (sym c.loop-own.own-iterator.rest.ok.0) c.in-None.ensures.steps.0 in
     let is = filed_is c.loop-own.images.items c.in_ok-modules.field-0.bindings.items s all c.in_ok-modules.ensures.exact.1.bindings in
-    (c.in_ok-modules.ensures.exact.0, c.in_ok-new.ensures.content ∙ content_is _ s is)
-
-pub returns-clause-bytes : goal.returns-clause-bytes
-returns-clause-bytes g c = λ bases a none.
-    let es = entries_of c.args.set.now in
-    let s = modules_of es in
-    let sound = c.accepted_sets_are_sound.ensures c.args.policy es c.in_ok-modules.ensures.exact.0 in
-    let all = all_made image_content c.loop-own.images.items c.loop-own.own-iterator.rest.items c.loop-own.own-iterator.rest.len s c.loop-own.invariant.made (sym c.loop-own.own-iterator.rest.ok.0) c.in-None.ensures.steps.0 in
-    let is = filed_is c.loop-own.images.items c.in_ok-modules.field-0.bindings.items s all c.in_ok-modules.ensures.exact.1.bindings in
-    ap (λ (x : Content). byte_at (set_at bases x) a) (c.in_ok-new.ensures.content ∙ content_is _ s is)
-    ∙ bytes_at_bases bases s (modules_of (at_bases bases es)) a (c.bases_change_no_binding.ensures.images bases es) (c.bases_change_no_binding.ensures.bindings bases es)
-    (c.accepted_sets_are_sound.ensures c.args.policy (at_bases bases es) none)
+    let content = c.in_ok-new.ensures.content ∙ content_is _ s is in (
+      c.in_ok-modules.ensures.exact.0,
+      record {
+        content = content;
+        bytes = λ bases a none.
+            ap (λ (x : Content). byte_at (set_at bases x) a) content
+            ∙ bytes_at_bases bases s (modules_of (at_bases bases es)) a (c.bases_change_no_binding.ensures.images bases es) (c.bases_change_no_binding.ensures.bindings bases es)
+            (c.accepted_sets_are_sound.ensures c.args.policy (at_bases bases es) none);
+      },
+    )
 
 pub returns-in_err-images-clause-no_memory : goal.returns-in_err-images-clause-no_memory
 returns-in_err-images-clause-no_memory g c = λ e refused.
@@ -127,13 +125,10 @@ returns-in_err-new-clause-no_memory g c = λ e refused.
     ]
 
 pub returns-in_err-images-clause-named : goal.returns-in_err-images-clause-named
-returns-in_err-images-clause-named g c = λ _. names_fine c.args.policy (entries_of c.args.set.now) c.in_ok-modules.ensures.exact.0
+returns-in_err-images-clause-named g c = λ _. c.accepted_sets_have_no_fault.ensures.names c.args.policy (entries_of c.args.set.now) c.in_ok-modules.ensures.exact.0
 
 pub returns-in_err-push-clause-named : goal.returns-in_err-push-clause-named
-returns-in_err-push-clause-named g c = λ _. names_fine c.args.policy (entries_of c.args.set.now) c.in_ok-modules.ensures.exact.0
+returns-in_err-push-clause-named g c = λ _. c.accepted_sets_have_no_fault.ensures.names c.args.policy (entries_of c.args.set.now) c.in_ok-modules.ensures.exact.0
 
 pub returns-in_err-new-clause-named : goal.returns-in_err-new-clause-named
-returns-in_err-new-clause-named g c = λ _. names_fine c.args.policy (entries_of c.args.set.now) c.in_ok-modules.ensures.exact.0
-
-pub returns-clause-error : goal.returns-clause-error
-returns-clause-error g c = (c.in_ok-modules.ensures.error.0, tt)
+returns-in_err-new-clause-named g c = λ _. c.accepted_sets_have_no_fault.ensures.names c.args.policy (entries_of c.args.set.now) c.in_ok-modules.ensures.exact.0

@@ -1,9 +1,9 @@
 use Rattle.std.proofs.Common.{◌≡◌, map}
 use Rattle.pe_set.specs.Set.{modules_of}
 use Rattle.pe_set.specs.SetView.{entries_of, modules_view}
-use Rattle.pe_space.specs.Fresh.{IsFit}
+use Rattle.pe_space.specs.Relocated.{FieldsFit}
 use Rattle.pe_space.specs.SetContent.{image_content}
-use Rattle.pe_space.specs.Tied.{Each}
+use Rattle.pe_space.specs.FieldsAndSlots.{Each}
 use Rattle.pe_space.proofs.Judged.{made_and_left}
 use Rattle.pe_space.proofs.opening.open_space.Given as goal
 
@@ -11,5 +11,5 @@ use Rattle.pe_space.proofs.opening.open_space.Given as goal
 abbrev pub invariant-loop-own : goal.invariant-loop-own
 invariant-loop-own g l = record {
   made : made_and_left image_content l.images.items l.own-iterator.rest.items ≡ map image_content (modules_of (entries_of l.set));
-  fit : Each IsFit (modules_view l.own-iterator.rest.items);
+  fit : Each FieldsFit (modules_view l.own-iterator.rest.items);
 }

@@ -5,7 +5,7 @@ use Rattle.std.proofs.lemmas.List.Sorted.{Contains-permutation, IsPermutation-sy
 use Rattle.pe_set.specs.declared.binding.Binding.{Binding}
 use Rattle.pe_space.specs.Content.{Content}
 use Rattle.pe_space.specs.Ordered.{slot_of}
-use Rattle.pe_space.specs.Tied.{IsSlot}
+use Rattle.pe_space.specs.FieldsAndSlots.{IsSlot}
 use Rattle.pe_space.proofs.Lists.{each_contains}
 use Rattle.pe_space.proofs.file_space.FileSpace.slots_in.Goals as goal
 
@@ -17,7 +17,7 @@ returns-clause-held g c = λ b held.
     let own = c.between.ensures.held b held in
     let sorted : Contains c.self.inside.slots.items b = subst (λ (l : List Binding). Contains l b) c.as_slice.ensures.value own.0 in
     let bound : Contains c.self.inside.bindings.items b = Contains-permutation _ _ b (IsPermutation-sym _ _ c.self.invariant.by_slot.same) sorted in
-    let slot : IsSlot c.self.inside.images.items b = each_contains _ c.self.inside.bindings.items b c.self.invariant.tied.slots bound in
+    let slot : IsSlot c.self.inside.images.items b = each_contains _ c.self.inside.bindings.items b c.self.invariant.fields_and_slots.slots bound in
     let inside = slot.inside in
     let small = c.self.invariant.small b.image in (
       subst (λ (x : Content). Contains x.bindings b) c.self.view_is bound,

@@ -1,7 +1,7 @@
 use Rattle.std.proofs.Common.{◌∙◌, List, ap}
 use Rattle.pe_set.specs.Placement.{Placement}
 use Rattle.pe_space.specs.Content.{Content, base_in, base_at}
-use Rattle.pe_space.proofs.Filing.{placed_so}
+use Rattle.pe_space.proofs.FileSpaces.{placed_so}
 use Rattle.pe_space.proofs.file_space.FileSpaceSpace.base_of.Goals as goal
 
 pub returns : goal.returns

@@ -1,16 +1,16 @@
 use Rattle.std.proofs.Common.{◌∙◌, ◌-◌, ap, sym, arith, List, ℕ, get_or}
 use Rattle.std.specs.Prelude.{Some}
 use Rattle.pe_space.specs.Content.{SpaceImage, Content, holder_from, byte_at, byte_in}
-use Rattle.pe_space.specs.Filed.{filed_content}
+use Rattle.pe_space.specs.FileSpaceView.{file_content}
 use Rattle.pe_space.specs.Windows.{bytes_in}
 use Rattle.pe_space.proofs.Defining.{byte_nowhere}
-use Rattle.pe_space.proofs.Filing.{filed_order, filed_apart, found_at, byte_found, same_size, still_there}
+use Rattle.pe_space.proofs.FileSpaces.{filed_order, filed_apart, found_at, byte_found, same_size, still_there}
 use Rattle.pe_space.proofs.file_space.FileSpaceSpace.byte.Goals as goal
 
 pub overflow_sub-rva : goal.overflow_sub-rva
 overflow_sub-rva g c =
     let images = c.self.inside.images.items in
-    let own = filed_content images c.self.inside.bindings.items in
+    let own = file_content images c.self.inside.bindings.items in
     let a = c.args.address in
     let j = c.in_ok-number.number in
     let m = c.index.result.now in
@@ -20,7 +20,7 @@ overflow_sub-rva g c =
 pub overflow_cast-rva : goal.overflow_cast-rva
 overflow_cast-rva g c =
     let images = c.self.inside.images.items in
-    let own = filed_content images c.self.inside.bindings.items in
+    let own = file_content images c.self.inside.bindings.items in
     let a = c.args.address in
     let j = c.in_ok-number.number in
     let m = c.index.result.now in
@@ -34,7 +34,7 @@ overflow_cast-rva g c =
 pub read-requires-clause-number : goal.read-requires-clause-number
 read-requires-clause-number g c =
     let images = c.self.inside.images.items in
-    let own = filed_content images c.self.inside.bindings.items in
+    let own = file_content images c.self.inside.bindings.items in
     let a = c.args.address in
     let j = c.in_ok-number.number in
     let m = c.index.result.now in
@@ -44,7 +44,7 @@ read-requires-clause-number g c =
 pub read-requires-clause-inside : goal.read-requires-clause-inside
 read-requires-clause-inside g c =
     let images = c.self.inside.images.items in
-    let own = filed_content images c.self.inside.bindings.items in
+    let own = file_content images c.self.inside.bindings.items in
     let a = c.args.address in
     let j = c.in_ok-number.number in
     let m = c.index.result.now in
@@ -59,7 +59,7 @@ pub returns : goal.returns
 unfolding bytes_in
 returns g c =
     let images = c.self.inside.images.items in
-    let own = filed_content images c.self.inside.bindings.items in
+    let own = file_content images c.self.inside.bindings.items in
     let a = c.args.address in
     let j = c.in_ok-number.number in
     let m = c.index.result.now in
@@ -75,7 +75,7 @@ returns-in_err-number g c =
     let images = c.self.inside.images.items in
     c.from_residual.ensures
     ∙ sym (ap (λ (x : Content). byte_at x c.args.address) (sym c.self.view_is)
-    ∙ byte_nowhere (filed_content images c.self.inside.bindings.items) c.args.address
+    ∙ byte_nowhere (file_content images c.self.inside.bindings.items) c.args.address
     (sym (ap (λ (x : List SpaceImage). holder_from 0 x c.args.address) c.as_slice.ensures.value) ∙ sym c.in_err-number.ensures.holder))
 
 pub holder-requires-clause-order : goal.holder-requires-clause-order

@@ -1,7 +1,7 @@
 use Rattle.std.proofs.Common.{◌∙◌, List, ap}
 use Rattle.pe_set.specs.Placement.{Placement}
 use Rattle.pe_space.specs.Content.{Content, window_image, image_at}
-use Rattle.pe_space.proofs.Filing.{placed_so, filed_order, filed_apart}
+use Rattle.pe_space.proofs.FileSpaces.{placed_so, filed_order, filed_apart}
 use Rattle.pe_space.proofs.file_space.FileSpaceSpace.image_at.Goals as goal
 
 pub window_image-requires-clause-order : goal.window_image-requires-clause-order

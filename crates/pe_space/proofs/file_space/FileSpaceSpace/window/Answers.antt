@@ -2,17 +2,17 @@ use Rattle.std.proofs.Common.{◌∙◌, ◌-◌, ap, sym, arith, length, List, 
 use Rattle.std.specs.Prelude.{Ok}
 use Rattle.std.proofs.lemmas.Result.{err_from_is_err_and}
 use Rattle.pe_space.specs.Content.{SpaceImage, Content, window_at}
-use Rattle.pe_space.specs.Filed.{filed_content}
+use Rattle.pe_space.specs.FileSpaceView.{file_content}
 use Rattle.pe_space.specs.Windows.{bytes_in}
 use Rattle.pe_space.proofs.Addressing.{window_place}
 use Rattle.pe_space.proofs.Defining.{window_told, image_told, window_refused}
-use Rattle.pe_space.proofs.Filing.{found_window, window_found, same_size, still_there}
+use Rattle.pe_space.proofs.FileSpaces.{found_window, window_found, same_size, still_there}
 use Rattle.pe_space.proofs.file_space.FileSpaceSpace.window.Goals as goal
 
 pub overflow_sub-rva : goal.overflow_sub-rva
 overflow_sub-rva g c =
     let images = c.self.inside.images.items in
-    let own = filed_content images c.self.inside.bindings.items in
+    let own = file_content images c.self.inside.bindings.items in
     let a = c.args.address in
     let n = length c.args.buffer.now in
     let j = c.in_ok-number.number in
@@ -25,7 +25,7 @@ overflow_sub-rva g c =
 pub overflow_cast-rva : goal.overflow_cast-rva
 overflow_cast-rva g c =
     let images = c.self.inside.images.items in
-    let own = filed_content images c.self.inside.bindings.items in
+    let own = file_content images c.self.inside.bindings.items in
     let a = c.args.address in
     let n = length c.args.buffer.now in
     let j = c.in_ok-number.number in
@@ -42,7 +42,7 @@ overflow_cast-rva g c =
 pub read-requires-clause-number : goal.read-requires-clause-number
 read-requires-clause-number g c =
     let images = c.self.inside.images.items in
-    let own = filed_content images c.self.inside.bindings.items in
+    let own = file_content images c.self.inside.bindings.items in
     let a = c.args.address in
     let n = length c.args.buffer.now in
     let j = c.in_ok-number.number in
@@ -55,7 +55,7 @@ read-requires-clause-number g c =
 pub read-requires-clause-inside : goal.read-requires-clause-inside
 read-requires-clause-inside g c =
     let images = c.self.inside.images.items in
-    let own = filed_content images c.self.inside.bindings.items in
+    let own = file_content images c.self.inside.bindings.items in
     let a = c.args.address in
     let n = length c.args.buffer.now in
     let j = c.in_ok-number.number in
@@ -75,7 +75,7 @@ returns-in_err-number-clause-fault g c =
 pub returns-clause-ok : goal.returns-clause-ok
 returns-clause-ok g c =
     let images = c.self.inside.images.items in
-    let own = filed_content images c.self.inside.bindings.items in
+    let own = file_content images c.self.inside.bindings.items in
     let a = c.args.address in
     let n = length c.args.buffer.now in
     let j = c.in_ok-number.number in
@@ -93,5 +93,5 @@ returns-clause-ok g c =
 pub index-requires : goal.index-requires
 index-requires g c =
     let images = c.self.inside.images.items in
-    let lies = image_told (filed_content images c.self.inside.bindings.items) c.args.self.now c.args.address (length c.args.buffer.now) (Ok c.in_ok-number.number) c.self.view_is c.in_ok-number.ensures in
+    let lies = image_told (file_content images c.self.inside.bindings.items) c.args.self.now c.args.address (length c.args.buffer.now) (Ok c.in_ok-number.number) c.self.view_is c.in_ok-number.ensures in
     omega (arith, window_place images c.args.address (length c.args.buffer.now) c.in_ok-number.number lies, c.self.inside.images.ok.0)

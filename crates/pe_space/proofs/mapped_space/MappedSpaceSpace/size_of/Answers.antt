@@ -1,7 +1,7 @@
 use Rattle.std.proofs.Common.{◌∙◌, List, ap, sym}
 use Rattle.pe_set.specs.Placement.{Placement}
 use Rattle.pe_space.specs.Content.{Content, size_in, size_at}
-use Rattle.pe_space.specs.Held.{images_of}
+use Rattle.pe_space.specs.InMemory.{images_of}
 use Rattle.pe_space.proofs.Addressing.{placed_so}
 use Rattle.pe_space.proofs.Defining.{placements_bared}
 use Rattle.pe_space.proofs.mapped_space.MappedSpaceSpace.size_of.Goals as goal

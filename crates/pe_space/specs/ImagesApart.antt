@@ -2,10 +2,10 @@
 use Rattle.std.specs.Prelude.{ℕ, ◌+◌, ◌%◌, ◌^◌, ◌≡◌, ◌<◌, ◌≤◌, length}
 use Rattle.pe_set.specs.Placement.{address_limit}
 use Rattle.pe_space.specs.Content.{Content, nth_image}
-use Rattle.pe_space.specs.Tied.{Apart}
+use Rattle.pe_space.specs.FieldsAndSlots.{Apart}
 
 -- the images stand where they may
-pub record IsPlaced (c : Content) : Type 0 where
+pub record ImagesApart (c : Content) : Type 0 where
   pub few : length c.images ≤ 256
   pub few_slots : length c.bindings < 2 ^ 32
   pub aligned : (j : ℕ) → (nth_image c.images j).base % 65536 ≡ 0

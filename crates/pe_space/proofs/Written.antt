@@ -9,7 +9,7 @@ use Rattle.pe_space.specs.Number.{digit, number_in, shift}
 use Rattle.pe_space.specs.Content.{SpaceImage, nth_image, width_of, slot_width}
 use Rattle.pe_tables.specs.Patch.{shifted_at}
 use Rattle.pe_space.specs.Memory.{patch, bytes, with_shifted, shifted_all, memory_of, put_slot, address_of, bound}
-use Rattle.pe_space.specs.Tied.{Each, EachPair, FieldsApart}
+use Rattle.pe_space.specs.FieldsAndSlots.{Each, EachPair, FieldsApart}
 use Rattle.pe_tables.specs.Patched.{length-patch, length-bytes_from, written_in, written_out}
 use Rattle.pe_space.proofs.Numbers.{same_number}
 use Rattle.pe_space.proofs.Lists.{each_map, each_both}

@@ -38,13 +38,13 @@ abbrev pub SlotsApart : List SpaceImage → Binding → Binding → Type 0
 SlotsApart images b e = b.image ≡ e.image → Apart b.slot (slot_width (nth_image images b.image).magic) e.slot (slot_width (nth_image images b.image).magic)
 
 -- fields and slots are in order, wherever the images stand
-pub record IsTied (c : Content) : Type 0 where
+pub record FieldsAndSlotsApart (c : Content) : Type 0 where
   pub images : (j : ℕ) → IsImage (nth_image c.images j)
   pub slots : Each (IsSlot c.images) c.bindings
   pub apart : EachPair (SlotsApart c.images) c.bindings
 
 -- the memories hold what the content says
-pub record IsLaid (c : Content) (ms : List (List ℕ)) : Type 0 where
+pub record MemoryHolds (c : Content) (ms : List (List ℕ)) : Type 0 where
   pub count : length ms ≡ length c.images
   pub lengths : (j : ℕ) → length (memory_of ms j) ≡ (nth_image c.images j).size
   pub each : (j r : ℕ) → r < (nth_image c.images j).size → slice_index (memory_of ms j) r ≡ byte_in c j r

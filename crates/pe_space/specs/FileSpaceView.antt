@@ -5,23 +5,23 @@ use Rattle.pe_space.specs.ByBase.{IsByBase}
 use Rattle.pe_space.specs.Content.{Content, SpaceImage, nth_image, placement_of}
 use Rattle.pe_space.specs.Memory.{ends_in}
 use Rattle.pe_space.specs.Ordered.{IsOrdered, slot_of}
-use Rattle.pe_space.specs.Placing.{IsPlaced}
-use Rattle.pe_space.specs.Tied.{IsTied}
+use Rattle.pe_space.specs.ImagesApart.{ImagesApart}
+use Rattle.pe_space.specs.FieldsAndSlots.{FieldsAndSlotsApart}
 use Rattle.pe_space.specs.declared.by_base.NumberAt.{NumberAt}
 
-abbrev pub filed_content : List SpaceImage → List Binding → Content
-filed_content images bs = record { images = images; bindings = bs }
+abbrev pub file_content : List SpaceImage → List Binding → Content
+file_content images bs = record { images = images; bindings = bs }
 
 -- how many slots end in each of n images
-pub record AreCounts (n : ℕ) (bs : List Binding) (counts : List ℕ) : Type 0 where
+pub record SlotCounts (n : ℕ) (bs : List Binding) (counts : List ℕ) : Type 0 where
   pub count : length counts ≡ n
   pub each : (j : ℕ) → j < n → slice_index counts j ≡ count_by (ends_in j) bs
 
-pub record IsFiled (images : List SpaceImage) (order : List NumberAt) (bs slots : List Binding) (ends : List ℕ) : Type 0 where
-  pub tied : IsTied (filed_content images bs)
-  pub placed : IsPlaced (filed_content images bs)
+pub record FileSpaceHolds (images : List SpaceImage) (order : List NumberAt) (bs slots : List Binding) (ends : List ℕ) : Type 0 where
+  pub fields_and_slots : FieldsAndSlotsApart (file_content images bs)
+  pub placed : ImagesApart (file_content images bs)
   pub whole : (j : ℕ) → length (nth_image images j).plain ≡ (nth_image images j).size
   pub small : (j : ℕ) → (nth_image images j).size ≤ 2 ^ 31
   pub by_base : IsByBase (map placement_of images) order
   pub by_slot : IsOrdered slot_of bs slots
-  pub counts : AreCounts (length images) bs ends
+  pub counts : SlotCounts (length images) bs ends

@@ -9,13 +9,13 @@ abbrev pub without_slots : ℕ → ℕ → List Binding → List ℕ → List �
 without_slots j width [] xs = xs
 without_slots j width (b ∷ bs) xs = without_slots j width bs (if b.image == j then patch xs b.slot (bytes width 0) else xs)
 
-abbrev pub bared : ℕ → List Binding → List SpaceImage → List SpaceImage
-bared j bs [] = []
-bared j bs (image ∷ images) = record image { plain = without_slots j (slot_width image.magic) bs image.plain } ∷ bared (j + 1) bs images
+abbrev pub unbound_images : ℕ → List Binding → List SpaceImage → List SpaceImage
+unbound_images j bs [] = []
+unbound_images j bs (image ∷ images) = record image { plain = without_slots j (slot_width image.magic) bs image.plain } ∷ unbound_images (j + 1) bs images
 
 -- what is kept of files
-abbrev pub bare : Content → Content
-bare s = record s { images = bared 0 s.bindings s.images }
+abbrev pub unbound : Content → Content
+unbound s = record s { images = unbound_images 0 s.bindings s.images }
 
 -- the same files at other bases
 abbrev pub images_at : List ℕ → List SpaceImage → List SpaceImage

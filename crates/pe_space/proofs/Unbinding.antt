@@ -4,19 +4,19 @@ use Rattle.std.proofs.lemmas.Bool.Decides.{eqb_tells}
 use Rattle.pe_set.specs.declared.binding.Binding.{Binding}
 use Rattle.pe_space.specs.Content.{SpaceImage, Content, nth_image, slot_width}
 use Rattle.pe_space.specs.Memory.{patch, bytes}
-use Rattle.pe_space.specs.Bare.{without_slots, bared, bare, images_at, set_at}
-use Rattle.pe_space.specs.Tied.{Each}
+use Rattle.pe_space.specs.Unbound.{without_slots, unbound_images, unbound, images_at, set_at}
+use Rattle.pe_space.specs.FieldsAndSlots.{Each}
 use Rattle.pe_space.proofs.Lists.{each_map}
 use Rattle.pe_tables.specs.Patched.{length-patch, length-bytes_from, written_out}
 
 -- ---- the laws do not depend on bases
-bared-images_at : (j : ℕ) (bs : List Binding) (bases : List ℕ) (images : List SpaceImage) → bared j bs (images_at bases images) ≡ images_at bases (bared j bs images)
-bared-images_at j bs [] images = refl
-bared-images_at j bs (base ∷ bases) [] = refl
-bared-images_at j bs (base ∷ bases) (image ∷ images) = ap (λ (xs : List SpaceImage). record image { base = base; plain = without_slots j (slot_width image.magic) bs image.plain } ∷ xs) (bared-images_at (j + 1) bs bases images)
+unbound_images-images_at : (j : ℕ) (bs : List Binding) (bases : List ℕ) (images : List SpaceImage) → unbound_images j bs (images_at bases images) ≡ images_at bases (unbound_images j bs images)
+unbound_images-images_at j bs [] images = refl
+unbound_images-images_at j bs (base ∷ bases) [] = refl
+unbound_images-images_at j bs (base ∷ bases) (image ∷ images) = ap (λ (xs : List SpaceImage). record image { base = base; plain = without_slots j (slot_width image.magic) bs image.plain } ∷ xs) (unbound_images-images_at (j + 1) bs bases images)
 
-pub content_at_bases : (bases : List ℕ) (s : Content) → set_at bases (bare s) ≡ bare (set_at bases s)
-content_at_bases bases s = ap (λ (xs : List SpaceImage). record s { images = xs }) (sym (bared-images_at 0 s.bindings bases s.images))
+pub content_at_bases : (bases : List ℕ) (s : Content) → set_at bases (unbound s) ≡ unbound (set_at bases s)
+content_at_bases bases s = ap (λ (xs : List SpaceImage). record s { images = xs }) (sym (unbound_images-images_at 0 s.bindings bases s.images))
 
 -- ---- bytes outside all slots stay
 bare_step : (j w : ℕ) (b : Binding) (xs : List ℕ) (r : ℕ) → (b.image ≡ j → (b.slot + w ≤ length xs) × ((r < b.slot) ⊎ (b.slot + w ≤ r)))
@@ -43,12 +43,12 @@ bare_same j w r (b ∷ bs) xs h =
 
 -- ---- the images without what stands in bound slots
 pub image_bared : (n : ℕ) (bs : List Binding) (images : List SpaceImage) (i : ℕ) → i < length images
-    → nth_image (bared n bs images) i ≡ record (nth_image images i) { plain = without_slots (n + i) (slot_width (nth_image images i).magic) bs (nth_image images i).plain }
+    → nth_image (unbound_images n bs images) i ≡ record (nth_image images i) { plain = without_slots (n + i) (slot_width (nth_image images i).magic) bs (nth_image images i).plain }
 image_bared n bs [] i lt = absurd (omega arith)
 image_bared n bs (image ∷ images) zero lt = ap (λ (k : ℕ). record image { plain = without_slots k (slot_width image.magic) bs image.plain }) (omega arith)
 image_bared n bs (image ∷ images) (suc i) lt =
     image_bared (n + 1) bs images i (omega arith) ∙ ap (λ (k : ℕ). record (nth_image images i) { plain = without_slots k (slot_width (nth_image images i).magic) bs (nth_image images i).plain }) (omega arith)
 
-pub length-bared : (n : ℕ) (bs : List Binding) (images : List SpaceImage) → length (bared n bs images) ≡ length images
-length-bared n bs [] = refl
-length-bared n bs (image ∷ images) = let e = length-bared (n + 1) bs images in omega (arith, e)
+pub length-unbound_images : (n : ℕ) (bs : List Binding) (images : List SpaceImage) → length (unbound_images n bs images) ≡ length images
+length-unbound_images n bs [] = refl
+length-unbound_images n bs (image ∷ images) = let e = length-unbound_images (n + 1) bs images in omega (arith, e)
