@@ -16,6 +16,7 @@ impl Report for DumpObject {
     ghost is_text = { IsObjectText };
 
     fn write<A: Allocator + Copy, W: Sink>(
+        &self,
         _alloc: A,
         text: &mut TextWriter<W>,
         file: &[u8],
@@ -49,5 +50,5 @@ pub fn dump_object<A: Allocator + Copy, R: Source, W: Sink>(
     ensures read { IsErrOf result ToolError.Read ↔ (R.failures reader.old < R.failures reader.new) }
     ensures write { IsErrOf result ToolError.Write ↔ (W.failures writer.old < W.failures writer.new) }
 {
-    run_report::<DumpObject, A, R, W>(alloc, reader, writer)
+    run_report(&DumpObject, alloc, reader, writer)
 }

@@ -18,6 +18,7 @@ impl Report for CheckReport {
     ghost is_text = { IsCheckText };
 
     fn write<A: Allocator + Copy, W: Sink>(
+        &self,
         alloc: A,
         text: &mut TextWriter<W>,
         file: &[u8],
@@ -40,6 +41,7 @@ impl Report for DumpReport {
     ghost is_text = { IsDumpText };
 
     fn write<A: Allocator + Copy, W: Sink>(
+        &self,
         alloc: A,
         text: &mut TextWriter<W>,
         file: &[u8],
@@ -73,7 +75,7 @@ pub fn check<A: Allocator + Copy, R: Source, W: Sink>(
     ensures read { IsErrOf result ToolError.Read ↔ (R.failures reader.old < R.failures reader.new) }
     ensures write { IsErrOf result ToolError.Write ↔ (W.failures writer.old < W.failures writer.new) }
 {
-    run_report::<CheckReport, A, R, W>(alloc, reader, writer)
+    run_report(&CheckReport, alloc, reader, writer)
 }
 
 /// Writes what an image holds, a line for each field of its headers, directory, section, export, import and base
@@ -90,5 +92,5 @@ pub fn dump<A: Allocator + Copy, R: Source, W: Sink>(
     ensures read { IsErrOf result ToolError.Read ↔ (R.failures reader.old < R.failures reader.new) }
     ensures write { IsErrOf result ToolError.Write ↔ (W.failures writer.old < W.failures writer.new) }
 {
-    run_report::<DumpReport, A, R, W>(alloc, reader, writer)
+    run_report(&DumpReport, alloc, reader, writer)
 }

@@ -22,6 +22,7 @@ pub trait Report {
     /// Judges the file, and only then adds the text. Where memory is refused it adds nothing, and that never comes of an
     /// empty file.
     fn write<A: Allocator + Copy, W: Sink>(
+        &self,
         alloc: A,
         text: &mut TextWriter<W>,
         file: &[u8],
@@ -45,6 +46,7 @@ pub fn refuse<W: Sink>(text: &mut TextWriter<W>, fault: Fault) -> Outcome
 
 /// Judges a file, and writes its text.
 fn write_report<T: Report, A: Allocator + Copy, W: Sink>(
+    report: &T,
     alloc: A,
     writer: &mut W,
     file: &[u8],
@@ -55,7 +57,7 @@ fn write_report<T: Report, A: Allocator + Copy, W: Sink>(
     ensures memory { IsErrOf result ToolError.Memory → 0 < length file.now }
 {
     let mut text = TextWriter::new(writer);
-    let Ok(outcome) = T::write(alloc, &mut text, file) else {
+    let Ok(outcome) = report.write(alloc, &mut text, file) else {
         return Err(ToolError::Memory);
     };
     match text.finish() {
@@ -70,6 +72,7 @@ fn write_report<T: Report, A: Allocator + Copy, W: Sink>(
 /// `Memory` nothing; `Memory` never comes where the reader gave no byte. Condition: fewer than 2^64 - 1 failures are counted
 /// on either device so far.
 pub fn run_report<T: Report, A: Allocator + Copy, R: Source, W: Sink>(
+    report: &T,
     alloc: A,
     reader: &mut R,
     writer: &mut W,
@@ -82,5 +85,5 @@ pub fn run_report<T: Report, A: Allocator + Copy, R: Source, W: Sink>(
     ensures write { IsErrOf result ToolError.Write ↔ (W.failures writer.old < W.failures writer.new) }
 {
     let file = read_whole(alloc, reader)?;
-    write_report::<T, A, W>(alloc, writer, &file)
+    write_report(report, alloc, writer, &file)
 }
