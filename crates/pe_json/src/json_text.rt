@@ -75,7 +75,7 @@ impl<A: Allocator + Copy> JsonText<A> {
     /// Adds a list of the names of the flags that are set to the row. Those without a name are in the number alone.
     fn flags(&mut self, kind: FlagKind, flags: u32) {
         self.token(Token::BeginArray);
-        for place in 0..32 {
+        for place in 0..u32::BITS {
             let bit = flags & 1 << place;
             if bit == 0 {
                 continue;
@@ -164,9 +164,8 @@ impl<A: Allocator + Copy> JsonText<A> {
         ensures { Grows W.taken W.failures text.old text.new }
     {
         let begins = !matches!(row.first(), None | Some(b'}' | b']'));
-        if self.after_value && begins {
-            text.text(b",");
-        }
+        let comma: &[u8] = if self.after_value && begins { b"," } else { b"" };
+        text.text(comma);
         text.text(row);
         self.after_value = !matches!(row.last(), None | Some(b'{' | b'[' | b':'));
     }

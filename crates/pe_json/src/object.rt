@@ -53,13 +53,13 @@ fn write_relocations<A: Allocator + Copy, W: Sink>(
 }
 
 /// Writes a section, whose number counts from 1.
-fn write_section<A: Allocator + Copy, W: Sink>(
+fn write_section<'a, A: Allocator + Copy, W: Sink>(
     json: &mut JsonText<A>,
     text: &mut TextWriter<W>,
     machine: u16,
     number: u64,
-    header: &SectionHeader,
-    section: &FileSection,
+    header: &'a SectionHeader,
+    section: &'a FileSection<'a>,
 )
     requires { IsReady W.failures text.old }
     ensures { Grows W.taken W.failures text.old text.new }
@@ -104,7 +104,7 @@ fn section_member(section: SymbolSection) -> Member<'static> {
 }
 
 /// Adds what an auxiliary record holds, in the shape of its symbol's class ("PE Format", Auxiliary Symbol Records).
-fn add_aux<A: Allocator + Copy>(json: &mut JsonText<A>, index: Member, aux: &Aux) {
+fn add_aux<'a, A: Allocator + Copy>(json: &mut JsonText<A>, index: Member<'a>, aux: &Aux<'a>) {
     match aux {
         Aux::Function {
             tag_index,
