@@ -6,6 +6,7 @@ pub use Rattle.pe_view.specs.View
 pub mod Accepted
 pub mod Head
 pub mod HeaderFaults
+pub mod Names
 pub mod Optional
 pub mod Section
 pub mod V1

@@ -18,10 +18,30 @@ pub mod characteristic {
     pub const RELOCS_STRIPPED: u16 = 0x0001;
     /// The image can be run.
     pub const EXECUTABLE_IMAGE: u16 = 0x0002;
+    /// COFF line numbers were removed.
+    pub const LINE_NUMS_STRIPPED: u16 = 0x0004;
+    /// COFF symbols of local names were removed.
+    pub const LOCAL_SYMS_STRIPPED: u16 = 0x0008;
+    /// Once: the working set is to be trimmed.
+    pub const AGGRESSIVE_WS_TRIM: u16 = 0x0010;
     /// The image can handle addresses above 2 GiB.
     pub const LARGE_ADDRESS_AWARE: u16 = 0x0020;
+    /// Once: the lowest byte of a number comes first.
+    pub const BYTES_REVERSED_LO: u16 = 0x0080;
     /// The machine is based on words of 32 bits.
     pub const MACHINE_32BIT: u16 = 0x0100;
+    /// Debug data was removed.
+    pub const DEBUG_STRIPPED: u16 = 0x0200;
+    /// On removable media the image is copied to the swap file first.
+    pub const REMOVABLE_RUN_FROM_SWAP: u16 = 0x0400;
+    /// On a network the image is copied to the swap file first.
+    pub const NET_RUN_FROM_SWAP: u16 = 0x0800;
+    /// The image is a system file, and no program of a user.
+    pub const SYSTEM: u16 = 0x1000;
     /// The image is a dynamic-link library.
     pub const DLL: u16 = 0x2000;
+    /// The image is to run on one processor alone.
+    pub const UP_SYSTEM_ONLY: u16 = 0x4000;
+    /// Once: the highest byte of a number comes first.
+    pub const BYTES_REVERSED_HI: u16 = 0x8000;
 }

@@ -14,6 +14,7 @@ mod directory;
 mod fields;
 mod headers;
 pub mod laws;
+mod names;
 mod optional;
 mod reading;
 mod section;
@@ -21,6 +22,10 @@ mod section;
 pub use coff::{characteristic, machine};
 pub use directory::{Directory, directory_index};
 pub use headers::Headers;
-pub use optional::Magic;
+pub use names::{
+    characteristic_name, directory_name, dll_characteristic_name, machine_name, section_flag_name,
+    subsystem_name,
+};
+pub use optional::{Magic, dll_characteristic, subsystem};
 pub use reading::read_headers;
 pub use section::{SectionHeader, section_flag};

@@ -25,14 +25,40 @@ pub struct SectionHeader {
 
 /// Flags of a section ("PE Format", Section Flags).
 pub mod section_flag {
+    /// Once: the section is not filled up to the next boundary.
+    pub const TYPE_NO_PAD: u32 = 0x0000_0008;
     /// The section has code.
     pub const CODE: u32 = 0x0000_0020;
     /// The section has initialized data.
     pub const INITIALIZED_DATA: u32 = 0x0000_0040;
     /// The section has uninitialized data.
     pub const UNINITIALIZED_DATA: u32 = 0x0000_0080;
+    /// Reserved.
+    pub const LNK_OTHER: u32 = 0x0000_0100;
+    /// The section has comments for the linker.
+    pub const LNK_INFO: u32 = 0x0000_0200;
+    /// The section is no part of the image.
+    pub const LNK_REMOVE: u32 = 0x0000_0800;
+    /// The section has COMDAT data.
+    pub const LNK_COMDAT: u32 = 0x0000_1000;
+    /// The section has data that are referred to by the global pointer.
+    pub const GPREL: u32 = 0x0000_8000;
+    /// Reserved.
+    pub const PURGEABLE: u32 = 0x0002_0000;
+    /// Reserved.
+    pub const LOCKED: u32 = 0x0004_0000;
+    /// Reserved.
+    pub const PRELOAD: u32 = 0x0008_0000;
     /// The number of relocations stands in the first of them.
     pub const LNK_NRELOC_OVFL: u32 = 0x0100_0000;
+    /// The section can be discarded when it is no longer needed.
+    pub const DISCARDABLE: u32 = 0x0200_0000;
+    /// The section cannot be cached.
+    pub const NOT_CACHED: u32 = 0x0400_0000;
+    /// The section is not to be paged.
+    pub const NOT_PAGED: u32 = 0x0800_0000;
+    /// The section is one in memory for all processes.
+    pub const SHARED: u32 = 0x1000_0000;
     /// The section can be run.
     pub const EXECUTE: u32 = 0x2000_0000;
     /// The section can be read.

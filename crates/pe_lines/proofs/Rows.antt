@@ -68,7 +68,7 @@ unfolding name_line target_text key_text quoted escaped
 by_other_name = refl
 
 -- an image with one export, by ordinal 5 and by name
-one_export : export_lines (record { ordinals = (5, Rva 0x1004) ∷ []; names = (codes "f", Rva 0x1004) ∷ [] })
+one_export : export_lines (record { ordinals = (5, Rva 0x1004) ∷ []; names = (codes "f", Rva 0x1004) ∷ []; name_ordinals = 5 ∷ [] })
     ≡ codes "export #5 rva 0x00001004\nexport \"f\" rva 0x00001004\n"
 unfolding export_lines ordinal_line name_line target_text quoted escaped hex digits
 one_export = refl

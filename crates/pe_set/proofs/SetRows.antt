@@ -35,7 +35,7 @@ image number at bytes image_base = record {
 -- a PE32 image with tables, at a base
 abbrev with_tables : List ℕ → ℕ → LaidOut → List (ℕ × Target) → List (List ℕ × Target) → List Import → Module
 with_tables name base image ordinals names imports =
-    record { name = name; base = base; magic = Pe32; image = image; exports = record { ordinals = ordinals; names = names }; imports = imports; fixups = [] }
+    record { name = name; base = base; magic = Pe32; image = image; exports = record { ordinals = ordinals; names = names; name_ordinals = [] }; imports = imports; fixups = [] }
 
 -- `a.dll` exports number 1, which is `f`: it forwards them to number 7 of `b`
 abbrev forwarding : Module

@@ -35,7 +35,7 @@ image at bytes image_base = record {
 
 abbrev with_tables : List ℕ → ℕ → Magic → LaidOut → List (List ℕ × Target) → List Import → List Fixup → Module
 with_tables name base magic image names imports fixups =
-    record { name = name; base = base; magic = magic; image = image; exports = record { ordinals = []; names = names }; imports = imports; fixups = fixups }
+    record { name = name; base = base; magic = magic; image = image; exports = record { ordinals = []; names = names; name_ordinals = [] }; imports = imports; fixups = fixups }
 
 -- an image with one field at 0x1008
 abbrev with_field : ℕ → Magic → List ℕ → ℕ → Fixup → List Module

@@ -46,6 +46,7 @@ a_forwarder text = table (
 two_ordinals_and_a_name : exports_of (three_entries 0x04 0x10 2) ≡ record {
   ordinals = (5, Rva 0x1004) ∷ (7, Rva 0x1010) ∷ [];
   names = (codes "g", Rva 0x1010) ∷ [];
+  name_ordinals = 7 ∷ [];
 }
 two_ordinals_and_a_name = refl
 
@@ -57,7 +58,7 @@ unfolding each_tests
 accepted = refl
 
 -- the entry of the name is 0
-a_name_of_nothing : exports_of (three_entries 0x04 0x10 1) ≡ record { ordinals = (5, Rva 0x1004) ∷ (7, Rva 0x1010) ∷ []; names = [] }
+a_name_of_nothing : exports_of (three_entries 0x04 0x10 1) ≡ record { ordinals = (5, Rva 0x1004) ∷ (7, Rva 0x1010) ∷ []; names = []; name_ordinals = [] }
 a_name_of_nothing = refl
 
 no_such_entry : first_standing (export_tests (three_entries 0x04 0x10 3)) ≡ Some (record { number = 20; image = 0; place = place.Rva 0x1058 })
@@ -75,6 +76,7 @@ the_last_byte = refl
 forwards : exports_of (a_forwarder (codes "b.#7")) ≡ record {
   ordinals = (1, Forward (codes "b") (Ordinal 7)) ∷ [];
   names = (codes "f", Forward (codes "b") (Ordinal 7)) ∷ [];
+  name_ordinals = 1 ∷ [];
 }
 forwards = refl
 

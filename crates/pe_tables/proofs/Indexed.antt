@@ -21,9 +21,12 @@ some_map : {X Y : Type 0} (g : X → Y) (o : Option X) → is_some (option_map g
 some_map g None = refl
 some_map g (Some x) = refl
 
-module _ {A : Type 0} (f : ℕ → Option Target) (ns : List Named) (old new : NameIndex A) (text : Bor (List ℕ)) (target : Option code.Target) (entry : ℕ) (is : option_map target_view target ≡ f entry) where
+module _ {A : Type 0} (f : ℕ → Option Target) (base : ℕ) (ns : List Named) (old new : NameIndex A) (text : Bor (List ℕ)) (target : Option code.Target) (entry : ℕ) (is : option_map target_view target ≡ f entry) where
   abbrev export : Named → Option (List ℕ × Target)
   export n = option_map (λ target. (n.0, target)) (f n.1)
+
+  abbrev numbered : Named → Option ℕ
+  numbered n = option_map (λ target. base + n.1) (f n.1)
 
   abbrev name : Named
   name = (text.now, entry)
@@ -34,18 +37,21 @@ module _ {A : Type 0} (f : ℕ → Option Target) (ns : List Named) (old new : N
   abbrev Held : List ℕ → Type 0
   Held other = view_held (held new other) ≡ option_map (λ n. f n.1) (find (has other) (ns ++ name ∷ []))
 
-  known_text : IsIndexOf f ns old → (b : Bool) → is_some (held old text.now) ≡ b → is_some (find (has text.now) ns) ≡ b
+  known_text : IsIndexOf f base ns old → (b : Bool) → is_some (held old text.now) ≡ b → is_some (find (has text.now) ns) ≡ b
   known_text indexed b known =
       sym (some_map (λ n. f n.1) (find (has text.now) ns)) ∙ ap (λ (o : Option (Option Target)). is_some o) (sym (indexed.targets text.now))
       ∙ some_map (option_map target_view) (held old text.now) ∙ known
 
-  stays : IsIndexOf f ns old → is_some (held old text.now) ≡ true → Stays old new → IsIndexOf f (ns ++ name ∷ []) new
+  stays : IsIndexOf f base ns old → is_some (held old text.now) ≡ true → Stays old new → IsIndexOf f base (ns ++ name ∷ []) new
   stays indexed known same =
       let there = known_text indexed true known in
       record {
         exports =
             ap (map export_view) same.exports ∙ indexed.exports
             ∙ ap (filter_map export) (sym (append-nil (first_of_each ns)) ∙ ap (λ (b : Bool). first_of_each ns ++ behind b name) (sym there) ∙ sym (first-push ns name));
+        ordinals =
+            same.ordinals ∙ indexed.ordinals
+            ∙ ap (filter_map numbered) (sym (append-nil (first_of_each ns)) ∙ ap (λ (b : Bool). first_of_each ns ++ behind b name) (sym there) ∙ sym (first-push ns name));
         targets = λ other.
             ap view_held (same.targets other) ∙ indexed.targets other
             ∙ ap (option_map (λ (n : Named). f n.1)) (sym (find-known ns name there other));
@@ -55,7 +61,11 @@ module _ {A : Type 0} (f : ℕ → Option Target) (ns : List Named) (old new : N
   viewed None = refl
   viewed (Some t) = refl
 
-  held_now : Gains old new text target → IsIndexOf f ns old → is_some (find (has text.now) ns) ≡ false → (other : List ℕ) → Held other
+  counted : (o : Option code.Target) → option_to_list (option_map (λ t. base + entry) o) ≡ option_to_list (option_map (λ target. base + entry) (option_map target_view o))
+  counted None = refl
+  counted (Some t) = refl
+
+  held_now : Gains old new text (base + entry) target → IsIndexOf f base ns old → is_some (find (has text.now) ns) ≡ false → (other : List ℕ) → Held other
   held_now gains indexed new_text other = elim (cases_Bool (bytes_eq other text.now)) [
     | inl same ↦
         (let now : held new other ≡ Some target = gains.targets other ∙ (let e : (if bytes_eq other text.now then Some target else held old other) ≡ Some target = rw same refl in e) in
@@ -65,7 +75,7 @@ module _ {A : Type 0} (f : ℕ → Option Target) (ns : List Named) (old new : N
         ap view_held now ∙ indexed.targets other ∙ ap (option_map (λ (n : Named). f n.1)) (sym (find-other ns name other differs)))
   ]
 
-  gains : IsIndexOf f ns old → is_some (held old text.now) ≡ false → Gains old new text target → IsIndexOf f (ns ++ name ∷ []) new
+  gains : IsIndexOf f base ns old → is_some (held old text.now) ≡ false → Gains old new text (base + entry) target → IsIndexOf f base (ns ++ name ∷ []) new
   gains indexed unknown more =
       let not_there = known_text indexed false unknown in
       record {
@@ -76,14 +86,20 @@ module _ {A : Type 0} (f : ℕ → Option Target) (ns : List Named) (old new : N
             ∙ ap (λ es. filter_map export (first_of_each ns) ++ es) (sym (filter_map-cons export name [] ∙ append-nil (option_to_list (export name))))
             ∙ sym (filter_map-append export (first_of_each ns) (name ∷ []))
             ∙ ap (filter_map export) (ap (λ (b : Bool). first_of_each ns ++ behind b name) (sym not_there) ∙ sym (first-push ns name));
+        ordinals =
+            more.ordinals ∙ ap (λ (es : List ℕ). old.ordinals.items ++ es) (counted target ∙ ap (λ (o : Option Target). option_to_list (option_map (λ target. base + entry) o)) is)
+            ∙ ap (λ (es : List ℕ). es ++ option_to_list (numbered name)) indexed.ordinals
+            ∙ ap (λ (es : List ℕ). filter_map numbered (first_of_each ns) ++ es) (sym (filter_map-cons numbered name [] ∙ append-nil (option_to_list (numbered name))))
+            ∙ sym (filter_map-append numbered (first_of_each ns) (name ∷ []))
+            ∙ ap (filter_map numbered) (ap (λ (b : Bool). first_of_each ns ++ behind b name) (sym not_there) ∙ sym (first-push ns name));
         targets = held_now more indexed not_there;
       }
 
-  learns_by : (o : Option (Option code.Target)) → held old text.now ≡ o → Learns old new text target o → IsIndexOf f ns old → IsIndexOf f (ns ++ name ∷ []) new
+  learns_by : (o : Option (Option code.Target)) → held old text.now ≡ o → Learns old new text (base + entry) target o → IsIndexOf f base ns old → IsIndexOf f base (ns ++ name ∷ []) new
   learns_by None was more indexed = gains indexed (ap (λ (o : Option (Option code.Target)). is_some o) was) more
   learns_by (Some t) was more indexed = stays indexed (ap (λ (o : Option (Option code.Target)). is_some o) was) more
 
-  pub index-learns : Learns old new text target (held old text.now) → IsIndexOf f ns old → IsIndexOf f (ns ++ name ∷ []) new
+  pub index-learns : Learns old new text (base + entry) target (held old text.now) → IsIndexOf f base ns old → IsIndexOf f base (ns ++ name ∷ []) new
   index-learns more indexed = learns_by (held old text.now) refl more indexed
 
 and_then_map : {X Y : Type 0} (g : X → Option Y) (o : Option X) → option_and_then (λ (p : Option Y). p) (option_map g o) ≡ option_and_then g o
@@ -91,8 +107,8 @@ and_then_map g None = refl
 and_then_map g (Some x) = refl
 
 -- an index serves searches by text
-pub searchable : {A : Type 0} (f : ℕ → Option Target) (ns : List Named) (index : NameIndex A) → IsIndexOf f ns index → IsSearchable index
-searchable f ns index indexed = λ text.
+pub searchable : {A : Type 0} (f : ℕ → Option Target) (base : ℕ) (ns : List Named) (index : NameIndex A) → IsIndexOf f base ns index → IsSearchable index
+searchable f base ns index indexed = λ text.
     sym (and_then_map (option_map target_view) (held index text))
     ∙ ap (option_and_then (λ (p : Option Target). p)) (indexed.targets text)
     ∙ and_then_map (λ (n : Named). f n.1) (find (has text) ns)
@@ -100,10 +116,10 @@ searchable f ns index indexed = λ text.
     ∙ ap (λ (es : List (List ℕ × Target)). option_map (λ p. p.1) (find (λ p. bytes_eq text p.0) es)) (sym indexed.exports)
 
 -- the next name of a list
-pub index-step : {A : Type 0} (f : ℕ → Option Target) (names : List Name) (k : ℕ) (d : Name) (old new : NameIndex A) (target : Option code.Target) → k < length names
-    → option_map target_view target ≡ f (get_or names k d).entry → Learns old new (get_or names k d).text.bytes target (held old (get_or names k d).text.bytes.now)
-    → IsIndexOf f (map name_view (take k names)) old → IsIndexOf f (map name_view (take (k + 1) names)) new
-index-step f names k d old new target lt is learns indexed =
+pub index-step : {A : Type 0} (f : ℕ → Option Target) (base : ℕ) (names : List Name) (k : ℕ) (d : Name) (old new : NameIndex A) (target : Option code.Target) → k < length names
+    → option_map target_view target ≡ f (get_or names k d).entry → Learns old new (get_or names k d).text.bytes (base + (get_or names k d).entry) target (held old (get_or names k d).text.bytes.now)
+    → IsIndexOf f base (map name_view (take k names)) old → IsIndexOf f base (map name_view (take (k + 1) names)) new
+index-step f base names k d old new target lt is learns indexed =
     let name : Name = get_or names k d in
     let more : map name_view (take (k + 1) names) ≡ map name_view (take k names) ++ name_view name ∷ [] = ap (map name_view) (take_more names k d lt) ∙ map-append name_view (take k names) (name ∷ []) in
-    subst (λ (ns : List Named). IsIndexOf f ns new) (sym more) (index-learns f (map name_view (take k names)) old new name.text.bytes target name.entry is learns indexed)
+    subst (λ (ns : List Named). IsIndexOf f base ns new) (sym more) (index-learns f base (map name_view (take k names)) old new name.text.bytes target name.entry is learns indexed)

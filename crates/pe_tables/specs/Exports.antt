@@ -35,10 +35,12 @@ name_text i t k = i.text (number_at 4 i (t.names + 4 * k))
 abbrev pub name_entry : LaidOut → Table → ℕ → ℕ
 name_entry i t k = number_at 2 i (t.ordinals + 2 * k)
 
--- the exports: by ordinal in the order of the address table; by name, each text where it stands first
+-- the exports: by ordinal in the order of the address table; by name, each text where it stands first; and the ordinal of
+-- each of these names
 pub record Exports : Type 0 where
   pub ordinals : List (ℕ × Target)
   pub names : List (List ℕ × Target)
+  pub name_ordinals : List ℕ
 
 abbrev pub by_entry : LaidOut → Directory → Table → ℕ → Option (ℕ × Target)
 by_entry i d t k = option_map (λ target. (t.ordinal_base + k, target)) (target_of i d (entry i t k))
@@ -58,14 +60,18 @@ first_of_each (n ∷ ns) = n ∷ filter (λ m. not (bytes_eq n.0 m.0)) (first_of
 abbrev pub by_name : LaidOut → Directory → Table → List ℕ × ℕ → Option (List ℕ × Target)
 by_name i d t n = option_map (λ target. (n.0, target)) (target_of i d (entry i t n.1))
 
+abbrev pub ordinal_of : LaidOut → Directory → Table → List ℕ × ℕ → Option ℕ
+ordinal_of i d t n = option_map (λ target. t.ordinal_base + n.1) (target_of i d (entry i t n.1))
+
 abbrev pub exports_in : LaidOut → Directory → Table → Exports
 exports_in i d t = record {
   ordinals = filter_map (by_entry i d t) (range_with_len 0 t.entry_count);
   names = filter_map (by_name i d t) (first_of_each (names_of i t));
+  name_ordinals = filter_map (ordinal_of i d t) (first_of_each (names_of i t));
 }
 
 abbrev pub exports_at : LaidOut → Option Directory → Exports
-exports_at i None = record { ordinals = []; names = [] }
+exports_at i None = record { ordinals = []; names = []; name_ordinals = [] }
 exports_at i (Some d) = exports_in i d (table_at i d.rva)
 
 -- the exports of an image

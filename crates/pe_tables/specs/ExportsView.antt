@@ -24,4 +24,5 @@ abbrev pub exports_view : {A : Type 0} → code_exports.Exports A → table.Expo
 exports_view exports = record {
   ordinals = map ordinal_view exports.ordinals.items;
   names = map export_view exports.names.exports.items;
+  name_ordinals = exports.names.ordinals.items;
 }

@@ -1,5 +1,5 @@
 -- What has been read of the names of an export table.
-use Rattle.std.specs.Prelude.{◌≡◌, ℕ, List, ◌++◌, length, nat_lt, map, Option, Some, None, if◌then◌else◌, option_map, option_and_then, option_to_list}
+use Rattle.std.specs.Prelude.{◌≡◌, ℕ, ◌+◌, List, ◌++◌, length, nat_lt, map, Option, Some, None, if◌then◌else◌, option_map, option_and_then, option_to_list}
 use Rattle.std.specs.Borrow.{Bor}
 use Rattle.std.specs.List.{filter_map, find}
 use Rattle.std.specs.Str.{bytes_eq}
@@ -19,23 +19,26 @@ abbrev pub export_view : Bor (List ℕ) × code_target.Target → List ℕ × Ta
 export_view pair = (pair.0.now, target_view pair.1)
 
 -- a text that was not held is held from now on, and stands last where it exports something
-pub record Gains {A : Type 0} (old new : NameIndex A) (text : Bor (List ℕ)) (target : Option code_target.Target) : Type 0 where
+pub record Gains {A : Type 0} (old new : NameIndex A) (text : Bor (List ℕ)) (ordinal : ℕ) (target : Option code_target.Target) : Type 0 where
   pub targets : (other : List ℕ) → held new other ≡ (if bytes_eq other text.now then Some target else held old other)
   pub exports : new.exports.items ≡ old.exports.items ++ option_to_list (option_map (λ t. (text, t)) target)
+  pub ordinals : new.ordinals.items ≡ old.ordinals.items ++ option_to_list (option_map (λ t. ordinal) target)
 
 -- a text that was held changes nothing
 pub record Stays {A : Type 0} (old new : NameIndex A) : Type 0 where
   pub targets : (other : List ℕ) → held new other ≡ held old other
   pub exports : new.exports.items ≡ old.exports.items
+  pub ordinals : new.ordinals.items ≡ old.ordinals.items
 
 -- a name was added, by what was held for its text
-abbrev pub Learns : {A : Type 0} → NameIndex A → NameIndex A → Bor (List ℕ) → Option code_target.Target → Option (Option code_target.Target) → Type 0
-Learns old new text target None = Gains old new text target
-Learns old new text target (Some _) = Stays old new
+abbrev pub Learns : {A : Type 0} → NameIndex A → NameIndex A → Bor (List ℕ) → ℕ → Option code_target.Target → Option (Option code_target.Target) → Type 0
+Learns old new text ordinal target None = Gains old new text ordinal target
+Learns old new text ordinal target (Some _) = Stays old new
 
--- the index of these names, of which one of entry k exports f k
-pub record IsIndexOf {A : Type 0} (f : ℕ → Option Target) (names : List (List ℕ × ℕ)) (index : NameIndex A) : Type 0 where
+-- the index of these names, of which one of entry k exports f k, and has the ordinal base + k
+pub record IsIndexOf {A : Type 0} (f : ℕ → Option Target) (base : ℕ) (names : List (List ℕ × ℕ)) (index : NameIndex A) : Type 0 where
   pub exports : map export_view index.exports.items ≡ filter_map (λ n. option_map (λ target. (n.0, target)) (f n.1)) (first_of_each names)
+  pub ordinals : index.ordinals.items ≡ filter_map (λ n. option_map (λ target. base + n.1) (f n.1)) (first_of_each names)
   pub targets : (text : List ℕ) → option_map (option_map target_view) (held index text) ≡ option_map (λ n. f n.1) (find (λ n. bytes_eq text n.0) names)
 
 -- what is held for a text is what the first export of that name is

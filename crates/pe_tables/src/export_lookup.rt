@@ -55,6 +55,7 @@ impl<'a, A: Allocator + Copy> Exports<'a, A> {
     pub(crate) fn new(alloc: A) -> Exports<'a, A>
         ensures ordinals { result.ordinals.items ≡ [] }
         ensures names { result.names.exports.items ≡ [] }
+        ensures name_ordinals { result.names.ordinals.items ≡ [] }
     {
         Exports {
             ordinals: Vec::new(alloc),
@@ -88,5 +89,12 @@ impl<'a, A: Allocator + Copy> Exports<'a, A> {
         ensures { map export_view result.now ≡ (exports_view self.now).names }
     {
         self.names.exports.as_slice()
+    }
+
+    /// The ordinal of each of [`Exports::names`], in their order.
+    pub fn name_ordinals(&self) -> &[u64]
+        ensures { result.now ≡ (exports_view self.now).name_ordinals }
+    {
+        self.names.ordinals.as_slice()
     }
 }

@@ -191,13 +191,14 @@ fn read_entries<'a, A: Allocator + Copy>(
     requires within { All (IsNameOf (file_of layout.now) table.now.entry_count) names.now }
     ensures { AnswersOrWants (each_tests (entry_tests (image_of layout.now) directory table.now) table.now.entry_count)
         (λ exports. (map ordinal_view exports.ordinals.items ≡ filter_map (by_entry (image_of layout.now) directory table.now) (range_with_len 0 table.now.entry_count))
-        × IsIndexOf (λ index. target_of (image_of layout.now) directory (entry (image_of layout.now) table.now index)) (map name_view names.now) exports.names) result }
+        × IsIndexOf (λ index. target_of (image_of layout.now) directory (entry (image_of layout.now) table.now index)) table.now.ordinal_base (map name_view names.now) exports.names) result }
 {
     let ordinals = read_ordinals(alloc, layout, directory, table)?;
     let mut index = NameIndex::new(alloc);
     for name in names {
         let ordinal = u64::from(table.ordinal_base) + u64::from(name.entry);
-        index.add(layout, name.text, target_by_ordinal(&ordinals, ordinal))?;
+        let target = target_by_ordinal(&ordinals, ordinal);
+        index.add(layout, name.text, ordinal, target)?;
     }
     Ok(Exports {
         ordinals,

@@ -16,6 +16,8 @@ use std::alloc::{AllocError, Allocator};
 pub(crate) struct NameIndex<'a, A: Allocator> {
     /// Each text that exports something, where it stands first.
     pub exports: Vec<(&'a [u8], Target<'a>), A>,
+    /// The ordinal of each of these.
+    pub ordinals: Vec<u64, A>,
     /// What each text of less than a block exports, also where that is nothing.
     pub short: TextMap<'a, A>,
     /// The same of each other text.
@@ -26,11 +28,13 @@ impl<'a, A: Allocator + Copy> NameIndex<'a, A> {
     /// No names. No memory is taken.
     pub fn new(alloc: A) -> NameIndex<'a, A>
         ensures exports { result.exports.items ≡ [] }
+        ensures ordinals { result.ordinals.items ≡ [] }
         ensures held { (text : List ℕ) → held result text ≡ None }
         ensures known { (file : List ℕ) → AreLongTextsOf file result.long }
     {
         NameIndex {
             exports: Vec::new(alloc),
+            ordinals: Vec::new(alloc),
             short: TextMap::new(alloc),
             long: LongTexts::new(alloc),
         }
@@ -53,6 +57,7 @@ impl<'a, A: Allocator + Copy> NameIndex<'a, A> {
         ensures held { IfOk result (λ is_new. (is_new ≡ is_none (held self.old text.entry.now))
             × ((other : List ℕ) → held self.new other ≡ (if is_new && bytes_eq other text.entry.now then Some target.entry else held self.old other))) }
         ensures exports { self.new.exports ≡ self.old.exports }
+        ensures ordinals { self.new.ordinals ≡ self.old.ordinals }
         ensures long { self.new.long ≡ self.old.long }
     {
         if self.short.get(text).is_some() {
@@ -75,6 +80,7 @@ impl<'a, A: Allocator + Copy> NameIndex<'a, A> {
         ensures held { IfOk result (λ is_new. (is_new ≡ is_none (held self.old text.entry.bytes.now))
             × ((other : List ℕ) → held self.new other ≡ (if is_new && bytes_eq other text.entry.bytes.now then Some target.entry else held self.old other))) }
         ensures exports { self.new.exports ≡ self.old.exports }
+        ensures ordinals { self.new.ordinals ≡ self.old.ordinals }
     {
         if text.bytes.len() < BLOCK {
             return self.hold_short(text.bytes, target);
@@ -82,23 +88,25 @@ impl<'a, A: Allocator + Copy> NameIndex<'a, A> {
         self.long.add(layout, text, target)
     }
 
-    /// Adds a name of this layout's file that exports the target, unless the text stands there already.
+    /// Adds a name of this layout's file, with its ordinal and what this exports, unless the text stands there already.
     pub fn add(
         &mut self,
         layout: &Layout<'a>,
         text: Text<'a>,
+        ordinal: u64,
         target: Option<Target<'a>>,
     ) -> Result<(), AllocError>
         requires known { AreLongTextsOf (file_of layout.now) self.old.long }
         requires text { IsTextOf (file_of layout.now) text }
         ensures known { OnOk result (AreLongTextsOf (file_of layout.now) self.new.long) }
-        ensures learns { OnOk result (Learns self.old self.new text.entry.bytes target.entry (held self.old text.entry.bytes.now)) }
+        ensures learns { OnOk result (Learns self.old self.new text.entry.bytes ordinal target.entry (held self.old text.entry.bytes.now)) }
     {
         if !self.hold(layout, text, target)? {
             return Ok(());
         }
         if let Some(target) = target {
             self.exports.push((text.bytes, target))?;
+            self.ordinals.push(ordinal)?;
         }
         Ok(())
     }

@@ -10,7 +10,7 @@ use Rattle.pe_tables.specs.Key as spec
 use Rattle.pe_tables.specs.Key.{target_view}
 use Rattle.pe_tables.specs.Exports.{entry, target_of, by_entry}
 use Rattle.pe_tables.specs.ExportsView.{name_view, ordinal_view}
-use Rattle.pe_tables.specs.NameIndex.{IsIndexOf, export_view}
+use Rattle.pe_tables.specs.NameIndex.{held, IsIndexOf, Learns, export_view}
 use Rattle.pe_tables.specs.declared.exports.Name.{Name}
 use Rattle.pe_tables.specs.declared.export_table.Table.{Table}
 use Rattle.pe_tables.specs.declared.key.Target.{Target}
@@ -38,6 +38,7 @@ loop-name-init g c =
       known = c.new-index.ensures.known (file_of c.args.layout.now);
       names = record {
         exports = ap (map export_view) c.new-index.ensures.exports;
+        ordinals = c.new-index.ensures.ordinals;
         targets = λ text. ap (option_map (option_map target_view)) (c.new-index.ensures.held text);
       };
     }
@@ -58,9 +59,9 @@ loop-name-preserved g c =
     ∙ ap (λ (es : List (ℕ × Target)). option_map (λ (e : ℕ × Target). e.1) (find (λ (e : ℕ × Target). e.0 == t.ordinal_base + k) es)) c.deref.ensures.value in
     record {
       known = c.in_ok-add.ensures.known;
-      names = index-step (λ (k : ℕ). target_of i d (entry i t k)) c.args.names.now index no_name c.loop-name.index c.add.new.self c.target_by_ordinal.result c.loop-name-test.true
+      names = index-step (λ (k : ℕ). target_of i d (entry i t k)) t.ordinal_base c.args.names.now index no_name c.loop-name.index c.add.new.self c.target_by_ordinal.result c.loop-name-test.true
           (exported_by i d t ordinals k c.target_by_ordinal.result (c.requires.within index no_name c.loop-name-test.true).inside c.in_ok-ordinals.ensures.1.0 found)
-          c.in_ok-add.ensures.learns c.loop-name.invariant.names;
+          (subst (λ (n : ℕ). Learns c.loop-name.index c.add.new.self (get_or c.args.names.now index no_name).text.bytes n c.target_by_ordinal.result (held c.loop-name.index (get_or c.args.names.now index no_name).text.bytes.now)) (ap (λ (n : ℕ). n + c.from-in-loop-name.result) base ∙ ap (λ (n : ℕ). t.ordinal_base + n) own) c.in_ok-add.ensures.learns) c.loop-name.invariant.names;
     }
 
 pub add-requires-clause-text : goal.add-requires-clause-text
@@ -71,7 +72,7 @@ pub invariant_of-result-clause-searchable : goal.invariant_of-result-clause-sear
 invariant_of-result-clause-searchable g c =
     let i = image_of c.args.layout.now in
     let t = c.args.table.now in
-    searchable (λ (k : ℕ). target_of i c.args.directory (entry i t k)) (map name_view (take c.loop-name.name-index c.args.names.now)) c.loop-name.index c.loop-name.invariant.names
+    searchable (λ (k : ℕ). target_of i c.args.directory (entry i t k)) t.ordinal_base (map name_view (take c.loop-name.name-index c.args.names.now)) c.loop-name.index c.loop-name.invariant.names
 
 pub returns : goal.returns
 returns g c =
@@ -81,6 +82,6 @@ returns g c =
       c.in_ok-ordinals.ensures.0,
       (
         c.in_ok-ordinals.ensures.1.0,
-        subst (λ (ns : List Name). IsIndexOf (λ (k : ℕ). target_of i c.args.directory (entry i t k)) (map name_view ns) c.loop-name.index) all c.loop-name.invariant.names,
+        subst (λ (ns : List Name). IsIndexOf (λ (k : ℕ). target_of i c.args.directory (entry i t k)) t.ordinal_base (map name_view ns) c.loop-name.index) all c.loop-name.invariant.names,
       ),
     )

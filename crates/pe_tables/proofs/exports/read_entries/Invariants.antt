@@ -10,5 +10,5 @@ use Rattle.pe_tables.proofs.exports.read_entries.Given as goal
 abbrev pub invariant-loop-name : goal.invariant-loop-name
 invariant-loop-name g l = record {
   known : AreLongTextsOf (file_of l.layout) l.index.long;
-  names : IsIndexOf (λ (k : ℕ). target_of (image_of l.layout) l.fn.directory (entry (image_of l.layout) l.table k)) (map name_view (take l.name-index l.names)) l.index;
+  names : IsIndexOf (λ (k : ℕ). target_of (image_of l.layout) l.fn.directory (entry (image_of l.layout) l.table k)) l.table.ordinal_base (map name_view (take l.name-index l.names)) l.index;
 }
