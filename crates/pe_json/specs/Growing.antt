@@ -1,13 +1,13 @@
 -- A text that grows, by whatever bytes.
-use Rattle.std.specs.Prelude.{ℕ, ◌≡◌, List}
+use Rattle.std.specs.Prelude.{ℕ, ◌≡◌, List, ◌++◌}
 use Rattle.pe_text.specs.declared.text_writer.TextWriter.{TextWriter}
 use Rattle.pe_text.specs.TextWriter.{IsReady, Stands}
 
 module _ {W : Type 0} (taken : W → List ℕ) (failures : W → ℕ) where
-  -- some text was written after what the sink had taken at the start, where `count` calls had failed
+  -- some text was written behind what the sink had taken at the start, when so many calls had failed
   pub record Stood (t : TextWriter W) (start : List ℕ) (count : ℕ) : Type 0 where
-    pub text : List ℕ
-    pub stands : Stands taken failures t start text count
+    pub rest : List ℕ
+    pub stands : Stands taken failures t start (start ++ rest) count
 
   -- whatever the text was, some bytes are added to it
   pub record Grows (old new : TextWriter W) : Type 0 where

@@ -1,8 +1,11 @@
 //! The engine that writes a file's line.
 
-ghost use Rattle.std.specs.Prelude.{◌-◌, ◌^◌, ◌<◌, ◌↔◌, IfOk, IsErrOf};
+ghost use Rattle.std.specs.Prelude.{◌≡◌, ◌-◌, ◌^◌, ◌<◌, ◌↔◌, IfOk, IsErrOf};
+ghost use Rattle.coff_object.specs.ObjectFaults.{object_tests};
+ghost use Rattle.pe_image.specs.ImageTests.{image_tests};
 ghost use Rattle.pe_json.specs.Growing.{Grows};
-ghost use Rattle.pe_json.specs.JsonReport.{IsVerdict, Prints, Ran};
+ghost use Rattle.pe_json.specs.JsonReport.{is_object, file_tests, IsVerdict, Prints, Ran};
+ghost use Rattle.pe_text.specs.FileKind.{kind_of};
 ghost use Rattle.pe_text.specs.TextWriter.{IsReady};
 
 use crate::image::write_image;
@@ -18,9 +21,6 @@ use pe_text::{
 };
 use pe_view::{Fault, Place};
 use std::alloc::{AllocError, Allocator};
-
-/// How many of a file's first bytes are asked what it is.
-const FIRST: usize = 64;
 
 /// Adds the beginning of the line, up to whether the file is accepted.
 fn begin<A: Allocator + Copy>(json: &mut JsonText<A>, name: &[u8], accepted: bool) {
@@ -54,36 +54,46 @@ fn add_fault<A: Allocator + Copy>(json: &mut JsonText<A>, fault: &Fault) {
 }
 
 /// Adds the line of a refused file, up to its end.
-fn refuse<A: Allocator + Copy>(json: &mut JsonText<A>, name: &[u8], fault: Fault) -> Outcome {
+fn refuse<A: Allocator + Copy>(json: &mut JsonText<A>, name: &[u8], fault: Fault) -> Outcome
+    ensures { result ≡ Outcome.Refused fault }
+{
     begin(json, name, false);
     add_fault(json, &fault);
     Outcome::Refused(fault)
 }
 
-/// Judges a file as what its first bytes show it to be, and writes its line, up to its end.
-fn write_file<A: Allocator + Copy, W: Sink>(
+/// Judges an object, and writes its line up to the last brace.
+fn judge_object<A: Allocator + Copy, W: Sink>(
+    json: &mut JsonText<A>,
+    text: &mut TextWriter<W>,
+    name: &[u8],
+    file: &[u8],
+) -> Outcome
+    requires { IsReady W.failures text.old }
+    ensures verdict { IsVerdict (object_tests file.now) result }
+    ensures grows { Grows W.taken W.failures text.old text.new }
+{
+    match ObjectFile::new(file) {
+        Ok(object) => {
+            begin(json, name, true);
+            write_object(json, text, file, &object);
+            Outcome::Done
+        }
+        Err(fault) => refuse(json, name, fault),
+    }
+}
+
+/// Judges an image, and writes its line up to the last brace.
+fn judge_image<A: Allocator + Copy, W: Sink>(
     json: &mut JsonText<A>,
     text: &mut TextWriter<W>,
     name: &[u8],
     file: &[u8],
 ) -> Result<Outcome, AllocError>
     requires { IsReady W.failures text.old }
-    ensures verdict { IfOk result (IsVerdict file.now) }
+    ensures verdict { IfOk result (IsVerdict (image_tests 0 file.now)) }
     ensures grows { Grows W.taken W.failures text.old text.new }
 {
-    if matches!(
-        file_kind(&file[..file.len().min(FIRST)]),
-        Some(FileKind::Object)
-    ) {
-        return Ok(match ObjectFile::new(file) {
-            Ok(object) => {
-                begin(json, name, true);
-                write_object(json, text, file, &object);
-                Outcome::Done
-            }
-            Err(fault) => refuse(json, name, fault),
-        });
-    }
     match read_image(json.alloc, file, 0) {
         Ok(image) => {
             begin(json, name, true);
@@ -95,6 +105,31 @@ fn write_file<A: Allocator + Copy, W: Sink>(
     }
 }
 
+/// Whether a file's first bytes show an object.
+fn is_object(file: &[u8]) -> bool
+    ensures { result ≡ is_object (kind_of file.now) }
+{
+    matches!(file_kind(file), Some(FileKind::Object))
+}
+
+/// Judges a file as what its first bytes show it to be, and writes its line up to the last brace.
+fn judge<A: Allocator + Copy, W: Sink>(
+    json: &mut JsonText<A>,
+    text: &mut TextWriter<W>,
+    name: &[u8],
+    file: &[u8],
+) -> Result<Outcome, AllocError>
+    requires { IsReady W.failures text.old }
+    ensures verdict { IfOk result (IsVerdict (file_tests file.now)) }
+    ensures grows { Grows W.taken W.failures text.old text.new }
+{
+    if is_object(file) {
+        Ok(judge_object(json, text, name, file))
+    } else {
+        judge_image(json, text, name, file)
+    }
+}
+
 /// Judges a file, and writes its line.
 fn write_line<A: Allocator + Copy, W: Sink>(
     alloc: A,
@@ -103,11 +138,11 @@ fn write_line<A: Allocator + Copy, W: Sink>(
     file: &[u8],
 ) -> Result<Outcome, AllocError>
     requires { IsReady W.failures text.old }
-    ensures verdict { IfOk result (IsVerdict file.now) }
+    ensures verdict { IfOk result (IsVerdict (file_tests file.now)) }
     ensures grows { Grows W.taken W.failures text.old text.new }
 {
     let mut json = JsonText::new(alloc);
-    let outcome = write_file(&mut json, text, name, file)?;
+    let outcome = judge(&mut json, text, name, file)?;
     json.token(Token::EndObject);
     json.put(text);
     if !json.is_whole() {
@@ -129,12 +164,12 @@ fn print_line<A: Allocator + Copy, W: Sink>(
 {
     let mut text = TextWriter::new(writer);
     let answer = write_line(alloc, &mut text, name, file);
-    if text.finish().is_err() {
-        return Err(ToolError::Write);
-    }
-    match answer {
-        Ok(outcome) => Ok(outcome),
-        Err(_) => Err(ToolError::Memory),
+    match text.finish() {
+        Ok(()) => match answer {
+            Ok(outcome) => Ok(outcome),
+            Err(_) => Err(ToolError::Memory),
+        },
+        Err(_) => Err(ToolError::Write),
     }
 }
 

@@ -151,9 +151,10 @@ impl<A: Allocator + Copy> JsonText<A> {
     {
         let row = mem::replace(&mut self.row, Writer::new(Vec::new(self.alloc)));
         let mut bytes = row.into_inner();
-        if !self.refused {
-            self.write(text, &bytes);
+        if self.refused {
+            bytes.clear();
         }
+        self.write(text, &bytes);
         bytes.clear();
         self.row = Writer::new(bytes);
     }
@@ -164,7 +165,11 @@ impl<A: Allocator + Copy> JsonText<A> {
         ensures { Grows W.taken W.failures text.old text.new }
     {
         let begins = !matches!(row.first(), None | Some(b'}' | b']'));
-        let comma: &[u8] = if self.after_value && begins { b"," } else { b"" };
+        let comma: &[u8] = if self.after_value && begins {
+            b","
+        } else {
+            b""
+        };
         text.text(comma);
         text.text(row);
         self.after_value = !matches!(row.last(), None | Some(b'{' | b'[' | b':'));
