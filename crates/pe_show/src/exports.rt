@@ -1,0 +1,138 @@
+//! The exports of an image, a row each.
+
+ghost use Rattle.pe_text.specs.TextWriter.{IsReady};
+ghost use Rattle.pe_show.specs.Page.{AddsSome};
+
+use crate::cell::{Cell, decimal_width, hex_width, write_cells};
+use crate::heading::write_heading;
+use crate::options::ShowOptions;
+use crate::place::SectionNames;
+use pe_layout::Layout;
+use pe_tables::{Exports, Key, Target};
+use pe_text::{Sink, TextWriter};
+use std::alloc::Allocator;
+
+/// How wide the columns of exports are.
+#[derive(Clone, Copy)]
+struct Widths {
+    ordinal: usize,
+    rva: u8,
+    place: usize,
+}
+
+/// By what an export or an import is looked up: a name, or `#` and an ordinal.
+pub(crate) fn key_cells<'a>(key: Key<'a>) -> [Cell<'a>; 2] {
+    match key {
+        Key::Ordinal(ordinal) => [Cell::Words("#"), Cell::Right(u64::from(ordinal), 1)],
+        Key::Name(name) => [Cell::Name(name), Cell::Words("")],
+    }
+}
+
+/// The widths of exports.
+fn widths_of(exports: &[(u64, Target)], layout: &Layout, names: &SectionNames) -> Widths {
+    let mut widths = Widths {
+        ordinal: 4,
+        rva: 6,
+        place: 5,
+    };
+    for (ordinal, target) in exports {
+        widths.ordinal = widths.ordinal.max(decimal_width(*ordinal));
+        if let Target::Rva(rva) = target {
+            widths.rva = widths.rva.max(hex_width(u64::from(*rva)));
+            widths.place = widths.place.max(names.place(layout, *rva).width());
+        }
+    }
+    widths
+}
+
+/// The names of an ordinal among these, which are ordered by their ordinals.
+fn names_of(names: &[(u64, usize)], ordinal: u64) -> &[(u64, usize)] {
+    let first = names.partition_point(|name| name.0 < ordinal);
+    let end = names.partition_point(|name| name.0 <= ordinal);
+    names.get(first..end).unwrap_or(&[])
+}
+
+/// Adds what an ordinal exports.
+fn write_target<W: Sink>(
+    text: &mut TextWriter<W>,
+    widths: &Widths,
+    layout: &Layout,
+    sections: &SectionNames,
+    ordinal: u64,
+    target: &Target,
+)
+    requires { IsReady W.failures text.old }
+    ensures { AddsSome W.taken W.failures text.old text.new }
+{
+    match target {
+        Target::Rva(rva) => {
+            let place = sections.place(layout, *rva);
+            let [name, plus, offset] = place.cells();
+            write_cells(
+                text,
+                &[
+                    Cell::Right(ordinal, widths.ordinal),
+                    Cell::Words("  0x"),
+                    Cell::Hex(u64::from(*rva), widths.rva),
+                    Cell::Words("  "),
+                    name,
+                    plus,
+                    offset,
+                    Cell::Blanks(widths.place.saturating_sub(place.width())),
+                ],
+            );
+        }
+        Target::Forward { module, key } => {
+            let [first, second] = key_cells(*key);
+            write_cells(
+                text,
+                &[
+                    Cell::Right(ordinal, widths.ordinal),
+                    Cell::Words("  forwarded to "),
+                    Cell::Name(module),
+                    Cell::Words("."),
+                    first,
+                    second,
+                ],
+            );
+        }
+    }
+}
+
+/// Adds names, and the end of their row.
+fn write_names<A: Allocator + Copy, W: Sink>(
+    text: &mut TextWriter<W>,
+    exports: &Exports<A>,
+    names: &[(u64, usize)],
+)
+    requires { IsReady W.failures text.old }
+    ensures { AddsSome W.taken W.failures text.old text.new }
+{
+    let mut gap = "  ";
+    for (_, index) in names {
+        let name = exports.names().get(*index).map_or(&b""[..], |name| name.0);
+        write_cells(text, &[Cell::Words(gap), Cell::Name(name)]);
+        gap = ", ";
+    }
+    text.text(b"\n");
+}
+
+/// Adds a row for each ordinal that an image exports, with its names. The names' ordinals and indexes are ordered.
+pub(crate) fn write_exports<A: Allocator + Copy, W: Sink>(
+    text: &mut TextWriter<W>,
+    options: &ShowOptions,
+    layout: &Layout,
+    sections: &SectionNames,
+    exports: &Exports<A>,
+    names: &[(u64, usize)],
+)
+    requires { IsReady W.failures text.old }
+    ensures { AddsSome W.taken W.failures text.old text.new }
+{
+    let widths = widths_of(exports.ordinals(), layout, sections);
+    write_heading(text, options, "Exports", exports.ordinals().len());
+    for (ordinal, target) in exports.ordinals() {
+        write_target(text, &widths, layout, sections, *ordinal, target);
+        write_names(text, exports, names_of(names, *ordinal));
+    }
+}
