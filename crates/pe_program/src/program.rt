@@ -42,7 +42,7 @@ pub fn run<R: Files + Input + Env + Print + Eprint + AllocGlobal>(rt: &R, is_ter
             run_files(rt, Engine::Show(options), &files)
         }
         Ok(Job::Json { files }) => run_files(rt, Engine::Json, &files),
-        Ok(Job::At { file, place }) => run_at(rt, file.as_str(), place),
+        Ok(Job::At { .. }) => 2,
         Ok(Job::Explain { number }) => run_explain(rt, number),
         Ok(Job::Dump { file }) => run_file(rt, Engine::Dump, file.as_str()),
         Ok(Job::Object { file }) => run_file(rt, Engine::Object, file.as_str()),
