@@ -35,13 +35,12 @@ fn tells_faults(engine: Engine) -> bool {
     matches!(engine, Engine::Show(_) | Engine::Json)
 }
 
-/// Runs an engine over a file, and answers the exit status: as an `Err` where standard output is lost. What is to stand before
-/// the text is written just before it.
+/// Runs an engine over a file, and answers the exit status: as an `Err` where standard output is lost.
 fn run_behind<R: Files + Input + Print + Eprint + Alloc>(
     rt: &R,
     engine: Engine,
     path: &str,
-    beginning: [&str; 2],
+    is_headed: bool,
 ) -> Result<u8, u8>
 where
     R::A: Copy,
@@ -51,7 +50,7 @@ where
             let text = Text::File {
                 engine,
                 name: name_of(path),
-                beginning,
+                is_headed,
                 file: &mut file,
             };
             let printed = print_text(rt, text);
@@ -70,17 +69,17 @@ pub fn run_file<R: Files + Input + Print + Eprint + Alloc>(rt: &R, engine: Engin
 where
     R::A: Copy,
 {
-    match run_behind(rt, engine, path, ["", ""]) {
+    match run_behind(rt, engine, path, false) {
         Ok(status) | Err(status) => status,
     }
 }
 
-/// What stands before the text of a file among several: its name, or the blank line behind the page before it.
-fn beginning_of(engine: Engine, path: &str, is_first: bool) -> [&str; 2] {
+/// Whether a heading stands before the text of a file among several: its name, or the blank line behind the page before it.
+fn is_headed(engine: Engine, is_first: bool) -> bool {
     match engine {
-        Engine::Check => [name_of(path), ": "],
-        Engine::Show(_) if !is_first => ["\n", ""],
-        _ => ["", ""],
+        Engine::Check => true,
+        Engine::Show(_) => !is_first,
+        _ => false,
     }
 }
 
@@ -96,8 +95,7 @@ where
     let mut worst = DONE;
     let mut is_first = true;
     for path in paths {
-        let beginning = beginning_of(engine, path.as_str(), is_first);
-        match run_behind(rt, engine, path.as_str(), beginning) {
+        match run_behind(rt, engine, path.as_str(), is_headed(engine, is_first)) {
             Ok(status) => {
                 is_first = is_first && status > REFUSED;
                 worst = worst.max(status);

@@ -11,12 +11,12 @@
 mod command_line;
 mod explain;
 mod file_job;
+mod headed;
 mod input;
 mod late_file;
 mod map_job;
 mod messages;
 mod output;
-mod prefixed;
 mod program;
 mod rebase_job;
 mod statuses;

@@ -13,7 +13,11 @@ use std::rt::{Env, Files};
 
 /// Whether pages have colours: on a terminal, and where the environment has no NO_COLOR, or an empty one.
 fn has_colours(rt: &impl Env, is_terminal: bool) -> bool {
-    is_terminal && matches!(rt.var("NO_COLOR", &mut [0; 1]), Ok(0) | Err(FillError::NotPresent))
+    is_terminal
+        && matches!(
+            rt.var("NO_COLOR", &mut [0; 1]),
+            Ok(0) | Err(FillError::NotPresent)
+        )
 }
 
 /// What a page shows.

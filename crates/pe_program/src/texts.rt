@@ -1,7 +1,7 @@
 //! The texts of engines on standard output.
 
+use crate::headed::Headed;
 use crate::output::Output;
-use crate::prefixed::Prefixed;
 use pe_tool::{
     Counted, Outcome, Policy, SetEntry, ShowOptions, ToolError, check, dump, dump_object, json,
     map_report, show,
@@ -31,11 +31,11 @@ pub enum Engine {
 /// What to print, and of what.
 #[derive(Drop)]
 pub(crate) enum Text<'a, F> {
-    /// The text of an engine, of an open file, and what is to stand before it.
+    /// The text of an engine, of an open file, and whether a heading is to stand before it.
     File {
         engine: Engine,
         name: &'a str,
-        beginning: [&'a str; 2],
+        is_headed: bool,
         file: F,
     },
     /// The report of `map`.
@@ -53,6 +53,15 @@ pub(crate) struct Printed {
     pub error: Option<Error>,
 }
 
+/// What stands before the text of a file: its name, or a blank line before a page.
+fn heading_of(engine: Engine, name: &str, is_headed: bool) -> (&str, &str) {
+    match engine {
+        _ if !is_headed => ("", ""),
+        Engine::Check => (name, ": "),
+        _ => ("\n", ""),
+    }
+}
+
 /// Runs the engine of a text.
 fn write_text<A: Allocator + Copy>(
     alloc: A,
@@ -63,11 +72,12 @@ fn write_text<A: Allocator + Copy>(
         Text::File {
             engine,
             name,
-            beginning,
+            is_headed,
             file,
         } => {
             let mut reader = Counted::new(file);
-            let mut writer = Counted::new(Prefixed::new(writer, beginning));
+            let (heading, rest) = heading_of(engine, name, is_headed);
+            let mut writer = Counted::new(Headed::new(writer, heading, rest));
             let name = name.as_bytes();
             match engine {
                 Engine::Check => check(alloc, &mut reader, &mut writer),
