@@ -3,9 +3,10 @@
 use crate::headed::Headed;
 use crate::output::Output;
 use pe_tool::{
-    Counted, Outcome, Policy, SetEntry, ShowOptions, ToolError, check, dump, dump_object, json,
+    Counted, Outcome, Policy, SetEntry, ShowOptions, ToolError, at, check, dump, dump_object, json,
     map_report, show,
 };
+use pe_view::Place;
 use std::alloc::Allocator;
 use std::io;
 use std::io::{BufWriter, Error, Read, Write};
@@ -26,6 +27,8 @@ pub enum Engine {
     Show(ShowOptions),
     /// `pe_tool::json`
     Json,
+    /// `pe_tool::at`
+    At(Place),
 }
 
 /// What to print, and of what.
@@ -85,6 +88,7 @@ fn write_text<A: Allocator + Copy>(
                 Engine::Object => dump_object(alloc, &mut reader, &mut writer),
                 Engine::Show(options) => show(alloc, name, &options, &mut reader, &mut writer),
                 Engine::Json => json(alloc, name, &mut reader, &mut writer),
+                Engine::At(place) => at(alloc, place, &mut reader, &mut writer),
             }
         }
         Text::Map {

@@ -26,3 +26,7 @@ tests_of_kind None file = image_tests 0 file
 -- a file is judged by the faults of the kind that its beginning shows, whatever text tells of it
 abbrev pub IsJudged : List ℕ → Outcome → List ℕ → Type 0
 IsJudged file outcome text = IsOutcomeOf (tests_of_kind (kind_of file) file) outcome
+
+-- the same of a file that is taken for an image
+abbrev pub IsImageJudged : List ℕ → Outcome → List ℕ → Type 0
+IsImageJudged file outcome text = IsOutcomeOf (image_tests 0 file) outcome

@@ -110,4 +110,3 @@ pub(crate) fn write_cells<W: Sink>(text: &mut TextWriter<W>, cells: &[Cell])
         write_cell(text, cell);
     }
 }
-

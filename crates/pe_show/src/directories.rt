@@ -4,10 +4,10 @@ ghost use Rattle.pe_text.specs.TextWriter.{IsReady};
 ghost use Rattle.pe_show.specs.Page.{AddsSome};
 
 use crate::cell::{Cell, hex_width, write_cells};
+use crate::fixups::page_count;
 use crate::heading::write_heading;
 use crate::image::Tables;
 use crate::imports::{module_of, same_module};
-use crate::fixups::page_count;
 use crate::name::name_width;
 use crate::options::ShowOptions;
 use crate::place::SectionNames;
@@ -106,10 +106,7 @@ fn write_import_count<W: Sink>(text: &mut TextWriter<W>, imports: &[Import])
 {
     write_cells(
         text,
-        &[
-            Cell::Count(imports.len() as u64),
-            Cell::Words(" imports"),
-        ],
+        &[Cell::Count(imports.len() as u64), Cell::Words(" imports")],
     );
     let modules = imports.chunk_by(same_module).count();
     let mut gap = ": ";
@@ -215,7 +212,10 @@ pub(crate) fn write_directories<A: Allocator + Copy, W: Sink>(
 {
     let directories = layout.headers().directories.as_slice();
     let widths = widths_of(layout, names);
-    let count = directories.iter().filter(|directory| is_present(directory)).count();
+    let count = directories
+        .iter()
+        .filter(|directory| is_present(directory))
+        .count();
     write_heading(text, options, "Tables", count);
     for (index, directory) in directories.iter().enumerate() {
         if is_present(directory) {

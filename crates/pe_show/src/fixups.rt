@@ -61,7 +61,10 @@ fn write_row<W: Sink>(text: &mut TextWriter<W>, width: u8, fixups: &[Fixup])
     for fixup in fixups {
         write_cells(
             text,
-            &[Cell::Words(" "), Cell::Hex(u64::from(fixup.field % PAGE), 3)],
+            &[
+                Cell::Words(" "),
+                Cell::Hex(u64::from(fixup.field % PAGE), 3),
+            ],
         );
     }
     text.text(b"\n");
@@ -86,9 +89,10 @@ pub(crate) fn write_fixups<W: Sink>(
     requires { IsReady W.failures text.old }
     ensures { AddsSome W.taken W.failures text.old text.new }
 {
-    let width = fixups
-        .iter()
-        .fold(6, |width, fixup| hex_width(u64::from(fixup.field)).max(width));
+    let width = fixups.iter().fold(
+        6,
+        |width, fixup| hex_width(u64::from(fixup.field)).max(width),
+    );
     write_heading(text, options, "Base relocations", fixups.len());
     for page in fixups.chunk_by(same_row) {
         write_page(text, width, page);

@@ -72,7 +72,12 @@ pub(crate) fn write_flag_row<W: Sink>(text: &mut TextWriter<W>, words: &str, fie
     };
     write_cells(
         text,
-        &[Cell::Words(words), none, Cell::Flags(field), Cell::Words("\n")],
+        &[
+            Cell::Words(words),
+            none,
+            Cell::Flags(field),
+            Cell::Words("\n"),
+        ],
     );
 }
 
@@ -215,6 +220,14 @@ pub(crate) fn write_headers<W: Sink>(
     write_base(text, headers);
     write_entry(text, headers.address_of_entry_point, place);
     write_sizes(text, headers);
-    write_flag_row(text, "  Image flags ", FlagField::File(headers.characteristics));
-    write_flag_row(text, "  DLL flags   ", FlagField::Dll(headers.dll_characteristics));
+    write_flag_row(
+        text,
+        "  Image flags ",
+        FlagField::File(headers.characteristics),
+    );
+    write_flag_row(
+        text,
+        "  DLL flags   ",
+        FlagField::Dll(headers.dll_characteristics),
+    );
 }

@@ -76,9 +76,10 @@ pub(crate) fn write_imports<W: Sink>(
     requires { IsReady W.failures text.old }
     ensures { AddsSome W.taken W.failures text.old text.new }
 {
-    let width = imports
-        .iter()
-        .fold(6, |width, import| hex_width(u64::from(import.slot)).max(width));
+    let width = imports.iter().fold(
+        6,
+        |width, import| hex_width(u64::from(import.slot)).max(width),
+    );
     write_heading(text, options, "Imports", imports.len());
     for module in imports.chunk_by(same_module) {
         write_module(text, width, module);

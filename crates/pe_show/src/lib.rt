@@ -12,6 +12,7 @@
 //! What a page shows beside the outcome is not part of any contract.
 #![tactic(auto)]
 
+mod at_place;
 mod cell;
 mod date;
 mod directories;
@@ -33,5 +34,6 @@ mod relocation_types;
 mod sections;
 mod symbols;
 
+pub use at_place::at;
 pub use engine::show;
 pub use options::ShowOptions;

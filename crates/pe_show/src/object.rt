@@ -21,7 +21,12 @@ use std::alloc::{AllocError, Allocator};
 /// What an object is.
 fn object_kind<'a>(machine: u16) -> Kind<'a> {
     let [name, number] = named(machine_name(machine), machine);
-    [Cell::Words("COFF object for "), name, number, Cell::Words(", ")]
+    [
+        Cell::Words("COFF object for "),
+        name,
+        number,
+        Cell::Words(", "),
+    ]
 }
 
 /// Adds the rows of an object's header.
@@ -30,7 +35,11 @@ fn write_header<W: Sink>(text: &mut TextWriter<W>, object: &ObjectFile)
     ensures { AddsSome W.taken W.failures text.old text.new }
 {
     write_stamp(text, object.time_stamp());
-    write_flag_row(text, "  Flags       ", FlagField::File(object.characteristics()));
+    write_flag_row(
+        text,
+        "  Flags       ",
+        FlagField::File(object.characteristics()),
+    );
     write_cells(
         text,
         &[
@@ -76,7 +85,13 @@ pub(crate) fn show_object<A: Allocator + Copy, W: Sink>(
     match ObjectFile::new(file) {
         Ok(object) => {
             let names = SymbolNames::new(alloc, &object, page.options.relocations)?;
-            write_title(text, page, Outcome::Done, object_kind(object.machine()), len);
+            write_title(
+                text,
+                page,
+                Outcome::Done,
+                object_kind(object.machine()),
+                len,
+            );
             write_header(text, &object);
             write_sections(text, page.options, &object);
             write_records(text, page, &object, &names);
@@ -84,7 +99,12 @@ pub(crate) fn show_object<A: Allocator + Copy, W: Sink>(
         }
         Err(fault) => {
             let outcome = Outcome::Refused(fault);
-            let kind = [Cell::Words("COFF object, "), Cell::Words(""), Cell::Words(""), Cell::Words("")];
+            let kind = [
+                Cell::Words("COFF object, "),
+                Cell::Words(""),
+                Cell::Words(""),
+                Cell::Words(""),
+            ];
             write_title(text, page, outcome, kind, len);
             write_fault(text, page.options, fault);
             Ok(outcome)

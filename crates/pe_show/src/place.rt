@@ -44,7 +44,8 @@ fn long_name<'a>(view: View<'a>, headers: &Headers, short: &[u8]) -> Option<&'a 
     if headers.pointer_to_symbol_table == 0 {
         return None;
     }
-    let strings = u64::from(headers.pointer_to_symbol_table) + 18 * u64::from(headers.number_of_symbols);
+    let strings = u64::from(headers.pointer_to_symbol_table)
+        + 18 * u64::from(headers.number_of_symbols);
     let size = u64::from(view.u32_at(strings)?);
     if offset < 4 {
         return None;
@@ -100,7 +101,9 @@ impl<'a> SectionNames<'a> {
     /// A place in a section.
     fn in_section(&self, layout: &Layout, index: u8, rva: u32, file: Option<u64>) -> Place<'a> {
         let sections = layout.headers().sections.as_slice();
-        let start = sections.get(usize::from(index)).map_or(0, |section| section.virtual_address);
+        let start = sections
+            .get(usize::from(index))
+            .map_or(0, |section| section.virtual_address);
         Place {
             name: self.get(usize::from(index)),
             offset: Some(rva.saturating_sub(start)),
@@ -124,7 +127,9 @@ impl<'a> Place<'a> {
 
     /// How many columns they take.
     pub fn width(&self) -> usize {
-        let offset = self.offset.map_or(0, |offset| 3 + usize::from(hex_width(u64::from(offset))));
+        let offset = self
+            .offset
+            .map_or(0, |offset| 3 + usize::from(hex_width(u64::from(offset))));
         name_width(self.name).saturating_add(offset)
     }
 }

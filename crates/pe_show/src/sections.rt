@@ -61,9 +61,13 @@ fn widths_of(headers: &Headers, names: &SectionNames) -> Widths {
     };
     for (index, section) in headers.sections.as_slice().iter().enumerate() {
         widths.name = widths.name.max(name_width(names.get(index)));
-        widths.rva = widths.rva.max(hex_width(u64::from(section.virtual_address)));
+        widths.rva = widths
+            .rva
+            .max(hex_width(u64::from(section.virtual_address)));
         widths.bytes = widths.bytes.max(hex_width(u64::from(section.extent())));
-        widths.file = widths.file.max(hex_width(u64::from(section.pointer_to_raw_data)));
+        widths.file = widths
+            .file
+            .max(hex_width(u64::from(section.pointer_to_raw_data)));
     }
     widths
 }

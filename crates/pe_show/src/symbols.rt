@@ -84,7 +84,9 @@ fn section_name<'a>(object: &ObjectFile<'a>, section: SymbolSection) -> &'a [u8]
         SymbolSection::Undefined => b"UNDEFINED",
         SymbolSection::Absolute => b"ABSOLUTE",
         SymbolSection::Debug => b"DEBUG",
-        SymbolSection::Section(number) => match object.section(usize::from(number).saturating_sub(1)) {
+        SymbolSection::Section(number) => match object.section(usize::from(number).saturating_sub(
+            1,
+        )) {
             Some(section) => cut(section.name),
             None => b"",
         },
@@ -104,7 +106,10 @@ fn write_symbol<W: Sink>(
 {
     let class = match class_name(symbol.class) {
         Some(name) => [Cell::Column(name.as_bytes(), 13), Cell::Words("")],
-        None => [Cell::Words("class "), Cell::Right(u64::from(symbol.class), 7)],
+        None => [
+            Cell::Words("class "),
+            Cell::Right(u64::from(symbol.class), 7),
+        ],
     };
     write_cells(
         text,
@@ -117,7 +122,11 @@ fn write_symbol<W: Sink>(
             Cell::Words("  "),
             class[0],
             class[1],
-            Cell::Words(if symbol.kind == 0x20 { "  function  " } else { "            " }),
+            Cell::Words(if symbol.kind == 0x20 {
+                "  function  "
+            } else {
+                "            "
+            }),
             Cell::Name(symbol.name),
             Cell::Words("\n"),
         ],

@@ -23,7 +23,7 @@ mod words;
 pub use coff_lines::dump_object;
 pub use pe_json::json;
 pub use pe_lines::{check, dump};
-pub use pe_show::{ShowOptions, show};
+pub use pe_show::{ShowOptions, at, show};
 pub use pe_space::{Policy, SetEntry};
 pub use pe_text::{
     Counted, Failed, FaultText, FaultWords, FileKind, Outcome, Sink, Source, ToolError,
