@@ -18,8 +18,9 @@ pub(crate) fn write_date<W: Sink>(text: &mut TextWriter<W>, seconds: u32)
     requires { IsReady W.failures text.old }
     ensures { AddsSome W.taken W.failures text.old text.new }
 {
-    let DateTime { date, time } =
-        DateTime::from_nanosecond_in_range(seconds as i128 * 1_000_000_000);
+    let DateTime { date, time } = DateTime::from_nanosecond_in_range(
+        seconds as i128 * 1_000_000_000,
+    );
     write_parts(
         text,
         &[

@@ -44,12 +44,13 @@ fn long_name<'a>(view: View<'a>, headers: &Headers, short: &[u8]) -> Option<&'a 
     if headers.pointer_to_symbol_table == 0 {
         return None;
     }
-    let strings = u64::from(headers.pointer_to_symbol_table) + 18 * u64::from(headers.number_of_symbols);
+    let strings = u64::from(headers.pointer_to_symbol_table)
+        + 18 * u64::from(headers.number_of_symbols);
     let size = u64::from(view.u32_at(strings)?);
     if offset < 4 {
         return None;
     }
-    view.until_zero(strings + offset, strings + size)
+    view.until_zero(strings.saturating_add(offset), strings + size)
 }
 
 /// The name of the section whose header stands at an offset of the file: its long name, or up to the first zero byte.
@@ -62,8 +63,9 @@ fn section_name<'a>(view: View<'a>, headers: &Headers, offset: u64) -> &'a [u8] 
 impl<'a> SectionNames<'a> {
     /// The names of the sections of an image's file.
     pub fn new(view: View<'a>, headers: &Headers) -> SectionNames<'a> {
+        let count = u8::try_from(headers.number_of_sections).unwrap_or(0);
         let mut names = ArrayVec::new();
-        for index in 0..96 {
+        for index in 0..count.min(96) {
             names.push(section_name(view, headers, headers.section_offset(index)));
         }
         SectionNames { names }
@@ -100,7 +102,9 @@ impl<'a> SectionNames<'a> {
     /// A place in a section.
     fn in_section(&self, layout: &Layout, index: u8, rva: u32, file: Option<u64>) -> Place<'a> {
         let sections = layout.headers().sections.as_slice();
-        let start = sections.get(usize::from(index)).map_or(0, |section| section.virtual_address);
+        let start = sections
+            .get(usize::from(index))
+            .map_or(0, |section| section.virtual_address);
         Place {
             name: self.get(usize::from(index)),
             offset: Some(rva.saturating_sub(start)),
@@ -124,7 +128,9 @@ impl<'a> Place<'a> {
 
     /// How many columns they take.
     pub fn width(&self) -> usize {
-        let offset = self.offset.map_or(0, |offset| 3 + usize::from(hex_width(u64::from(offset))));
+        let offset = self
+            .offset
+            .map_or(0, |offset| 3 + usize::from(hex_width(u64::from(offset))));
         name_width(self.name).saturating_add(offset)
     }
 }
