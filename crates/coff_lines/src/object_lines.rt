@@ -23,7 +23,7 @@ use pe_text::{
 };
 
 /// The name of a storage class ("PE Format", Storage Class).
-fn class_name(class: u8) -> Option<&'static [u8]>
+pub fn class_name(class: u8) -> Option<&'static [u8]>
     ensures { option_map (λ name. name.now) result ≡ name_in class_names class }
 {
     match class {
@@ -76,7 +76,7 @@ fn i386_name(kind: u16) -> Option<&'static [u8]>
 }
 
 /// The name of a relocation's type, if the types of the machine have names here.
-fn type_name(machine: u16, kind: u16) -> Option<&'static [u8]>
+pub fn type_name(machine: u16, kind: u16) -> Option<&'static [u8]>
     ensures { option_map (λ name. name.now) result ≡ name_in (type_names machine) kind }
 {
     match machine {

@@ -9,19 +9,21 @@
 #![tactic(auto)]
 
 mod command_line;
+mod explain;
 mod file_job;
 mod input;
 mod late_file;
 mod map_job;
 mod messages;
 mod output;
+mod prefixed;
 mod program;
 mod rebase_job;
 mod statuses;
 mod texts;
 
 pub use command_line::{NoWords, refuse_command_line, words_of};
-pub use file_job::run_file;
+pub use file_job::{run_file, run_files};
 pub use map_job::run_map;
 pub use program::run;
 pub use texts::{Engine, OUTPUT_BUFFER};

@@ -1,8 +1,10 @@
 //! The texts of engines on standard output.
 
 use crate::output::Output;
+use crate::prefixed::Prefixed;
 use pe_tool::{
-    Counted, Outcome, Policy, SetEntry, ToolError, check, dump, dump_object, map_report,
+    Counted, Outcome, Policy, SetEntry, ShowOptions, ToolError, check, dump, dump_object, json,
+    map_report, show,
 };
 use std::alloc::Allocator;
 use std::io;
@@ -20,13 +22,22 @@ pub enum Engine {
     Dump,
     /// `pe_tool::dump_object`
     Object,
+    /// `pe_tool::show`
+    Show(ShowOptions),
+    /// `pe_tool::json`
+    Json,
 }
 
 /// What to print, and of what.
 #[derive(Drop)]
 pub(crate) enum Text<'a, F> {
-    /// The text of an engine, of an open file.
-    File(Engine, F),
+    /// The text of an engine, of an open file, and what is to stand before it.
+    File {
+        engine: Engine,
+        name: &'a str,
+        beginning: [&'a str; 2],
+        file: F,
+    },
     /// The report of `map`.
     Map {
         set: &'a [SetEntry<'a>],
@@ -48,21 +59,29 @@ fn write_text<A: Allocator + Copy>(
     text: Text<'_, impl Read + Drop>,
     writer: impl Write + Drop,
 ) -> Result<Outcome, ToolError> {
-    let mut writer = Counted::new(writer);
     match text {
-        Text::File(engine, file) => {
+        Text::File {
+            engine,
+            name,
+            beginning,
+            file,
+        } => {
             let mut reader = Counted::new(file);
+            let mut writer = Counted::new(Prefixed::new(writer, beginning));
+            let name = name.as_bytes();
             match engine {
                 Engine::Check => check(alloc, &mut reader, &mut writer),
                 Engine::Dump => dump(alloc, &mut reader, &mut writer),
                 Engine::Object => dump_object(alloc, &mut reader, &mut writer),
+                Engine::Show(options) => show(alloc, name, &options, &mut reader, &mut writer),
+                Engine::Json => json(alloc, name, &mut reader, &mut writer),
             }
         }
         Text::Map {
             set,
             policy,
             window,
-        } => map_report(alloc, set, policy, window, &mut writer),
+        } => map_report(alloc, set, policy, window, &mut Counted::new(writer)),
     }
 }
 

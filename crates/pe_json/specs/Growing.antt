@@ -1,0 +1,16 @@
+-- A text that grows, by whatever bytes.
+use Rattle.std.specs.Prelude.{ℕ, ◌≡◌, List}
+use Rattle.pe_text.specs.declared.text_writer.TextWriter.{TextWriter}
+use Rattle.pe_text.specs.TextWriter.{IsReady, Stands}
+
+module _ {W : Type 0} (taken : W → List ℕ) (failures : W → ℕ) where
+  -- some text was written after what the sink had taken at the start, where `count` calls had failed
+  pub record Stood (t : TextWriter W) (start : List ℕ) (count : ℕ) : Type 0 where
+    pub text : List ℕ
+    pub stands : Stands taken failures t start text count
+
+  -- whatever the text was, some bytes are added to it
+  pub record Grows (old new : TextWriter W) : Type 0 where
+    pub same : new.writer.ghost_name ≡ old.writer.ghost_name
+    pub ready : IsReady failures new
+    pub text : (start : List ℕ) (count : ℕ) → Stood old start count → Stood new start count

@@ -1,0 +1,111 @@
+//! The list of an image's exports: a row for each name, and for each ordinal that has none.
+
+ghost use Rattle.pe_json.specs.Growing.{Grows};
+ghost use Rattle.pe_text.specs.TextWriter.{IsReady};
+
+use crate::json_text::JsonText;
+use crate::tables::key_member;
+use crate::value::Value::{self, Absent, Name, Number};
+use json::Token;
+use pe_tables::{Exports, Target};
+use pe_text::{Sink, TextWriter};
+use std::alloc::{AllocError, Allocator};
+
+/// An ordinal, and the index of a name that has it.
+type Named = (u64, usize);
+
+/// The names by their ordinals; those of one ordinal in the order of the name pointer table.
+fn names_by_ordinal<A: Allocator + Copy>(
+    alloc: A,
+    exports: &Exports<A>,
+) -> Result<Vec<Named, A>, AllocError> {
+    let ordinals = exports.name_ordinals();
+    let mut named = Vec::with_capacity(alloc, ordinals.len())?;
+    for (index, ordinal) in ordinals.iter().enumerate() {
+        named.push((*ordinal, index))?;
+    }
+    named.sort_unstable();
+    Ok(named)
+}
+
+/// Adds a row.
+fn add_export<A: Allocator + Copy>(
+    json: &mut JsonText<A>,
+    ordinal: u64,
+    name: Value,
+    target: &Target,
+) {
+    json.token(Token::BeginObject);
+    json.members(&[("ordinal", Number(ordinal)), ("name", name)]);
+    match target {
+        Target::Rva(rva) => json.members(&[("rva", Number(*rva as u64))]),
+        Target::Forward { module, key } => {
+            json.token(Token::Key("forward"));
+            json.object(&[("module", Name("module_hex", module)), key_member(key)]);
+        }
+    }
+    json.token(Token::EndObject);
+}
+
+/// Writes the rows of an ordinal that has these names.
+fn write_ordinal<A: Allocator + Copy, W: Sink>(
+    json: &mut JsonText<A>,
+    text: &mut TextWriter<W>,
+    names: &[(&[u8], Target)],
+    own: &[Named],
+    ordinal: u64,
+    target: &Target,
+)
+    requires { IsReady W.failures text.old }
+    ensures { Grows W.taken W.failures text.old text.new }
+{
+    if own.is_empty() {
+        add_export(json, ordinal, Absent, target);
+        json.put(text);
+    }
+    for (_, index) in own {
+        if let Some((name, _)) = names.get(*index) {
+            add_export(json, ordinal, Name("name_hex", name), target);
+            json.put(text);
+        }
+    }
+}
+
+/// Writes the rows of all ordinals, in their order, of which these names have theirs.
+fn write_rows<A: Allocator + Copy, W: Sink>(
+    json: &mut JsonText<A>,
+    text: &mut TextWriter<W>,
+    exports: &Exports<A>,
+    named: &[Named],
+)
+    requires { IsReady W.failures text.old }
+    ensures { Grows W.taken W.failures text.old text.new }
+{
+    let mut named = named;
+    for (ordinal, target) in exports.ordinals() {
+        let len = named
+            .iter()
+            .position(|name| name.0 != *ordinal)
+            .unwrap_or(named.len());
+        let (own, others) = named.split_at(len);
+        write_ordinal(json, text, exports.names(), own, *ordinal, target);
+        named = others;
+    }
+}
+
+/// Writes the list of exports.
+pub(crate) fn write_exports<A: Allocator + Copy, W: Sink>(
+    json: &mut JsonText<A>,
+    text: &mut TextWriter<W>,
+    exports: &Exports<A>,
+)
+    requires { IsReady W.failures text.old }
+    ensures { Grows W.taken W.failures text.old text.new }
+{
+    json.list("exports");
+    match names_by_ordinal(json.alloc, exports) {
+        Ok(named) => write_rows(json, text, exports, &named),
+        Err(error) => json.note(Err(error)),
+    }
+    json.token(Token::EndArray);
+}

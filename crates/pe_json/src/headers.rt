@@ -1,0 +1,140 @@
+//! The members of headers.
+
+use crate::flags::FlagKind;
+use crate::value::Value::{Absent, Flags, Number, Text, Wide};
+use crate::value::{Member, text_if};
+use coff_object::ObjectFile;
+use pe_head::{Directory, Headers, Magic, directory_name, machine_name, subsystem_name};
+use pe_view::View;
+
+/// The fields of a COFF file header, in its order ("PE Format", COFF File Header).
+pub(crate) fn coff_members(
+    machine: u16,
+    number_of_sections: u64,
+    time_date_stamp: u32,
+    pointer_to_symbol_table: u32,
+    number_of_symbols: u32,
+    size_of_optional_header: u64,
+    characteristics: u16,
+) -> [Member<'static>; 9] {
+    [
+        ("machine", Number(machine as u64)),
+        ("machine_name", text_if(machine_name(machine))),
+        ("number_of_sections", Number(number_of_sections)),
+        ("time_date_stamp", Number(time_date_stamp as u64)),
+        (
+            "pointer_to_symbol_table",
+            Number(pointer_to_symbol_table as u64),
+        ),
+        ("number_of_symbols", Number(number_of_symbols as u64)),
+        ("size_of_optional_header", Number(size_of_optional_header)),
+        ("characteristics", Number(characteristics as u64)),
+        (
+            "characteristics_flags",
+            Flags(FlagKind::File, characteristics as u32),
+        ),
+    ]
+}
+
+/// The fields of an image's COFF file header.
+pub(crate) fn image_coff_members(headers: &Headers) -> [Member<'static>; 9] {
+    coff_members(
+        headers.machine,
+        headers.number_of_sections as u64,
+        headers.time_date_stamp,
+        headers.pointer_to_symbol_table,
+        headers.number_of_symbols,
+        headers.size_of_optional_header as u64,
+        headers.characteristics,
+    )
+}
+
+/// The fields of an object's COFF file header.
+pub(crate) fn object_coff_members(view: View, object: &ObjectFile) -> [Member<'static>; 9] {
+    coff_members(
+        object.machine(),
+        object.section_count() as u64,
+        object.time_stamp(),
+        view.u32_at(8).unwrap_or(0),
+        view.u32_at(12).unwrap_or(0),
+        object.optional().len() as u64,
+        object.characteristics(),
+    )
+}
+
+/// A member that is a number.
+macro_rules! number {
+    ($headers:ident, $field:ident) => {
+        (stringify!($field), Number($headers.$field as u64))
+    };
+}
+
+/// A member that is a number of 64 bits in PE32+.
+macro_rules! wide {
+    ($headers:ident, $field:ident) => {
+        (stringify!($field), Wide($headers.$field))
+    };
+}
+
+/// The fields of an optional header, in its order ("PE Format", Optional Header).
+pub(crate) fn optional_members(headers: &Headers) -> [Member<'static>; 32] {
+    [
+        (
+            "magic",
+            match headers.magic {
+                Magic::Pe32 => Number(0x10b),
+                Magic::Pe32Plus => Number(0x20b),
+            },
+        ),
+        number!(headers, major_linker_version),
+        number!(headers, minor_linker_version),
+        number!(headers, size_of_code),
+        number!(headers, size_of_initialized_data),
+        number!(headers, size_of_uninitialized_data),
+        number!(headers, address_of_entry_point),
+        number!(headers, base_of_code),
+        (
+            "base_of_data",
+            match headers.base_of_data {
+                Some(rva) => Number(rva as u64),
+                None => Absent,
+            },
+        ),
+        wide!(headers, image_base),
+        number!(headers, section_alignment),
+        number!(headers, file_alignment),
+        number!(headers, major_operating_system_version),
+        number!(headers, minor_operating_system_version),
+        number!(headers, major_image_version),
+        number!(headers, minor_image_version),
+        number!(headers, major_subsystem_version),
+        number!(headers, minor_subsystem_version),
+        number!(headers, win32_version_value),
+        number!(headers, size_of_image),
+        number!(headers, size_of_headers),
+        number!(headers, check_sum),
+        number!(headers, subsystem),
+        ("subsystem_name", text_if(subsystem_name(headers.subsystem))),
+        number!(headers, dll_characteristics),
+        (
+            "dll_characteristics_flags",
+            Flags(FlagKind::Dll, headers.dll_characteristics as u32),
+        ),
+        wide!(headers, size_of_stack_reserve),
+        wide!(headers, size_of_stack_commit),
+        wide!(headers, size_of_heap_reserve),
+        wide!(headers, size_of_heap_commit),
+        number!(headers, loader_flags),
+        number!(headers, number_of_rva_and_sizes),
+    ]
+}
+
+/// A data directory ("PE Format", Optional Header Data Directories).
+pub(crate) fn directory_members(index: u32, directory: &Directory) -> [Member<'static>; 4] {
+    [
+        ("index", Number(index as u64)),
+        ("name", text_if(directory_name(index))),
+        ("virtual_address", Number(directory.rva as u64)),
+        ("size", Number(directory.size as u64)),
+    ]
+}

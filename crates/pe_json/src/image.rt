@@ -1,0 +1,79 @@
+//! The members of an accepted image.
+
+ghost use Rattle.pe_json.specs.Growing.{Grows};
+ghost use Rattle.pe_text.specs.TextWriter.{IsReady};
+
+use crate::exports::write_exports;
+use crate::headers::{directory_members, image_coff_members, optional_members};
+use crate::json_text::JsonText;
+use crate::sections::{section_members, section_name, string_table};
+use crate::tables::{write_fixups, write_imports};
+use crate::value::Value::{Number, Text};
+use json::Token;
+use pe_head::{Headers, Magic, SectionHeader};
+use pe_image::Image;
+use pe_text::{Sink, TextWriter};
+use pe_view::View;
+use std::alloc::Allocator;
+
+/// Adds the headers and the list of directories.
+fn add_headers<A: Allocator + Copy>(json: &mut JsonText<A>, headers: &Headers) {
+    let format = match headers.magic {
+        Magic::Pe32 => "PE32",
+        Magic::Pe32Plus => "PE32+",
+    };
+    json.members(&[
+        ("format", Text(format)),
+        ("pe_offset", Number(headers.pe_offset as u64)),
+    ]);
+    json.token(Token::Key("headers"));
+    json.token(Token::BeginObject);
+    json.members(&image_coff_members(headers));
+    json.members(&optional_members(headers));
+    json.token(Token::EndObject);
+    json.list("directories");
+    for (index, directory) in headers.directories.as_slice().iter().enumerate() {
+        json.object(&directory_members(index as u32, directory));
+    }
+    json.token(Token::EndArray);
+}
+
+/// Writes the list of sections.
+fn write_sections<A: Allocator + Copy, W: Sink>(
+    json: &mut JsonText<A>,
+    text: &mut TextWriter<W>,
+    table: Option<&[u8]>,
+    sections: &[SectionHeader],
+)
+    requires { IsReady W.failures text.old }
+    ensures { Grows W.taken W.failures text.old text.new }
+{
+    json.list("sections");
+    for (index, section) in sections.iter().enumerate() {
+        let name = section_name(table, &section.name);
+        let index = ("index", Number(index as u64));
+        json.object(&section_members(index, name, section));
+        json.put(text);
+    }
+    json.token(Token::EndArray);
+}
+
+/// Writes what an image holds.
+pub(crate) fn write_image<A: Allocator + Copy, W: Sink>(
+    json: &mut JsonText<A>,
+    text: &mut TextWriter<W>,
+    file: &[u8],
+    image: &Image<A>,
+)
+    requires { IsReady W.failures text.old }
+    ensures { Grows W.taken W.failures text.old text.new }
+{
+    let headers = image.layout.headers();
+    add_headers(json, headers);
+    json.put(text);
+    let table = string_table(View::new(file), headers);
+    write_sections(json, text, table, headers.sections.as_slice());
+    write_exports(json, text, &image.exports);
+    write_imports(json, text, &image.imports);
+    write_fixups(json, text, &image.fixups);
+}

@@ -1,0 +1,172 @@
+//! JSON text, of the kit's crate `json`, that streams.
+
+ghost use Rattle.json.specs.Print.{IsPrintable};
+ghost use Rattle.json.specs.Reads.{token_of};
+ghost use Rattle.pe_json.specs.Growing.{Grows};
+ghost use Rattle.pe_text.specs.TextWriter.{IsReady};
+
+use crate::flags::{FlagKind, flag_name};
+use crate::value::{Member, Value};
+use json::{Token, Writer};
+use pe_text::{Sink, TextWriter};
+use std::alloc::{AllocError, Allocator};
+use std::{mem, str};
+
+/// A JSON text that is made row by row: a row is any tokens of it that stand one behind the other.
+///
+/// Escapes, numbers and the commas in a row are those of [`Writer`]; the comma between two rows is ours. The room for a row is
+/// kept from row to row, so memory is taken only where a row is longer than all before it. Where it is refused, nothing more is
+/// written, and [`JsonText::is_whole`] tells of it.
+#[derive(Drop)]
+pub(crate) struct JsonText<A: Allocator> {
+    pub alloc: A,
+    row: Writer<A>,
+    after_value: bool,
+    refused: bool,
+}
+
+impl<A: Allocator + Copy> JsonText<A> {
+    /// A text of which nothing is written.
+    pub fn new(alloc: A) -> JsonText<A> {
+        JsonText {
+            alloc,
+            row: Writer::new(Vec::new(alloc)),
+            after_value: false,
+            refused: false,
+        }
+    }
+
+    /// Whether memory was never refused.
+    pub fn is_whole(&self) -> bool {
+        !self.refused
+    }
+
+    /// Notes whether memory was refused.
+    pub fn note(&mut self, done: Result<(), AllocError>) {
+        if done.is_err() {
+            self.refused = true;
+        }
+    }
+
+    /// Adds a token to the row.
+    pub fn token(&mut self, token: Token)
+        requires { IsPrintable (token_of token) }
+    {
+        let done = self.row.token(token);
+        self.note(done);
+    }
+
+    /// Adds a string of `0x` and a number's hexadecimal digits to the row.
+    fn wide(&mut self, number: u64) {
+        match format!(in self.alloc; "{number:#x}") {
+            Ok(digits) => self.token(Token::String(digits.as_str())),
+            Err(error) => self.note(Err(error)),
+        }
+    }
+
+    /// Adds a string of two hexadecimal digits for each byte to the row.
+    fn bytes(&mut self, bytes: &[u8]) {
+        match hex::encode(self.alloc, bytes) {
+            Ok(digits) => self.token(Token::String(digits.as_str())),
+            Err(error) => self.note(Err(error)),
+        }
+    }
+
+    /// Adds a list of the names of the flags that are set to the row. Those without a name are in the number alone.
+    fn flags(&mut self, kind: FlagKind, flags: u32) {
+        self.token(Token::BeginArray);
+        for place in 0..u32::BITS {
+            let bit = flags & 1 << place;
+            if bit == 0 {
+                continue;
+            }
+            if let Some(name) = flag_name(kind, bit) {
+                self.token(Token::String(name));
+            }
+        }
+        self.token(Token::EndArray);
+    }
+
+    /// Adds a name under one of two keys to the row.
+    fn name(&mut self, key: &str, key_hex: &str, name: &[u8]) {
+        match str::from_utf8(name) {
+            Ok(name) => {
+                self.token(Token::Key(key));
+                self.token(Token::String(name));
+            }
+            Err(_) => {
+                self.token(Token::Key(key_hex));
+                self.bytes(name);
+            }
+        }
+    }
+
+    /// Adds a value that has one key to the row.
+    fn value(&mut self, value: &Value) {
+        match value {
+            Value::Number(number) => {
+                let done = self.row.u64(*number);
+                self.note(done);
+            }
+            Value::Wide(number) => self.wide(*number),
+            Value::Truth(truth) => self.token(Token::Bool(*truth)),
+            Value::Text(text) => self.token(Token::String(text)),
+            Value::Bytes(bytes) | Value::Name(_, bytes) => self.bytes(bytes),
+            Value::Flags(kind, flags) => self.flags(*kind, *flags),
+            Value::Absent => {}
+        }
+    }
+
+    /// Adds members to the row.
+    pub fn members(&mut self, members: &[Member]) {
+        for (key, value) in members {
+            match value {
+                Value::Absent => {}
+                Value::Name(key_hex, name) => self.name(key, key_hex, name),
+                value => {
+                    self.token(Token::Key(key));
+                    self.value(value);
+                }
+            }
+        }
+    }
+
+    /// Adds an object of these members to the row.
+    pub fn object(&mut self, members: &[Member]) {
+        self.token(Token::BeginObject);
+        self.members(members);
+        self.token(Token::EndObject);
+    }
+
+    /// Adds a member's key and the beginning of its list to the row.
+    pub fn list(&mut self, key: &str) {
+        self.token(Token::Key(key));
+        self.token(Token::BeginArray);
+    }
+
+    /// Writes the row, unless memory was refused, and begins the next.
+    pub fn put<W: Sink>(&mut self, text: &mut TextWriter<W>)
+        requires { IsReady W.failures text.old }
+        ensures { Grows W.taken W.failures text.old text.new }
+    {
+        let row = mem::replace(&mut self.row, Writer::new(Vec::new(self.alloc)));
+        let mut bytes = row.into_inner();
+        if !self.refused {
+            self.write(text, &bytes);
+        }
+        bytes.clear();
+        self.row = Writer::new(bytes);
+    }
+
+    /// Writes the text of a row, behind a comma where the one before ends a value and this one begins one.
+    fn write<W: Sink>(&mut self, text: &mut TextWriter<W>, row: &[u8])
+        requires { IsReady W.failures text.old }
+        ensures { Grows W.taken W.failures text.old text.new }
+    {
+        let begins = !matches!(row.first(), None | Some(b'}' | b']'));
+        let comma: &[u8] = if self.after_value && begins { b"," } else { b"" };
+        text.text(comma);
+        text.text(row);
+        self.after_value = !matches!(row.last(), None | Some(b'{' | b'[' | b':'));
+    }
+}

@@ -1,0 +1,233 @@
+//! The members of an accepted object.
+
+ghost use Rattle.pe_json.specs.Growing.{Grows};
+ghost use Rattle.pe_text.specs.TextWriter.{IsReady};
+
+use crate::headers::object_coff_members;
+use crate::json_text::JsonText;
+use crate::sections::{header_at, section_members};
+use crate::value::Member;
+use crate::value::Value::{self, Absent, Bytes, Name, Number, Text};
+use coff_lines::{class_name, type_name};
+use coff_object::{Aux, FileSection, ObjectFile, Relocations, Symbol, SymbolSection};
+use json::Token;
+use pe_head::SectionHeader;
+use pe_text::{Sink, TextWriter};
+use pe_view::View;
+use std::alloc::Allocator;
+
+/// A name of a number, where it has one.
+fn name_if(key_hex: &'static str, name: Option<&'static [u8]>) -> Value<'static> {
+    match name {
+        Some(name) => Name(key_hex, name),
+        None => Absent,
+    }
+}
+
+/// Writes the list of a section's relocations ("PE Format", COFF Relocations).
+fn write_relocations<A: Allocator + Copy, W: Sink>(
+    json: &mut JsonText<A>,
+    text: &mut TextWriter<W>,
+    machine: u16,
+    relocations: Relocations,
+)
+    requires { IsReady W.failures text.old }
+    ensures { Grows W.taken W.failures text.old text.new }
+{
+    json.list("relocations");
+    for index in 0..relocations.len() {
+        if let Some(relocation) = relocations.get(index) {
+            json.object(&[
+                ("virtual_address", Number(relocation.address as u64)),
+                ("symbol_table_index", Number(relocation.symbol as u64)),
+                ("type", Number(relocation.kind as u64)),
+                (
+                    "type_name",
+                    name_if("type_name_hex", type_name(machine, relocation.kind)),
+                ),
+            ]);
+            json.put(text);
+        }
+    }
+    json.token(Token::EndArray);
+}
+
+/// Writes a section, whose number counts from 1.
+fn write_section<'a, A: Allocator + Copy, W: Sink>(
+    json: &mut JsonText<A>,
+    text: &mut TextWriter<W>,
+    machine: u16,
+    number: u64,
+    header: &'a SectionHeader,
+    section: &'a FileSection<'a>,
+)
+    requires { IsReady W.failures text.old }
+    ensures { Grows W.taken W.failures text.old text.new }
+{
+    json.token(Token::BeginObject);
+    let number = ("number", Number(number));
+    json.members(&section_members(number, section.name, header));
+    write_relocations(json, text, machine, section.relocations);
+    json.token(Token::EndObject);
+}
+
+/// Writes the list of sections.
+fn write_sections<A: Allocator + Copy, W: Sink>(
+    json: &mut JsonText<A>,
+    text: &mut TextWriter<W>,
+    view: View,
+    object: &ObjectFile,
+)
+    requires { IsReady W.failures text.old }
+    ensures { Grows W.taken W.failures text.old text.new }
+{
+    json.list("sections");
+    let table = 20 + object.optional().len() as u64;
+    for index in 0..object.section_count() {
+        let header = header_at(view, table + 40 * index as u64);
+        if let (Some(header), Some(section)) = (header, object.section(index)) {
+            let number = index as u64 + 1;
+            write_section(json, text, object.machine(), number, &header, &section);
+        }
+    }
+    json.token(Token::EndArray);
+}
+
+/// To which section a symbol belongs: a number that counts from 1, or a word.
+fn section_member(section: SymbolSection) -> Member<'static> {
+    match section {
+        SymbolSection::Section(number) => ("section_number", Number(number as u64)),
+        SymbolSection::Undefined => ("section", Text("UNDEFINED")),
+        SymbolSection::Absolute => ("section", Text("ABSOLUTE")),
+        SymbolSection::Debug => ("section", Text("DEBUG")),
+    }
+}
+
+/// Adds what an auxiliary record holds, in the shape of its symbol's class ("PE Format", Auxiliary Symbol Records).
+fn add_aux<'a, A: Allocator + Copy>(json: &mut JsonText<A>, index: Member<'a>, aux: &Aux<'a>) {
+    match aux {
+        Aux::Function {
+            tag_index,
+            total_size,
+            pointer_to_linenumber,
+            pointer_to_next_function,
+        } => json.object(&[
+            index,
+            ("kind", Text("function")),
+            ("tag_index", Number(*tag_index as u64)),
+            ("total_size", Number(*total_size as u64)),
+            (
+                "pointer_to_linenumber",
+                Number(*pointer_to_linenumber as u64),
+            ),
+            (
+                "pointer_to_next_function",
+                Number(*pointer_to_next_function as u64),
+            ),
+        ]),
+        Aux::Lines { line, next } => json.object(&[
+            index,
+            ("kind", Text("lines")),
+            ("linenumber", Number(*line as u64)),
+            ("pointer_to_next_function", Number(*next as u64)),
+        ]),
+        Aux::Weak { tag_index, search } => json.object(&[
+            index,
+            ("kind", Text("weak_external")),
+            ("tag_index", Number(*tag_index as u64)),
+            ("characteristics", Number(*search as u64)),
+        ]),
+        Aux::File { name } => json.object(&[
+            index,
+            ("kind", Text("file")),
+            ("file_name", Name("file_name_hex", name)),
+        ]),
+        Aux::Section {
+            length,
+            relocations,
+            line_numbers,
+            checksum,
+            number,
+            selection,
+        } => json.object(&[
+            index,
+            ("kind", Text("section_definition")),
+            ("length", Number(*length as u64)),
+            ("number_of_relocations", Number(*relocations as u64)),
+            ("number_of_linenumbers", Number(*line_numbers as u64)),
+            ("check_sum", Number(*checksum as u64)),
+            ("number", Number(*number as u64)),
+            ("selection", Number(*selection as u64)),
+        ]),
+        Aux::Raw { bytes } => {
+            json.object(&[index, ("kind", Text("raw")), ("bytes_hex", Bytes(bytes))]);
+        }
+    }
+}
+
+/// Adds the list of a symbol's auxiliary records, the first with this index.
+fn add_aux_records<A: Allocator + Copy>(json: &mut JsonText<A>, index: u64, symbol: &Symbol) {
+    json.list("auxiliary_records");
+    for k in 0..symbol.aux_count() {
+        if let Some(aux) = symbol.aux_record(k) {
+            add_aux(json, ("index", Number(index + k as u64)), &aux);
+        }
+    }
+    json.token(Token::EndArray);
+}
+
+/// Adds a symbol and its auxiliary records ("PE Format", COFF Symbol Table).
+fn add_symbol<A: Allocator + Copy>(json: &mut JsonText<A>, index: u64, symbol: &Symbol) {
+    json.token(Token::BeginObject);
+    json.members(&[
+        ("index", Number(index)),
+        ("name", Name("name_hex", symbol.name)),
+        ("value", Number(symbol.value as u64)),
+        section_member(symbol.section),
+        ("type", Number(symbol.kind as u64)),
+        ("storage_class", Number(symbol.class as u64)),
+        (
+            "storage_class_name",
+            name_if("storage_class_name_hex", class_name(symbol.class)),
+        ),
+    ]);
+    if symbol.aux_count() > 0 {
+        add_aux_records(json, index + 1, symbol);
+    }
+    json.token(Token::EndObject);
+}
+
+/// Writes the list of symbols.
+fn write_symbols<A: Allocator + Copy, W: Sink>(
+    json: &mut JsonText<A>,
+    text: &mut TextWriter<W>,
+    object: &ObjectFile,
+)
+    requires { IsReady W.failures text.old }
+    ensures { Grows W.taken W.failures text.old text.new }
+{
+    json.list("symbols");
+    for (index, symbol) in object.symbols() {
+        add_symbol(json, u64::from(index), &symbol);
+        json.put(text);
+    }
+    json.token(Token::EndArray);
+}
+
+/// Writes what an object holds.
+pub(crate) fn write_object<A: Allocator + Copy, W: Sink>(
+    json: &mut JsonText<A>,
+    text: &mut TextWriter<W>,
+    file: &[u8],
+    object: &ObjectFile,
+)
+    requires { IsReady W.failures text.old }
+    ensures { Grows W.taken W.failures text.old text.new }
+{
+    let view = View::new(file);
+    json.members(&[("format", Text("COFF"))]);
+    json.token(Token::Key("headers"));
+    json.object(&object_coff_members(view, object));
+    write_sections(json, text, view, object);
+    write_symbols(json, text, object);
+}
