@@ -128,12 +128,11 @@ fn write_entry<W: Sink>(text: &mut TextWriter<W>, rva: u32, place: Option<Place>
     requires { IsReady W.failures text.old }
     ensures { AddsSome W.taken W.failures text.old text.new }
 {
-    let number = Cell::Hex(u64::from(rva), 1);
     match place {
         _ if rva == 0 => text.text(b"  Entry        none\n"),
         None => write_cells(
             text,
-            &[Cell::Words("  Entry        0x"), number, Cell::Words("\n")],
+            &[Cell::Words("  Entry        0x"), Cell::Hex(u64::from(rva), 1), Cell::Words("\n")],
         ),
         Some(place) => {
             let [name, plus, offset] = place.cells();
@@ -142,7 +141,7 @@ fn write_entry<W: Sink>(text: &mut TextWriter<W>, rva: u32, place: Option<Place>
                 text,
                 &[
                     Cell::Words("  Entry        0x"),
-                    number,
+                    Cell::Hex(u64::from(rva), 1),
                     Cell::Words("  "),
                     name,
                     plus,

@@ -45,11 +45,13 @@ impl<'a, A: Allocator + Copy> Tables<'a, A> {
     fn read(&mut self, alloc: A, layout: &Layout<'a>) -> Result<(), TableError>
         ensures { AnswersOrWants (table_tests (image_of layout.now)) (λ _. ⊤) result }
     {
-        self.exports = Some(read_exports(alloc, layout)?);
+        let exports = read_exports(alloc, layout)?;
+        self.exports = Some(exports);
         let imports = read_imports(alloc, layout)?;
-        let fixups = read_fixups(alloc, layout, &imports);
+        let answer = read_fixups(alloc, layout, &imports);
         self.imports = Some(imports);
-        self.fixups = Some(fixups?);
+        let fixups = answer?;
+        self.fixups = Some(fixups);
         Ok(())
     }
 
