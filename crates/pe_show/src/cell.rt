@@ -34,6 +34,11 @@ pub(crate) enum Cell<'a> {
     Flags(FlagField),
 }
 
+/// The word for so many things.
+pub(crate) fn plural(count: usize, one: &'static str, more: &'static str) -> Cell<'static> {
+    Cell::Words(if count == 1 { one } else { more })
+}
+
 /// The most blanks that stand in a row.
 const BLANKS: [u8; 64] = [b' '; 64];
 
@@ -64,7 +69,7 @@ fn write_count<W: Sink>(text: &mut TextWriter<W>, number: u64)
 {
     let mut buffer = Buffer::new();
     let digits = buffer.format(number).as_bytes();
-    let (first, others) = digits.split_at(digits.len() - (digits.len() - 1) / 3 * 3);
+    let (first, others) = digits.split_at(((digits.len() + 2) % 3 + 1).min(digits.len()));
     text.text(first);
     for group in others.chunks(3) {
         write_parts(text, &[Text(b","), Text(group)]);

@@ -3,7 +3,7 @@
 ghost use Rattle.pe_text.specs.TextWriter.{IsReady};
 ghost use Rattle.pe_show.specs.Page.{AddsSome};
 
-use crate::cell::{Cell, hex_width, write_cells};
+use crate::cell::{Cell, hex_width, plural, write_cells};
 use crate::fixups::page_count;
 use crate::heading::write_heading;
 use crate::image::Tables;
@@ -36,7 +36,7 @@ fn is_present(directory: &Directory) -> bool {
 
 /// The name of a directory's table.
 fn name_of(index: usize) -> &'static [u8] {
-    match directory_name(index as u32) {
+    match directory_name(u32::try_from(index).unwrap_or(u32::MAX)) {
         Some(name) => name.as_bytes(),
         None => b"",
     }
@@ -62,7 +62,7 @@ fn widths_of(layout: &Layout, names: &SectionNames) -> Widths {
         name: 6,
         rva: 6,
         size: 5,
-        section: 7,
+        section: 12,
     };
     for (index, directory) in layout.headers().directories.as_slice().iter().enumerate() {
         if is_present(directory) {
@@ -90,11 +90,9 @@ fn write_export_count<A: Allocator + Copy, W: Sink>(text: &mut TextWriter<W>, ex
         text,
         &[
             Cell::Count(exports.ordinals().len() as u64),
-            Cell::Words(" exports, "),
-            Cell::Count(exports.names().len() as u64),
-            Cell::Words(" names, "),
+            plural(exports.ordinals().len(), " export, ", " exports, "),
             Cell::Count(forwarders as u64),
-            Cell::Words(" forwarders\n"),
+            plural(forwarders, " forwarder\n", " forwarders\n"),
         ],
     );
 }
@@ -106,7 +104,10 @@ fn write_import_count<W: Sink>(text: &mut TextWriter<W>, imports: &[Import])
 {
     write_cells(
         text,
-        &[Cell::Count(imports.len() as u64), Cell::Words(" imports")],
+        &[
+            Cell::Count(imports.len() as u64),
+            plural(imports.len(), " import", " imports"),
+        ],
     );
     let modules = imports.chunk_by(same_module).count();
     let mut gap = ": ";
@@ -122,18 +123,15 @@ fn write_import_count<W: Sink>(text: &mut TextWriter<W>, imports: &[Import])
         );
         gap = ", ";
     }
-    let more = modules.saturating_sub(MODULES_SHOWN);
-    if more == 0 {
-        return text.text(b"\n");
-    }
-    write_cells(
-        text,
-        &[
+    let end = match modules.saturating_sub(MODULES_SHOWN) {
+        0 => [Cell::Words("\n"), Cell::Words(""), Cell::Words("")],
+        more => [
             Cell::Words(" and "),
             Cell::Count(more as u64),
             Cell::Words(" more\n"),
         ],
-    );
+    };
+    write_cells(text, &end);
 }
 
 /// Adds how many base relocations there are, and in how many pages.
@@ -141,13 +139,14 @@ fn write_fixup_count<W: Sink>(text: &mut TextWriter<W>, fixups: &[Fixup])
     requires { IsReady W.failures text.old }
     ensures { AddsSome W.taken W.failures text.old text.new }
 {
+    let pages = page_count(fixups);
     write_cells(
         text,
         &[
             Cell::Count(fixups.len() as u64),
-            Cell::Words(" fixups in "),
-            Cell::Count(page_count(fixups) as u64),
-            Cell::Words(" pages\n"),
+            plural(fixups.len(), " fixup in ", " fixups in "),
+            Cell::Count(pages as u64),
+            plural(pages, " page\n", " pages\n"),
         ],
     );
 }
@@ -169,7 +168,7 @@ fn write_summary<A: Allocator + Copy, W: Sink>(
     }
 }
 
-/// Adds the row of a directory.
+/// Adds the row of a directory, if it is present.
 fn write_directory<A: Allocator + Copy, W: Sink>(
     text: &mut TextWriter<W>,
     widths: &Widths,
@@ -181,19 +180,22 @@ fn write_directory<A: Allocator + Copy, W: Sink>(
     requires { IsReady W.failures text.old }
     ensures { AddsSome W.taken W.failures text.old text.new }
 {
+    if !is_present(directory) {
+        return;
+    }
     write_cells(
         text,
         &[
             Cell::Right(index as u64, 4),
             Cell::Words("  "),
             Cell::Column(name_of(index), widths.name),
-            Cell::Words("  0x"),
+            Cell::Words("   0x"),
             Cell::Hex(u64::from(directory.rva), widths.rva),
-            Cell::Words("  0x"),
+            Cell::Words("   0x"),
             Cell::Hex(u64::from(directory.size), widths.size),
-            Cell::Words("  "),
+            Cell::Words("   "),
             Cell::Column(section, widths.section),
-            Cell::Words("  "),
+            Cell::Words("   "),
         ],
     );
     write_summary(text, index, tables);
@@ -218,9 +220,7 @@ pub(crate) fn write_directories<A: Allocator + Copy, W: Sink>(
         .count();
     write_heading(text, options, "Tables", count);
     for (index, directory) in directories.iter().enumerate() {
-        if is_present(directory) {
-            let section = section_of(layout, names, index, directory);
-            write_directory(text, &widths, index, directory, section, tables);
-        }
+        let section = section_of(layout, names, index, directory);
+        write_directory(text, &widths, index, directory, section, tables);
     }
 }

@@ -5,6 +5,7 @@ ghost use Rattle.pe_show.specs.Page.{AddsSome};
 
 use crate::cell::{Cell, decimal_width, hex_width, write_cells};
 use crate::heading::write_heading;
+use crate::image::Tables;
 use crate::options::ShowOptions;
 use crate::place::SectionNames;
 use pe_layout::Layout;
@@ -78,7 +79,6 @@ fn write_target<W: Sink>(
                     name,
                     plus,
                     offset,
-                    Cell::Blanks(widths.place.saturating_sub(place.width())),
                 ],
             );
         }
@@ -99,40 +99,54 @@ fn write_target<W: Sink>(
     }
 }
 
-/// Adds names, and the end of their row.
+/// How many columns stand between what an ordinal exports and its names, beside two.
+fn gap_of(widths: &Widths, layout: &Layout, sections: &SectionNames, target: &Target) -> usize {
+    match target {
+        Target::Rva(rva) => widths
+            .place
+            .saturating_sub(sections.place(layout, *rva).width()),
+        Target::Forward { .. } => 0,
+    }
+}
+
+/// Adds names behind so many blanks and two more, and the end of their row.
 fn write_names<A: Allocator + Copy, W: Sink>(
     text: &mut TextWriter<W>,
     exports: &Exports<A>,
     names: &[(u64, usize)],
+    blanks: usize,
 )
     requires { IsReady W.failures text.old }
     ensures { AddsSome W.taken W.failures text.old text.new }
 {
-    let mut gap = "  ";
+    let mut gap = [Cell::Blanks(blanks), Cell::Words("  ")];
     for (_, index) in names {
         let name = exports.names().get(*index).map_or(&b""[..], |name| name.0);
-        write_cells(text, &[Cell::Words(gap), Cell::Name(name)]);
-        gap = ", ";
+        write_cells(text, &[gap[0], gap[1], Cell::Name(name)]);
+        gap = [Cell::Words(","), Cell::Words(" ")];
     }
     text.text(b"\n");
 }
 
-/// Adds a row for each ordinal that an image exports, with its names. The names' ordinals and indexes are ordered.
+/// Adds a row for each ordinal that an image exports, with its names, where the options want it and the exports were read.
 pub(crate) fn write_exports<A: Allocator + Copy, W: Sink>(
     text: &mut TextWriter<W>,
     options: &ShowOptions,
     layout: &Layout,
     sections: &SectionNames,
-    exports: &Exports<A>,
-    names: &[(u64, usize)],
+    tables: &Tables<A>,
 )
     requires { IsReady W.failures text.old }
     ensures { AddsSome W.taken W.failures text.old text.new }
 {
+    let (Some(exports), true) = (&tables.exports, options.exports) else {
+        return;
+    };
     let widths = widths_of(exports.ordinals(), layout, sections);
     write_heading(text, options, "Exports", exports.ordinals().len());
     for (ordinal, target) in exports.ordinals() {
         write_target(text, &widths, layout, sections, *ordinal, target);
-        write_names(text, exports, names_of(names, *ordinal));
+        let blanks = gap_of(&widths, layout, sections, target);
+        write_names(text, exports, names_of(&tables.names, *ordinal), blanks);
     }
 }

@@ -5,9 +5,11 @@ ghost use Rattle.pe_show.specs.Page.{AddsSome};
 
 use crate::cell::{Cell, hex_width, write_cells};
 use crate::heading::write_heading;
+use crate::image::Tables;
 use crate::options::ShowOptions;
 use pe_tables::{Fixup, FixupKind};
 use pe_text::{Sink, TextWriter};
+use std::alloc::Allocator;
 
 /// How many fields a row shows.
 const FIELDS_SHOWN: usize = 16;
@@ -46,7 +48,7 @@ fn write_row<W: Sink>(text: &mut TextWriter<W>, width: u8, fixups: &[Fixup])
     ensures { AddsSome W.taken W.failures text.old text.new }
 {
     let Some(first) = fixups.first() else {
-        return text.text(b"");
+        return;
     };
     write_cells(
         text,
@@ -80,15 +82,18 @@ fn write_page<W: Sink>(text: &mut TextWriter<W>, width: u8, fixups: &[Fixup])
     }
 }
 
-/// Adds rows for the fields of the base relocations.
-pub(crate) fn write_fixups<W: Sink>(
+/// Adds rows for the fields of the base relocations, where the options want it and they were read.
+pub(crate) fn write_fixups<A: Allocator + Copy, W: Sink>(
     text: &mut TextWriter<W>,
     options: &ShowOptions,
-    fixups: &[Fixup],
+    tables: &Tables<A>,
 )
     requires { IsReady W.failures text.old }
     ensures { AddsSome W.taken W.failures text.old text.new }
 {
+    let (Some(fixups), true) = (&tables.fixups, options.relocations) else {
+        return;
+    };
     let width = fixups.iter().fold(
         6,
         |width, fixup| hex_width(u64::from(fixup.field)).max(width),

@@ -49,7 +49,7 @@ fn flag_name(field: FlagField, flag: u32) -> Option<&'static [u8]> {
 
 /// The flags of a field that have no names.
 fn unnamed(field: FlagField) -> u32 {
-    (0..32)
+    (0..32_u32)
         .map(|bit| bits_of(field) & (1 << bit))
         .filter(|flag| flag_name(field, *flag).is_none())
         .fold(0, |flags, flag| flags | flag)
@@ -61,7 +61,7 @@ fn write_unnamed<W: Sink>(text: &mut TextWriter<W>, flags: u32)
     ensures { AddsSome W.taken W.failures text.old text.new }
 {
     if flags == 0 {
-        return text.text(b"");
+        return;
     }
     text.text(b" 0x");
     text.hex(hex_width(u64::from(flags)), u64::from(flags));
@@ -72,7 +72,7 @@ pub(crate) fn write_flags<W: Sink>(text: &mut TextWriter<W>, field: FlagField)
     requires { IsReady W.failures text.old }
     ensures { AddsSome W.taken W.failures text.old text.new }
 {
-    for bit in 0..32 {
+    for bit in 0..32_u32 {
         let flag = bits_of(field) & (1 << bit);
         write_parts(text, &[Name(flag_name(field, flag))]);
     }

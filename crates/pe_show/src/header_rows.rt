@@ -11,7 +11,7 @@ use pe_head::{Headers, Magic, characteristic, machine_name, subsystem_name};
 use pe_text::{Sink, TextWriter};
 
 /// A value's name, or its number where the format has no name for it.
-pub(crate) fn named<'a>(name: Option<&'static str>, value: u16) -> [Cell<'a>; 2] {
+pub(crate) fn named(name: Option<&'static str>, value: u16) -> [Cell<'static>; 2] {
     match name {
         Some(name) => [Cell::Words(name), Cell::Words("")],
         None => [Cell::Words("0x"), Cell::Hex(u64::from(value), 4)],
@@ -19,7 +19,7 @@ pub(crate) fn named<'a>(name: Option<&'static str>, value: u16) -> [Cell<'a>; 2]
 }
 
 /// A time stamp as a date; 0 and the greatest number stand for none.
-pub(crate) fn stamp<'a>(seconds: u32) -> Cell<'a> {
+fn stamp(seconds: u32) -> Cell<'static> {
     match seconds {
         0 | u32::MAX => Cell::Words("not set"),
         _ => Cell::Date(seconds),
@@ -27,12 +27,12 @@ pub(crate) fn stamp<'a>(seconds: u32) -> Cell<'a> {
 }
 
 /// The word for a field without flags.
-fn none_of<'a>(flags: u16) -> Cell<'a> {
+fn none_of(flags: u16) -> Cell<'static> {
     Cell::Words(if flags == 0 { " none" } else { "" })
 }
 
 /// What an image is.
-pub(crate) fn image_kind<'a>(headers: &Headers) -> Kind<'a> {
+pub(crate) fn image_kind(headers: &Headers) -> Kind {
     let [machine, number] = named(machine_name(headers.machine), headers.machine);
     let is_library = headers.characteristics & characteristic::DLL != 0;
     let kind = match (headers.magic, is_library) {
@@ -115,44 +115,44 @@ fn write_versions<W: Sink>(text: &mut TextWriter<W>, headers: &Headers)
     );
 }
 
-/// Adds the row of the entry point: its RVA, its place, and where it is in the file.
+/// The cells of a file offset, where there is one.
+fn file_cells(file: Option<u64>) -> [Cell<'static>; 2] {
+    match file {
+        Some(file) => [Cell::Words("  file 0x"), Cell::Hex(file, 1)],
+        None => [Cell::Words(""), Cell::Words("")],
+    }
+}
+
+/// Adds the row of the entry point: its RVA, and where it lies, if the image is laid out.
 fn write_entry<W: Sink>(text: &mut TextWriter<W>, rva: u32, place: Option<Place>)
     requires { IsReady W.failures text.old }
     ensures { AddsSome W.taken W.failures text.old text.new }
 {
-    let number = match rva {
-        0 => [Cell::Words("none"), Cell::Words("")],
-        _ => [Cell::Words("0x"), Cell::Hex(u64::from(rva), 1)],
-    };
-    let shown = match place {
-        Some(place) if rva != 0 => place,
-        _ => Place {
-            name: b"",
-            offset: None,
-            file: None,
-        },
-    };
-    let [name, plus, offset] = shown.cells();
-    let file = match shown.file {
-        Some(file) => [Cell::Words("  file 0x"), Cell::Hex(file, 1)],
-        None => [Cell::Words(""), Cell::Words("")],
-    };
-    let gap = Cell::Words(if shown.name.is_empty() { "" } else { "  " });
-    write_cells(
-        text,
-        &[
-            Cell::Words("  Entry        "),
-            number[0],
-            number[1],
-            gap,
-            name,
-            plus,
-            offset,
-            file[0],
-            file[1],
-            Cell::Words("\n"),
-        ],
-    );
+    match place {
+        _ if rva == 0 => text.text(b"  Entry        none\n"),
+        None => write_cells(
+            text,
+            &[Cell::Words("  Entry        0x"), Cell::Hex(u64::from(rva), 1), Cell::Words("\n")],
+        ),
+        Some(place) => {
+            let [name, plus, offset] = place.cells();
+            let [words, file] = file_cells(place.file);
+            write_cells(
+                text,
+                &[
+                    Cell::Words("  Entry        0x"),
+                    Cell::Hex(u64::from(rva), 1),
+                    Cell::Words("  "),
+                    name,
+                    plus,
+                    offset,
+                    words,
+                    file,
+                    Cell::Words("\n"),
+                ],
+            );
+        }
+    }
 }
 
 /// Adds the row of the image's base and size.

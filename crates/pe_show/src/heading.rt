@@ -17,7 +17,7 @@ pub(crate) struct Page<'p> {
 }
 
 /// What a file is, in four words: `PE32+ library for AMD64`.
-pub(crate) type Kind<'a> = [Cell<'a>; 4];
+pub(crate) type Kind = [Cell<'static>; 4];
 
 /// Adds the first row: the file's name, whether it is accepted, what it is, and how many bytes it has.
 pub(crate) fn write_title<W: Sink>(

@@ -11,7 +11,7 @@ ghost use Rattle.pe_show.specs.Page.{AddsSome};
 use crate::cell::Cell;
 use crate::directories::write_directories;
 use crate::exports::write_exports;
-use crate::fault::write_fault;
+use crate::fault::write_refusal;
 use crate::fixups::write_fixups;
 use crate::header_rows::{image_kind, write_headers};
 use crate::heading::{Page, write_title};
@@ -22,7 +22,7 @@ use pe_head::read_headers;
 use pe_layout::Layout;
 use pe_tables::{Exports, Fixup, Import, TableError, read_exports, read_fixups, read_imports};
 use pe_text::{Outcome, Sink, TextWriter};
-use pe_view::{Fault, View};
+use pe_view::View;
 use std::alloc::{AllocError, Allocator};
 
 /// What was read of an image's tables before its first fault.
@@ -45,11 +45,13 @@ impl<'a, A: Allocator + Copy> Tables<'a, A> {
     fn read(&mut self, alloc: A, layout: &Layout<'a>) -> Result<(), TableError>
         ensures { AnswersOrWants (table_tests (image_of layout.now)) (λ _. ⊤) result }
     {
-        self.exports = Some(read_exports(alloc, layout)?);
+        let exports = read_exports(alloc, layout)?;
+        self.exports = Some(exports);
         let imports = read_imports(alloc, layout)?;
-        let fixups = read_fixups(alloc, layout, &imports);
+        let answer = read_fixups(alloc, layout, &imports);
         self.imports = Some(imports);
-        self.fixups = Some(fixups?);
+        let fixups = answer?;
+        self.fixups = Some(fixups);
         Ok(())
     }
 
@@ -96,57 +98,17 @@ fn read_tables<'a, A: Allocator + Copy>(
     Ok(tables)
 }
 
-/// Adds what a refusal says.
-fn write_outcome<W: Sink>(text: &mut TextWriter<W>, page: &Page, outcome: Outcome)
+/// Adds what is shown of an image that one of faults 1 to 15 refuses: its headers, where it has them.
+fn write_unlaid<W: Sink>(text: &mut TextWriter<W>, page: &Page, view: View, outcome: Outcome)
     requires { IsReady W.failures text.old }
     ensures { AddsSome W.taken W.failures text.old text.new }
 {
-    match outcome {
-        Outcome::Done => text.text(b""),
-        Outcome::Refused(fault) => write_fault(text, page.options, fault),
-    }
-}
-
-/// Adds the page of an image that one of faults 1 to 15 refuses: its headers, where it has them.
-fn write_unlaid<W: Sink>(text: &mut TextWriter<W>, page: &Page, view: View, fault: Fault)
-    requires { IsReady W.failures text.old }
-    ensures { AddsSome W.taken W.failures text.old text.new }
-{
-    let outcome = Outcome::Refused(fault);
     match read_headers(view, 0) {
         Ok(headers) => {
             write_title(text, page, outcome, image_kind(&headers), view.len());
             write_headers(text, &headers, None);
         }
         Err(_) => write_title(text, page, outcome, [Cell::Words(""); 4], view.len()),
-    }
-    write_fault(text, page.options, fault);
-}
-
-/// Adds what tables hold, a row each, as far as the options want it.
-fn write_tables<A: Allocator + Copy, W: Sink>(
-    text: &mut TextWriter<W>,
-    page: &Page,
-    layout: &Layout,
-    names: &SectionNames,
-    tables: &Tables<A>,
-)
-    requires { IsReady W.failures text.old }
-    ensures { AddsSome W.taken W.failures text.old text.new }
-{
-    match &tables.exports {
-        Some(exports) if page.options.exports => {
-            write_exports(text, page.options, layout, names, exports, &tables.names)
-        }
-        _ => {}
-    }
-    match &tables.imports {
-        Some(imports) if page.options.imports => write_imports(text, page.options, imports),
-        _ => {}
-    }
-    match &tables.fixups {
-        Some(fixups) if page.options.relocations => write_fixups(text, page.options, fixups),
-        _ => {}
     }
 }
 
@@ -168,8 +130,10 @@ fn write_image<A: Allocator + Copy, W: Sink>(
     write_headers(text, headers, Some(entry));
     write_sections(text, page.options, headers, &names);
     write_directories(text, page.options, layout, &names, tables);
-    write_tables(text, page, layout, &names, tables);
-    write_outcome(text, page, tables.outcome);
+    write_exports(text, page.options, layout, &names, tables);
+    write_imports(text, page.options, tables);
+    write_fixups(text, page.options, tables);
+    write_refusal(text, page.options, tables.outcome);
 }
 
 /// Judges an image's file, and adds its page. Memory is wanted before the first byte is added.
@@ -193,8 +157,10 @@ pub(crate) fn show_image<A: Allocator + Copy, W: Sink>(
             Ok(tables.outcome)
         }
         Err(fault) => {
-            write_unlaid(text, page, view, fault);
-            Ok(Outcome::Refused(fault))
+            let outcome = Outcome::Refused(fault);
+            write_unlaid(text, page, view, outcome);
+            write_refusal(text, page.options, outcome);
+            Ok(outcome)
         }
     }
 }

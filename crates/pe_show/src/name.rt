@@ -18,10 +18,21 @@ fn is_safe(character: char) -> bool {
         '\0'..='\x1f' | '\x7f'..='\u{9f}' | '\u{61c}' | '\u{200e}' | '\u{200f}' | '\u{2028}'..='\u{202e}' | '\u{2066}'..='\u{2069}' | '\u{feff}')
 }
 
-/// The text of a name that stands as it is: UTF-8, of characters that may stand on a terminal.
+/// The text of a name that stands as it is: UTF-8, of characters that may stand on a terminal, not empty, and not begun by a
+/// quote.
 fn plain_text(name: &[u8]) -> Option<&str> {
     let text = str::from_utf8(name).ok()?;
-    text.chars().all(is_safe).then_some(text)
+    let is_quoted = name.is_empty() || name.starts_with(b"\"");
+    (!is_quoted && text.chars().all(is_safe)).then_some(text)
+}
+
+/// How many columns a byte of a name in quotes takes.
+fn quoted_width(byte: u8) -> usize {
+    match byte {
+        b'"' | b'\\' => 4,
+        b' '..=b'~' => 1,
+        _ => 4,
+    }
 }
 
 /// A name as a part of a line: as it stands where it is plain, else in quotes, with `\x` and two digits for a byte that is not
@@ -38,6 +49,9 @@ pub(crate) fn name_part(name: &[u8]) -> Part<'_> {
 pub(crate) fn name_width(name: &[u8]) -> usize {
     match plain_text(cut(name)) {
         Some(text) => text.chars().count(),
-        None => cut(name).len(),
+        None => cut(name).iter().fold(
+            2,
+            |width: usize, byte| width.saturating_add(quoted_width(*byte)),
+        ),
     }
 }

@@ -7,7 +7,7 @@ ghost use Rattle.pe_show.specs.Judged.{IsOutcomeOf};
 ghost use Rattle.pe_show.specs.Page.{AddsSome};
 
 use crate::cell::{Cell, write_cells};
-use crate::fault::write_fault;
+use crate::fault::write_refusal;
 use crate::flags::FlagField;
 use crate::header_rows::{named, write_flag_row, write_stamp};
 use crate::heading::{Kind, Page, write_title};
@@ -19,7 +19,7 @@ use pe_text::{Outcome, Sink, TextWriter};
 use std::alloc::{AllocError, Allocator};
 
 /// What an object is.
-fn object_kind<'a>(machine: u16) -> Kind<'a> {
+fn object_kind(machine: u16) -> Kind {
     let [name, number] = named(machine_name(machine), machine);
     [
         Cell::Words("COFF object for "),
@@ -50,24 +50,6 @@ fn write_header<W: Sink>(text: &mut TextWriter<W>, object: &ObjectFile)
     );
 }
 
-/// Adds the relocations and the symbols of an object, as far as the options want them.
-fn write_records<A: Allocator + Copy, W: Sink>(
-    text: &mut TextWriter<W>,
-    page: &Page,
-    object: &ObjectFile,
-    names: &SymbolNames<A>,
-)
-    requires { IsReady W.failures text.old }
-    ensures { AddsSome W.taken W.failures text.old text.new }
-{
-    if page.options.relocations {
-        write_relocations(text, page.options, object, names);
-    }
-    if page.options.symbols {
-        write_symbols(text, page.options, object);
-    }
-}
-
 /// Judges an object's file, and adds its page. Memory is wanted before the first byte is added.
 pub(crate) fn show_object<A: Allocator + Copy, W: Sink>(
     alloc: A,
@@ -94,7 +76,8 @@ pub(crate) fn show_object<A: Allocator + Copy, W: Sink>(
             );
             write_header(text, &object);
             write_sections(text, page.options, &object);
-            write_records(text, page, &object, &names);
+            write_relocations(text, page.options, &object, &names);
+            write_symbols(text, page.options, &object);
             Ok(Outcome::Done)
         }
         Err(fault) => {
@@ -106,7 +89,7 @@ pub(crate) fn show_object<A: Allocator + Copy, W: Sink>(
                 Cell::Words(""),
             ];
             write_title(text, page, outcome, kind, len);
-            write_fault(text, page.options, fault);
+            write_refusal(text, page.options, outcome);
             Ok(outcome)
         }
     }

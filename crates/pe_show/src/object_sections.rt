@@ -5,11 +5,12 @@ ghost use Rattle.pe_show.specs.Page.{AddsSome};
 
 use crate::cell::{Cell, decimal_width, hex_width, write_cells};
 use crate::flags::FlagField;
+use crate::header_rows::named;
 use crate::heading::write_heading;
 use crate::name::name_width;
 use crate::options::ShowOptions;
 use crate::place::cut;
-use crate::relocation_types::type_cells;
+use crate::relocation_types::type_name;
 use crate::sections::{content, permissions};
 use crate::symbols::SymbolNames;
 use coff_object::{FileSection, ObjectFile, RawData, Relocation};
@@ -36,8 +37,8 @@ fn sizes_of(raw: &RawData) -> (u64, u64) {
 fn widths_of(object: &ObjectFile) -> Widths {
     let mut widths = Widths {
         number: decimal_width(object.section_count() as u64).max(4),
-        name: 4,
-        bytes: 5,
+        name: 8,
+        bytes: 6,
     };
     for index in 0..object.section_count() {
         if let Some(section) = object.section(index) {
@@ -68,12 +69,12 @@ fn write_section<W: Sink>(
             Cell::Words("  "),
             Cell::Words(permissions(section.flags)),
             Cell::Words(" "),
-            Cell::Column(content(section.flags).as_bytes(), 4),
-            Cell::Words("  0x"),
+            Cell::Column(content(section.flags).as_bytes(), 5),
+            Cell::Words("   0x"),
             Cell::Hex(bytes, widths.bytes),
-            Cell::Words("  0x"),
+            Cell::Words("   0x"),
             Cell::Hex(in_file, widths.bytes),
-            Cell::Words("  "),
+            Cell::Words("   "),
             Cell::Right(section.relocations.len() as u64, 11),
             Cell::Flags(FlagField::Section(section.flags)),
             Cell::Words("\n"),
@@ -98,9 +99,9 @@ fn write_columns<W: Sink>(
             Cell::Blanks(widths.number.saturating_sub(1)),
             Cell::Words("#  "),
             Cell::Column(b"name", widths.name),
-            Cell::Words("  flags     "),
-            Cell::Column(b"bytes", usize::from(widths.bytes) + 4),
-            Cell::Column(b"in file", usize::from(widths.bytes) + 4),
+            Cell::Words("  flags       "),
+            Cell::Column(b"bytes", usize::from(widths.bytes) + 5),
+            Cell::Column(b"in file", usize::from(widths.bytes) + 5),
             Cell::Words("relocations\n"),
         ],
     );
@@ -133,25 +134,26 @@ fn write_relocation<A: Allocator + Copy, W: Sink>(
     requires { IsReady W.failures text.old }
     ensures { AddsSome W.taken W.failures text.old text.new }
 {
-    let [type_name, number] = type_cells(machine, relocation.kind);
+    let [gap, name] = names.cells(relocation.symbol);
+    let [kind, number] = named(type_name(machine, relocation.kind), relocation.kind);
     write_cells(
         text,
         &[
             Cell::Words("    0x"),
             Cell::Hex(u64::from(relocation.address), 6),
             Cell::Words("  "),
-            type_name,
+            kind,
             number,
             Cell::Words("  #"),
             Cell::Right(u64::from(relocation.symbol), 1),
-            Cell::Words(" "),
-            Cell::Name(names.get(relocation.symbol)),
+            gap,
+            name,
             Cell::Words("\n"),
         ],
     );
 }
 
-/// Adds the relocations of a section, under its name.
+/// Adds the relocations of a section, if it has some, under its name.
 fn write_section_relocations<A: Allocator + Copy, W: Sink>(
     text: &mut TextWriter<W>,
     machine: u16,
@@ -162,6 +164,9 @@ fn write_section_relocations<A: Allocator + Copy, W: Sink>(
     ensures { AddsSome W.taken W.failures text.old text.new }
 {
     let relocations = section.relocations;
+    if relocations.is_empty() {
+        return;
+    }
     write_cells(
         text,
         &[
@@ -189,7 +194,7 @@ fn relocation_count(object: &ObjectFile) -> usize {
     count
 }
 
-/// Adds the relocations of an object, section by section.
+/// Adds the relocations of an object, section by section, where the options want it.
 pub(crate) fn write_relocations<A: Allocator + Copy, W: Sink>(
     text: &mut TextWriter<W>,
     options: &ShowOptions,
@@ -199,11 +204,12 @@ pub(crate) fn write_relocations<A: Allocator + Copy, W: Sink>(
     requires { IsReady W.failures text.old }
     ensures { AddsSome W.taken W.failures text.old text.new }
 {
+    if !options.relocations {
+        return;
+    }
     write_heading(text, options, "Relocations", relocation_count(object));
     for index in 0..object.section_count() {
         let section = object.section(index).unwrap();
-        if !section.relocations.is_empty() {
-            write_section_relocations(text, object.machine(), names, &section);
-        }
+        write_section_relocations(text, object.machine(), names, &section);
     }
 }

@@ -17,17 +17,17 @@ pub struct ShowOptions {
 
 impl ShowOptions {
     /// What begins a heading.
-    pub(crate) fn heading<'a>(&self) -> Cell<'a> {
+    pub(crate) fn heading(&self) -> Cell<'static> {
         Cell::Words(if self.is_coloured { "\x1b[1m" } else { "" })
     }
 
     /// What begins a refusal.
-    pub(crate) fn refusal<'a>(&self) -> Cell<'a> {
+    pub(crate) fn refusal(&self) -> Cell<'static> {
         Cell::Words(if self.is_coloured { "\x1b[1;31m" } else { "" })
     }
 
     /// What ends either.
-    pub(crate) fn plain<'a>(&self) -> Cell<'a> {
+    pub(crate) fn plain(&self) -> Cell<'static> {
         Cell::Words(if self.is_coloured { "\x1b[0m" } else { "" })
     }
 }

@@ -50,7 +50,7 @@ fn long_name<'a>(view: View<'a>, headers: &Headers, short: &[u8]) -> Option<&'a 
     if offset < 4 {
         return None;
     }
-    view.until_zero(strings + offset, strings + size)
+    view.until_zero(strings.saturating_add(offset), strings + size)
 }
 
 /// The name of the section whose header stands at an offset of the file: its long name, or up to the first zero byte.
@@ -63,8 +63,9 @@ fn section_name<'a>(view: View<'a>, headers: &Headers, offset: u64) -> &'a [u8] 
 impl<'a> SectionNames<'a> {
     /// The names of the sections of an image's file.
     pub fn new(view: View<'a>, headers: &Headers) -> SectionNames<'a> {
+        let count = u8::try_from(headers.number_of_sections).unwrap_or(0);
         let mut names = ArrayVec::new();
-        for index in 0..96 {
+        for index in 0..count.min(96) {
             names.push(section_name(view, headers, headers.section_offset(index)));
         }
         SectionNames { names }

@@ -1,6 +1,5 @@
 //! The types of an object's relocations by name ("PE Format", Type Indicators).
 
-use crate::cell::Cell;
 use pe_head::machine;
 
 /// A machine, a type of its relocations, and the type's name.
@@ -81,10 +80,15 @@ static TYPES: [TypeName; 71] = [
     (machine::ARMNT, 0x15, "THUMB_BLX23"),
 ];
 
-/// The name of a type of a machine's relocations, or its number where the format has no name for it.
-pub(crate) fn type_cells<'a>(machine: u16, kind: u16) -> [Cell<'a>; 2] {
-    match TYPES.iter().find(|row| row.0 == machine && row.1 == kind) {
-        Some((_, _, name)) => [Cell::Words(name), Cell::Words("")],
-        None => [Cell::Words("0x"), Cell::Hex(u64::from(kind), 4)],
+/// The name of a type among these.
+fn name_among(types: &'static [TypeName], machine: u16, kind: u16) -> Option<&'static str> {
+    match types.iter().find(|row| row.0 == machine && row.1 == kind) {
+        Some((_, _, name)) => Some(name),
+        None => None,
     }
+}
+
+/// The name of a type of a machine's relocations, and `None` where the format has no name for it.
+pub(crate) fn type_name(machine: u16, kind: u16) -> Option<&'static str> {
+    name_among(&TYPES, machine, kind)
 }

@@ -54,10 +54,10 @@ pub(crate) fn content(flags: u32) -> &'static str {
 /// The widths of sections.
 fn widths_of(headers: &Headers, names: &SectionNames) -> Widths {
     let mut widths = Widths {
-        name: 4,
+        name: 8,
         rva: 6,
-        bytes: 5,
-        file: 4,
+        bytes: 6,
+        file: 6,
     };
     for (index, section) in headers.sections.as_slice().iter().enumerate() {
         widths.name = widths.name.max(name_width(names.get(index)));
@@ -92,14 +92,14 @@ fn write_section<W: Sink>(
             Cell::Words("  "),
             Cell::Words(permissions(section.characteristics)),
             Cell::Words(" "),
-            Cell::Column(content(section.characteristics).as_bytes(), 4),
-            Cell::Words("  0x"),
+            Cell::Column(content(section.characteristics).as_bytes(), 5),
+            Cell::Words("   0x"),
             Cell::Hex(u64::from(section.virtual_address), widths.rva),
-            Cell::Words("  0x"),
+            Cell::Words("   0x"),
             Cell::Hex(u64::from(section.extent()), widths.bytes),
-            Cell::Words("  0x"),
+            Cell::Words("   0x"),
             Cell::Hex(u64::from(section.pointer_to_raw_data), widths.file),
-            Cell::Words("  0x"),
+            Cell::Words("   0x"),
             Cell::Hex(u64::from(section.rawlen()), widths.bytes),
             Cell::Flags(FlagField::Section(section.characteristics)),
             Cell::Words("\n"),
@@ -112,13 +112,13 @@ fn write_columns<W: Sink>(text: &mut TextWriter<W>, widths: &Widths)
     requires { IsReady W.failures text.old }
     ensures { AddsSome W.taken W.failures text.old text.new }
 {
-    let wide = |width: u8| usize::from(width) + 4;
+    let wide = |width: u8| usize::from(width) + 5;
     write_cells(
         text,
         &[
             Cell::Words("   #  "),
             Cell::Column(b"name", widths.name),
-            Cell::Words("  flags     "),
+            Cell::Words("  flags       "),
             Cell::Column(b"RVA", wide(widths.rva)),
             Cell::Column(b"bytes", wide(widths.bytes)),
             Cell::Column(b"file", wide(widths.file)),

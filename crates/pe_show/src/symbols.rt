@@ -35,11 +35,12 @@ impl<'a, A: Allocator + Copy> SymbolNames<'a, A> {
         Ok(SymbolNames { names })
     }
 
-    /// The name of the symbol that a record begins; an auxiliary record begins none.
-    pub fn get(&self, index: u32) -> &'a [u8] {
-        match self.names.binary_search_by_key(&index, |name| name.0) {
-            Ok(place) => self.names.get(place).map_or(b"", |name| name.1),
-            Err(_) => b"",
+    /// The cells of the name of the symbol that a record begins; an auxiliary record begins none.
+    pub fn cells(&self, index: u32) -> [Cell<'a>; 2] {
+        let place = self.names.partition_point(|name| name.0 < index);
+        match self.names.get(place) {
+            Some((found, name)) if *found == index => [Cell::Words(" "), Cell::Name(name)],
+            _ => [Cell::Words(""), Cell::Words("")],
         }
     }
 }
@@ -94,12 +95,12 @@ fn section_name<'a>(object: &ObjectFile<'a>, section: SymbolSection) -> &'a [u8]
 }
 
 /// Adds the row of a symbol.
-fn write_symbol<W: Sink>(
+fn write_symbol<'a, W: Sink>(
     text: &mut TextWriter<W>,
     width: usize,
     index: u32,
-    section: &[u8],
-    symbol: &Symbol,
+    section: &'a [u8],
+    symbol: &Symbol<'a>,
 )
     requires { IsReady W.failures text.old }
     ensures { AddsSome W.taken W.failures text.old text.new }
@@ -133,7 +134,7 @@ fn write_symbol<W: Sink>(
     );
 }
 
-/// Adds a row for each symbol of an object, under the index of its record.
+/// Adds a row for each symbol of an object, under the index of its record, where the options want it.
 pub(crate) fn write_symbols<W: Sink>(
     text: &mut TextWriter<W>,
     options: &ShowOptions,
@@ -142,7 +143,10 @@ pub(crate) fn write_symbols<W: Sink>(
     requires { IsReady W.failures text.old }
     ensures { AddsSome W.taken W.failures text.old text.new }
 {
-    let width = decimal_width(object.symbol_count() as u64) + 3;
+    if !options.symbols {
+        return;
+    }
+    let width = decimal_width(object.symbol_count() as u64).max(4);
     write_heading(text, options, "Symbols", object.symbol_count());
     for (index, symbol) in object.symbols() {
         let section = section_name(object, symbol.section);
