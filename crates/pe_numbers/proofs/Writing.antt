@@ -11,7 +11,7 @@ use Rattle.pe_numbers.specs.ReadBack.{length-number}
 pub left_next : (ns : List Number) (i : ℕ) (n : Number) → i < length ns → numbers_size (drop i ns) ≡ width_of (get_or ns i n) + numbers_size (drop (i + 1) ns)
 left_next ns i n lt = ap numbers_size (drop-cons ns i n lt) ∙ ap (λ (k : ℕ). width_of (get_or ns i n) + numbers_size (drop k ns)) (let e : suc i ≡ i + 1 = omega arith in e)
 
-bytes_next : (ns : List Number) (i : ℕ) (n : Number) → i < length ns → numbers_bytes (drop i ns) ≡ number_bytes (get_or ns i n) ++ numbers_bytes (drop (i + 1) ns)
+pub bytes_next : (ns : List Number) (i : ℕ) (n : Number) → i < length ns → numbers_bytes (drop i ns) ≡ number_bytes (get_or ns i n) ++ numbers_bytes (drop (i + 1) ns)
 bytes_next ns i n lt = ap numbers_bytes (drop-cons ns i n lt) ∙ ap (λ (k : ℕ). number_bytes (get_or ns i n) ++ numbers_bytes (drop k ns)) (let e : suc i ≡ i + 1 = omega arith in e)
 
 pub fits_next : (ns : List Number) (i : ℕ) (n : Number) → i < length ns → NumberFits (get_or ns i n) → AllByRecursion NumberFits (drop (i + 1) ns) → AllByRecursion NumberFits (drop i ns)

@@ -1,6 +1,7 @@
 //! Numbers in the widths that the format has, and their bytes.
 
-ghost use Rattle.std.specs.Prelude.{◌≡◌, ◌≤◌, ◌<◌, ◌^◌, ◌++◌, drop, length, OnOk};
+ghost use Rattle.std.specs.Prelude.{◌≡◌, ◌+◌, ◌≤◌, ◌<◌, ◌^◌, ◌++◌, drop, length, OnErr, OnOk};
+ghost use Rattle.std.specs.Vec.{vec_capacity, vec_len};
 ghost use Rattle.std.specs.List.{AllByRecursion};
 ghost use Rattle.pe_numbers.specs.Numbers.{NumberFits, number_bytes, numbers_bytes, numbers_size, width_of};
 
@@ -19,35 +20,8 @@ pub enum Number {
     U64(u64),
 }
 
-/// Adds a number's bytes, the lowest first.
-#[tactic(auto, unfolding(crate::specs::Numbers::number_bytes))]
-fn push_number<A: Allocator>(bytes: &mut Vec<u8, A>, number: Number) -> Result<(), AllocError>
-    ensures bytes { OnOk result (bytes.new.items ≡ bytes.old.items ++ number_bytes number) }
-    ensures fits { NumberFits number }
-{
-    match number {
-        Number::U8(number) => bytes.extend_from_slice(&number.to_le_bytes()),
-        Number::U16(number) => bytes.extend_from_slice(&number.to_le_bytes()),
-        Number::U32(number) => bytes.extend_from_slice(&number.to_le_bytes()),
-        Number::U64(number) => bytes.extend_from_slice(&number.to_le_bytes()),
-    }
-}
-
-/// Adds the bytes of numbers, one behind the other, the lowest byte of each first.
-pub fn push_numbers<A: Allocator>(
-    bytes: &mut Vec<u8, A>,
-    numbers: &[Number],
-) -> Result<(), AllocError>
-    ensures fits { OnOk result (AllByRecursion NumberFits numbers.now) }
-    ensures bytes { OnOk result (bytes.new.items ≡ bytes.old.items ++ numbers_bytes numbers.now) }
-{
-    for number in numbers {
-        push_number(bytes, *number)?;
-    }
-    Ok(())
-}
-
 /// Writes a number's bytes to the front of a room, the lowest first, and answers how many they are.
+// (inlined, so that the width is a constant where the number's kind is known)
 #[inline(always)]
 #[tactic(auto, unfolding(crate::specs::Numbers::number_bytes))]
 fn write_number(room: &mut [u8], number: Number) -> usize
@@ -76,7 +50,37 @@ fn write_number(room: &mut [u8], number: Number) -> usize
     }
 }
 
+/// Adds a number's bytes, the lowest first.
+fn push_number<A: Allocator>(bytes: &mut Vec<u8, A>, number: Number) -> Result<(), AllocError>
+    ensures bytes { OnOk result (bytes.new.items ≡ bytes.old.items ++ number_bytes number) }
+    ensures fits { NumberFits number }
+    ensures len { OnOk result (vec_len bytes.new ≡ vec_len bytes.old + width_of number) }
+    ensures capacity { vec_capacity bytes.old ≤ vec_capacity bytes.new }
+    ensures full { OnErr result (vec_capacity bytes.old < vec_len bytes.old + width_of number) }
+{
+    let mut room = [0; 8];
+    let width = write_number(&mut room, number);
+    bytes.extend_from_slice(&room[..width])
+}
+
+/// Adds the bytes of numbers, one behind the other, the lowest byte of each first. It fails only where there is no room for
+/// all of them, and then the bytes of some may have been added.
+pub fn push_numbers<A: Allocator>(
+    bytes: &mut Vec<u8, A>,
+    numbers: &[Number],
+) -> Result<(), AllocError>
+    ensures fits { OnOk result (AllByRecursion NumberFits numbers.now) }
+    ensures bytes { OnOk result (bytes.new.items ≡ bytes.old.items ++ numbers_bytes numbers.now) }
+    ensures full { OnErr result (vec_capacity bytes.old < vec_len bytes.old + numbers_size numbers.now) }
+{
+    for number in numbers {
+        push_number(bytes, *number)?;
+    }
+    Ok(())
+}
+
 /// Writes the bytes of numbers into room for them, one behind the other, the lowest byte of each first.
+// (inlined, as its callers know the widths)
 #[inline(always)]
 pub fn write_numbers(room: &mut [u8], numbers: &[Number])
     requires { length room.old ≡ numbers_size numbers.now }
@@ -89,7 +93,9 @@ pub fn write_numbers(room: &mut [u8], numbers: &[Number])
     }
 }
 
-/// Adds the bytes of numbers that take `N` bytes together, as [`push_numbers`] does, but all at once.
+/// Adds the bytes of numbers that take `N` bytes together, as [`push_numbers`] does, but all at once. It fails only where there
+/// is no room for them.
+// (inlined, as its callers know the widths)
 #[inline(always)]
 pub fn push_record<const N: usize, A: Allocator>(
     bytes: &mut Vec<u8, A>,
@@ -99,6 +105,7 @@ pub fn push_record<const N: usize, A: Allocator>(
     requires small { N < 2 ^ 32 }
     ensures fits { AllByRecursion NumberFits numbers.now }
     ensures bytes { OnOk result (bytes.new.items ≡ bytes.old.items ++ numbers_bytes numbers.now) }
+    ensures full { OnErr result (vec_capacity bytes.old < vec_len bytes.old + N) }
 {
     let mut record = [0; N];
     write_numbers(&mut record, numbers);

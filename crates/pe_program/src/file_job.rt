@@ -2,7 +2,7 @@
 
 use crate::input::{InputFile, name_of, open_file};
 use crate::messages::{STANDARD_OUTPUT, tell_failure, tell_fault};
-use crate::statuses::DEVICE_FAILED;
+use crate::statuses::{DEVICE_FAILED, DONE, REFUSED};
 use crate::texts::{Engine, Printed, Text, print_text};
 use pe_tool::{Outcome, ToolError, status};
 use std::io::{Error, Input, Read};
@@ -30,16 +30,78 @@ pub(crate) fn tell<F: Read, S: Read>(
     status(&printed.answer)
 }
 
-/// Runs an engine over a file, and answers the exit status.
-pub fn run_file<R: Files + Input + Print + Eprint + Alloc>(rt: &R, engine: Engine, path: &str) -> u8
+/// Whether the engine's own text tells a fault in words.
+fn tells_faults(engine: Engine) -> bool {
+    matches!(engine, Engine::Show(_) | Engine::Json)
+}
+
+/// Runs an engine over a file, and answers the exit status: as an `Err` where standard output is lost.
+fn run_behind<R: Files + Input + Print + Eprint + Alloc>(
+    rt: &R,
+    engine: Engine,
+    path: &str,
+    is_headed: bool,
+) -> Result<u8, u8>
 where
     R::A: Copy,
 {
     match open_file(rt, path) {
         Ok(mut file) => {
-            let printed = print_text(rt, Text::File(engine, &mut file));
-            tell(rt, name_of(path), &file, printed)
+            let text = Text::File {
+                engine,
+                name: name_of(path),
+                is_headed,
+                file: &mut file,
+            };
+            let printed = print_text(rt, text);
+            match printed.answer {
+                Ok(Outcome::Refused(_)) if tells_faults(engine) => Ok(status(&printed.answer)),
+                Err(ToolError::Write) => Err(tell(rt, name_of(path), &file, printed)),
+                _ => Ok(tell(rt, name_of(path), &file, printed)),
+            }
         }
-        Err(error) => refuse_path(rt, path, error),
+        Err(error) => Ok(refuse_path(rt, path, error)),
     }
+}
+
+/// Runs an engine over a file, and answers the exit status.
+pub fn run_file<R: Files + Input + Print + Eprint + Alloc>(rt: &R, engine: Engine, path: &str) -> u8
+where
+    R::A: Copy,
+{
+    match run_behind(rt, engine, path, false) {
+        Ok(status) | Err(status) => status,
+    }
+}
+
+/// Whether a heading stands before the text of a file among several: its name, or the blank line behind the page before it.
+fn is_headed(engine: Engine, is_first: bool) -> bool {
+    match engine {
+        Engine::Check => true,
+        Engine::Show(_) => !is_first,
+        _ => false,
+    }
+}
+
+/// Runs an engine over files, one after the other while standard output takes what is written, and answers the worst exit status.
+pub fn run_files<R: Files + Input + Print + Eprint + Alloc>(
+    rt: &R,
+    engine: Engine,
+    paths: &[String],
+) -> u8
+where
+    R::A: Copy,
+{
+    let mut worst = DONE;
+    let mut is_first = true;
+    for path in paths {
+        match run_behind(rt, engine, path.as_str(), is_headed(engine, is_first)) {
+            Ok(status) => {
+                is_first = is_first && status > REFUSED;
+                worst = worst.max(status);
+            }
+            Err(status) => return worst.max(status),
+        }
+    }
+    worst
 }

@@ -9,7 +9,9 @@
 #![tactic(auto)]
 
 mod command_line;
+mod explain;
 mod file_job;
+mod headed;
 mod input;
 mod late_file;
 mod map_job;
@@ -21,7 +23,7 @@ mod statuses;
 mod texts;
 
 pub use command_line::{NoWords, refuse_command_line, words_of};
-pub use file_job::run_file;
+pub use file_job::{run_file, run_files};
 pub use map_job::run_map;
 pub use program::run;
 pub use texts::{Engine, OUTPUT_BUFFER};

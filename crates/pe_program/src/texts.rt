@@ -1,9 +1,12 @@
 //! The texts of engines on standard output.
 
+use crate::headed::Headed;
 use crate::output::Output;
 use pe_tool::{
-    Counted, Outcome, Policy, SetEntry, ToolError, check, dump, dump_object, map_report,
+    Counted, Outcome, Policy, SetEntry, ShowOptions, ToolError, at, check, dump, dump_object, json,
+    map_report, show,
 };
+use pe_view::Place;
 use std::alloc::Allocator;
 use std::io;
 use std::io::{BufWriter, Error, Read, Write};
@@ -20,13 +23,24 @@ pub enum Engine {
     Dump,
     /// `pe_tool::dump_object`
     Object,
+    /// `pe_tool::show`
+    Show(ShowOptions),
+    /// `pe_tool::json`
+    Json,
+    /// `pe_tool::at`
+    At(Place),
 }
 
 /// What to print, and of what.
 #[derive(Drop)]
 pub(crate) enum Text<'a, F> {
-    /// The text of an engine, of an open file.
-    File(Engine, F),
+    /// The text of an engine, of an open file, and whether a heading is to stand before it.
+    File {
+        engine: Engine,
+        name: &'a str,
+        is_headed: bool,
+        file: F,
+    },
     /// The report of `map`.
     Map {
         set: &'a [SetEntry<'a>],
@@ -42,27 +56,46 @@ pub(crate) struct Printed {
     pub error: Option<Error>,
 }
 
+/// What stands before the text of a file: its name, or a blank line before a page.
+fn heading_of(engine: Engine, name: &str, is_headed: bool) -> (&str, &str) {
+    match engine {
+        _ if !is_headed => ("", ""),
+        Engine::Check => (name, ": "),
+        _ => ("\n", ""),
+    }
+}
+
 /// Runs the engine of a text.
 fn write_text<A: Allocator + Copy>(
     alloc: A,
     text: Text<'_, impl Read + Drop>,
     writer: impl Write + Drop,
 ) -> Result<Outcome, ToolError> {
-    let mut writer = Counted::new(writer);
     match text {
-        Text::File(engine, file) => {
+        Text::File {
+            engine,
+            name,
+            is_headed,
+            file,
+        } => {
             let mut reader = Counted::new(file);
+            let (heading, rest) = heading_of(engine, name, is_headed);
+            let mut writer = Counted::new(Headed::new(writer, heading, rest));
+            let name = name.as_bytes();
             match engine {
                 Engine::Check => check(alloc, &mut reader, &mut writer),
                 Engine::Dump => dump(alloc, &mut reader, &mut writer),
                 Engine::Object => dump_object(alloc, &mut reader, &mut writer),
+                Engine::Show(options) => show(alloc, name, &options, &mut reader, &mut writer),
+                Engine::Json => json(alloc, name, &mut reader, &mut writer),
+                Engine::At(place) => at(alloc, place, &mut reader, &mut writer),
             }
         }
         Text::Map {
             set,
             policy,
             window,
-        } => map_report(alloc, set, policy, window, &mut writer),
+        } => map_report(alloc, set, policy, window, &mut Counted::new(writer)),
     }
 }
 

@@ -3,7 +3,7 @@
 //! No contract here tells what clap's own say of a command: nothing asks for it, and each step of a command would carry what
 //! is known of the steps before.
 
-use clap::{Arg, Command};
+use clap::{Arg, ArgAction, Command};
 use std::alloc::{AllocError, Global};
 
 /// An argument, and what help says of it.
@@ -14,6 +14,13 @@ pub(crate) fn argument<'a>(alloc: Global, name: &'a str, help: &'a str) -> Arg<'
 /// An argument that has to be given, and what help says of it.
 pub(crate) fn required_argument<'a>(alloc: Global, name: &'a str, help: &'a str) -> Arg<'a> {
     argument(alloc, name, help).required(true)
+}
+
+/// A flag, and what help says of it.
+pub(crate) fn flag<'a>(alloc: Global, name: &'a str, help: &'a str) -> Arg<'a> {
+    argument(alloc, name, help)
+        .long(name)
+        .action(ArgAction::SetTrue)
 }
 
 /// A command with no argument, and what help says of it.

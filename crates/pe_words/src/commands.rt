@@ -1,6 +1,8 @@
 //! The program's command line, as clap reads it.
 
-use crate::builders::{new_command, required_argument, with_argument, with_subcommand};
+use crate::at_words::{at_command, explain_command};
+use crate::builders::{new_command, with_subcommand};
+use crate::file_words::{FILE_COMMANDS, file_command, show_command};
 use crate::map_words::map_command;
 use crate::rebase_words::rebase_command;
 use clap::Command;
@@ -11,25 +13,7 @@ const VERSION: &str = "0.1.0";
 
 /// What the program does.
 const ABOUT: &str =
-    "Reads PE images and COFF objects: judges them, shows what they hold, maps images, and writes them at other bases";
-
-/// What `check` does.
-const CHECK_ABOUT: &str =
-    "Prints one line: that the image is accepted, with its form and its number of sections, or its first fault";
-
-/// What `dump` does.
-const DUMP_ABOUT: &str =
-    "Prints the fields of the image's headers, its directories, sections, exports, imports and base relocations, a line each, or its first fault";
-
-/// What `object` does.
-const OBJECT_ABOUT: &str =
-    "Prints what a COFF object holds, a line for each section, relocation, symbol and auxiliary record, or its first fault";
-
-/// What help says of the file of `check` and `dump`.
-const IMAGE_FILE: &str = "The image's file, or - for standard input";
-
-/// What help says of the file of `object`.
-const OBJECT_FILE: &str = "The object's file, or - for standard input";
+    "Reads PE images and COFF objects: shows what they hold, judges them, maps images, and writes them at other bases";
 
 /// What `--help` says behind the commands and the options.
 const NOTES: &str = "\
@@ -43,20 +27,7 @@ Exit statuses:
   4  out of memory
 
 A fault is a line on standard output, and on standard error it is told in words.
-docs/FAULTS.md explains each fault by its number.";
-
-/// A subcommand that takes one file.
-fn file_command<'a>(
-    alloc: Global,
-    name: &'a str,
-    about: &'a str,
-    file: &'a str,
-) -> Result<Command<'a>, AllocError> {
-    with_argument(
-        Ok(new_command(alloc, name, about)),
-        required_argument(alloc, "FILE", file),
-    )
-}
+petool explain N explains fault N.";
 
 /// The program, with what help says of it.
 fn described<'a>(alloc: Global) -> Command<'a> {
@@ -74,26 +45,14 @@ fn program<'a>(alloc: Global) -> Result<Command<'a>, AllocError> {
         .bin_name("petool")
 }
 
-/// The subcommand `check`.
-fn check_command<'a>(alloc: Global) -> Result<Command<'a>, AllocError> {
-    file_command(alloc, "check", CHECK_ABOUT, IMAGE_FILE)
-}
-
-/// The subcommand `dump`.
-fn dump_command<'a>(alloc: Global) -> Result<Command<'a>, AllocError> {
-    file_command(alloc, "dump", DUMP_ABOUT, IMAGE_FILE)
-}
-
-/// The subcommand `object`.
-fn object_command<'a>(alloc: Global) -> Result<Command<'a>, AllocError> {
-    file_command(alloc, "object", OBJECT_ABOUT, OBJECT_FILE)
-}
-
 /// The program's command line.
 pub(crate) fn command<'a>(alloc: Global) -> Result<Command<'a>, AllocError> {
-    let command = with_subcommand(program(alloc), check_command(alloc));
-    let command = with_subcommand(command, dump_command(alloc));
-    let command = with_subcommand(command, object_command(alloc));
+    let mut command = with_subcommand(program(alloc), show_command(alloc));
+    for row in FILE_COMMANDS {
+        command = with_subcommand(command, file_command(alloc, row));
+    }
+    let command = with_subcommand(command, at_command(alloc));
     let command = with_subcommand(command, map_command(alloc));
-    with_subcommand(command, rebase_command(alloc))
+    let command = with_subcommand(command, rebase_command(alloc));
+    with_subcommand(command, explain_command(alloc))
 }

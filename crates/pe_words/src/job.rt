@@ -1,6 +1,6 @@
 //! What the words of a command line ask for, or why they ask for nothing.
 
-use std::alloc::AllocError;
+use std::alloc::{AllocError, AllocFailed};
 
 /// A file to be mapped.
 #[derive(Debug, Drop, PartialEq, Eq)]
@@ -13,12 +13,58 @@ pub struct MapFile {
     pub name: String,
 }
 
+/// What `show` prints beside the page that it always does.
+#[derive(Clone, Copy, Debug, PartialEq, Eq)]
+pub struct Shown {
+    /// Each export.
+    pub exports: bool,
+    /// Each import.
+    pub imports: bool,
+    /// Each base relocation, or each relocation of an object.
+    pub relocations: bool,
+    /// Each symbol of an object.
+    pub symbols: bool,
+}
+
+/// The place that `at` tells of.
+#[derive(Clone, Copy, Debug, PartialEq, Eq)]
+pub enum AtPlace {
+    /// An RVA.
+    Rva(u64),
+    /// An address, with the image at its ImageBase.
+    Address(u64),
+    /// An offset in the file.
+    File(u64),
+}
+
 /// What the words ask for.
 #[derive(Debug, Drop, PartialEq, Eq)]
 pub enum Job<P> {
     /// `check FILE`: judge an image and write one line.
     Check {
         file: String,
+    },
+    /// `check FILE...`: judge images and write one line of each.
+    CheckEach {
+        files: Vec<String>,
+    },
+    /// `show FILE...`: write a page on each image or object.
+    Show {
+        shown: Shown,
+        files: Vec<String>,
+    },
+    /// `json FILE...`: write what each image or object holds as a line of JSON.
+    Json {
+        files: Vec<String>,
+    },
+    /// `at FILE ADDRESS`: write what stands at a place of an image.
+    At {
+        file: String,
+        place: AtPlace,
+    },
+    /// `explain N`: write what a fault means, or the list of all.
+    Explain {
+        number: Option<u16>,
     },
     /// `dump FILE`: write what the headers and tables of an image hold.
     Dump {
@@ -54,6 +100,12 @@ pub enum WordsError {
     Help(String),
     /// Memory was refused: status 4.
     Memory,
+}
+
+impl<T: Drop> From<AllocFailed<T>> for WordsError {
+    fn from(_error: AllocFailed<T>) -> WordsError {
+        WordsError::Memory
+    }
 }
 
 impl From<AllocError> for WordsError {

@@ -13,13 +13,15 @@
 //! ```
 #![tactic(auto)]
 
+mod at_words;
 mod builders;
 mod commands;
+mod file_words;
 mod job;
 mod map_words;
 mod rebase_words;
 mod word_values;
 mod words;
 
-pub use job::{Job, MapFile, WordsError};
+pub use job::{AtPlace, Job, MapFile, Shown, WordsError};
 pub use words::parse_words;

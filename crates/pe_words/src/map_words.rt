@@ -1,6 +1,6 @@
 //! The words of `petool map`.
 
-use crate::builders::{argument, new_command, required_argument, with_argument};
+use crate::builders::{argument, flag, new_command, required_argument, with_argument};
 use crate::job::MapFile;
 use crate::word_values::{BadValue, address_of};
 use clap::{Arg, ArgAction, ArgMatches, Command};
@@ -61,13 +61,6 @@ impl<'a, T: Drop> From<AllocFailed<T>> for NoMap<'a> {
     }
 }
 
-/// The flag `--known`.
-fn known_flag<'a>(alloc: Global) -> Arg<'a> {
-    argument(alloc, "known", KNOWN)
-        .long("known")
-        .action(ArgAction::SetTrue)
-}
-
 /// The option `--window`.
 fn window_option<'a>(alloc: Global) -> Arg<'a> {
     argument(alloc, "window", WINDOW)
@@ -93,7 +86,7 @@ fn file_arguments<'a>(alloc: Global) -> Arg<'a> {
 /// The subcommand `map`.
 pub(crate) fn map_command<'a>(alloc: Global) -> Result<Command<'a>, AllocError> {
     let command = Ok(new_command(alloc, "map", ABOUT).after_help(EXAMPLE));
-    let command = with_argument(command, known_flag(alloc));
+    let command = with_argument(command, flag(alloc, "known", KNOWN));
     let command = with_argument(command, window_option(alloc));
     let command = with_argument(command, count_option(alloc));
     with_argument(command, file_arguments(alloc))

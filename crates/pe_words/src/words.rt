@@ -1,13 +1,15 @@
 //! The words of the command line.
 
+use crate::at_words::{at_command, explain_command, number_of, place_of};
 use crate::commands::command;
+use crate::file_words::{file_job, file_of};
 use crate::job::{Job, WordsError};
 use crate::map_words::{MapWords, NoMap, map_command, map_words};
 use crate::rebase_words::{base_of, rebase_command};
 use crate::word_values::{BadValue, bad_value};
 use clap::error::ErrorKind;
 use clap::{ArgMatches, Command, Error};
-use std::alloc::{AllocError, Global};
+use std::alloc::Global;
 
 /// What the program prints where clap finds no job in the words.
 fn refusal(alloc: Global, error: Error) -> WordsError {
@@ -30,11 +32,6 @@ fn value_refusal(alloc: Global, command: Command<'_>, name: &str, bad: BadValue<
         Ok(error) => refusal(alloc, error),
         Err(_) => WordsError::Memory,
     }
-}
-
-/// The file that a subcommand names.
-fn file_of(alloc: Global, found: &ArgMatches<'_>, name: &str) -> Result<String, AllocError> {
-    String::from_str(alloc, found.get_str(name).unwrap_or(""))
 }
 
 /// What words of `map` ask for.
@@ -73,26 +70,30 @@ fn rebase_job<P: Copy>(alloc: Global, found: &ArgMatches<'_>) -> Result<Job<P>, 
     }
 }
 
+/// What words of `at` ask for.
+fn at_job<P: Copy>(alloc: Global, found: &ArgMatches<'_>) -> Result<Job<P>, WordsError> {
+    match place_of(found) {
+        Ok(place) => Ok(Job::At {
+            file: file_of(alloc, found, "FILE")?,
+            place,
+        }),
+        Err(bad) => Err(value_refusal(alloc, at_command(alloc)?, "petool at", bad)),
+    }
+}
+
+/// What words of `explain` ask for.
+fn explain_job<P: Copy>(alloc: Global, found: &ArgMatches<'_>) -> Result<Job<P>, WordsError> {
+    match number_of(found) {
+        Ok(number) => Ok(Job::Explain { number }),
+        Err(bad) => Err(value_refusal(alloc, explain_command(alloc)?, "petool explain", bad)),
+    }
+}
+
 /// What is told where a command is none of the program's: clap refuses all such words before.
 fn no_command(alloc: Global) -> WordsError {
     match String::from_str(alloc, "error: no command\n") {
         Ok(text) => WordsError::Bad(text),
         Err(_) => WordsError::Memory,
-    }
-}
-
-/// What the words of a command that takes one file ask for.
-fn file_job<P: Copy>(
-    alloc: Global,
-    name: &str,
-    found: &ArgMatches<'_>,
-) -> Result<Job<P>, WordsError> {
-    let file = file_of(alloc, found, "FILE")?;
-    match name {
-        "check" => Ok(Job::Check { file }),
-        "dump" => Ok(Job::Dump { file }),
-        "object" => Ok(Job::Object { file }),
-        _ => Err(no_command(alloc)),
     }
 }
 
@@ -107,7 +108,12 @@ fn job_of<P: Copy>(
     match name {
         "map" => map_job(alloc, found, strict, known),
         "rebase" => rebase_job(alloc, found),
-        _ => file_job(alloc, name, found),
+        "at" => at_job(alloc, found),
+        "explain" => explain_job(alloc, found),
+        _ => match file_job(alloc, name, found)? {
+            Some(job) => Ok(job),
+            None => Err(no_command(alloc)),
+        },
     }
 }
 

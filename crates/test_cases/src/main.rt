@@ -1,8 +1,8 @@
-//! Runs the cases that the files `texts` and `sets` list, and prints what each comes to: the stored output says what that has to
+//! Runs the cases that the files `texts`, `sets` and `views` list, and prints what each comes to: the stored output says what that has to
 //! be.
 //!
 //! A line is a case: a word, and what it is to be run on. Those of `texts` are run over one file, a set or words, and print what an
-//! engine writes or a reader answers; those of `sets` are run over a set, by both spaces and by the slow checker. Empty lines and
+//! engine writes or a reader answers; so are those of `views`, pages and lines for scripts; those of `sets` are run over a set, by both spaces and by the slow checker. Empty lines and
 //! those that begin with `#` are for the reader.
 //!
 //! A word `len=400` cuts a file, or fills it up with zeros, to 0x400 bytes, and a word `0x3c=ffffffff` writes bytes over it. A
@@ -23,7 +23,7 @@ use std::rt::Files;
 use std::{fs, io};
 
 /// The files that list the cases.
-const LISTS: [&str; 2] = ["texts", "sets"];
+const LISTS: [&str; 3] = ["texts", "sets", "views"];
 
 /// Runs the case of a line, and tells where it cannot be run.
 fn run_case<R: Files + Print + AllocGlobal>(rt: &R, list: &str, line: &str) -> io::Result<()> {
@@ -33,8 +33,8 @@ fn run_case<R: Files + Print + AllocGlobal>(rt: &R, list: &str, line: &str) -> i
     println!(rt; "== {line}")?;
     let (kind, rest) = line.split_once(" ").unwrap_or((line, ""));
     let done = match list {
-        "texts" => run_text(rt, kind, rest),
-        _ => run_space(rt, kind, rest),
+        "sets" => run_space(rt, kind, rest),
+        _ => run_text(rt, kind, rest),
     };
     match done {
         Some(()) => Ok(()),

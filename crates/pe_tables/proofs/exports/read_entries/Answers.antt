@@ -53,15 +53,15 @@ loop-name-preserved g c =
     let ordinals = c.in_ok-ordinals.ordinals.items in
     let base : c.from.result ≡ t.ordinal_base = c.from.ensures in
     let own : c.from-in-loop-name.result ≡ k = c.from-in-loop-name.ensures in
-    let found = c.target_by_ordinal.ensures
+    let found = c.target_by_ordinal-target.ensures
     ∙ ap (λ (n : ℕ). option_map (λ (e : ℕ × Target). e.1) (find (λ (e : ℕ × Target). e.0 == n + c.from-in-loop-name.result) c.deref.result.now)) base
     ∙ ap (λ (n : ℕ). option_map (λ (e : ℕ × Target). e.1) (find (λ (e : ℕ × Target). e.0 == t.ordinal_base + n) c.deref.result.now)) own
     ∙ ap (λ (es : List (ℕ × Target)). option_map (λ (e : ℕ × Target). e.1) (find (λ (e : ℕ × Target). e.0 == t.ordinal_base + k) es)) c.deref.ensures.value in
     record {
       known = c.in_ok-add.ensures.known;
-      names = index-step (λ (k : ℕ). target_of i d (entry i t k)) t.ordinal_base c.args.names.now index no_name c.loop-name.index c.add.new.self c.target_by_ordinal.result c.loop-name-test.true
-          (exported_by i d t ordinals k c.target_by_ordinal.result (c.requires.within index no_name c.loop-name-test.true).inside c.in_ok-ordinals.ensures.1.0 found)
-          (subst (λ (n : ℕ). Learns c.loop-name.index c.add.new.self (get_or c.args.names.now index no_name).text.bytes n c.target_by_ordinal.result (held c.loop-name.index (get_or c.args.names.now index no_name).text.bytes.now)) (ap (λ (n : ℕ). n + c.from-in-loop-name.result) base ∙ ap (λ (n : ℕ). t.ordinal_base + n) own) c.in_ok-add.ensures.learns) c.loop-name.invariant.names;
+      names = index-step (λ (k : ℕ). target_of i d (entry i t k)) t.ordinal_base c.args.names.now index no_name c.loop-name.index c.add.new.self c.target_by_ordinal-target.result c.loop-name-test.true
+          (exported_by i d t ordinals k c.target_by_ordinal-target.result (c.requires.within index no_name c.loop-name-test.true).inside c.in_ok-ordinals.ensures.1.0 found)
+          (subst (λ (n : ℕ). Learns c.loop-name.index c.add.new.self (get_or c.args.names.now index no_name).text.bytes n c.target_by_ordinal-target.result (held c.loop-name.index (get_or c.args.names.now index no_name).text.bytes.now)) (ap (λ (n : ℕ). n + c.from-in-loop-name.result) base ∙ ap (λ (n : ℕ). t.ordinal_base + n) own) c.in_ok-add.ensures.learns) c.loop-name.invariant.names;
     }
 
 pub add-requires-clause-text : goal.add-requires-clause-text
