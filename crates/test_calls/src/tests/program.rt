@@ -35,9 +35,9 @@ petool: a.dll: end of the file at 0x0: the file has under 64 bytes, which an MS-
 
 const NO_FILE_GIVEN: &str = "\
 error: the following required arguments were not provided:
-  <FILE>
+  <FILE>...
 
-Usage: petool check <FILE>
+Usage: petool check <FILE>...
 
 For more information, try '--help'.
 ";
@@ -87,7 +87,7 @@ fn assert_end(rt: &(impl Abort + AllocGlobal), index: usize, case: &Case) {
     let mut system = Fake::new(rt.alloc(), case.words, case.file);
     system.target = case.target;
     system.refusal = case.refusal;
-    assert_holds(rt, index, run(&system) == case.status);
+    assert_holds(rt, index, run(&system, false) == case.status);
     assert_told(rt, index, &system, case.printed, case.complained);
     assert_holds(rt, index, system.has_made(case.is_made));
 }
@@ -165,6 +165,133 @@ const ENDS: &[Case] = &[
         ..SILENT
     },
 ];
+
+/// A page and a line of JSON of a file without bytes.
+const EMPTY_PAGES: &str = "\
+a.dll: refused: 0 bytes
+
+Fault 2: end of the file at 0x0: the file has under 64 bytes, which an MS-DOS header takes
+
+standard input: refused: 0 bytes
+
+Fault 2: end of the file at 0x0: the file has under 64 bytes, which an MS-DOS header takes
+";
+
+const EMPTY_JSON: &str =
+    "{\"schema\":1,\"file\":\"a.dll\",\"accepted\":false,\"fault\":{\"number\":2,\"image\":0,\"place\":{\"file\":0},\"subject\":\"end of the file\",\"rule\":\"the file has under 64 bytes, which an MS-DOS header takes\"}}\n";
+
+const AT_SIGNATURE: &str = "\
+RVA 0x40  address 0x10000040  file 0x40  headers+0x40
+  50 45 00 00 4c 01 00 00 00 00 00 00 00 00 00 00
+";
+
+const EXPLAINED: &str = "\
+fault 13: section header: the section's raw data passes the end of the file
+  It stands where the bytes that the file is to give the section, from PointerToRawData on, pass the end of the file.
+  Met by: an image that was cut off behind its headers, as a broken download is.
+";
+
+/// Commands that show files, of which several may be named.
+const VIEW_ENDS: &[Case] = &[
+    // one that cannot be opened does not stop the others
+    Case {
+        words: &[b"petool", b"check", b"a.dll", b"b.dll", b"A.DLL"],
+        status: 3,
+        printed: "a.dll: accepted PE32 sections 0\nA.DLL: accepted PE32 sections 0\n",
+        complained: "petool: b.dll: cannot be opened: no such file\n",
+        ..SILENT
+    },
+    Case {
+        words: &[b"petool", b"check", b"a.dll", b"-"],
+        file: Stored::Bytes(b""),
+        status: 1,
+        printed: "a.dll: fault 2 image 0 file 0x00000000\nstandard input: fault 2 image 0 file 0x00000000\n",
+        complained: "petool: a.dll: end of the file at 0x0: the file has under 64 bytes, which an MS-DOS header takes\npetool: standard input: end of the file at 0x0: the file has under 64 bytes, which an MS-DOS header takes\n",
+        ..SILENT
+    },
+    // an output that fails does
+    Case {
+        words: &[b"petool", b"check", b"a.dll", b"A.DLL"],
+        refusal: Some(ErrorKind::StorageFull),
+        status: 3,
+        complained: "petool: standard output: writing failed: no storage space\n",
+        ..SILENT
+    },
+    // a page before which none was printed begins without a blank line
+    Case {
+        words: &[b"petool", b"show", b"b.dll", b"a.dll", b"-"],
+        file: Stored::Bytes(b""),
+        status: 3,
+        printed: EMPTY_PAGES,
+        complained: "petool: b.dll: cannot be opened: no such file\n",
+        ..SILENT
+    },
+    Case {
+        words: &[b"petool", b"json", b"a.dll"],
+        file: Stored::Bytes(b""),
+        status: 1,
+        printed: EMPTY_JSON,
+        ..SILENT
+    },
+    Case {
+        words: &[b"petool", b"json", b"a.dll"],
+        file: Stored::Broken,
+        status: 3,
+        complained: "petool: a.dll: reading failed: other error\n",
+        ..SILENT
+    },
+    Case {
+        words: &[b"petool", b"at", b"a.dll", b"40"],
+        printed: AT_SIGNATURE,
+        ..SILENT
+    },
+    Case {
+        words: &[b"petool", b"at", b"--address", b"a.dll", b"0x10000040"],
+        printed: AT_SIGNATURE,
+        ..SILENT
+    },
+    Case {
+        words: &[b"petool", b"at", b"--file", b"a.dll", b"40"],
+        printed: AT_SIGNATURE,
+        ..SILENT
+    },
+    Case {
+        words: &[b"petool", b"at", b"a.dll", b"100000040"],
+        printed: "the place is outside the image\n",
+        ..SILENT
+    },
+    Case {
+        words: &[b"petool", b"at", b"a.dll", b"40"],
+        file: Stored::Bytes(b""),
+        status: 1,
+        printed: "fault 2 image 0 file 0x00000000\n",
+        complained: NO_BYTES,
+        ..SILENT
+    },
+    Case {
+        words: &[b"petool", b"explain", b"13"],
+        printed: EXPLAINED,
+        ..SILENT
+    },
+    Case {
+        words: &[b"petool", b"explain", b"23"],
+        status: 2,
+        complained: "petool: no fault has the number 23\n",
+        ..SILENT
+    },
+    Case {
+        words: &[b"petool", b"explain"],
+        refusal: Some(ErrorKind::StorageFull),
+        status: 3,
+        complained: "petool: standard output: writing failed: no storage space\n",
+        ..SILENT
+    },
+];
+
+#[test]
+fn each_end_of_views_has_its_status_and_its_text(rt: HostRuntime) {
+    assert_ends(&rt, VIEW_ENDS);
+}
 
 #[test]
 fn each_end_has_its_status_and_its_text(rt: HostRuntime) {
@@ -314,13 +441,13 @@ fn each_end_of_rebase_has_its_status_and_its_text(rt: HostRuntime) {
 const HELP: [&str; 3] = [
     "\nUsage: petool <COMMAND>\n",
     STATUSES,
-    "docs/FAULTS.md explains each fault",
+    "petool explain N explains fault N.",
 ];
 
 #[test]
 fn help_goes_to_standard_output(rt: HostRuntime) {
     let system = Fake::new(rt.alloc(), &[b"petool", b"--help"], Stored::Broken);
-    assert_holds(&rt, 0, run(&system) == 0);
+    assert_holds(&rt, 0, run(&system, false) == 0);
     for (index, part) in HELP.iter().enumerate() {
         assert_holds(&rt, index, system.has_printed_with(part));
     }
