@@ -40,7 +40,9 @@ fn laid_at(layout: &Layout, offset: u64) -> Option<u32> {
         offset >= start && offset - start < u64::from(section.rawlen())
     })?;
     let behind = offset - u64::from(section.pointer_to_raw_data);
-    u32::try_from(u64::from(section.virtual_address) + behind).ok()
+    section
+        .virtual_address
+        .checked_add(u32::try_from(behind).ok()?)
 }
 
 /// The RVA of a place of the image.
@@ -56,7 +58,7 @@ fn rva_of(layout: &Layout, place: Place) -> Option<u32> {
     layout.contains(rva, 1).then_some(rva)
 }
 
-/// The first RVA of the section in which an RVA lies.
+/// The first RVA and the flags of the section in which an RVA lies.
 fn section_of(layout: &Layout, rva: u32) -> Option<(u32, u32)> {
     let index = match layout.locate(rva) {
         Located::Raw { section, .. } | Located::Zero { section } => section,
@@ -103,87 +105,48 @@ fn is_within(rva: u32, start: u32, len: u32) -> bool {
     rva >= start && rva - start < len
 }
 
-/// Adds where an RVA lies: `RVA 0x251e4  address 0x241bb51e4  file 0x1ffe4  .idata+0x1e4 rw-`.
-fn write_where<W: Sink>(text: &mut TextWriter<W>, layout: &Layout, names: &SectionNames, rva: u32)
-    requires { IsReady W.failures text.old }
-    ensures { AddsSome W.taken W.failures text.old text.new }
-{
-    let place = names.place(layout, rva);
-    let [name, plus, offset] = place.cells();
-    let address = layout.image_base().wrapping_add(u64::from(rva));
-    let (in_file, file) = match place.file {
-        Some(file) => ("  file 0x", Cell::Hex(file, 1)),
-        None => ("  not in the file", Cell::Words("")),
-    };
-    let (gap, flags) = match section_of(layout, rva) {
-        Some((_, flags)) => (" ", permissions(flags)),
-        None => ("", ""),
-    };
-    write_cells(
-        text,
-        &[
-            Cell::Words("RVA 0x"),
-            Cell::Hex(u64::from(rva), 1),
-            Cell::Words("  address 0x"),
-            Cell::Hex(address, 1),
-            Cell::Words(in_file),
-            file,
-            Cell::Words("  "),
-            name,
-            plus,
-            offset,
-            Cell::Words(gap),
-            Cell::Words(flags),
-        ],
-    );
-}
+/// A cell that shows nothing.
+const NOTHING: Cell<'static> = Cell::Words("");
 
-/// Adds the export at an RVA or before it.
-fn write_export<A: Allocator + Copy, W: Sink>(
-    text: &mut TextWriter<W>,
-    exports: &Exports<A>,
-    ordinal: u64,
-    distance: u32,
-)
-    requires { IsReady W.failures text.old }
-    ensures { AddsSome W.taken W.failures text.old text.new }
-{
+/// The export at an RVA of a section or before it, as `  export crc32+0x10`.
+fn export_cells<'a, A: Allocator + Copy>(
+    exports: &Exports<'a, A>,
+    first: u32,
+    rva: u32,
+) -> [Cell<'a>; 5] {
+    let Some((ordinal, at)) = nearest_export(exports, first, rva) else {
+        return [NOTHING; 5];
+    };
     let (number, name) = match name_of(exports, ordinal) {
-        Some(name) => (Cell::Words(""), Cell::Name(name)),
+        Some(name) => (NOTHING, Cell::Name(name)),
         None => (Cell::Words("#"), Cell::Right(ordinal, 1)),
     };
-    write_cells(
-        text,
-        &[
-            Cell::Words("  export "),
-            number,
-            name,
-            Cell::Words(if distance == 0 { "" } else { "+0x" }),
-            if distance == 0 {
-                Cell::Words("")
-            } else {
-                Cell::Hex(u64::from(distance), 1)
-            },
-        ],
-    );
+    let (plus, distance) = match rva.saturating_sub(at) {
+        0 => (NOTHING, NOTHING),
+        distance => (Cell::Words("+0x"), Cell::Hex(u64::from(distance), 1)),
+    };
+    [Cell::Words("  export "), number, name, plus, distance]
 }
 
-/// Adds the import whose slot is at an RVA.
-fn write_slot<W: Sink>(text: &mut TextWriter<W>, import: &Import)
-    requires { IsReady W.failures text.old }
-    ensures { AddsSome W.taken W.failures text.old text.new }
-{
-    let [first, second] = key_cells(import.key);
-    write_cells(
-        text,
-        &[
-            Cell::Words("  slot of "),
-            Cell::Name(import.module),
-            Cell::Words(" "),
-            first,
-            second,
-        ],
-    );
+/// The import whose slot is at an RVA, as `  slot of KERNEL32.dll Sleep`.
+fn slot_cells<'a>(imports: &[Import<'a>], width: u32, rva: u32) -> [Cell<'a>; 5] {
+    match imports
+        .iter()
+        .find(|import| is_within(rva, import.slot, width))
+    {
+        None => [NOTHING; 5],
+        Some(import) => {
+            let [first, second] = key_cells(import.key);
+            let module = Cell::Name(import.module);
+            [
+                Cell::Words("  slot of "),
+                module,
+                Cell::Words(" "),
+                first,
+                second,
+            ]
+        }
+    }
 }
 
 /// The address that a field holds while the image stands at its ImageBase, where it holds a whole one.
@@ -195,47 +158,93 @@ fn held_address(layout: &Layout, fixup: &Fixup) -> Option<u64> {
     }
 }
 
-/// Adds the base relocation whose field is at an RVA, and where it points.
-fn write_field<W: Sink>(
-    text: &mut TextWriter<W>,
-    layout: &Layout,
-    names: &SectionNames,
-    fixup: &Fixup,
-)
-    requires { IsReady W.failures text.old }
-    ensures { AddsSome W.taken W.failures text.old text.new }
-{
-    write_cells(
-        text,
-        &[
-            Cell::Words("  field of "),
-            Cell::Right(u64::from(fixup.kind.width()), 1),
-            Cell::Words(" bytes"),
-        ],
-    );
-    let Some(address) = held_address(layout, fixup) else {
-        return;
-    };
+/// Where an address that a field holds lies, as ` that points to RVA 0x1350 .text+0x350`.
+fn target_cells<'a>(layout: &Layout, names: &SectionNames<'a>, address: u64) -> [Cell<'a>; 6] {
     match rva_of(layout, Place::Address(address)) {
         Some(rva) => {
             let [name, plus, offset] = names.place(layout, rva).cells();
-            write_cells(
-                text,
-                &[
-                    Cell::Words(" that points to RVA 0x"),
-                    Cell::Hex(u64::from(rva), 1),
-                    Cell::Words(" "),
-                    name,
-                    plus,
-                    offset,
-                ],
-            );
+            let number = Cell::Hex(u64::from(rva), 1);
+            [
+                Cell::Words(" that points to RVA 0x"),
+                number,
+                Cell::Words(" "),
+                name,
+                plus,
+                offset,
+            ]
         }
-        None => write_cells(
-            text,
-            &[Cell::Words(" that holds 0x"), Cell::Hex(address, 1)],
-        ),
+        None => {
+            let number = Cell::Hex(address, 1);
+            [
+                Cell::Words(" that holds 0x"),
+                number,
+                NOTHING,
+                NOTHING,
+                NOTHING,
+                NOTHING,
+            ]
+        }
     }
+}
+
+/// The base relocation whose field is at an RVA, as `  field of 8 bytes that points to RVA 0x1350 .text+0x350`.
+fn field_cells<'a>(
+    layout: &Layout,
+    names: &SectionNames<'a>,
+    fixups: &[Fixup],
+    rva: u32,
+) -> [Cell<'a>; 9] {
+    let Some(fixup) = fixups
+        .iter()
+        .find(|it| is_within(rva, it.field, it.kind.width()))
+    else {
+        return [NOTHING; 9];
+    };
+    let [to, number, gap, name, plus, offset] = match held_address(layout, fixup) {
+        Some(address) => target_cells(layout, names, address),
+        None => [NOTHING; 6],
+    };
+    let width = Cell::Right(u64::from(fixup.kind.width()), 1);
+    [
+        Cell::Words("  field of "),
+        width,
+        Cell::Words(" bytes"),
+        to,
+        number,
+        gap,
+        name,
+        plus,
+        offset,
+    ]
+}
+
+/// Where an RVA lies, as `RVA 0x251e4  address 0x241bb51e4  file 0x1ffe4  .idata+0x1e4 rw-`.
+fn where_cells<'a>(layout: &Layout, names: &SectionNames<'a>, rva: u32) -> [Cell<'a>; 12] {
+    let place = names.place(layout, rva);
+    let [name, plus, offset] = place.cells();
+    let address = layout.image_base().wrapping_add(u64::from(rva));
+    let (in_file, file) = match place.file {
+        Some(file) => (Cell::Words("  file 0x"), Cell::Hex(file, 1)),
+        None => (Cell::Words("  not in the file"), NOTHING),
+    };
+    let (gap, flags) = match section_of(layout, rva) {
+        Some((_, flags)) => (Cell::Words(" "), Cell::Words(permissions(flags))),
+        None => (NOTHING, NOTHING),
+    };
+    [
+        Cell::Words("RVA 0x"),
+        Cell::Hex(u64::from(rva), 1),
+        Cell::Words("  address 0x"),
+        Cell::Hex(address, 1),
+        in_file,
+        file,
+        Cell::Words("  "),
+        name,
+        plus,
+        offset,
+        gap,
+        flags,
+    ]
 }
 
 /// Adds the 16 bytes from an RVA on, as far as the image has them.
@@ -243,11 +252,11 @@ fn write_bytes<W: Sink>(text: &mut TextWriter<W>, layout: &Layout, rva: u32)
     requires { IsReady W.failures text.old }
     ensures { AddsSome W.taken W.failures text.old text.new }
 {
+    let end = rva.saturating_add(SHOWN).min(layout.size());
     text.text(b"\n ");
-    for offset in 0..SHOWN {
-        if let Some(byte) = rva.checked_add(offset).and_then(|at| layout.byte(at)) {
-            write_parts(text, &[Text(b" "), Hex2(byte)]);
-        }
+    for at in rva..end {
+        let byte = layout.byte(at).unwrap_or(0);
+        write_parts(text, &[Text(b" "), Hex2(byte)]);
     }
     text.text(b"\n");
 }
@@ -263,27 +272,11 @@ fn write_at<A: Allocator + Copy, W: Sink>(
     ensures { AddsSome W.taken W.failures text.old text.new }
 {
     let layout = &image.layout;
-    let width = layout.slot_width();
-    write_where(text, layout, names, rva);
-    if let Some((first, _)) = section_of(layout, rva)
-        && let Some((ordinal, at)) = nearest_export(&image.exports, first, rva)
-    {
-        write_export(text, &image.exports, ordinal, rva - at);
-    }
-    if let Some(import) = image
-        .imports
-        .iter()
-        .find(|it| is_within(rva, it.slot, width))
-    {
-        write_slot(text, import);
-    }
-    if let Some(fixup) = image
-        .fixups
-        .iter()
-        .find(|it| is_within(rva, it.field, it.kind.width()))
-    {
-        write_field(text, layout, names, fixup);
-    }
+    let first = section_of(layout, rva).map_or(u32::MAX, |section| section.0);
+    write_cells(text, &where_cells(layout, names, rva));
+    write_cells(text, &export_cells(&image.exports, first, rva));
+    write_cells(text, &slot_cells(&image.imports, layout.slot_width(), rva));
+    write_cells(text, &field_cells(layout, names, &image.fixups, rva));
     write_bytes(text, layout, rva);
 }
 
