@@ -110,18 +110,20 @@ fn write_import_count<W: Sink>(text: &mut TextWriter<W>, imports: &[Import])
         ],
     );
     let modules = imports.chunk_by(same_module).count();
-    let mut gap = ": ";
-    for run in imports.chunk_by(same_module).take(MODULES_SHOWN) {
+    for (place, run) in imports
+        .chunk_by(same_module)
+        .take(MODULES_SHOWN)
+        .enumerate()
+    {
         write_cells(
             text,
             &[
-                Cell::Words(gap),
+                Cell::Words(if place == 0 { ": " } else { ", " }),
                 Cell::Name(module_of(run)),
                 Cell::Words(" "),
                 Cell::Count(run.len() as u64),
             ],
         );
-        gap = ", ";
     }
     let end = match modules.saturating_sub(MODULES_SHOWN) {
         0 => [Cell::Words("\n"), Cell::Words(""), Cell::Words("")],

@@ -119,11 +119,13 @@ fn write_names<A: Allocator + Copy, W: Sink>(
     requires { IsReady W.failures text.old }
     ensures { AddsSome W.taken W.failures text.old text.new }
 {
-    let mut gap = [Cell::Blanks(blanks), Cell::Words("  ")];
-    for (_, index) in names {
+    for (place, (_, index)) in names.iter().enumerate() {
         let name = exports.names().get(*index).map_or(&b""[..], |name| name.0);
-        write_cells(text, &[gap[0], gap[1], Cell::Name(name)]);
-        gap = [Cell::Words(","), Cell::Words(" ")];
+        let (blanks, gap) = if place == 0 { (blanks, "  ") } else { (0, ", ") };
+        write_cells(
+            text,
+            &[Cell::Blanks(blanks), Cell::Words(gap), Cell::Name(name)],
+        );
     }
     text.text(b"\n");
 }

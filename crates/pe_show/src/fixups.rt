@@ -5,11 +5,9 @@ ghost use Rattle.pe_show.specs.Page.{AddsSome};
 
 use crate::cell::{Cell, hex_width, write_cells};
 use crate::heading::write_heading;
-use crate::image::Tables;
 use crate::options::ShowOptions;
 use pe_tables::{Fixup, FixupKind};
 use pe_text::{Sink, TextWriter};
-use std::alloc::Allocator;
 
 /// How many fields a row shows.
 const FIELDS_SHOWN: usize = 16;
@@ -83,15 +81,15 @@ fn write_page<W: Sink>(text: &mut TextWriter<W>, width: u8, fixups: &[Fixup])
 }
 
 /// Adds rows for the fields of the base relocations, where the options want it and they were read.
-pub(crate) fn write_fixups<A: Allocator + Copy, W: Sink>(
+pub(crate) fn write_fixups<W: Sink>(
     text: &mut TextWriter<W>,
     options: &ShowOptions,
-    tables: &Tables<A>,
+    fixups: Option<&[Fixup]>,
 )
     requires { IsReady W.failures text.old }
     ensures { AddsSome W.taken W.failures text.old text.new }
 {
-    let (Some(fixups), true) = (&tables.fixups, options.relocations) else {
+    let (Some(fixups), true) = (fixups, options.relocations) else {
         return;
     };
     let width = fixups.iter().fold(

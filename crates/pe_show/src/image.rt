@@ -112,6 +112,14 @@ fn write_unlaid<W: Sink>(text: &mut TextWriter<W>, page: &Page, view: View, outc
     }
 }
 
+/// The rows of a table, if it was read.
+fn rows_of<T, A: Allocator>(table: &Option<Vec<T, A>>) -> Option<&[T]> {
+    match table {
+        Some(rows) => Some(rows.as_slice()),
+        None => None,
+    }
+}
+
 /// Adds the page of an image that is laid out.
 fn write_image<A: Allocator + Copy, W: Sink>(
     text: &mut TextWriter<W>,
@@ -131,8 +139,8 @@ fn write_image<A: Allocator + Copy, W: Sink>(
     write_sections(text, page.options, headers, &names);
     write_directories(text, page.options, layout, &names, tables);
     write_exports(text, page.options, layout, &names, tables);
-    write_imports(text, page.options, tables);
-    write_fixups(text, page.options, tables);
+    write_imports(text, page.options, rows_of(&tables.imports));
+    write_fixups(text, page.options, rows_of(&tables.fixups));
     write_refusal(text, page.options, tables.outcome);
 }
 

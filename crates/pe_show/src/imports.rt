@@ -6,11 +6,9 @@ ghost use Rattle.pe_show.specs.Page.{AddsSome};
 use crate::cell::{Cell, hex_width, write_cells};
 use crate::exports::key_cells;
 use crate::heading::write_heading;
-use crate::image::Tables;
 use crate::options::ShowOptions;
 use pe_tables::Import;
 use pe_text::{Sink, TextWriter};
-use std::alloc::Allocator;
 
 /// The most bytes of a module's name that are shown: no file has a longer one.
 const NAME_LIMIT: usize = 255;
@@ -70,15 +68,15 @@ fn write_module<W: Sink>(text: &mut TextWriter<W>, width: u8, imports: &[Import]
 }
 
 /// Adds a row for each import, under its module, where the options want it and the imports were read.
-pub(crate) fn write_imports<A: Allocator + Copy, W: Sink>(
+pub(crate) fn write_imports<W: Sink>(
     text: &mut TextWriter<W>,
     options: &ShowOptions,
-    tables: &Tables<A>,
+    imports: Option<&[Import]>,
 )
     requires { IsReady W.failures text.old }
     ensures { AddsSome W.taken W.failures text.old text.new }
 {
-    let (Some(imports), true) = (&tables.imports, options.imports) else {
+    let (Some(imports), true) = (imports, options.imports) else {
         return;
     };
     let width = imports.iter().fold(
