@@ -295,7 +295,8 @@ AUX = {
 
 def aux_value(key, value):
     if key == "FileName":
-        return value
+        # where the record begins with four zero bytes, binutils keeps the name in the string table, and llvm-readobj shows what stands there
+        return value.split(b"\0")[0]
     inner = re.search(rb"\((0x[0-9A-F]+|\d+)\)$", value)
     return read_number(inner[1] if inner else value.split()[0])
 
