@@ -280,6 +280,22 @@ fn write_at<A: Allocator + Copy, W: Sink>(
     write_bytes(text, layout, rva);
 }
 
+/// Adds what stands at a place of an image.
+fn write_place<A: Allocator + Copy, W: Sink>(
+    text: &mut TextWriter<W>,
+    image: &Image<A>,
+    names: &SectionNames,
+    place: Place,
+)
+    requires { IsReady W.failures text.old }
+    ensures { AddsSome W.taken W.failures text.old text.new }
+{
+    match rva_of(&image.layout, place) {
+        Some(rva) => write_at(text, image, names, rva),
+        None => write_cells(text, &[Cell::Words("the place is outside the image\n")]),
+    }
+}
+
 impl Report for AtReport {
     ghost is_text = { IsImageJudged };
 
@@ -292,10 +308,7 @@ impl Report for AtReport {
         match read_image(alloc, file, 0) {
             Ok(image) => {
                 let names = SectionNames::new(View::new(file), image.layout.headers());
-                match rva_of(&image.layout, self.place) {
-                    Some(rva) => write_at(text, &image, &names, rva),
-                    None => text.text(b"the place is outside the image\n"),
-                }
+                write_place(text, &image, &names, self.place);
                 Ok(Outcome::Done)
             }
             Err(TableError::Fault(fault)) => Ok(refuse(text, fault)),
