@@ -109,9 +109,9 @@ fn write_import_count<W: Sink>(text: &mut TextWriter<W>, imports: &[Import])
             plural(imports.len(), " import", " imports"),
         ],
     );
-    let modules = imports.chunk_by(same_module).count();
+    let modules = imports.chunk_by(|import, other| same_module(import, other)).count();
     for (place, run) in imports
-        .chunk_by(same_module)
+        .chunk_by(|import, other| same_module(import, other))
         .take(MODULES_SHOWN)
         .enumerate()
     {

@@ -1,8 +1,9 @@
 //! The engine that shows an image or an object.
 
-ghost use Rattle.std.specs.Prelude.{◌-◌, ◌^◌, ◌<◌, ◌↔◌, IsErrOf};
+ghost use Rattle.std.specs.Prelude.{◌≡◌, ◌-◌, ◌^◌, ◌<◌, ◌↔◌, IsErrOf};
 ghost use Rattle.pe_text.specs.Engine.{Ran};
-ghost use Rattle.pe_show.specs.Judged.{IsJudged};
+ghost use Rattle.pe_text.specs.FileKind.{kind_of};
+ghost use Rattle.pe_show.specs.Judged.{is_object, IsJudged};
 
 use crate::heading::Page;
 use crate::image::show_image;
@@ -13,6 +14,13 @@ use pe_text::{
 };
 use std::alloc::{AllocError, Allocator};
 
+/// Whether a file begins as an object does.
+fn is_object(file: &[u8]) -> bool
+    ensures { result ≡ is_object (kind_of file.now) }
+{
+    matches!(file_kind(file), Some(FileKind::Object))
+}
+
 impl<'p> Report for Page<'p> {
     ghost is_text = { IsJudged };
 
@@ -22,9 +30,10 @@ impl<'p> Report for Page<'p> {
         text: &mut TextWriter<W>,
         file: &[u8],
     ) -> Result<Outcome, AllocError> {
-        match file_kind(file) {
-            Some(FileKind::Object) => show_object(alloc, self, text, file),
-            _ => show_image(alloc, self, text, file),
+        if is_object(file) {
+            show_object(alloc, self, text, file)
+        } else {
+            show_image(alloc, self, text, file)
         }
     }
 }

@@ -1,10 +1,10 @@
 //! What is read of an image, and its page.
 
-ghost use Rattle.std.specs.Prelude.{◌≡◌, ◌<◌, length, IfOk, OnErr, ⊤};
-ghost use Rattle.pe_view.specs.Faults.{AnswersOrWants};
+ghost use Rattle.std.specs.Prelude.{◌≡◌, ◌<◌, List, length, IfOk, OnErr, ⊤};
+ghost use Rattle.pe_view.specs.Faults.{Test, AnswersOrWants};
 ghost use Rattle.pe_layout.specs.Layout.{image_of};
 ghost use Rattle.pe_image.specs.ImageTests.{table_tests, image_tests};
-ghost use Rattle.pe_text.specs.TextWriter.{IsReady, Adds};
+ghost use Rattle.pe_text.specs.TextWriter.{IsReady};
 ghost use Rattle.pe_show.specs.Judged.{IsOutcomeOf};
 ghost use Rattle.pe_show.specs.Page.{AddsSome};
 
@@ -48,18 +48,24 @@ impl<'a, A: Allocator + Copy> Tables<'a, A> {
         let exports = read_exports(alloc, layout)?;
         self.exports = Some(exports);
         let imports = read_imports(alloc, layout)?;
-        let answer = read_fixups(alloc, layout, &imports);
-        self.imports = Some(imports);
-        let fixups = answer?;
-        self.fixups = Some(fixups);
-        Ok(())
+        match read_fixups(alloc, layout, &imports) {
+            Ok(fixups) => {
+                self.imports = Some(imports);
+                self.fixups = Some(fixups);
+                Ok(())
+            }
+            Err(error) => {
+                self.imports = Some(imports);
+                Err(error)
+            }
+        }
     }
 
-    /// Orders the names of the exports by their ordinals.
-    fn order_names(&mut self, alloc: A) -> Result<(), AllocError>
+    /// Orders the names of the exports by their ordinals, where it is wanted and they were read.
+    fn order_names(&mut self, alloc: A, is_wanted: bool) -> Result<(), AllocError>
         ensures { self.new.outcome ≡ self.old.outcome }
     {
-        let Some(exports) = &self.exports else {
+        let (Some(exports), true) = (&self.exports, is_wanted) else {
             return Ok(());
         };
         let mut names = Vec::with_capacity(alloc, exports.name_ordinals().len())?;
@@ -69,6 +75,17 @@ impl<'a, A: Allocator + Copy> Tables<'a, A> {
         names.sort_unstable();
         self.names = names;
         Ok(())
+    }
+}
+
+/// Whether a fault was found, or memory was wanted.
+fn outcome_of(answer: Result<(), TableError>) -> Result<Outcome, AllocError>
+    ensures { (tests : List Test) → AnswersOrWants tests (λ _. ⊤) answer → IfOk result (IsOutcomeOf tests) }
+{
+    match answer {
+        Ok(()) => Ok(Outcome::Done),
+        Err(TableError::Fault(fault)) => Ok(Outcome::Refused(fault)),
+        Err(TableError::Memory) => Err(AllocError),
     }
 }
 
@@ -87,14 +104,10 @@ fn read_tables<'a, A: Allocator + Copy>(
         fixups: None,
         outcome: Outcome::Done,
     };
-    match tables.read(alloc, layout) {
-        Ok(()) => {}
-        Err(TableError::Fault(fault)) => tables.outcome = Outcome::Refused(fault),
-        Err(TableError::Memory) => return Err(AllocError),
-    }
-    if is_ordered {
-        tables.order_names(alloc)?;
-    }
+    let answer = tables.read(alloc, layout);
+    let outcome = outcome_of(answer)?;
+    tables.outcome = outcome;
+    tables.order_names(alloc, is_ordered)?;
     Ok(tables)
 }
 
@@ -154,6 +167,7 @@ pub(crate) fn show_image<A: Allocator + Copy, W: Sink>(
     requires { IsReady W.failures text.old }
     ensures judged { IfOk result (IsOutcomeOf (image_tests 0 file.now)) }
     ensures adds { IfOk result (λ _. AddsSome W.taken W.failures text.old text.new) }
+    ensures same { text.new.writer.ghost_name ≡ text.old.writer.ghost_name }
     ensures adds_none { OnErr result (text.new ≡ text.old) }
     ensures reads { OnErr result (0 < length file.now) }
 {

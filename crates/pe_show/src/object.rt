@@ -60,6 +60,7 @@ pub(crate) fn show_object<A: Allocator + Copy, W: Sink>(
     requires { IsReady W.failures text.old }
     ensures judged { IfOk result (IsOutcomeOf (object_tests file.now)) }
     ensures adds { IfOk result (λ _. AddsSome W.taken W.failures text.old text.new) }
+    ensures same { text.new.writer.ghost_name ≡ text.old.writer.ghost_name }
     ensures adds_none { OnErr result (text.new ≡ text.old) }
     ensures reads { OnErr result (0 < length file.now) }
 {

@@ -27,10 +27,20 @@ returns-in_err-imports g c =
     let p = err_from_is_err_and c.from_residual-in_err-imports.result c.from_residual-in_err-imports.ensures.1 in
     rw (p.1, p.2) (refused-past (export_tests i) _ error c.in_ok-exports.ensures.exact.0 (refused-in (import_tests i) _ error c.in_err-imports.ensures.exact))
 
-pub returns-in_err-fixups : goal.returns-in_err-fixups
+pub returns-in-Err : goal.returns-in-Err
 unfolding table_tests
-returns-in_err-fixups g c = ?
+returns-in-Err g c =
+    let i = image_of c.args.layout.now in
+    let error = c.in-Err.error in
+    let slots = ap slots_of c.deref.ensures.value ∙ own_slots c.in_ok-imports.imports.items _ c.in_ok-imports.ensures.exact.1 in
+    let refused = subst (λ (s : List ℕ). Refuses (fixup_tests i s) error) slots c.in-Err.ensures.exact in
+    refused-past (export_tests i) _ error c.in_ok-exports.ensures.exact.0
+    (refused-past (import_tests i) _ error c.in_ok-imports.ensures.exact.0 refused)
 
-pub returns : goal.returns
+pub returns-in-Ok : goal.returns-in-Ok
 unfolding table_tests
-returns g c = ?
+returns-in-Ok g c =
+    let i = image_of c.args.layout.now in
+    let slots = ap slots_of c.deref.ensures.value ∙ own_slots c.in_ok-imports.imports.items _ c.in_ok-imports.ensures.exact.1 in
+    let no_fixup_fault = subst (λ (s : List ℕ). first_standing (fixup_tests i s) ≡ None) slots c.in-Ok.ensures.exact.0 in
+    (first-past (export_tests i) _ c.in_ok-exports.ensures.exact.0 ∙ first-past (import_tests i) _ c.in_ok-imports.ensures.exact.0 ∙ no_fixup_fault, tt)
