@@ -30,3 +30,7 @@ tests_of file = if is_object (kind_of file) then object_tests file else image_te
 -- a file is judged by its faults, whatever text tells of it
 abbrev pub IsJudged : List ℕ → Outcome → List ℕ → Type 0
 IsJudged file outcome text = IsOutcomeOf (tests_of file) outcome
+
+-- the same of a file that is taken for an image
+abbrev pub IsImageJudged : List ℕ → Outcome → List ℕ → Type 0
+IsImageJudged file outcome text = IsOutcomeOf (image_tests 0 file) outcome
