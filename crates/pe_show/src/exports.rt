@@ -121,7 +121,11 @@ fn write_names<A: Allocator + Copy, W: Sink>(
 {
     for (place, (_, index)) in names.iter().enumerate() {
         let name = exports.names().get(*index).map_or(&b""[..], |name| name.0);
-        let (blanks, gap) = if place == 0 { (blanks, "  ") } else { (0, ", ") };
+        let (blanks, gap) = if place == 0 {
+            (blanks, "  ")
+        } else {
+            (0, ", ")
+        };
         write_cells(
             text,
             &[Cell::Blanks(blanks), Cell::Words(gap), Cell::Name(name)],

@@ -132,7 +132,11 @@ fn write_entry<W: Sink>(text: &mut TextWriter<W>, rva: u32, place: Option<Place>
         _ if rva == 0 => text.text(b"  Entry        none\n"),
         None => write_cells(
             text,
-            &[Cell::Words("  Entry        0x"), Cell::Hex(u64::from(rva), 1), Cell::Words("\n")],
+            &[
+                Cell::Words("  Entry        0x"),
+                Cell::Hex(u64::from(rva), 1),
+                Cell::Words("\n"),
+            ],
         ),
         Some(place) => {
             let [name, plus, offset] = place.cells();
