@@ -109,12 +109,9 @@ fn write_import_count<W: Sink>(text: &mut TextWriter<W>, imports: &[Import])
             plural(imports.len(), " import", " imports"),
         ],
     );
-    let modules = imports.chunk_by(|import, other| same_module(import, other)).count();
-    for (place, run) in imports
-        .chunk_by(|import, other| same_module(import, other))
-        .take(MODULES_SHOWN)
-        .enumerate()
-    {
+    let modules = imports.chunk_by(same_module).count();
+    let mut place: usize = 0;
+    for run in imports.chunk_by(same_module).take(MODULES_SHOWN) {
         write_cells(
             text,
             &[
@@ -124,6 +121,7 @@ fn write_import_count<W: Sink>(text: &mut TextWriter<W>, imports: &[Import])
                 Cell::Count(run.len() as u64),
             ],
         );
+        place = place.saturating_add(1);
     }
     let end = match modules.saturating_sub(MODULES_SHOWN) {
         0 => [Cell::Words("\n"), Cell::Words(""), Cell::Words("")],

@@ -97,7 +97,7 @@ pub(crate) fn write_fixups<W: Sink>(
         |width, fixup| hex_width(u64::from(fixup.field)).max(width),
     );
     write_heading(text, options, "Base relocations", fixups.len());
-    for page in fixups.chunk_by(|fixup, other| same_row(fixup, other)) {
+    for page in fixups.chunk_by(same_row).take(fixups.len()) {
         write_page(text, width, page);
     }
 }

@@ -84,7 +84,7 @@ pub(crate) fn write_imports<W: Sink>(
         |width, import| hex_width(u64::from(import.slot)).max(width),
     );
     write_heading(text, options, "Imports", imports.len());
-    for module in imports.chunk_by(|import, other| same_module(import, other)) {
+    for module in imports.chunk_by(same_module).take(imports.len()) {
         write_module(text, width, module);
     }
 }
