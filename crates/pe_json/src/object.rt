@@ -84,7 +84,8 @@ fn write_sections<A: Allocator + Copy, W: Sink>(
     json.list("sections");
     let table = 20 + object.optional().len() as u64;
     for index in 0..object.section_count() {
-        let header = header_at(view, table + 40 * index as u64);
+        let offset = (index as u64).saturating_mul(40).saturating_add(table);
+        let header = header_at(view, offset);
         if let (Some(header), Some(section)) = (header, object.section(index)) {
             let number = index as u64 + 1;
             write_section(json, text, object.machine(), number, &header, &section);
@@ -165,22 +166,23 @@ fn add_aux<'a, A: Allocator + Copy>(json: &mut JsonText<A>, index: Member<'a>, a
     }
 }
 
-/// Adds the list of a symbol's auxiliary records, the first with this index.
-fn add_aux_records<A: Allocator + Copy>(json: &mut JsonText<A>, index: u64, symbol: &Symbol) {
+/// Adds the list of the auxiliary records that stand behind the symbol of this index.
+fn add_aux_records<A: Allocator + Copy>(json: &mut JsonText<A>, index: u32, symbol: &Symbol) {
     json.list("auxiliary_records");
     for k in 0..symbol.aux_count() {
         if let Some(aux) = symbol.aux_record(k) {
-            add_aux(json, ("index", Number(index + k as u64)), &aux);
+            let index = (u64::from(index) + 1).saturating_add(k as u64);
+            add_aux(json, ("index", Number(index)), &aux);
         }
     }
     json.token(Token::EndArray);
 }
 
 /// Adds a symbol and its auxiliary records ("PE Format", COFF Symbol Table).
-fn add_symbol<A: Allocator + Copy>(json: &mut JsonText<A>, index: u64, symbol: &Symbol) {
+fn add_symbol<A: Allocator + Copy>(json: &mut JsonText<A>, index: u32, symbol: &Symbol) {
     json.token(Token::BeginObject);
     json.members(&[
-        ("index", Number(index)),
+        ("index", Number(index as u64)),
         ("name", Name("name_hex", symbol.name)),
         ("value", Number(symbol.value as u64)),
         section_member(symbol.section),
@@ -192,7 +194,7 @@ fn add_symbol<A: Allocator + Copy>(json: &mut JsonText<A>, index: u64, symbol: &
         ),
     ]);
     if symbol.aux_count() > 0 {
-        add_aux_records(json, index + 1, symbol);
+        add_aux_records(json, index, symbol);
     }
     json.token(Token::EndObject);
 }
@@ -208,7 +210,7 @@ fn write_symbols<A: Allocator + Copy, W: Sink>(
 {
     json.list("symbols");
     for (index, symbol) in object.symbols() {
-        add_symbol(json, u64::from(index), &symbol);
+        add_symbol(json, index, &symbol);
         json.put(text);
     }
     json.token(Token::EndArray);
