@@ -1,0 +1,8 @@
+use Rattle.pe_show.proofs.Adding.{◌and◌}
+use Rattle.pe_show.proofs.exports.write_names.Goals as goal
+
+pub loop-place-preserved : goal.loop-place-preserved
+loop-place-preserved g c = record { ready = c.write_cells.ensures.1.ready; adds = c.loop-place.invariant.adds and c.write_cells.ensures }
+
+pub returns : goal.returns
+returns g c = c.loop-place.invariant.adds and (_, c.text.ensures)

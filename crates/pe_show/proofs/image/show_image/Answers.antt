@@ -1,0 +1,30 @@
+-- The tables are asked for where the layout has no fault.
+use Rattle.std.proofs.Common.{subst}
+use Rattle.std.proofs.lemmas.Result.{err_from_is_err_and}
+use Rattle.pe_view.specs.FirstStanding.{first-in}
+use Rattle.pe_layout.specs.Image.{LaidOut, image_of_file}
+use Rattle.pe_layout.specs.SectionFaults.{layout_tests}
+use Rattle.pe_image.specs.ImageTests.{image_tests, table_tests}
+use Rattle.pe_image.proofs.Phases.{has_bytes}
+use Rattle.pe_show.specs.Judged.{IsOutcomeOf}
+use Rattle.pe_show.proofs.Outcomes.{behind}
+use Rattle.pe_show.proofs.image.show_image.Goals as goal
+
+pub returns-in_err-tables-in-Ok-clause-reads : goal.returns-in_err-tables-in-Ok-clause-reads
+returns-in_err-tables-in-Ok-clause-reads g c =
+    let p = err_from_is_err_and c.from_residual.result c.from_residual.ensures.1 in
+    rw p.1 (has_bytes 0 c.args.file.now c.in-Ok.ensures.0)
+
+pub returns-in_ok-tables-in-Ok-clause-judged : goal.returns-in_ok-tables-in-Ok-clause-judged
+unfolding image_tests
+returns-in_ok-tables-in-Ok-clause-judged g c =
+    let file = c.args.file.now in
+    let outcome = c.in_ok-tables.tables.outcome in
+    behind (layout_tests 0 file) (table_tests (image_of_file 0 file)) outcome c.in-Ok.ensures.0
+    (subst (λ (i : LaidOut). IsOutcomeOf (table_tests i) outcome) c.in-Ok.ensures.1.shows c.in_ok-tables.ensures)
+
+pub returns-in-Err-clause-judged : goal.returns-in-Err-clause-judged
+unfolding image_tests
+returns-in-Err-clause-judged g c =
+    let file = c.args.file.now in
+    first-in (layout_tests 0 file) (table_tests (image_of_file 0 file)) c.in-Err.fault c.in-Err.ensures

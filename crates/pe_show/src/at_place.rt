@@ -1,0 +1,340 @@
+//! What stands at one place of an image.
+
+ghost use Rattle.std.specs.Prelude.{◌-◌, ◌^◌, ◌<◌, ◌↔◌, IsErrOf};
+ghost use Rattle.pe_text.specs.Engine.{Ran};
+ghost use Rattle.pe_text.specs.TextWriter.{IsReady};
+ghost use Rattle.pe_show.specs.Judged.{IsImageJudged};
+ghost use Rattle.pe_show.specs.Page.{AddsSome};
+
+use crate::cell::{Cell, write_cells};
+use crate::exports::key_cells;
+use crate::place::SectionNames;
+use crate::sections::permissions;
+use pe_image::{Image, read_image};
+use pe_layout::{Layout, Located};
+use pe_tables::{Exports, Fixup, FixupKind, Import, TableError, Target};
+use pe_text::Part::{Hex2, Text};
+use pe_text::{
+    Outcome, Report, Sink, Source, TextWriter, ToolError, refuse, run_report, write_parts,
+};
+use pe_view::{Place, View};
+use std::alloc::{AllocError, Allocator};
+
+/// How many bytes are shown of a place.
+const SHOWN: u32 = 16;
+
+/// The report of [`at`].
+#[derive(Clone, Copy)]
+struct AtReport {
+    place: Place,
+}
+
+/// The RVA at which an offset of the file is laid out.
+fn laid_at(layout: &Layout, offset: u64) -> Option<u32> {
+    let headers = layout.headers();
+    if offset < u64::from(headers.size_of_headers) {
+        return Some(offset as u32);
+    }
+    let section = headers.sections.as_slice().iter().find(|section| {
+        let start = u64::from(section.pointer_to_raw_data);
+        offset >= start && offset - start < u64::from(section.rawlen())
+    })?;
+    let behind = offset - u64::from(section.pointer_to_raw_data);
+    section
+        .virtual_address
+        .checked_add(u32::try_from(behind).ok()?)
+}
+
+/// The RVA of a place of the image.
+fn rva_of(layout: &Layout, place: Place) -> Option<u32> {
+    let rva = match place {
+        Place::Rva(rva) => rva,
+        Place::File(offset) => laid_at(layout, offset)?,
+        Place::Address(address) => {
+            u32::try_from(address.checked_sub(layout.image_base())?).ok()?
+        }
+        Place::Item(_) => return None,
+    };
+    layout.contains(rva, 1).then_some(rva)
+}
+
+/// The first RVA and the flags of the section in which an RVA lies.
+fn section_of(layout: &Layout, rva: u32) -> Option<(u32, u32)> {
+    let index = match layout.locate(rva) {
+        Located::Raw { section, .. } | Located::Zero { section } => section,
+        _ => return None,
+    };
+    let section = layout
+        .headers()
+        .sections
+        .as_slice()
+        .get(usize::from(index))?;
+    Some((section.virtual_address, section.characteristics))
+}
+
+/// The ordinal and the RVA of the last export that stands at an RVA or before it, and not before the section's first.
+fn nearest_export<A: Allocator + Copy>(
+    exports: &Exports<A>,
+    first: u32,
+    rva: u32,
+) -> Option<(u64, u32)> {
+    let mut nearest = None;
+    for (ordinal, target) in exports.ordinals() {
+        if let Target::Rva(at) = *target
+            && at >= first
+            && at <= rva
+            && nearest.is_none_or(|(_, before)| before < at)
+        {
+            nearest = Some((*ordinal, at));
+        }
+    }
+    nearest
+}
+
+/// The first name of an ordinal.
+fn name_of<'a, A: Allocator + Copy>(exports: &Exports<'a, A>, ordinal: u64) -> Option<&'a [u8]> {
+    let index = exports
+        .name_ordinals()
+        .iter()
+        .position(|it| *it == ordinal)?;
+    exports.names().get(index).map(|name| name.0)
+}
+
+/// Whether an RVA is one of so many from another on.
+fn is_within(rva: u32, start: u32, len: u32) -> bool {
+    rva >= start && rva - start < len
+}
+
+/// A cell that shows nothing.
+const NOTHING: Cell<'static> = Cell::Words("");
+
+/// The export at an RVA of a section or before it, as `  export crc32+0x10`.
+fn export_cells<'a, A: Allocator + Copy>(
+    exports: &Exports<'a, A>,
+    first: u32,
+    rva: u32,
+) -> [Cell<'a>; 5] {
+    let Some((ordinal, at)) = nearest_export(exports, first, rva) else {
+        return [NOTHING; 5];
+    };
+    let (number, name) = match name_of(exports, ordinal) {
+        Some(name) => (NOTHING, Cell::Name(name)),
+        None => (Cell::Words("#"), Cell::Right(ordinal, 1)),
+    };
+    let (plus, distance) = match rva.saturating_sub(at) {
+        0 => (NOTHING, NOTHING),
+        distance => (Cell::Words("+0x"), Cell::Hex(u64::from(distance), 1)),
+    };
+    [Cell::Words("  export "), number, name, plus, distance]
+}
+
+/// The import whose slot is at an RVA, as `  slot of KERNEL32.dll Sleep`.
+fn slot_cells<'a>(imports: &[Import<'a>], width: u32, rva: u32) -> [Cell<'a>; 5] {
+    match imports
+        .iter()
+        .find(|import| is_within(rva, import.slot, width))
+    {
+        None => [NOTHING; 5],
+        Some(import) => {
+            let [first, second] = key_cells(import.key);
+            let module = Cell::Name(import.module);
+            [
+                Cell::Words("  slot of "),
+                module,
+                Cell::Words(" "),
+                first,
+                second,
+            ]
+        }
+    }
+}
+
+/// The address that a field holds while the image stands at its ImageBase, where it holds a whole one.
+fn held_address(layout: &Layout, fixup: &Fixup) -> Option<u64> {
+    match fixup.kind {
+        FixupKind::Bits32 => layout.u32_at(fixup.field).map(u64::from),
+        FixupKind::Bits64 => layout.u64_at(fixup.field),
+        FixupKind::High | FixupKind::Low => None,
+    }
+}
+
+/// Where an address that a field holds lies, as ` that points to RVA 0x1350 .text+0x350`.
+fn target_cells<'a>(layout: &Layout, names: &SectionNames<'a>, address: u64) -> [Cell<'a>; 6] {
+    match rva_of(layout, Place::Address(address)) {
+        Some(rva) => {
+            let [name, plus, offset] = names.place(layout, rva).cells();
+            let number = Cell::Hex(u64::from(rva), 1);
+            [
+                Cell::Words(" that points to RVA 0x"),
+                number,
+                Cell::Words(" "),
+                name,
+                plus,
+                offset,
+            ]
+        }
+        None => {
+            let number = Cell::Hex(address, 1);
+            [
+                Cell::Words(" that holds 0x"),
+                number,
+                NOTHING,
+                NOTHING,
+                NOTHING,
+                NOTHING,
+            ]
+        }
+    }
+}
+
+/// The base relocation whose field is at an RVA, as `  field of 8 bytes that points to RVA 0x1350 .text+0x350`.
+fn field_cells<'a>(
+    layout: &Layout,
+    names: &SectionNames<'a>,
+    fixups: &[Fixup],
+    rva: u32,
+) -> [Cell<'a>; 9] {
+    let Some(fixup) = fixups
+        .iter()
+        .find(|it| is_within(rva, it.field, it.kind.width()))
+    else {
+        return [NOTHING; 9];
+    };
+    let [to, number, gap, name, plus, offset] = match held_address(layout, fixup) {
+        Some(address) => target_cells(layout, names, address),
+        None => [NOTHING; 6],
+    };
+    let width = Cell::Right(u64::from(fixup.kind.width()), 1);
+    [
+        Cell::Words("  field of "),
+        width,
+        Cell::Words(" bytes"),
+        to,
+        number,
+        gap,
+        name,
+        plus,
+        offset,
+    ]
+}
+
+/// Where an RVA lies, as `RVA 0x251e4  address 0x241bb51e4  file 0x1ffe4  .idata+0x1e4 rw-`.
+fn where_cells<'a>(layout: &Layout, names: &SectionNames<'a>, rva: u32) -> [Cell<'a>; 12] {
+    let place = names.place(layout, rva);
+    let [name, plus, offset] = place.cells();
+    let address = layout.image_base().wrapping_add(u64::from(rva));
+    let (in_file, file) = match place.file {
+        Some(file) => (Cell::Words("  file 0x"), Cell::Hex(file, 1)),
+        None => (Cell::Words("  not in the file"), NOTHING),
+    };
+    let (gap, flags) = match section_of(layout, rva) {
+        Some((_, flags)) => (Cell::Words(" "), Cell::Words(permissions(flags))),
+        None => (NOTHING, NOTHING),
+    };
+    [
+        Cell::Words("RVA 0x"),
+        Cell::Hex(u64::from(rva), 1),
+        Cell::Words("  address 0x"),
+        Cell::Hex(address, 1),
+        in_file,
+        file,
+        Cell::Words("  "),
+        name,
+        plus,
+        offset,
+        gap,
+        flags,
+    ]
+}
+
+/// Adds the 16 bytes from an RVA on, as far as the image has them.
+fn write_bytes<W: Sink>(text: &mut TextWriter<W>, layout: &Layout, rva: u32)
+    requires { IsReady W.failures text.old }
+    ensures { AddsSome W.taken W.failures text.old text.new }
+{
+    let end = rva.saturating_add(SHOWN).min(layout.size());
+    text.text(b"\n ");
+    for at in rva..end {
+        let byte = layout.byte(at).unwrap_or(0);
+        write_parts(text, &[Text(b" "), Hex2(byte)]);
+    }
+    text.text(b"\n");
+}
+
+/// Adds what stands at an RVA of an image.
+fn write_at<A: Allocator + Copy, W: Sink>(
+    text: &mut TextWriter<W>,
+    image: &Image<A>,
+    names: &SectionNames,
+    rva: u32,
+)
+    requires { IsReady W.failures text.old }
+    ensures { AddsSome W.taken W.failures text.old text.new }
+{
+    let layout = &image.layout;
+    let first = section_of(layout, rva).map_or(u32::MAX, |section| section.0);
+    write_cells(text, &where_cells(layout, names, rva));
+    write_cells(text, &export_cells(&image.exports, first, rva));
+    write_cells(text, &slot_cells(&image.imports, layout.slot_width(), rva));
+    write_cells(text, &field_cells(layout, names, &image.fixups, rva));
+    write_bytes(text, layout, rva);
+}
+
+/// Adds what stands at a place of an image.
+fn write_place<A: Allocator + Copy, W: Sink>(
+    text: &mut TextWriter<W>,
+    image: &Image<A>,
+    names: &SectionNames,
+    place: Place,
+)
+    requires { IsReady W.failures text.old }
+    ensures { AddsSome W.taken W.failures text.old text.new }
+{
+    match rva_of(&image.layout, place) {
+        Some(rva) => write_at(text, image, names, rva),
+        None => write_cells(text, &[Cell::Words("the place is outside the image\n")]),
+    }
+}
+
+impl Report for AtReport {
+    ghost is_text = { IsImageJudged };
+
+    fn write<A: Allocator + Copy, W: Sink>(
+        &self,
+        alloc: A,
+        text: &mut TextWriter<W>,
+        file: &[u8],
+    ) -> Result<Outcome, AllocError> {
+        match read_image(alloc, file, 0) {
+            Ok(image) => {
+                let names = SectionNames::new(View::new(file), image.layout.headers());
+                write_place(text, &image, &names, self.place);
+                Ok(Outcome::Done)
+            }
+            Err(TableError::Fault(fault)) => Ok(refuse(text, fault)),
+            Err(TableError::Memory) => Err(AllocError),
+        }
+    }
+}
+
+/// Writes what stands at a place of the image whose file the reader gives: an RVA, an address with the image at its ImageBase, or
+/// an offset in the file. That is the RVA, the address, the offset and the section with its permissions; the last export at it or
+/// before it in the section, the import whose slot it is in, and the field of a base relocation with where it points; then 16
+/// bytes. Of a refused image it writes the first fault's line.
+///
+/// Reading and writing are as those of [`crate::show`].
+pub fn at<A: Allocator + Copy, R: Source, W: Sink>(
+    alloc: A,
+    place: Place,
+    reader: &mut R,
+    writer: &mut W,
+) -> Result<Outcome, ToolError>
+    requires reads { R.failures reader.old < 2 ^ 64 - 1 }
+    requires writes { W.failures writer.old < 2 ^ 64 - 1 }
+    ensures ran { Ran IsImageJudged (R.given reader.old) (R.given reader.new)
+        (W.taken writer.old) (W.taken writer.new) (R.ended reader.new) result }
+    ensures read { IsErrOf result ToolError.Read ↔ (R.failures reader.old < R.failures reader.new) }
+    ensures write { IsErrOf result ToolError.Write ↔ (W.failures writer.old < W.failures writer.new) }
+{
+    run_report(&AtReport { place }, alloc, reader, writer)
+}

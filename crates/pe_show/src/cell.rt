@@ -1,0 +1,117 @@
+//! The cells of a row of a page, and how they are written.
+
+ghost use Rattle.std.specs.Prelude.{◌≤◌};
+ghost use Rattle.pe_text.specs.TextWriter.{IsReady};
+ghost use Rattle.pe_show.specs.Page.{AddsSome};
+
+use crate::date::write_date;
+use crate::flags::{FlagField, write_flags};
+use crate::name::{name_part, name_width};
+use itoa::Buffer;
+use pe_text::Part::{self, Decimal, Text};
+use pe_text::{Sink, TextWriter, write_parts};
+
+/// A cell of a row.
+#[derive(Clone, Copy)]
+pub(crate) enum Cell<'a> {
+    /// These words.
+    Words(&'a str),
+    /// A name of the file.
+    Name(&'a [u8]),
+    /// A name of the file, and blanks up to so many columns.
+    Column(&'a [u8], usize),
+    /// So many blanks.
+    Blanks(usize),
+    /// A number in so many hexadecimal digits at least, without `0x`.
+    Hex(u64, u8),
+    /// A number in decimal, its digits in groups of three.
+    Count(u64),
+    /// A number in decimal, behind blanks up to so many columns.
+    Right(u64, usize),
+    /// A time stamp as a date.
+    Date(u32),
+    /// The flags that stand in a field, by name.
+    Flags(FlagField),
+}
+
+/// The word for so many things.
+pub(crate) fn plural(count: usize, one: &'static str, more: &'static str) -> Cell<'static> {
+    Cell::Words(if count == 1 { one } else { more })
+}
+
+/// The most blanks that stand in a row.
+const BLANKS: [u8; 64] = [b' '; 64];
+
+/// So many blanks, and not more than 64.
+fn blanks(count: usize) -> &'static [u8] {
+    &BLANKS[..count.min(BLANKS.len())]
+}
+
+/// How many hexadecimal digits a number has.
+pub(crate) fn hex_width(number: u64) -> u8
+    ensures { result ≤ 16 }
+{
+    match number.checked_ilog2() {
+        Some(bit) => (bit / 4 + 1) as u8,
+        None => 1,
+    }
+}
+
+/// How many digits a number has in decimal.
+pub(crate) fn decimal_width(number: u64) -> usize {
+    Buffer::new().format(number).len()
+}
+
+/// Adds a number in decimal, with a comma before each three digits: `135,168`.
+fn write_count<W: Sink>(text: &mut TextWriter<W>, number: u64)
+    requires { IsReady W.failures text.old }
+    ensures { AddsSome W.taken W.failures text.old text.new }
+{
+    let mut buffer = Buffer::new();
+    let digits = buffer.format(number).as_bytes();
+    let (first, others) = digits.split_at(((digits.len() + 2) % 3 + 1).min(digits.len()));
+    text.text(first);
+    for group in others.chunks(3) {
+        write_parts(text, &[Text(b","), Text(group)]);
+    }
+}
+
+/// Adds a cell.
+fn write_cell<W: Sink>(text: &mut TextWriter<W>, cell: &Cell)
+    requires { IsReady W.failures text.old }
+    ensures { AddsSome W.taken W.failures text.old text.new }
+{
+    match cell {
+        Cell::Words(words) => text.text(words.as_bytes()),
+        Cell::Name(name) => write_parts(text, &[name_part(name)]),
+        Cell::Column(name, width) => write_parts(
+            text,
+            &[
+                name_part(name),
+                Text(blanks(width.saturating_sub(name_width(name)))),
+            ],
+        ),
+        Cell::Blanks(count) => text.text(blanks(*count)),
+        Cell::Hex(number, digits) => text.hex(hex_width(*number).max(*digits).min(16), *number),
+        Cell::Count(number) => write_count(text, *number),
+        Cell::Right(number, width) => write_parts(
+            text,
+            &[
+                Text(blanks(width.saturating_sub(decimal_width(*number)))),
+                Decimal(*number),
+            ],
+        ),
+        Cell::Date(seconds) => write_date(text, *seconds),
+        Cell::Flags(field) => write_flags(text, *field),
+    }
+}
+
+/// Adds cells, one behind the other.
+pub(crate) fn write_cells<W: Sink>(text: &mut TextWriter<W>, cells: &[Cell])
+    requires { IsReady W.failures text.old }
+    ensures { AddsSome W.taken W.failures text.old text.new }
+{
+    for cell in cells {
+        write_cell(text, cell);
+    }
+}

@@ -1,0 +1,238 @@
+//! The table of an image's data directories, with what was read of each.
+
+ghost use Rattle.pe_text.specs.TextWriter.{IsReady};
+ghost use Rattle.pe_show.specs.Page.{AddsSome};
+
+use crate::cell::{Cell, hex_width, plural, write_cells};
+use crate::fixups::page_count;
+use crate::heading::write_heading;
+use crate::image::Tables;
+use crate::imports::{begins_run, module_of, run_len};
+use crate::name::name_width;
+use crate::options::ShowOptions;
+use crate::place::SectionNames;
+use arrayvec::ArrayVec;
+use pe_head::{Directory, directory_index, directory_name};
+use pe_layout::Layout;
+use pe_tables::{Exports, Fixup, Import, Target};
+use pe_text::{Sink, TextWriter};
+use std::alloc::Allocator;
+
+/// How many modules the row of the imports names.
+const MODULES_SHOWN: usize = 4;
+
+/// How wide the columns of directories are.
+#[derive(Clone, Copy)]
+struct Widths {
+    name: usize,
+    rva: u8,
+    size: u8,
+    section: usize,
+}
+
+/// Whether a directory has a table.
+fn is_present(directory: &Directory) -> bool {
+    directory.rva != 0 || directory.size != 0
+}
+
+/// The name of a directory's table.
+fn name_of(index: usize) -> &'static [u8] {
+    match directory_name(u32::try_from(index).unwrap_or(u32::MAX)) {
+        Some(name) => name.as_bytes(),
+        None => b"",
+    }
+}
+
+/// In which section a directory's table begins. The place of certificates is a file offset.
+fn section_of<'a>(
+    layout: &Layout,
+    names: &SectionNames<'a>,
+    index: usize,
+    directory: &Directory,
+) -> &'a [u8] {
+    if index == directory_index::CERTIFICATE {
+        b"file offset"
+    } else {
+        names.place(layout, directory.rva).name
+    }
+}
+
+/// The widths of the directories that are present.
+fn widths_of(layout: &Layout, names: &SectionNames) -> Widths {
+    let mut widths = Widths {
+        name: 6,
+        rva: 6,
+        size: 5,
+        section: 12,
+    };
+    for (index, directory) in layout.headers().directories.as_slice().iter().enumerate() {
+        if is_present(directory) {
+            widths.name = widths.name.max(name_of(index).len());
+            widths.rva = widths.rva.max(hex_width(u64::from(directory.rva)));
+            widths.size = widths.size.max(hex_width(u64::from(directory.size)));
+            let section = section_of(layout, names, index, directory);
+            widths.section = widths.section.max(name_width(section));
+        }
+    }
+    widths
+}
+
+/// Adds how many exports there are, and how many are forwarders.
+fn write_export_count<A: Allocator + Copy, W: Sink>(text: &mut TextWriter<W>, exports: &Exports<A>)
+    requires { IsReady W.failures text.old }
+    ensures { AddsSome W.taken W.failures text.old text.new }
+{
+    let forwarders = exports
+        .ordinals()
+        .iter()
+        .filter(|export| matches!(export.1, Target::Forward { .. }))
+        .count();
+    write_cells(
+        text,
+        &[
+            Cell::Count(exports.ordinals().len() as u64),
+            plural(exports.ordinals().len(), " export, ", " exports, "),
+            Cell::Count(forwarders as u64),
+            plural(forwarders, " forwarder\n", " forwarders\n"),
+        ],
+    );
+}
+
+/// The first modules of imports that stand together, each with how many these are, and how many such modules there are.
+fn first_runs<'a>(imports: &[Import<'a>]) -> (ArrayVec<(&'a [u8], usize), MODULES_SHOWN>, usize) {
+    let mut shown = ArrayVec::new();
+    let mut modules: usize = 0;
+    for index in 0..imports.len() {
+        if begins_run(imports, index) {
+            modules = modules.saturating_add(1);
+            let _ = shown.try_push((module_of(imports, index), run_len(imports, index)));
+        }
+    }
+    (shown, modules)
+}
+
+/// Adds how many imports there are, and how many of each of the first modules.
+fn write_import_count<W: Sink>(text: &mut TextWriter<W>, imports: &[Import])
+    requires { IsReady W.failures text.old }
+    ensures { AddsSome W.taken W.failures text.old text.new }
+{
+    write_cells(
+        text,
+        &[
+            Cell::Count(imports.len() as u64),
+            plural(imports.len(), " import", " imports"),
+        ],
+    );
+    let (shown, modules) = first_runs(imports);
+    for (place, (module, count)) in shown.as_slice().iter().enumerate() {
+        write_cells(
+            text,
+            &[
+                Cell::Words(if place == 0 { ": " } else { ", " }),
+                Cell::Name(module),
+                Cell::Words(" "),
+                Cell::Count(*count as u64),
+            ],
+        );
+    }
+    let end = match modules.saturating_sub(MODULES_SHOWN) {
+        0 => [Cell::Words("\n"), Cell::Words(""), Cell::Words("")],
+        more => [
+            Cell::Words(" and "),
+            Cell::Count(more as u64),
+            Cell::Words(" more\n"),
+        ],
+    };
+    write_cells(text, &end);
+}
+
+/// Adds how many base relocations there are, and in how many pages.
+fn write_fixup_count<W: Sink>(text: &mut TextWriter<W>, fixups: &[Fixup])
+    requires { IsReady W.failures text.old }
+    ensures { AddsSome W.taken W.failures text.old text.new }
+{
+    let pages = page_count(fixups);
+    write_cells(
+        text,
+        &[
+            Cell::Count(fixups.len() as u64),
+            plural(fixups.len(), " fixup in ", " fixups in "),
+            Cell::Count(pages as u64),
+            plural(pages, " page\n", " pages\n"),
+        ],
+    );
+}
+
+/// Adds what was read of the table of a directory.
+fn write_summary<A: Allocator + Copy, W: Sink>(
+    text: &mut TextWriter<W>,
+    index: usize,
+    tables: &Tables<A>,
+)
+    requires { IsReady W.failures text.old }
+    ensures { AddsSome W.taken W.failures text.old text.new }
+{
+    match (index, &tables.exports, &tables.imports, &tables.fixups) {
+        (directory_index::EXPORT, Some(exports), _, _) => write_export_count(text, exports),
+        (directory_index::IMPORT, _, Some(imports), _) => write_import_count(text, imports),
+        (directory_index::BASE_RELOCATION, _, _, Some(fixups)) => write_fixup_count(text, fixups),
+        _ => text.text(b"not read\n"),
+    }
+}
+
+/// Adds the row of a directory, if it is present.
+fn write_directory<A: Allocator + Copy, W: Sink>(
+    text: &mut TextWriter<W>,
+    widths: &Widths,
+    index: usize,
+    directory: &Directory,
+    section: &[u8],
+    tables: &Tables<A>,
+)
+    requires { IsReady W.failures text.old }
+    ensures { AddsSome W.taken W.failures text.old text.new }
+{
+    if !is_present(directory) {
+        return;
+    }
+    write_cells(
+        text,
+        &[
+            Cell::Right(index as u64, 4),
+            Cell::Words("  "),
+            Cell::Column(name_of(index), widths.name),
+            Cell::Words("   0x"),
+            Cell::Hex(u64::from(directory.rva), widths.rva),
+            Cell::Words("   0x"),
+            Cell::Hex(u64::from(directory.size), widths.size),
+            Cell::Words("   "),
+            Cell::Column(section, widths.section),
+            Cell::Words("   "),
+        ],
+    );
+    write_summary(text, index, tables);
+}
+
+/// Adds the table of an image's data directories that are present.
+pub(crate) fn write_directories<A: Allocator + Copy, W: Sink>(
+    text: &mut TextWriter<W>,
+    options: &ShowOptions,
+    layout: &Layout,
+    names: &SectionNames,
+    tables: &Tables<A>,
+)
+    requires { IsReady W.failures text.old }
+    ensures { AddsSome W.taken W.failures text.old text.new }
+{
+    let directories = layout.headers().directories.as_slice();
+    let widths = widths_of(layout, names);
+    let count = directories
+        .iter()
+        .filter(|directory| is_present(directory))
+        .count();
+    write_heading(text, options, "Tables", count);
+    for (index, directory) in directories.iter().enumerate() {
+        let section = section_of(layout, names, index, directory);
+        write_directory(text, &widths, index, directory, section, tables);
+    }
+}

@@ -1,0 +1,39 @@
+//! The page for people of an image or an object: its headers, sections and tables, with names beside numbers.
+//!
+//! [`show`] reads the file, judges it and writes the page:
+//!
+//! ```text
+//! let options = ShowOptions { exports: true, ..ShowOptions::default() };
+//! let mut reader = Counted::new(file);
+//! let mut writer = Counted::new(standard_output);
+//! let answer = show(alloc, b"zlib1.dll", &options, &mut reader, &mut writer);
+//! ```
+//!
+//! What a page shows beside the outcome is not part of any contract.
+#![tactic(auto)]
+
+mod at_place;
+mod cell;
+mod date;
+mod directories;
+mod engine;
+mod exports;
+mod fault;
+mod fixups;
+mod flags;
+mod header_rows;
+mod heading;
+mod image;
+mod imports;
+mod name;
+mod object;
+mod object_sections;
+mod options;
+mod place;
+mod relocation_types;
+mod sections;
+mod symbols;
+
+pub use at_place::at;
+pub use engine::show;
+pub use options::ShowOptions;

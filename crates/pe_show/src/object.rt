@@ -1,0 +1,115 @@
+//! The page of a COFF object.
+
+ghost use Rattle.std.specs.Prelude.{◌≡◌, ◌<◌, length, IfOk, OnErr};
+ghost use Rattle.coff_object.specs.ObjectFaults.{object_tests};
+ghost use Rattle.pe_text.specs.TextWriter.{IsReady};
+ghost use Rattle.pe_show.specs.Judged.{IsOutcomeOf};
+ghost use Rattle.pe_show.specs.Page.{AddsSome};
+
+use crate::cell::{Cell, write_cells};
+use crate::fault::write_refusal;
+use crate::flags::FlagField;
+use crate::header_rows::{named, write_flag_row, write_stamp};
+use crate::heading::{Kind, Page, write_title};
+use crate::object_sections::{write_relocations, write_sections};
+use crate::symbols::{SymbolNames, write_symbols};
+use coff_object::ObjectFile;
+use pe_head::machine_name;
+use pe_text::{Outcome, Sink, TextWriter};
+use std::alloc::{AllocError, Allocator};
+
+/// What an object is.
+fn object_kind(machine: u16) -> Kind {
+    let [name, number] = named(machine_name(machine), machine);
+    [
+        Cell::Words("COFF object for "),
+        name,
+        number,
+        Cell::Words(", "),
+    ]
+}
+
+/// Adds the rows of an object's header.
+fn write_header<W: Sink>(text: &mut TextWriter<W>, object: &ObjectFile)
+    requires { IsReady W.failures text.old }
+    ensures { AddsSome W.taken W.failures text.old text.new }
+{
+    write_stamp(text, object.time_stamp());
+    write_flag_row(
+        text,
+        "  Flags       ",
+        FlagField::File(object.characteristics()),
+    );
+    write_cells(
+        text,
+        &[
+            Cell::Words("  Symbols      "),
+            Cell::Count(object.symbol_count() as u64),
+            Cell::Words("\n"),
+        ],
+    );
+}
+
+/// Adds the page of an accepted object.
+fn write_object<A: Allocator + Copy, W: Sink>(
+    text: &mut TextWriter<W>,
+    page: &Page,
+    object: &ObjectFile,
+    names: &SymbolNames<A>,
+    len: u64,
+)
+    requires { IsReady W.failures text.old }
+    ensures { AddsSome W.taken W.failures text.old text.new }
+{
+    write_title(
+        text,
+        page,
+        Outcome::Done,
+        object_kind(object.machine()),
+        len,
+    );
+    write_header(text, object);
+    write_sections(text, page.options, object);
+    write_relocations(text, page.options, object, names);
+    write_symbols(text, page.options, object);
+}
+
+/// Adds the page of a refused object.
+fn write_refused<W: Sink>(text: &mut TextWriter<W>, page: &Page, outcome: Outcome, len: u64)
+    requires { IsReady W.failures text.old }
+    ensures { AddsSome W.taken W.failures text.old text.new }
+{
+    let nothing = Cell::Words("");
+    let kind = [Cell::Words("COFF object, "), nothing, nothing, nothing];
+    write_title(text, page, outcome, kind, len);
+    write_refusal(text, page.options, outcome);
+}
+
+/// Judges an object's file, and adds its page. Memory is wanted before the first byte is added.
+pub(crate) fn show_object<A: Allocator + Copy, W: Sink>(
+    alloc: A,
+    page: &Page,
+    text: &mut TextWriter<W>,
+    file: &[u8],
+) -> Result<Outcome, AllocError>
+    requires { IsReady W.failures text.old }
+    ensures judged { IfOk result (IsOutcomeOf (object_tests file.now)) }
+    ensures adds { IfOk result (λ _. AddsSome W.taken W.failures text.old text.new) }
+    ensures same { text.new.writer.ghost_name ≡ text.old.writer.ghost_name }
+    ensures adds_none { OnErr result (text.new ≡ text.old) }
+    ensures reads { OnErr result (0 < length file.now) }
+{
+    let len = file.len() as u64;
+    match ObjectFile::new(file) {
+        Ok(object) => {
+            let names = SymbolNames::new(alloc, &object, page.options.relocations)?;
+            write_object(text, page, &object, &names, len);
+            Ok(Outcome::Done)
+        }
+        Err(fault) => {
+            let outcome = Outcome::Refused(fault);
+            write_refused(text, page, outcome, len);
+            Ok(outcome)
+        }
+    }
+}

@@ -1,0 +1,215 @@
+//! The sections of an object, and their relocations.
+
+ghost use Rattle.pe_text.specs.TextWriter.{IsReady};
+ghost use Rattle.pe_show.specs.Page.{AddsSome};
+
+use crate::cell::{Cell, decimal_width, hex_width, write_cells};
+use crate::flags::FlagField;
+use crate::header_rows::named;
+use crate::heading::write_heading;
+use crate::name::name_width;
+use crate::options::ShowOptions;
+use crate::place::cut;
+use crate::relocation_types::type_name;
+use crate::sections::{content, permissions};
+use crate::symbols::SymbolNames;
+use coff_object::{FileSection, ObjectFile, RawData, Relocation};
+use pe_text::{Sink, TextWriter};
+use std::alloc::Allocator;
+
+/// How wide the columns of sections are.
+#[derive(Clone, Copy)]
+struct Widths {
+    number: usize,
+    name: usize,
+    bytes: u8,
+}
+
+/// How many bytes a section has, and how many of them stand in the file.
+fn sizes_of(raw: &RawData) -> (u64, u64) {
+    match raw {
+        RawData::Bytes(bytes) => (bytes.len() as u64, bytes.len() as u64),
+        RawData::Absent(size) => (u64::from(*size), 0),
+    }
+}
+
+/// The widths of an object's sections.
+fn widths_of(object: &ObjectFile) -> Widths {
+    let mut widths = Widths {
+        number: decimal_width(object.section_count() as u64).max(4),
+        name: 8,
+        bytes: 6,
+    };
+    for index in 0..object.section_count() {
+        if let Some(section) = object.section(index) {
+            widths.name = widths.name.max(name_width(cut(section.name)));
+            widths.bytes = widths.bytes.max(hex_width(sizes_of(&section.raw).0));
+        }
+    }
+    widths
+}
+
+/// Adds the row of a section.
+fn write_section<W: Sink>(
+    text: &mut TextWriter<W>,
+    widths: &Widths,
+    index: usize,
+    section: &FileSection,
+)
+    requires { IsReady W.failures text.old }
+    ensures { AddsSome W.taken W.failures text.old text.new }
+{
+    let (bytes, in_file) = sizes_of(&section.raw);
+    write_cells(
+        text,
+        &[
+            Cell::Right((index as u64).saturating_add(1), widths.number),
+            Cell::Words("  "),
+            Cell::Column(cut(section.name), widths.name),
+            Cell::Words("  "),
+            Cell::Words(permissions(section.flags)),
+            Cell::Words(" "),
+            Cell::Column(content(section.flags).as_bytes(), 5),
+            Cell::Words("   0x"),
+            Cell::Hex(bytes, widths.bytes),
+            Cell::Words("   0x"),
+            Cell::Hex(in_file, widths.bytes),
+            Cell::Words("   "),
+            Cell::Right(section.relocations.len() as u64, 11),
+            Cell::Flags(FlagField::Section(section.flags)),
+            Cell::Words("\n"),
+        ],
+    );
+}
+
+/// Adds the heading of the sections and the names of their columns.
+fn write_columns<W: Sink>(
+    text: &mut TextWriter<W>,
+    options: &ShowOptions,
+    widths: &Widths,
+    count: usize,
+)
+    requires { IsReady W.failures text.old }
+    ensures { AddsSome W.taken W.failures text.old text.new }
+{
+    write_heading(text, options, "Sections", count);
+    write_cells(
+        text,
+        &[
+            Cell::Blanks(widths.number.saturating_sub(1)),
+            Cell::Words("#  "),
+            Cell::Column(b"name", widths.name),
+            Cell::Words("  flags       "),
+            Cell::Column(b"bytes", usize::from(widths.bytes) + 5),
+            Cell::Column(b"in file", usize::from(widths.bytes) + 5),
+            Cell::Words("relocations\n"),
+        ],
+    );
+}
+
+/// Adds the table of an object's sections, which are numbered from 1.
+pub(crate) fn write_sections<W: Sink>(
+    text: &mut TextWriter<W>,
+    options: &ShowOptions,
+    object: &ObjectFile,
+)
+    requires { IsReady W.failures text.old }
+    ensures { AddsSome W.taken W.failures text.old text.new }
+{
+    let widths = widths_of(object);
+    write_columns(text, options, &widths, object.section_count());
+    for index in 0..object.section_count() {
+        let section = object.section(index).unwrap();
+        write_section(text, &widths, index, &section);
+    }
+}
+
+/// Adds the row of a relocation: where it stands in the section, its type, and its symbol.
+fn write_relocation<A: Allocator + Copy, W: Sink>(
+    text: &mut TextWriter<W>,
+    machine: u16,
+    names: &SymbolNames<A>,
+    relocation: &Relocation,
+)
+    requires { IsReady W.failures text.old }
+    ensures { AddsSome W.taken W.failures text.old text.new }
+{
+    let [gap, name] = names.cells(relocation.symbol);
+    let [kind, number] = named(type_name(machine, relocation.kind), relocation.kind);
+    write_cells(
+        text,
+        &[
+            Cell::Words("    0x"),
+            Cell::Hex(u64::from(relocation.address), 6),
+            Cell::Words("  "),
+            kind,
+            number,
+            Cell::Words("  #"),
+            Cell::Right(u64::from(relocation.symbol), 1),
+            gap,
+            name,
+            Cell::Words("\n"),
+        ],
+    );
+}
+
+/// Adds the relocations of a section, if it has some, under its name.
+fn write_section_relocations<A: Allocator + Copy, W: Sink>(
+    text: &mut TextWriter<W>,
+    machine: u16,
+    names: &SymbolNames<A>,
+    section: &FileSection,
+)
+    requires { IsReady W.failures text.old }
+    ensures { AddsSome W.taken W.failures text.old text.new }
+{
+    let relocations = section.relocations;
+    if relocations.is_empty() {
+        return;
+    }
+    write_cells(
+        text,
+        &[
+            Cell::Words("  "),
+            Cell::Name(cut(section.name)),
+            Cell::Words(" ("),
+            Cell::Count(relocations.len() as u64),
+            Cell::Words(")\n"),
+        ],
+    );
+    for index in 0..relocations.len() {
+        let relocation = relocations.get(index).unwrap();
+        write_relocation(text, machine, names, &relocation);
+    }
+}
+
+/// How many relocations an object has.
+fn relocation_count(object: &ObjectFile) -> usize {
+    let mut count: usize = 0;
+    for index in 0..object.section_count() {
+        if let Some(section) = object.section(index) {
+            count = count.saturating_add(section.relocations.len());
+        }
+    }
+    count
+}
+
+/// Adds the relocations of an object, section by section, where the options want it.
+pub(crate) fn write_relocations<A: Allocator + Copy, W: Sink>(
+    text: &mut TextWriter<W>,
+    options: &ShowOptions,
+    object: &ObjectFile,
+    names: &SymbolNames<A>,
+)
+    requires { IsReady W.failures text.old }
+    ensures { AddsSome W.taken W.failures text.old text.new }
+{
+    if !options.relocations {
+        return;
+    }
+    write_heading(text, options, "Relocations", relocation_count(object));
+    for index in 0..object.section_count() {
+        let section = object.section(index).unwrap();
+        write_section_relocations(text, object.machine(), names, &section);
+    }
+}

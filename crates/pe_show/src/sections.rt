@@ -1,0 +1,147 @@
+//! The table of an image's sections.
+
+ghost use Rattle.pe_text.specs.TextWriter.{IsReady};
+ghost use Rattle.pe_show.specs.Page.{AddsSome};
+
+use crate::cell::{Cell, decimal_width, hex_width, write_cells};
+use crate::flags::FlagField;
+use crate::heading::write_heading;
+use crate::name::name_width;
+use crate::options::ShowOptions;
+use crate::place::SectionNames;
+use pe_head::{Headers, SectionHeader, section_flag};
+use pe_text::{Sink, TextWriter};
+
+/// How wide the columns of sections are.
+#[derive(Clone, Copy, Default)]
+struct Widths {
+    name: usize,
+    rva: u8,
+    bytes: u8,
+    file: u8,
+}
+
+/// How a section may be used: `r-x`.
+pub(crate) fn permissions(flags: u32) -> &'static str {
+    let read = flags & section_flag::READ != 0;
+    let write = flags & section_flag::WRITE != 0;
+    let execute = flags & section_flag::EXECUTE != 0;
+    match (read, write, execute) {
+        (false, false, false) => "---",
+        (false, false, true) => "--x",
+        (false, true, false) => "-w-",
+        (false, true, true) => "-wx",
+        (true, false, false) => "r--",
+        (true, false, true) => "r-x",
+        (true, true, false) => "rw-",
+        (true, true, true) => "rwx",
+    }
+}
+
+/// What a section holds: code, initialized data, or data that are zero at first.
+pub(crate) fn content(flags: u32) -> &'static str {
+    if flags & section_flag::CODE != 0 {
+        "code"
+    } else if flags & section_flag::INITIALIZED_DATA != 0 {
+        "data"
+    } else if flags & section_flag::UNINITIALIZED_DATA != 0 {
+        "bss"
+    } else {
+        "-"
+    }
+}
+
+/// The widths of sections.
+fn widths_of(headers: &Headers, names: &SectionNames) -> Widths {
+    let mut widths = Widths {
+        name: 8,
+        rva: 6,
+        bytes: 6,
+        file: 6,
+    };
+    for (index, section) in headers.sections.as_slice().iter().enumerate() {
+        widths.name = widths.name.max(name_width(names.get(index)));
+        widths.rva = widths
+            .rva
+            .max(hex_width(u64::from(section.virtual_address)));
+        widths.bytes = widths.bytes.max(hex_width(u64::from(section.extent())));
+        widths.file = widths
+            .file
+            .max(hex_width(u64::from(section.pointer_to_raw_data)));
+    }
+    widths
+}
+
+/// Adds the row of a section.
+fn write_section<W: Sink>(
+    text: &mut TextWriter<W>,
+    widths: &Widths,
+    index: usize,
+    name: &[u8],
+    section: &SectionHeader,
+)
+    requires { IsReady W.failures text.old }
+    ensures { AddsSome W.taken W.failures text.old text.new }
+{
+    write_cells(
+        text,
+        &[
+            Cell::Right(index as u64, 4),
+            Cell::Words("  "),
+            Cell::Column(name, widths.name),
+            Cell::Words("  "),
+            Cell::Words(permissions(section.characteristics)),
+            Cell::Words(" "),
+            Cell::Column(content(section.characteristics).as_bytes(), 5),
+            Cell::Words("   0x"),
+            Cell::Hex(u64::from(section.virtual_address), widths.rva),
+            Cell::Words("   0x"),
+            Cell::Hex(u64::from(section.extent()), widths.bytes),
+            Cell::Words("   0x"),
+            Cell::Hex(u64::from(section.pointer_to_raw_data), widths.file),
+            Cell::Words("   0x"),
+            Cell::Hex(u64::from(section.rawlen()), widths.bytes),
+            Cell::Flags(FlagField::Section(section.characteristics)),
+            Cell::Words("\n"),
+        ],
+    );
+}
+
+/// Adds the names of the columns.
+fn write_columns<W: Sink>(text: &mut TextWriter<W>, widths: &Widths)
+    requires { IsReady W.failures text.old }
+    ensures { AddsSome W.taken W.failures text.old text.new }
+{
+    let wide = |width: u8| usize::from(width) + 5;
+    write_cells(
+        text,
+        &[
+            Cell::Words("   #  "),
+            Cell::Column(b"name", widths.name),
+            Cell::Words("  flags       "),
+            Cell::Column(b"RVA", wide(widths.rva)),
+            Cell::Column(b"bytes", wide(widths.bytes)),
+            Cell::Column(b"file", wide(widths.file)),
+            Cell::Words("in file\n"),
+        ],
+    );
+}
+
+/// Adds the table of an image's sections.
+pub(crate) fn write_sections<W: Sink>(
+    text: &mut TextWriter<W>,
+    options: &ShowOptions,
+    headers: &Headers,
+    names: &SectionNames,
+)
+    requires { IsReady W.failures text.old }
+    ensures { AddsSome W.taken W.failures text.old text.new }
+{
+    let sections = headers.sections.as_slice();
+    let widths = widths_of(headers, names);
+    write_heading(text, options, "Sections", sections.len());
+    write_columns(text, &widths);
+    for (index, section) in sections.iter().enumerate() {
+        write_section(text, &widths, index, names.get(index), section);
+    }
+}
