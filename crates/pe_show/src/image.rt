@@ -1,7 +1,7 @@
 //! What is read of an image, and its page.
 
 ghost use Rattle.std.specs.Prelude.{◌≡◌, ◌<◌, List, length, IfOk, OnErr, ⊤};
-ghost use Rattle.pe_view.specs.Faults.{Test, AnswersOrWants};
+ghost use Rattle.pe_view.specs.Faults.{Answers, AnswersOrWants, Test};
 ghost use Rattle.pe_layout.specs.Layout.{IsLayoutOf, image_of};
 ghost use Rattle.pe_layout.specs.SectionFaults.{layout_tests};
 ghost use Rattle.pe_image.specs.ImageTests.{table_tests, image_tests};

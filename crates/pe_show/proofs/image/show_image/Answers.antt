@@ -19,9 +19,9 @@ pub returns-in_ok-tables-in-Ok-clause-judged : goal.returns-in_ok-tables-in-Ok-c
 unfolding image_tests
 returns-in_ok-tables-in-Ok-clause-judged g c =
     let file = c.args.file.now in
-    let outcome = c.in_ok-tables.tables.outcome in
+    let outcome = c.in_ok-tables-in-Ok.tables.outcome in
     behind (layout_tests 0 file) (table_tests (image_of_file 0 file)) outcome c.in-Ok.ensures.0
-    (subst (λ (i : LaidOut). IsOutcomeOf (table_tests i) outcome) c.in-Ok.ensures.1.shows c.in_ok-tables.ensures)
+    (subst (λ (i : LaidOut). IsOutcomeOf (table_tests i) outcome) c.in-Ok.ensures.1.shows c.in_ok-tables-in-Ok.ensures)
 
 pub returns-in-Err-clause-judged : goal.returns-in-Err-clause-judged
 unfolding image_tests
