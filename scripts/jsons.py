@@ -369,23 +369,22 @@ def symbols_differ(file, row):
         yield "symbols", [it for it in zip(ours, theirs) if it[0] != it[1]][:1], (len(ours), len(theirs))
 
 
+# how llvm-readobj calls a field of an object's header, what the line does, and how the value is read
+OBJECT_FIELDS = {
+    "Machine": ("machine", inner),
+    "SectionCount": ("number_of_sections", int),
+    "TimeDateStamp": ("time_date_stamp", inner),
+    "PointerToSymbolTable": ("pointer_to_symbol_table", read_number),
+    "SymbolCount": ("number_of_symbols", int),
+    "OptionalHeaderSize": ("size_of_optional_header", int),
+}
+
+
 def object_headers_differ(file, row):
-    wanted = {}
-    for key, value in pairs_of(read_obj(file, "--file-headers")):
-        if key == "Machine":
-            wanted["machine"] = inner(value)
-        elif key == "SectionCount":
-            wanted["number_of_sections"] = int(value)
-        elif key == "TimeDateStamp":
-            wanted["time_date_stamp"] = inner(value)
-        elif key == "PointerToSymbolTable":
-            wanted["pointer_to_symbol_table"] = read_number(value)
-        elif key == "SymbolCount":
-            wanted["number_of_symbols"] = int(value)
-        elif key == "OptionalHeaderSize":
-            wanted["size_of_optional_header"] = int(value)
+    found = [(*OBJECT_FIELDS[key], value) for key, value in pairs_of(read_obj(file, "--file-headers")) if key in OBJECT_FIELDS]
+    wanted = {key: read(value) for key, read, value in found}
     ours = {key: row["headers"][key] for key in wanted}
-    if len(wanted) != 6 or ours != wanted:
+    if len(wanted) != len(OBJECT_FIELDS) or ours != wanted:
         yield "headers", ours, wanted
 
 
