@@ -23,7 +23,7 @@ static EXPLAINED: [Explained; 69] = [
     (
         3,
         "the first two bytes are not MZ (4d 5a)",
-        "any file that is no image: an ELF file, an archive, a text, or an object, which wants petool object",
+        "any file that is no image: an ELF file, an archive, a text, or an object, which wants petool object or petool show",
     ),
     (
         4,
@@ -224,7 +224,7 @@ static EXPLAINED: [Explained; 69] = [
     (
         47,
         "two images at their bases share an address",
-        "bases that are too near to each other: SizeOfImage in a dump tells how many bytes an image takes",
+        "bases that are too near to each other: petool show tells how many bytes an image takes",
     ),
     (
         48,
@@ -274,7 +274,7 @@ static EXPLAINED: [Explained; 69] = [
     (
         62,
         "a file begins with MZ, with !<arch>, or with the two fields of an import object",
-        "a library: take its objects out first, as by ar x; an image, which wants petool dump",
+        "a library: take its objects out first, as by ar x; an image, which wants petool dump or petool show",
     ),
     (
         63,

@@ -2,7 +2,7 @@
 
 use crate::input::{InputFile, name_of, open_file};
 use crate::messages::{STANDARD_OUTPUT, tell_failure, tell_fault};
-use crate::statuses::{DEVICE_FAILED, DONE};
+use crate::statuses::{DEVICE_FAILED, DONE, REFUSED};
 use crate::texts::{Engine, Printed, Text, print_text};
 use pe_tool::{Outcome, ToolError, status};
 use std::io::{Error, Input, Read};
@@ -32,7 +32,7 @@ pub(crate) fn tell<F: Read, S: Read>(
 
 /// Whether the engine's own text tells a fault in words.
 fn tells_faults(engine: Engine) -> bool {
-    matches!(engine, Engine::Json)
+    matches!(engine, Engine::Show(_) | Engine::Json)
 }
 
 /// Runs an engine over a file, and answers the exit status: as an `Err` where standard output is lost.
@@ -74,6 +74,15 @@ where
     }
 }
 
+/// Whether a heading stands before the text of a file among several: its name, or the blank line behind the page before it.
+fn is_headed(engine: Engine, is_first: bool) -> bool {
+    match engine {
+        Engine::Check => true,
+        Engine::Show(_) => !is_first,
+        _ => false,
+    }
+}
+
 /// Runs an engine over files, one after the other while standard output takes what is written, and answers the worst exit status.
 pub fn run_files<R: Files + Input + Print + Eprint + Alloc>(
     rt: &R,
@@ -83,11 +92,14 @@ pub fn run_files<R: Files + Input + Print + Eprint + Alloc>(
 where
     R::A: Copy,
 {
-    let is_headed = matches!(engine, Engine::Check);
     let mut worst = DONE;
+    let mut is_first = true;
     for path in paths {
-        match run_behind(rt, engine, path.as_str(), is_headed) {
-            Ok(status) => worst = worst.max(status),
+        match run_behind(rt, engine, path.as_str(), is_headed(engine, is_first)) {
+            Ok(status) => {
+                is_first = is_first && status > REFUSED;
+                worst = worst.max(status);
+            }
             Err(status) => return worst.max(status),
         }
     }

@@ -6,12 +6,44 @@ use crate::file_job::{run_file, run_files};
 use crate::map_job::run_map;
 use crate::rebase_job::run_rebase;
 use crate::texts::Engine;
-use pe_tool::{Job, parse_words};
+use pe_tool::{AtPlace, Job, ShowOptions, Shown, parse_words};
+use pe_view::Place;
+use std::env::FillError;
 use std::io::Input;
 use std::rt::{Env, Files};
 
-/// Does what the command line asks for, and answers the exit status.
-pub fn run<R: Files + Input + Env + Print + Eprint + AllocGlobal>(rt: &R) -> u8 {
+/// Whether pages have colours: on a terminal, and where the environment has no NO_COLOR, or an empty one.
+fn has_colours(rt: &impl Env, is_terminal: bool) -> bool {
+    is_terminal
+        && matches!(
+            rt.var("NO_COLOR", &mut [0; 1]),
+            Ok(0) | Err(FillError::NotPresent)
+        )
+}
+
+/// What a page shows.
+fn options_of(rt: &impl Env, shown: Shown, is_terminal: bool) -> ShowOptions {
+    ShowOptions {
+        exports: shown.exports,
+        imports: shown.imports,
+        relocations: shown.relocations,
+        symbols: shown.symbols,
+        is_coloured: has_colours(rt, is_terminal),
+    }
+}
+
+/// The place that words name. No image has an RVA of 2^32 - 1.
+fn place_of(place: AtPlace) -> Place {
+    match place {
+        AtPlace::Rva(rva) => Place::Rva(u32::try_from(rva).unwrap_or(u32::MAX)),
+        AtPlace::Address(address) => Place::Address(address),
+        AtPlace::File(offset) => Place::File(offset),
+    }
+}
+
+/// Does what the command line asks for, and answers the exit status. Pages may have colours where standard output is a
+/// terminal.
+pub fn run<R: Files + Input + Env + Print + Eprint + AllocGlobal>(rt: &R, is_terminal: bool) -> u8 {
     let words = match words_of(rt) {
         Ok(words) => words,
         Err(error) => return refuse_command_line(rt, error),
@@ -19,7 +51,12 @@ pub fn run<R: Files + Input + Env + Print + Eprint + AllocGlobal>(rt: &R) -> u8 
     match parse_words(rt.alloc(), &words) {
         Ok(Job::Check { file }) => run_file(rt, Engine::Check, file.as_str()),
         Ok(Job::CheckEach { files }) => run_files(rt, Engine::Check, &files),
+        Ok(Job::Show { shown, files }) => {
+            let options = options_of(rt, shown, is_terminal);
+            run_files(rt, Engine::Show(options), &files)
+        }
         Ok(Job::Json { files }) => run_files(rt, Engine::Json, &files),
+        Ok(Job::At { file, place }) => run_file(rt, Engine::At(place_of(place)), file.as_str()),
         Ok(Job::Explain { number }) => run_explain(rt, number),
         Ok(Job::Dump { file }) => run_file(rt, Engine::Dump, file.as_str()),
         Ok(Job::Object { file }) => run_file(rt, Engine::Object, file.as_str()),

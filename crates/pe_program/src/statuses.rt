@@ -3,6 +3,9 @@
 /// The exit status where help or the version was printed.
 pub(crate) const DONE: u8 = 0;
 
+/// The exit status where a fault refuses what is read.
+pub(crate) const REFUSED: u8 = 1;
+
 /// The exit status where the words are no command line.
 pub(crate) const BAD_WORDS: u8 = 2;
 

@@ -3,8 +3,10 @@
 use crate::headed::Headed;
 use crate::output::Output;
 use pe_tool::{
-    Counted, Outcome, Policy, SetEntry, ToolError, check, dump, dump_object, json, map_report,
+    Counted, Outcome, Policy, SetEntry, ShowOptions, ToolError, at, check, dump, dump_object, json,
+    map_report, show,
 };
+use pe_view::Place;
 use std::alloc::Allocator;
 use std::io;
 use std::io::{BufWriter, Error, Read, Write};
@@ -21,14 +23,18 @@ pub enum Engine {
     Dump,
     /// `pe_tool::dump_object`
     Object,
+    /// `pe_tool::show`
+    Show(ShowOptions),
     /// `pe_tool::json`
     Json,
+    /// `pe_tool::at`
+    At(Place),
 }
 
 /// What to print, and of what.
 #[derive(Drop)]
 pub(crate) enum Text<'a, F> {
-    /// The text of an engine, of an open file, and whether its name is to stand before it.
+    /// The text of an engine, of an open file, and whether a heading is to stand before it.
     File {
         engine: Engine,
         name: &'a str,
@@ -50,6 +56,15 @@ pub(crate) struct Printed {
     pub error: Option<Error>,
 }
 
+/// What stands before the text of a file: its name, or a blank line before a page.
+fn heading_of(engine: Engine, name: &str, is_headed: bool) -> (&str, &str) {
+    match engine {
+        _ if !is_headed => ("", ""),
+        Engine::Check => (name, ": "),
+        _ => ("\n", ""),
+    }
+}
+
 /// Runs the engine of a text.
 fn write_text<A: Allocator + Copy>(
     alloc: A,
@@ -64,14 +79,16 @@ fn write_text<A: Allocator + Copy>(
             file,
         } => {
             let mut reader = Counted::new(file);
-            let (heading, rest) = if is_headed { (name, ": ") } else { ("", "") };
+            let (heading, rest) = heading_of(engine, name, is_headed);
             let mut writer = Counted::new(Headed::new(writer, heading, rest));
             let name = name.as_bytes();
             match engine {
                 Engine::Check => check(alloc, &mut reader, &mut writer),
                 Engine::Dump => dump(alloc, &mut reader, &mut writer),
                 Engine::Object => dump_object(alloc, &mut reader, &mut writer),
+                Engine::Show(options) => show(alloc, name, &options, &mut reader, &mut writer),
                 Engine::Json => json(alloc, name, &mut reader, &mut writer),
+                Engine::At(place) => at(alloc, place, &mut reader, &mut writer),
             }
         }
         Text::Map {

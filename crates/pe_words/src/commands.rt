@@ -1,8 +1,8 @@
 //! The program's command line, as clap reads it.
 
+use crate::at_words::{at_command, explain_command};
 use crate::builders::{new_command, with_subcommand};
-use crate::explain_words::explain_command;
-use crate::file_words::{FILE_COMMANDS, file_command};
+use crate::file_words::{FILE_COMMANDS, file_command, show_command};
 use crate::map_words::map_command;
 use crate::rebase_words::rebase_command;
 use clap::Command;
@@ -13,7 +13,7 @@ const VERSION: &str = "0.1.0";
 
 /// What the program does.
 const ABOUT: &str =
-    "Reads PE images and COFF objects: judges them, shows what they hold, maps images, and writes them at other bases";
+    "Reads PE images and COFF objects: shows what they hold, judges them, maps images, and writes them at other bases";
 
 /// What `--help` says behind the commands and the options.
 const NOTES: &str = "\
@@ -47,10 +47,11 @@ fn program<'a>(alloc: Global) -> Result<Command<'a>, AllocError> {
 
 /// The program's command line.
 pub(crate) fn command<'a>(alloc: Global) -> Result<Command<'a>, AllocError> {
-    let mut command = program(alloc);
+    let mut command = with_subcommand(program(alloc), show_command(alloc));
     for row in FILE_COMMANDS {
         command = with_subcommand(command, file_command(alloc, row));
     }
+    let command = with_subcommand(command, at_command(alloc));
     let command = with_subcommand(command, map_command(alloc));
     let command = with_subcommand(command, rebase_command(alloc));
     with_subcommand(command, explain_command(alloc))

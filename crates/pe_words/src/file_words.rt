@@ -1,9 +1,9 @@
-//! The words of the commands that read files one by one: `check`, `dump`, `object` and `json`.
+//! The words of the commands that read files one by one: `show`, `check`, `dump`, `object` and `json`.
 
-use crate::builders::{new_command, required_argument, with_argument};
-use crate::job::{Job, WordsError};
+use crate::builders::{flag, new_command, required_argument, with_argument};
+use crate::job::{Job, Shown, WordsError};
 use clap::{Arg, ArgAction, ArgMatches, Command};
-use std::alloc::{AllocError, Global};
+use std::alloc::{AllocError, AllocFailed, Global};
 
 /// A command that reads files one by one.
 #[derive(Clone, Copy)]
@@ -17,7 +17,15 @@ pub(crate) struct FileCommand {
     takes_several: bool,
 }
 
-/// The commands of files.
+/// The command `show`.
+pub(crate) const SHOW: FileCommand = FileCommand {
+    name: "show",
+    about: "Prints a page on each image or object: what it is, its sections and its tables, or its first fault",
+    file: "Files of images or objects, or - for standard input",
+    takes_several: true,
+};
+
+/// The commands of files that have no options.
 pub(crate) const FILE_COMMANDS: [FileCommand; 4] = [
     FileCommand {
         name: "check",
@@ -45,6 +53,18 @@ pub(crate) const FILE_COMMANDS: [FileCommand; 4] = [
     },
 ];
 
+/// The options of `show`, and what help says of each.
+const SHOW_OPTIONS: [(&str, &str); 5] = [
+    ("exports", "Prints each export"),
+    ("imports", "Prints each import"),
+    (
+        "relocations",
+        "Prints each base relocation, or each relocation of an object",
+    ),
+    ("symbols", "Prints each symbol of an object"),
+    ("all", "Prints all of these"),
+];
+
 /// The files that a command names.
 fn file_argument<'a>(alloc: Global, row: FileCommand) -> Arg<'a> {
     let argument = required_argument(alloc, "FILE", row.file);
@@ -61,6 +81,15 @@ pub(crate) fn file_command<'a>(alloc: Global, row: FileCommand) -> Result<Comman
         Ok(new_command(alloc, row.name, row.about)),
         file_argument(alloc, row),
     )
+}
+
+/// The command `show`, with its options.
+pub(crate) fn show_command<'a>(alloc: Global) -> Result<Command<'a>, AllocError> {
+    let mut command = file_command(alloc, SHOW);
+    for (name, help) in SHOW_OPTIONS {
+        command = with_argument(command, flag(alloc, name, help));
+    }
+    command
 }
 
 /// The file that a command names under this word.
@@ -81,6 +110,17 @@ fn files_of(alloc: Global, found: &ArgMatches<'_>) -> Result<Vec<String>, WordsE
     Ok(files)
 }
 
+/// What the options of `show` ask for.
+fn shown_of(found: &ArgMatches<'_>) -> Shown {
+    let is_all = found.get_flag("all");
+    Shown {
+        exports: is_all || found.get_flag("exports"),
+        imports: is_all || found.get_flag("imports"),
+        relocations: is_all || found.get_flag("relocations"),
+        symbols: is_all || found.get_flag("symbols"),
+    }
+}
+
 /// What the words of `check` ask for: one file, or several.
 fn check_job<P>(mut files: Vec<String>) -> Job<P> {
     if files.len() > 1 {
@@ -99,6 +139,10 @@ pub(crate) fn file_job<P>(
     found: &ArgMatches<'_>,
 ) -> Result<Option<Job<P>>, WordsError> {
     let job = match name {
+        "show" => Job::Show {
+            shown: shown_of(found),
+            files: files_of(alloc, found)?,
+        },
         "json" => Job::Json {
             files: files_of(alloc, found)?,
         },

@@ -13,6 +13,30 @@ pub struct MapFile {
     pub name: String,
 }
 
+/// What `show` prints beside the page that it always does.
+#[derive(Clone, Copy, Debug, PartialEq, Eq)]
+pub struct Shown {
+    /// Each export.
+    pub exports: bool,
+    /// Each import.
+    pub imports: bool,
+    /// Each base relocation, or each relocation of an object.
+    pub relocations: bool,
+    /// Each symbol of an object.
+    pub symbols: bool,
+}
+
+/// The place that `at` tells of.
+#[derive(Clone, Copy, Debug, PartialEq, Eq)]
+pub enum AtPlace {
+    /// An RVA.
+    Rva(u64),
+    /// An address, with the image at its ImageBase.
+    Address(u64),
+    /// An offset in the file.
+    File(u64),
+}
+
 /// What the words ask for.
 #[derive(Debug, Drop, PartialEq, Eq)]
 pub enum Job<P> {
@@ -24,9 +48,19 @@ pub enum Job<P> {
     CheckEach {
         files: Vec<String>,
     },
+    /// `show FILE...`: write a page on each image or object.
+    Show {
+        shown: Shown,
+        files: Vec<String>,
+    },
     /// `json FILE...`: write what each image or object holds as a line of JSON.
     Json {
         files: Vec<String>,
+    },
+    /// `at FILE ADDRESS`: write what stands at a place of an image.
+    At {
+        file: String,
+        place: AtPlace,
     },
     /// `explain N`: write what a fault means, or the list of all.
     Explain {

@@ -13,9 +13,9 @@
 //! ```
 #![tactic(auto)]
 
+mod at_words;
 mod builders;
 mod commands;
-mod explain_words;
 mod file_words;
 mod job;
 mod map_words;
@@ -23,5 +23,5 @@ mod rebase_words;
 mod word_values;
 mod words;
 
-pub use job::{Job, MapFile, WordsError};
+pub use job::{AtPlace, Job, MapFile, Shown, WordsError};
 pub use words::parse_words;

@@ -1,7 +1,7 @@
 //! The words of the command line.
 
+use crate::at_words::{at_command, explain_command, number_of, place_of};
 use crate::commands::command;
-use crate::explain_words::{explain_command, number_of};
 use crate::file_words::{file_job, file_of};
 use crate::job::{Job, WordsError};
 use crate::map_words::{MapWords, NoMap, map_command, map_words};
@@ -70,6 +70,17 @@ fn rebase_job<P: Copy>(alloc: Global, found: &ArgMatches<'_>) -> Result<Job<P>, 
     }
 }
 
+/// What words of `at` ask for.
+fn at_job<P: Copy>(alloc: Global, found: &ArgMatches<'_>) -> Result<Job<P>, WordsError> {
+    match place_of(found) {
+        Ok(place) => Ok(Job::At {
+            file: file_of(alloc, found, "FILE")?,
+            place,
+        }),
+        Err(bad) => Err(value_refusal(alloc, at_command(alloc)?, "petool at", bad)),
+    }
+}
+
 /// What words of `explain` ask for.
 fn explain_job<P: Copy>(alloc: Global, found: &ArgMatches<'_>) -> Result<Job<P>, WordsError> {
     match number_of(found) {
@@ -97,6 +108,7 @@ fn job_of<P: Copy>(
     match name {
         "map" => map_job(alloc, found, strict, known),
         "rebase" => rebase_job(alloc, found),
+        "at" => at_job(alloc, found),
         "explain" => explain_job(alloc, found),
         _ => match file_job(alloc, name, found)? {
             Some(job) => Ok(job),

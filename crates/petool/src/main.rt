@@ -3,8 +3,9 @@
 #![tactic(auto)]
 
 use pe_program::run;
+use std::io::IsTerminal;
 use std::process::ExitCode;
 
 fn main(rt: HostRuntime) -> ExitCode {
-    ExitCode::from(run(&rt))
+    ExitCode::from(run(&rt, rt.stdout().is_terminal()))
 }

@@ -1,8 +1,8 @@
 //! The cases of one file, of sets that are told of, and of words.
 //!
 //! `check`, `dump` and `object` run that engine over a file, which other words change; `tables` prints of a dump the lines of
-//! exports, imports and base relocations, and `begins` of an object's its first line. `json` prints the
-//! line of that engine. `rebase` and a base prints its line,
+//! exports, imports and base relocations, and `begins` of an object's its first line. `show`, with `--all` or without, `json`, and
+//! `at` with an RVA before the file print what those engines write. `rebase` and a base prints its line,
 //! `rebased` also what differs in the new file. `map` and words of a set print its report. `head` and `layout` print the first
 //! fault of a file's headers and of its layout; `find` and names or ordinals what they export. `fault`, `faults` and `kind` print
 //! words of faults and of first bytes; `words` reads a command line, and `has` asks whether a part stands in what is told of it.
@@ -16,7 +16,7 @@ mod rebasing;
 mod reports;
 
 use crate::texts::command_lines::{print_has, print_words};
-use crate::texts::engines::{Part, print_dump};
+use crate::texts::engines::{PAGE, Part, WHOLE_PAGE, print_at, print_dump};
 use crate::texts::faults::{print_fault, print_kind, print_words_of_faults};
 use crate::texts::headers::{print_head, print_layout};
 use crate::texts::lookups::print_found;
@@ -36,7 +36,12 @@ pub(crate) fn run_text<R: Files + Print + AllocGlobal>(
         "tables" => print_dump(rt, Part::Tables, rest),
         "object" => print_dump(rt, Part::Object, rest),
         "begins" => print_dump(rt, Part::ObjectHead, rest),
+        "show" => match rest.strip_prefix("--all ") {
+            Some(rest) => print_dump(rt, Part::Page(WHOLE_PAGE), rest),
+            None => print_dump(rt, Part::Page(PAGE), rest),
+        },
         "json" => print_dump(rt, Part::Json, rest),
+        "at" => print_at(rt, rest),
         "rebase" => print_rebase(rt, rest),
         "rebased" => print_rebased(rt, rest),
         "map" => print_report(rt, rest),

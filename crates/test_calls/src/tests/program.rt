@@ -87,7 +87,7 @@ fn assert_end(rt: &(impl Abort + AllocGlobal), index: usize, case: &Case) {
     let mut system = Fake::new(rt.alloc(), case.words, case.file);
     system.target = case.target;
     system.refusal = case.refusal;
-    assert_holds(rt, index, run(&system) == case.status);
+    assert_holds(rt, index, run(&system, false) == case.status);
     assert_told(rt, index, &system, case.printed, case.complained);
     assert_holds(rt, index, system.has_made(case.is_made));
 }
@@ -166,9 +166,24 @@ const ENDS: &[Case] = &[
     },
 ];
 
-/// The line of JSON of a file without bytes.
+/// A page and a line of JSON of a file without bytes.
+const EMPTY_PAGES: &str = "\
+a.dll: refused: 0 bytes
+
+Fault 2: end of the file at 0x0: the file has under 64 bytes, which an MS-DOS header takes
+
+standard input: refused: 0 bytes
+
+Fault 2: end of the file at 0x0: the file has under 64 bytes, which an MS-DOS header takes
+";
+
 const EMPTY_JSON: &str =
     "{\"schema\":1,\"file\":\"a.dll\",\"accepted\":false,\"fault\":{\"number\":2,\"image\":0,\"place\":{\"file\":0},\"subject\":\"end of the file\",\"rule\":\"the file has under 64 bytes, which an MS-DOS header takes\"}}\n";
+
+const AT_SIGNATURE: &str = "\
+RVA 0x40  address 0x10000040  file 0x40  headers+0x40
+  50 45 00 00 4c 01 00 00 00 00 00 00 00 00 00 00
+";
 
 const EXPLAINED: &str = "\
 fault 13: section header: the section's raw data passes the end of the file
@@ -176,7 +191,7 @@ fault 13: section header: the section's raw data passes the end of the file
   Met by: an image that was cut off behind its headers, as a broken download is.
 ";
 
-/// Commands of which several files may be named, and `explain`.
+/// Commands that show files, of which several may be named.
 const VIEW_ENDS: &[Case] = &[
     // one that cannot be opened does not stop the others
     Case {
@@ -202,6 +217,15 @@ const VIEW_ENDS: &[Case] = &[
         complained: "petool: standard output: writing failed: no storage space\n",
         ..SILENT
     },
+    // a page before which none was printed begins without a blank line
+    Case {
+        words: &[b"petool", b"show", b"b.dll", b"a.dll", b"-"],
+        file: Stored::Bytes(b""),
+        status: 3,
+        printed: EMPTY_PAGES,
+        complained: "petool: b.dll: cannot be opened: no such file\n",
+        ..SILENT
+    },
     Case {
         words: &[b"petool", b"json", b"a.dll"],
         file: Stored::Bytes(b""),
@@ -214,6 +238,34 @@ const VIEW_ENDS: &[Case] = &[
         file: Stored::Broken,
         status: 3,
         complained: "petool: a.dll: reading failed: other error\n",
+        ..SILENT
+    },
+    Case {
+        words: &[b"petool", b"at", b"a.dll", b"40"],
+        printed: AT_SIGNATURE,
+        ..SILENT
+    },
+    Case {
+        words: &[b"petool", b"at", b"--address", b"a.dll", b"0x10000040"],
+        printed: AT_SIGNATURE,
+        ..SILENT
+    },
+    Case {
+        words: &[b"petool", b"at", b"--file", b"a.dll", b"40"],
+        printed: AT_SIGNATURE,
+        ..SILENT
+    },
+    Case {
+        words: &[b"petool", b"at", b"a.dll", b"100000040"],
+        printed: "the place is outside the image\n",
+        ..SILENT
+    },
+    Case {
+        words: &[b"petool", b"at", b"a.dll", b"40"],
+        file: Stored::Bytes(b""),
+        status: 1,
+        printed: "fault 2 image 0 file 0x00000000\n",
+        complained: NO_BYTES,
         ..SILENT
     },
     Case {
@@ -395,7 +447,7 @@ const HELP: [&str; 3] = [
 #[test]
 fn help_goes_to_standard_output(rt: HostRuntime) {
     let system = Fake::new(rt.alloc(), &[b"petool", b"--help"], Stored::Broken);
-    assert_holds(&rt, 0, run(&system) == 0);
+    assert_holds(&rt, 0, run(&system, false) == 0);
     for (index, part) in HELP.iter().enumerate() {
         assert_holds(&rt, index, system.has_printed_with(part));
     }

@@ -1,7 +1,7 @@
 //! Command lines, and what they ask for.
 
 use crate::numbers::bytes_of;
-use pe_tool::{Job, MapFile, Policy, WordsError, parse_words};
+use pe_tool::{Job, MapFile, Policy, Shown, WordsError, parse_words};
 use std::alloc::Global;
 use std::str;
 
@@ -41,12 +41,28 @@ fn print_files<R: Print>(rt: &R, command: &str, files: &[String]) -> Option<()> 
     Some(())
 }
 
+/// Prints what a page is to show, and of which files.
+fn print_show<R: Print>(rt: &R, shown: Shown, files: &[String]) -> Option<()> {
+    let Shown {
+        exports,
+        imports,
+        relocations,
+        symbols,
+    } = shown;
+    println!(rt;
+        "exports {exports} imports {imports} relocations {relocations} symbols {symbols}"
+    ).ok()?;
+    print_files(rt, "show", files)
+}
+
 /// Prints a job.
 fn print_job<R: Print>(rt: &R, job: &Job) -> Option<()> {
     match job {
         Job::Check { file } => println!(rt; "check {file}").ok(),
         Job::CheckEach { files } => print_files(rt, "check each", files),
+        Job::Show { shown, files } => print_show(rt, *shown, files),
         Job::Json { files } => print_files(rt, "json", files),
+        Job::At { file, place } => println!(rt; "at {file} {place:?}").ok(),
         Job::Explain { number } => println!(rt; "explain {number:?}").ok(),
         Job::Dump { file } => println!(rt; "dump {file}").ok(),
         Job::Object { file } => println!(rt; "object {file}").ok(),

@@ -1,7 +1,11 @@
 //! The engines that read one file.
 
 use crate::edits::edited_file;
-use pe_tool::{Counted, Outcome, ToolError, check, dump, dump_object, json, status};
+use crate::numbers::number_of;
+use pe_tool::{
+    Counted, Outcome, ShowOptions, ToolError, at, check, dump, dump_object, json, show, status,
+};
+use pe_view::Place;
 use std::rt::Files;
 use std::str;
 
@@ -18,9 +22,31 @@ pub(crate) enum Part {
     Object,
     /// The first line of that, or its fault.
     ObjectHead,
+    /// A page.
+    Page(ShowOptions),
     /// A line of JSON.
     Json,
+    /// What stands at a place.
+    At(Place),
 }
+
+/// A page without rows of tables.
+pub(crate) const PAGE: ShowOptions = ShowOptions {
+    exports: false,
+    imports: false,
+    relocations: false,
+    symbols: false,
+    is_coloured: false,
+};
+
+/// A page with all rows of tables.
+pub(crate) const WHOLE_PAGE: ShowOptions = ShowOptions {
+    exports: true,
+    imports: true,
+    relocations: true,
+    symbols: true,
+    is_coloured: false,
+};
 
 /// The first words of the lines of tables, and of a fault's.
 const TABLES: [&str; 4] = ["export", "import", "fixup", "fault"];
@@ -37,7 +63,7 @@ fn is_printed(part: Part, before: usize, line: &str) -> bool {
     }
 }
 
-/// Runs the engine of a part. That of JSON names the file.
+/// Runs the engine of a part. Views name the file.
 fn write_text(
     alloc: std::alloc::Global,
     part: Part,
@@ -51,7 +77,9 @@ fn write_text(
         Part::Verdict => check(alloc, &mut reader, &mut writer),
         Part::Whole | Part::Tables => dump(alloc, &mut reader, &mut writer),
         Part::Object | Part::ObjectHead => dump_object(alloc, &mut reader, &mut writer),
+        Part::Page(options) => show(alloc, name.as_bytes(), &options, &mut reader, &mut writer),
         Part::Json => json(alloc, name.as_bytes(), &mut reader, &mut writer),
+        Part::At(place) => at(alloc, place, &mut reader, &mut writer),
     }
 }
 
@@ -72,4 +100,11 @@ pub(crate) fn print_dump<R: Files + Print + AllocGlobal>(
         }
     }
     println!(rt; "status {}", status(&answer)).ok()
+}
+
+/// Prints what stands at an RVA of the file that words name and change.
+pub(crate) fn print_at<R: Files + Print + AllocGlobal>(rt: &R, words: &str) -> Option<()> {
+    let (rva, words) = words.split_once(" ")?;
+    let rva = u32::try_from(number_of(rva)?).ok()?;
+    print_dump(rt, Part::At(Place::Rva(rva)), words)
 }

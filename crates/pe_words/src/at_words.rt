@@ -1,0 +1,76 @@
+//! The words of `petool at` and `petool explain`.
+
+use crate::builders::{argument, flag, new_command, required_argument, with_argument};
+use crate::job::AtPlace;
+use crate::word_values::{BadValue, address_of};
+use clap::{ArgMatches, Command};
+use std::alloc::{AllocError, Global};
+
+/// What `at` does.
+const AT_ABOUT: &str =
+    "Tells what stands at an RVA of an image: its address and file offset, its section, and the export, slot, field or header there";
+
+/// What help says of the address.
+const PLACE: &str = "Where, in hexadecimal digits: an RVA, where no option says otherwise";
+
+/// What help says of `--address`.
+const ADDRESS: &str = "ADDRESS is one of the address space, with the image at its ImageBase";
+
+/// What help says of `--file`.
+const OFFSET: &str = "ADDRESS is an offset in the file";
+
+/// What `explain` does.
+const EXPLAIN_ABOUT: &str = "Explains a fault by its number, or lists all faults";
+
+/// The subcommand `at`.
+pub(crate) fn at_command<'a>(alloc: Global) -> Result<Command<'a>, AllocError> {
+    let command = Ok(new_command(alloc, "at", AT_ABOUT));
+    let command = with_argument(command, flag(alloc, "address", ADDRESS));
+    let command = with_argument(
+        command,
+        flag(alloc, "file", OFFSET).conflicts_with("address")?,
+    );
+    let command = with_argument(
+        command,
+        required_argument(alloc, "FILE", "The image's file, or - for standard input"),
+    );
+    with_argument(command, required_argument(alloc, "ADDRESS", PLACE))
+}
+
+/// The place that the words of `at` name.
+pub(crate) fn place_of<'a>(found: &ArgMatches<'a>) -> Result<AtPlace, BadValue<'a>> {
+    let value = found.get_str("ADDRESS").unwrap_or("");
+    match address_of(value) {
+        Some(address) if found.get_flag("address") => Ok(AtPlace::Address(address)),
+        Some(offset) if found.get_flag("file") => Ok(AtPlace::File(offset)),
+        Some(rva) => Ok(AtPlace::Rva(rva)),
+        None => Err(BadValue {
+            value,
+            argument: "<ADDRESS>",
+            reason: "no address of 1 to 16 hexadecimal digits",
+        }),
+    }
+}
+
+/// The subcommand `explain`.
+pub(crate) fn explain_command<'a>(alloc: Global) -> Result<Command<'a>, AllocError> {
+    with_argument(
+        Ok(new_command(alloc, "explain", EXPLAIN_ABOUT)),
+        argument(alloc, "N", "The fault's number"),
+    )
+}
+
+/// The number that the words of `explain` name, if any.
+pub(crate) fn number_of<'a>(found: &ArgMatches<'a>) -> Result<Option<u16>, BadValue<'a>> {
+    let Some(value) = found.get_str("N") else {
+        return Ok(None);
+    };
+    match value.parse::<u16>() {
+        Ok(number) => Ok(Some(number)),
+        Err(_) => Err(BadValue {
+            value,
+            argument: "[N]",
+            reason: "no number of a fault",
+        }),
+    }
+}
