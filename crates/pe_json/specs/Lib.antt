@@ -1,7 +1,7 @@
-pub use Rattle.pe_view.specs.Faults
 pub use Rattle.pe_image.specs.ImageTests
 pub use Rattle.coff_object.specs.ObjectFaults
 pub use Rattle.pe_text.specs.Engine
 pub use Rattle.pe_text.specs.FileKind
+pub use Rattle.pe_views.specs.Judged
 pub mod Growing
 pub mod JsonReport

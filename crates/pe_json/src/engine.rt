@@ -1,136 +1,74 @@
 //! The engine that writes a file's line.
 
-ghost use Rattle.std.specs.Prelude.{◌≡◌, ◌-◌, ◌^◌, ◌<◌, ◌↔◌, IfOk, IsErrOf};
+ghost use Rattle.std.specs.Prelude.{◌≡◌, ◌-◌, ◌^◌, ◌<◌, ◌↔◌, length, IfOk, OnErr, IsErrOf};
 ghost use Rattle.coff_object.specs.ObjectFaults.{object_tests};
 ghost use Rattle.pe_image.specs.ImageTests.{image_tests};
 ghost use Rattle.pe_json.specs.Growing.{Grows};
-ghost use Rattle.pe_json.specs.JsonReport.{is_object, file_tests, IsVerdict, Prints, Ran};
-ghost use Rattle.pe_text.specs.FileKind.{kind_of};
+ghost use Rattle.pe_json.specs.JsonReport.{Prints, Ran};
 ghost use Rattle.pe_text.specs.TextWriter.{IsReady};
+ghost use Rattle.pe_views.specs.Judged.{file_tests, IsOutcomeOf};
 
+use crate::beginning::{begin, refuse};
 use crate::image::write_image;
 use crate::json_text::JsonText;
 use crate::object::write_object;
-use crate::value::Value::{Name, Number, Text, Truth, Wide};
 use coff_object::ObjectFile;
-use json::Token;
 use pe_image::read_image;
 use pe_tables::TableError;
-use pe_text::{
-    FileKind, Outcome, Sink, Source, TextWriter, ToolError, fault_words, file_kind, read_whole,
-};
-use pe_view::{Fault, Place};
+use pe_text::{Outcome, Sink, Source, TextWriter, ToolError, read_whole};
+use pe_views::is_object;
 use std::alloc::{AllocError, Allocator};
 
-/// Adds the beginning of the line, up to whether the file is accepted.
-fn begin<A: Allocator + Copy>(json: &mut JsonText<A>, name: &[u8], accepted: bool) {
-    json.token(Token::BeginObject);
-    json.members(&[
-        ("schema", Number(1)),
-        ("file", Name("file_hex", name)),
-        ("accepted", Truth(accepted)),
-    ]);
-}
-
-/// Adds a fault, with its words.
-fn add_fault<A: Allocator + Copy>(json: &mut JsonText<A>, fault: &Fault) {
-    json.token(Token::Key("fault"));
-    json.token(Token::BeginObject);
-    json.members(&[
-        ("number", Number(fault.number as u64)),
-        ("image", Number(fault.image as u64)),
-    ]);
-    json.token(Token::Key("place"));
-    json.object(&[match fault.place {
-        Place::File(offset) => ("file", Number(offset)),
-        Place::Rva(rva) => ("rva", Number(rva as u64)),
-        Place::Address(address) => ("address", Wide(address)),
-        Place::Item(item) => ("item", Number(item as u64)),
-    }]);
-    if let Some(words) = fault_words(fault.number) {
-        json.members(&[("subject", Text(words.subject)), ("rule", Text(words.rule))]);
-    }
-    json.token(Token::EndObject);
-}
-
-/// Adds the line of a refused file, up to its end.
-fn refuse<A: Allocator + Copy>(json: &mut JsonText<A>, name: &[u8], fault: Fault) -> Outcome
-    ensures { result ≡ Outcome.Refused fault }
-{
-    begin(json, name, false);
-    add_fault(json, &fault);
-    Outcome::Refused(fault)
-}
-
-/// Judges an object, and writes its line up to the last brace.
-fn judge_object<A: Allocator + Copy, W: Sink>(
-    json: &mut JsonText<A>,
-    text: &mut TextWriter<W>,
-    name: &[u8],
-    file: &[u8],
-) -> Outcome
-    requires { IsReady W.failures text.old }
-    ensures verdict { IsVerdict (object_tests file.now) result }
-    ensures grows { Grows W.taken W.failures text.old text.new }
-{
-    match ObjectFile::new(file) {
-        Ok(object) => {
-            begin(json, name, true);
-            write_object(json, text, file, &object);
-            Outcome::Done
-        }
-        Err(fault) => refuse(json, name, fault),
-    }
-}
-
-/// Judges an image, and writes its line up to the last brace.
-fn judge_image<A: Allocator + Copy, W: Sink>(
-    json: &mut JsonText<A>,
+/// Judges an object, and writes its line.
+fn write_object_line<A: Allocator + Copy, W: Sink>(
+    alloc: A,
     text: &mut TextWriter<W>,
     name: &[u8],
     file: &[u8],
 ) -> Result<Outcome, AllocError>
     requires { IsReady W.failures text.old }
-    ensures verdict { IfOk result (IsVerdict (image_tests 0 file.now)) }
+    ensures verdict { IfOk result (IsOutcomeOf (object_tests file.now)) }
     ensures grows { Grows W.taken W.failures text.old text.new }
+    ensures memory { OnErr result (0 < length file.now) }
 {
-    match read_image(json.alloc, file, 0) {
-        Ok(image) => {
-            begin(json, name, true);
-            write_image(json, text, file, &image);
+    match ObjectFile::new(file) {
+        Ok(object) => {
+            begin(text, name, true);
+            let mut json = JsonText::new(alloc);
+            write_object(&mut json, text, file, &object);
+            json.end(text)?;
             Ok(Outcome::Done)
         }
-        Err(TableError::Fault(fault)) => Ok(refuse(json, name, fault)),
+        Err(fault) => Ok(refuse(text, name, fault)),
+    }
+}
+
+/// Judges an image, and writes its line.
+fn write_image_line<A: Allocator + Copy, W: Sink>(
+    alloc: A,
+    text: &mut TextWriter<W>,
+    name: &[u8],
+    file: &[u8],
+) -> Result<Outcome, AllocError>
+    requires { IsReady W.failures text.old }
+    ensures verdict { IfOk result (IsOutcomeOf (image_tests 0 file.now)) }
+    ensures grows { Grows W.taken W.failures text.old text.new }
+    ensures memory { OnErr result (0 < length file.now) }
+{
+    match read_image(alloc, file, 0) {
+        Ok(image) => {
+            begin(text, name, true);
+            let mut json = JsonText::new(alloc);
+            write_image(&mut json, text, file, &image);
+            json.end(text)?;
+            Ok(Outcome::Done)
+        }
+        Err(TableError::Fault(fault)) => Ok(refuse(text, name, fault)),
         Err(TableError::Memory) => Err(AllocError),
     }
 }
 
-/// Whether a file's first bytes show an object.
-fn is_object(file: &[u8]) -> bool
-    ensures { result ≡ is_object (kind_of file.now) }
-{
-    matches!(file_kind(file), Some(FileKind::Object))
-}
-
-/// Judges a file as what its first bytes show it to be, and writes its line up to the last brace.
-fn judge<A: Allocator + Copy, W: Sink>(
-    json: &mut JsonText<A>,
-    text: &mut TextWriter<W>,
-    name: &[u8],
-    file: &[u8],
-) -> Result<Outcome, AllocError>
-    requires { IsReady W.failures text.old }
-    ensures verdict { IfOk result (IsVerdict (file_tests file.now)) }
-    ensures grows { Grows W.taken W.failures text.old text.new }
-{
-    if is_object(file) {
-        Ok(judge_object(json, text, name, file))
-    } else {
-        judge_image(json, text, name, file)
-    }
-}
-
-/// Judges a file, and writes its line.
+/// Judges a file as what its first bytes show it to be, and writes its line.
 fn write_line<A: Allocator + Copy, W: Sink>(
     alloc: A,
     text: &mut TextWriter<W>,
@@ -138,18 +76,15 @@ fn write_line<A: Allocator + Copy, W: Sink>(
     file: &[u8],
 ) -> Result<Outcome, AllocError>
     requires { IsReady W.failures text.old }
-    ensures verdict { IfOk result (IsVerdict (file_tests file.now)) }
+    ensures verdict { IfOk result (IsOutcomeOf (file_tests file.now)) }
     ensures grows { Grows W.taken W.failures text.old text.new }
+    ensures memory { OnErr result (0 < length file.now) }
 {
-    let mut json = JsonText::new(alloc);
-    let outcome = judge(&mut json, text, name, file)?;
-    json.token(Token::EndObject);
-    json.put(text);
-    if !json.is_whole() {
-        return Err(AllocError);
+    if is_object(file) {
+        write_object_line(alloc, text, name, file)
+    } else {
+        write_image_line(alloc, text, name, file)
     }
-    text.text(b"\n");
-    Ok(outcome)
 }
 
 /// Judges a file, and writes its line to a sink.
@@ -160,7 +95,8 @@ fn print_line<A: Allocator + Copy, W: Sink>(
     file: &[u8],
 ) -> Result<Outcome, ToolError>
     requires { W.failures writer.old < 2 ^ 64 - 1 }
-    ensures { Prints file.now (W.taken writer.old) (W.taken writer.new) (W.failures writer.old) (W.failures writer.new) result }
+    ensures prints { Prints file.now (W.taken writer.old) (W.taken writer.new) (W.failures writer.old) (W.failures writer.new) result }
+    ensures memory { IsErrOf result ToolError.Memory → 0 < length file.now }
 {
     let mut text = TextWriter::new(writer);
     let answer = write_line(alloc, &mut text, name, file);
@@ -177,11 +113,13 @@ fn print_line<A: Allocator + Copy, W: Sink>(
 /// fault. `name` is what the line calls the file.
 ///
 /// A file whose first bytes show a COFF object is judged as an object, by faults 61 to 72, and every other one as an image, by
-/// faults 1 to 38. The answer is `Done` exactly where none of these stands of it, and otherwise `Refused` with the first.
+/// faults 1 to 38. After `Done` none of these stands of the file, and after `Refused` the one that is answered is the first that
+/// does. What the line says is not part of the contract.
 ///
-/// The reader is read to its end, or to 2^32 + 1 bytes; then all faults are asked, and only then the first byte is written. The
-/// text is written row by row, and a row may want memory: so after `Memory` a beginning of it may have been written, as after
-/// `Write`. After `Read` nothing was. Condition: fewer than 2^64 - 1 failures are counted on either device so far.
+/// At most 2^32 + 1 bytes are read; an outcome and `Write` come only after so many, or after the reader's end. The answer is
+/// `Read` or `Write` exactly where a call of that device failed, and `Memory` never comes where the reader gave no byte. After
+/// `Read` nothing was written. After `Write` and `Memory` bytes may have been: the line is written row by row, and a row may want
+/// memory. Condition: fewer than 2^64 - 1 failures are counted on either device so far.
 pub fn json<A: Allocator + Copy, R: Source, W: Sink>(
     alloc: A,
     name: &[u8],

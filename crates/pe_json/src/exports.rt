@@ -9,24 +9,8 @@ use crate::value::Value::{self, Absent, Name, Number};
 use json::Token;
 use pe_tables::{Exports, Target};
 use pe_text::{Sink, TextWriter};
-use std::alloc::{AllocError, Allocator};
-
-/// An ordinal, and the index of a name that has it.
-type Named = (u64, usize);
-
-/// The names by their ordinals; those of one ordinal in the order of the name pointer table.
-fn names_by_ordinal<A: Allocator + Copy>(
-    alloc: A,
-    exports: &Exports<A>,
-) -> Result<Vec<Named, A>, AllocError> {
-    let ordinals = exports.name_ordinals();
-    let mut named = Vec::with_capacity(alloc, ordinals.len())?;
-    for (index, ordinal) in ordinals.iter().enumerate() {
-        named.push((*ordinal, index))?;
-    }
-    named.sort_unstable();
-    Ok(named)
-}
+use pe_views::{ExportName, names_by_ordinal, names_of};
+use std::alloc::Allocator;
 
 /// Adds a row.
 fn add_export<A: Allocator + Copy>(
@@ -52,7 +36,7 @@ fn write_ordinal<A: Allocator + Copy, W: Sink>(
     json: &mut JsonText<A>,
     text: &mut TextWriter<W>,
     names: &[(&[u8], Target)],
-    own: &[Named],
+    own: &[ExportName],
     ordinal: u64,
     target: &Target,
 )
@@ -76,20 +60,14 @@ fn write_rows<A: Allocator + Copy, W: Sink>(
     json: &mut JsonText<A>,
     text: &mut TextWriter<W>,
     exports: &Exports<A>,
-    named: &[Named],
+    names: &[ExportName],
 )
     requires { IsReady W.failures text.old }
     ensures { Grows W.taken W.failures text.old text.new }
 {
-    let mut named = named;
     for (ordinal, target) in exports.ordinals() {
-        let len = named
-            .iter()
-            .position(|name| name.0 != *ordinal)
-            .unwrap_or(named.len());
-        let (own, others) = named.split_at(len);
+        let own = names_of(names, *ordinal);
         write_ordinal(json, text, exports.names(), own, *ordinal, target);
-        named = others;
     }
 }
 
@@ -104,7 +82,7 @@ pub(crate) fn write_exports<A: Allocator + Copy, W: Sink>(
 {
     json.list("exports");
     match names_by_ordinal(json.alloc, exports) {
-        Ok(named) => write_rows(json, text, exports, &named),
+        Ok(names) => write_rows(json, text, exports, &names),
         Err(error) => json.note(Err(error)),
     }
     json.token(Token::EndArray);

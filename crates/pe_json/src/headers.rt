@@ -1,11 +1,11 @@
 //! The members of headers.
 
-use crate::flags::FlagKind;
 use crate::value::Value::{Absent, Flags, Number, Text, Wide};
 use crate::value::{Member, text_if};
 use coff_object::ObjectFile;
-use pe_head::{Directory, Headers, Magic, directory_name, machine_name, subsystem_name};
+use pe_head::{Headers, Magic, machine_name, subsystem_name};
 use pe_view::View;
+use pe_views::FlagKind;
 
 /// The fields of a COFF file header, in its order ("PE Format", COFF File Header).
 pub(crate) fn coff_members(
@@ -126,15 +126,5 @@ pub(crate) fn optional_members(headers: &Headers) -> [Member<'static>; 32] {
         wide!(headers, size_of_heap_commit),
         number!(headers, loader_flags),
         number!(headers, number_of_rva_and_sizes),
-    ]
-}
-
-/// A data directory ("PE Format", Optional Header Data Directories).
-pub(crate) fn directory_members(index: u32, directory: &Directory) -> [Member<'static>; 4] {
-    [
-        ("index", Number(index as u64)),
-        ("name", text_if(directory_name(index))),
-        ("virtual_address", Number(directory.rva as u64)),
-        ("size", Number(directory.size as u64)),
     ]
 }

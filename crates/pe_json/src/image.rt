@@ -4,19 +4,21 @@ ghost use Rattle.pe_json.specs.Growing.{Grows};
 ghost use Rattle.pe_text.specs.TextWriter.{IsReady};
 
 use crate::exports::write_exports;
-use crate::headers::{directory_members, image_coff_members, optional_members};
+use crate::headers::{image_coff_members, optional_members};
 use crate::json_text::JsonText;
-use crate::sections::{section_members, section_name, string_table};
+use crate::sections::section_members;
 use crate::tables::{write_fixups, write_imports};
 use crate::value::Value::{Number, Text};
+use crate::value::text_if;
 use json::Token;
-use pe_head::{Headers, Magic, SectionHeader};
+use pe_head::{Headers, Magic, SectionHeader, directory_name};
 use pe_image::Image;
 use pe_text::{Sink, TextWriter};
 use pe_view::View;
+use pe_views::{section_name, string_table};
 use std::alloc::Allocator;
 
-/// Adds the headers and the list of directories.
+/// Adds the headers and the list of directories ("PE Format", Optional Header Data Directories).
 fn add_headers<A: Allocator + Copy>(json: &mut JsonText<A>, headers: &Headers) {
     let format = match headers.magic {
         Magic::Pe32 => "PE32",
@@ -33,7 +35,13 @@ fn add_headers<A: Allocator + Copy>(json: &mut JsonText<A>, headers: &Headers) {
     json.token(Token::EndObject);
     json.list("directories");
     for (index, directory) in headers.directories.as_slice().iter().enumerate() {
-        json.object(&directory_members(index as u32, directory));
+        let index = index as u32;
+        json.object(&[
+            ("index", Number(index as u64)),
+            ("name", text_if(directory_name(index))),
+            ("virtual_address", Number(directory.rva as u64)),
+            ("size", Number(directory.size as u64)),
+        ]);
     }
     json.token(Token::EndArray);
 }

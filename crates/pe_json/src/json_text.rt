@@ -5,10 +5,10 @@ ghost use Rattle.json.specs.Reads.{token_of};
 ghost use Rattle.pe_json.specs.Growing.{Grows};
 ghost use Rattle.pe_text.specs.TextWriter.{IsReady};
 
-use crate::flags::{FlagKind, flag_name};
 use crate::value::{Member, Value};
 use json::{Token, Writer};
 use pe_text::{Sink, TextWriter};
+use pe_views::{FlagKind, flag_name};
 use std::alloc::{AllocError, Allocator};
 use std::{mem, str};
 
@@ -16,7 +16,7 @@ use std::{mem, str};
 ///
 /// Escapes, numbers and the commas in a row are those of [`Writer`]; the comma between two rows is ours. The room for a row is
 /// kept from row to row, so memory is taken only where a row is longer than all before it. Where it is refused, nothing more is
-/// written, and [`JsonText::is_whole`] tells of it.
+/// written, and [`JsonText::end`] tells of it.
 #[derive(Drop)]
 pub(crate) struct JsonText<A: Allocator> {
     pub alloc: A,
@@ -26,19 +26,14 @@ pub(crate) struct JsonText<A: Allocator> {
 }
 
 impl<A: Allocator + Copy> JsonText<A> {
-    /// A text of which nothing is written.
+    /// A text that goes on behind the value of a member.
     pub fn new(alloc: A) -> JsonText<A> {
         JsonText {
             alloc,
             row: Writer::new(Vec::new(alloc)),
-            after_value: false,
+            after_value: true,
             refused: false,
         }
-    }
-
-    /// Whether memory was never refused.
-    pub fn is_whole(&self) -> bool {
-        !self.refused
     }
 
     /// Notes whether memory was refused.
@@ -54,14 +49,6 @@ impl<A: Allocator + Copy> JsonText<A> {
     {
         let done = self.row.token(token);
         self.note(done);
-    }
-
-    /// Adds a string of `0x` and a number's hexadecimal digits to the row.
-    fn wide(&mut self, number: u64) {
-        match format!(in self.alloc; "{number:#x}") {
-            Ok(digits) => self.token(Token::String(digits.as_str())),
-            Err(error) => self.note(Err(error)),
-        }
     }
 
     /// Adds a string of two hexadecimal digits for each byte to the row.
@@ -108,7 +95,10 @@ impl<A: Allocator + Copy> JsonText<A> {
                 let done = self.row.u64(*number);
                 self.note(done);
             }
-            Value::Wide(number) => self.wide(*number),
+            Value::Wide(number) => match format!(in self.alloc; "{number:#x}") {
+                Ok(digits) => self.token(Token::String(digits.as_str())),
+                Err(error) => self.note(Err(error)),
+            },
             Value::Truth(truth) => self.token(Token::Bool(*truth)),
             Value::Text(text) => self.token(Token::String(text)),
             Value::Bytes(bytes) | Value::Name(_, bytes) => self.bytes(bytes),
@@ -157,6 +147,20 @@ impl<A: Allocator + Copy> JsonText<A> {
         self.write(text, &bytes);
         bytes.clear();
         self.row = Writer::new(bytes);
+    }
+
+    /// Writes the end of the line, unless memory was refused.
+    pub fn end<W: Sink>(&mut self, text: &mut TextWriter<W>) -> Result<(), AllocError>
+        requires { IsReady W.failures text.old }
+        ensures { Grows W.taken W.failures text.old text.new }
+    {
+        self.token(Token::EndObject);
+        self.put(text);
+        if self.refused {
+            return Err(AllocError);
+        }
+        text.text(b"\n");
+        Ok(())
     }
 
     /// Writes the text of a row, behind a comma where the one before ends a value and this one begins one.

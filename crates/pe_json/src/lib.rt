@@ -8,12 +8,13 @@
 //! let answer = json(alloc, b"zlib1.dll", &mut reader, &mut writer);
 //! ```
 //!
-//! The line's members are those of docs/JSON.md. Its text is written row by row, as a row is made: no line is held whole.
+//! The line's members are those of docs/JSON.md. Its text is written row by row, as a row is made: no line is held whole. Its
+//! beginning, and all of a refused file's line, takes no memory.
 #![tactic(auto)]
 
+mod beginning;
 mod engine;
 mod exports;
-mod flags;
 mod headers;
 mod image;
 mod json_text;

@@ -6,23 +6,15 @@ ghost use Rattle.pe_text.specs.TextWriter.{IsReady};
 use crate::headers::object_coff_members;
 use crate::json_text::JsonText;
 use crate::sections::{header_at, section_members};
-use crate::value::Member;
-use crate::value::Value::{self, Absent, Bytes, Name, Number, Text};
-use coff_lines::{class_name, type_name};
+use crate::value::Value::{Bytes, Name, Number, Text};
+use crate::value::{Member, text_if};
 use coff_object::{Aux, FileSection, ObjectFile, Relocations, Symbol, SymbolSection};
 use json::Token;
 use pe_head::SectionHeader;
 use pe_text::{Sink, TextWriter};
 use pe_view::View;
+use pe_views::{class_name, relocation_type_name};
 use std::alloc::Allocator;
-
-/// A name of a number, where it has one.
-fn name_if(key_hex: &'static str, name: Option<&'static [u8]>) -> Value<'static> {
-    match name {
-        Some(name) => Name(key_hex, name),
-        None => Absent,
-    }
-}
 
 /// Writes the list of a section's relocations ("PE Format", COFF Relocations).
 fn write_relocations<A: Allocator + Copy, W: Sink>(
@@ -43,7 +35,7 @@ fn write_relocations<A: Allocator + Copy, W: Sink>(
                 ("type", Number(relocation.kind as u64)),
                 (
                     "type_name",
-                    name_if("type_name_hex", type_name(machine, relocation.kind)),
+                    text_if(relocation_type_name(machine, relocation.kind)),
                 ),
             ]);
             json.put(text);
@@ -188,10 +180,7 @@ fn add_symbol<A: Allocator + Copy>(json: &mut JsonText<A>, index: u32, symbol: &
         section_member(symbol.section),
         ("type", Number(symbol.kind as u64)),
         ("storage_class", Number(symbol.class as u64)),
-        (
-            "storage_class_name",
-            name_if("storage_class_name_hex", class_name(symbol.class)),
-        ),
+        ("storage_class_name", text_if(class_name(symbol.class))),
     ]);
     if symbol.aux_count() > 0 {
         add_aux_records(json, index, symbol);

@@ -40,17 +40,7 @@ pub(crate) fn write_imports<A: Allocator + Copy, W: Sink>(
     json.token(Token::EndArray);
 }
 
-/// How many bits of an address the field of a base relocation holds, or which half of it.
-fn kind_member(kind: FixupKind) -> Member<'static> {
-    match kind {
-        FixupKind::Bits32 => ("bits", Number(32)),
-        FixupKind::Bits64 => ("bits", Number(64)),
-        FixupKind::High => ("kind", Text("high")),
-        FixupKind::Low => ("kind", Text("low")),
-    }
-}
-
-/// Writes the list of base relocations.
+/// Writes the list of base relocations: how many bits of an address each field holds, or which half of it.
 pub(crate) fn write_fixups<A: Allocator + Copy, W: Sink>(
     json: &mut JsonText<A>,
     text: &mut TextWriter<W>,
@@ -61,7 +51,13 @@ pub(crate) fn write_fixups<A: Allocator + Copy, W: Sink>(
 {
     json.list("fixups");
     for fixup in fixups {
-        json.object(&[("rva", Number(fixup.field as u64)), kind_member(fixup.kind)]);
+        let kind = match fixup.kind {
+            FixupKind::Bits32 => ("bits", Number(32)),
+            FixupKind::Bits64 => ("bits", Number(64)),
+            FixupKind::High => ("kind", Text("high")),
+            FixupKind::Low => ("kind", Text("low")),
+        };
+        json.object(&[("rva", Number(fixup.field as u64)), kind]);
         json.put(text);
     }
     json.token(Token::EndArray);

@@ -1,6 +1,6 @@
 //! The members of a JSON object.
 
-use crate::flags::FlagKind;
+use pe_views::FlagKind;
 
 /// The value of a member.
 #[derive(Clone, Copy)]

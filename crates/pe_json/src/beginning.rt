@@ -1,0 +1,121 @@
+//! The beginning of a line, and the whole line of a refused file, for which no memory is taken.
+
+ghost use Rattle.std.specs.Prelude.{◌≡◌};
+ghost use Rattle.pe_json.specs.Growing.{Grows};
+ghost use Rattle.pe_text.specs.TextWriter.{IsReady};
+
+use pe_text::Part::{self, Decimal, Hex2, Hex16, Text};
+use pe_text::{FaultWords, Outcome, Sink, TextWriter, fault_words, write_parts};
+use pe_view::{Fault, Place};
+use std::str;
+
+/// Adds these parts.
+fn add<W: Sink>(text: &mut TextWriter<W>, parts: &[Part])
+    requires { IsReady W.failures text.old }
+    ensures { Grows W.taken W.failures text.old text.new }
+{
+    write_parts(text, parts);
+}
+
+/// Adds a byte of a JSON string: a control character, a quote and a backslash by its shortest escape.
+fn add_byte<W: Sink>(text: &mut TextWriter<W>, byte: u8)
+    requires { IsReady W.failures text.old }
+    ensures { Grows W.taken W.failures text.old text.new }
+{
+    let letter = match byte {
+        b'"' | b'\\' => byte,
+        0x08 => b'b',
+        0x0c => b'f',
+        b'\n' => b'n',
+        b'\r' => b'r',
+        b'\t' => b't',
+        0..0x20 => return add(text, &[Text(b"\\u00"), Hex2(byte)]),
+        _ => return add(text, &[Text(&[byte])]),
+    };
+    add(text, &[Text(&[b'\\', letter])]);
+}
+
+/// Adds the bytes of a name to a string: as they stand, with escapes, where they are UTF-8, else two hexadecimal digits each.
+fn add_bytes<W: Sink>(text: &mut TextWriter<W>, name: &[u8], is_utf8: bool)
+    requires { IsReady W.failures text.old }
+    ensures { Grows W.taken W.failures text.old text.new }
+{
+    for byte in name {
+        if is_utf8 {
+            add_byte(text, *byte);
+        } else {
+            add(text, &[Hex2(*byte)]);
+        }
+    }
+}
+
+/// Adds the beginning of the line, up to whether the file is accepted.
+pub(crate) fn begin<W: Sink>(text: &mut TextWriter<W>, name: &[u8], accepted: bool)
+    requires { IsReady W.failures text.old }
+    ensures { Grows W.taken W.failures text.old text.new }
+{
+    let is_utf8 = str::from_utf8(name).is_ok();
+    let key: &[u8] = if is_utf8 { b"file" } else { b"file_hex" };
+    let answer: &[u8] = if accepted { b"true" } else { b"false" };
+    add(
+        text,
+        &[Text(b"{\"schema\":1,\""), Text(key), Text(b"\":\"")],
+    );
+    add_bytes(text, name, is_utf8);
+    add(text, &[Text(b"\",\"accepted\":"), Text(answer)]);
+}
+
+/// A fault's place: its key, its number, and what stands behind it.
+fn place_parts(place: Place) -> [Part<'static>; 3] {
+    match place {
+        Place::File(offset) => [Text(b"file\":"), Decimal(offset), Text(b"}")],
+        Place::Rva(rva) => [Text(b"rva\":"), Decimal(rva as u64), Text(b"}")],
+        Place::Address(address) => [Text(b"address\":\"0x"), Hex16(address), Text(b"\"}")],
+        Place::Item(item) => [Text(b"item\":"), Decimal(item as u64), Text(b"}")],
+    }
+}
+
+/// What stands at a fault's place and what is wrong with it, in words, where its number has some.
+fn word_parts(number: u16) -> [Part<'static>; 5] {
+    match fault_words(number) {
+        Some(FaultWords { subject, rule }) => [
+            Text(b",\"subject\":\""),
+            Text(subject.as_bytes()),
+            Text(b"\",\"rule\":\""),
+            Text(rule.as_bytes()),
+            Text(b"\""),
+        ],
+        None => [Text(b""); 5],
+    }
+}
+
+/// Adds the line of a refused file.
+pub(crate) fn refuse<W: Sink>(text: &mut TextWriter<W>, name: &[u8], fault: Fault) -> Outcome
+    requires { IsReady W.failures text.old }
+    ensures outcome { result ≡ Outcome.Refused fault }
+    ensures grows { Grows W.taken W.failures text.old text.new }
+{
+    let [key, place, end] = place_parts(fault.place);
+    let [subject_key, subject, rule_key, rule, quote] = word_parts(fault.number);
+    begin(text, name, false);
+    add(
+        text,
+        &[
+            Text(b",\"fault\":{\"number\":"),
+            Decimal(fault.number as u64),
+            Text(b",\"image\":"),
+            Decimal(fault.image as u64),
+            Text(b",\"place\":{\""),
+            key,
+            place,
+            end,
+            subject_key,
+            subject,
+            rule_key,
+            rule,
+            quote,
+            Text(b"}}\n"),
+        ],
+    );
+    Outcome::Refused(fault)
+}
