@@ -23,7 +23,7 @@ pub(crate) fn tell<F: Read, S: Read>(
 ) -> u8 {
     match printed.answer {
         Ok(Outcome::Done) => {}
-        Ok(Outcome::Refused(fault)) => tell_fault(rt, name, fault, file.first()),
+        Ok(Outcome::Refused(fault)) => tell_fault(rt, name, fault, file.first(), file.len()),
         Err(ToolError::Write) => tell_failure(rt, STANDARD_OUTPUT, ToolError::Write, printed.error),
         Err(failure) => tell_failure(rt, name, failure, file.error()),
     }

@@ -7,8 +7,8 @@ use std::fs;
 use std::io::{self, Error, Input, Read};
 use std::rt::Files;
 
-/// How many of its first bytes an input keeps.
-pub(crate) const FIRST_BYTES: usize = 16;
+/// How many of its first bytes an input keeps: headers and section tables that linkers write stand among them.
+const FIRST_BYTES: usize = 1 << 12;
 
 /// Where bytes come from.
 #[derive(Drop)]
@@ -17,11 +17,12 @@ enum Stream<F, S> {
     Standard(S),
 }
 
-/// A file that is read. It keeps its first bytes, and the error of the read that failed.
+/// A file that is read. It keeps its first bytes, how many were read, and the error of the read that failed.
 #[derive(Drop)]
 pub(crate) struct InputFile<F, S> {
     stream: Stream<F, S>,
     first: ArrayVec<u8, FIRST_BYTES>,
+    len: u64,
     error: Option<Error>,
 }
 
@@ -31,6 +32,7 @@ impl<F: Read, S: Read> InputFile<F, S> {
         InputFile {
             stream,
             first: ArrayVec::new(),
+            len: 0,
             error: None,
         }
     }
@@ -38,6 +40,11 @@ impl<F: Read, S: Read> InputFile<F, S> {
     /// Its first bytes, as far as they were read.
     pub fn first(&self) -> &[u8] {
         self.first.as_slice()
+    }
+
+    /// How many bytes were read.
+    pub fn len(&self) -> u64 {
+        self.len
     }
 
     /// The system's word for the read that failed.
@@ -55,8 +62,9 @@ impl<F: Read, S: Read> InputFile<F, S> {
         }
     }
 
-    /// Keeps bytes that were read, as far as they are among the first.
+    /// Counts bytes that were read, and keeps them as far as they are among the first.
     fn keep(&mut self, bytes: &[u8]) {
+        self.len = self.len.saturating_add(bytes.len() as u64);
         let count = bytes.len().min(self.first.remaining_capacity());
         self.first.try_extend_from_slice(&bytes[..count]).unwrap();
     }

@@ -12,6 +12,7 @@ mod command_line;
 mod explain;
 mod file_job;
 mod headed;
+mod import_fault;
 mod input;
 mod late_file;
 mod map_job;

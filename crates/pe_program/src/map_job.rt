@@ -1,7 +1,8 @@
 //! The job `map`: files are read whole, mapped, and told of.
 
 use crate::file_job::refuse_path;
-use crate::input::{FIRST_BYTES, name_of, open_file};
+use crate::import_fault::{import_of, tell_import_fault};
+use crate::input::{name_of, open_file};
 use crate::messages::{STANDARD_OUTPUT, tell_failure, tell_fault};
 use crate::statuses::OUT_OF_MEMORY;
 use crate::texts::{Printed, Text, print_text};
@@ -77,19 +78,28 @@ fn set_of<'a, A: Allocator>(
 }
 
 /// Tells a fault of a set: of the file that it names, or of the command.
-fn tell_set_fault(rt: &impl Eprint, files: &[MapFile], set: &[SetEntry], fault: Fault) {
+fn tell_set_fault<R: Eprint + Alloc>(rt: &R, files: &[MapFile], set: &[SetEntry], fault: Fault)
+where
+    R::A: Copy,
+{
     let image = usize::from(fault.image);
     match (files.get(image), set.get(image)) {
         (Some(file), Some(entry)) => {
-            let first = entry.file.get(..FIRST_BYTES).unwrap_or(entry.file);
-            tell_fault(rt, name_of(file.path.as_str()), fault, first);
+            let name = name_of(file.path.as_str());
+            match import_of(rt.alloc(), entry.file, &fault) {
+                Some(import) => tell_import_fault(rt, name, fault, &import),
+                None => tell_fault(rt, name, fault, entry.file, entry.file.len() as u64),
+            }
         }
-        _ => tell_fault(rt, "map", fault, b""),
+        _ => tell_fault(rt, "map", fault, b"", 0),
     }
 }
 
 /// Tells on standard error what `map` met in a set, or why it gave up, and answers the exit status.
-fn tell_set(rt: &impl Eprint, files: &[MapFile], set: &[SetEntry], printed: Printed) -> u8 {
+fn tell_set<R: Eprint + Alloc>(rt: &R, files: &[MapFile], set: &[SetEntry], printed: Printed) -> u8
+where
+    R::A: Copy,
+{
     match printed.answer {
         Ok(Outcome::Done) => {}
         Ok(Outcome::Refused(fault)) => tell_set_fault(rt, files, set, fault),

@@ -1,7 +1,8 @@
 //! What is told on standard error.
 
-use pe_tool::{FaultText, FileKind, ToolError, file_kind};
+use pe_tool::{FaultDetail, FaultText, FileKind, ToolError, fault_detail, file_kind};
 use pe_view::Fault;
+use std::fmt::{self, Display};
 use std::io::{Error, ErrorKind};
 
 /// What messages call standard output.
@@ -22,6 +23,9 @@ pub(crate) fn tell_failure(
     };
 }
 
+/// How many of its first bytes tell what a file is.
+const KIND_BYTES: usize = 16;
+
 /// What the first bytes of a refused file show it to be, where that is not what the command reads.
 fn other_kind(fault: &Fault, first: &[u8]) -> Option<FileKind> {
     let read = match fault.number {
@@ -29,14 +33,37 @@ fn other_kind(fault: &Fault, first: &[u8]) -> Option<FileKind> {
         61..=72 => FileKind::Object,
         _ => return None,
     };
+    let first = first.get(..KIND_BYTES).unwrap_or(first);
     file_kind(first).filter(|kind| *kind != read)
 }
 
-/// Tells a fault of a file, or of a command, in words.
-pub(crate) fn tell_fault(rt: &impl Eprint, subject: &str, fault: Fault, first: &[u8]) {
-    let text = FaultText(fault);
-    let _ = match other_kind(&fault, first) {
-        Some(kind) => eprintln!(rt; "petool: {subject}: {text}; {kind}"),
-        None => eprintln!(rt; "petool: {subject}: {text}"),
+/// A fault in words, the values of the file that it tells of, and what the file is where that is not what was wanted.
+#[derive(Clone, Copy)]
+struct Told {
+    fault: FaultText,
+    detail: Option<FaultDetail>,
+    kind: Option<FileKind>,
+}
+
+impl Display for Told {
+    fn fmt<W: fmt::Write>(&self, f: &mut fmt::Formatter<W>) -> fmt::Result {
+        write!(f, "{}", self.fault)?;
+        if let Some(detail) = self.detail {
+            write!(f, ": {detail}")?;
+        }
+        match self.kind {
+            Some(kind) => write!(f, "; {kind}"),
+            None => Ok(()),
+        }
+    }
+}
+
+/// Tells a fault of a file, or of a command, in words: of a file of which these are the first bytes, and that has so many.
+pub(crate) fn tell_fault(rt: &impl Eprint, subject: &str, fault: Fault, first: &[u8], len: u64) {
+    let told = Told {
+        fault: FaultText(fault),
+        detail: fault_detail(first, len, &fault),
+        kind: other_kind(&fault, first),
     };
+    let _ = eprintln!(rt; "petool: {subject}: {told}");
 }

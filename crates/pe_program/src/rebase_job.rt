@@ -5,9 +5,10 @@ use crate::input::open_path;
 use crate::late_file::{LateFile, is_same_file};
 use crate::messages::tell_failure;
 use crate::output::Output;
-use crate::statuses::DEVICE_FAILED;
+use crate::statuses::{DEVICE_FAILED, DONE};
 use crate::texts::{NO_ROOM, Printed, flushed};
 use pe_tool::{Counted, ToolError, rebase};
+use pe_view::View;
 use std::io;
 use std::io::{BufWriter, Input, Read, Write};
 use std::rt::Files;
@@ -39,6 +40,39 @@ where
     flushed(answer, &mut output)
 }
 
+/// CheckSum of the image that begins so, if it is there ("PE Format", Optional Header Windows-Specific Fields).
+fn check_sum(first: View) -> Option<u32> {
+    let signature = u64::from(first.u32_at(0x3c)?);
+    first.u32_at(signature.saturating_add(24 + 64))
+}
+
+/// How many bytes the certificates take of the image that begins so, if it has that directory ("PE Format", Optional Header Data
+/// Directories).
+fn certificate_size(first: View) -> Option<u32> {
+    let header = u64::from(first.u32_at(0x3c)?).saturating_add(24);
+    let count_offset = match first.u16_at(header)? {
+        0x10b => 92,
+        _ => 108,
+    };
+    let count = header.saturating_add(count_offset);
+    if first.u32_at(count)? < 5 {
+        return None;
+    }
+    first.u32_at(count.saturating_add(4 + 4 * 8 + 4))
+}
+
+/// Tells what of the old file, which begins so, the new file no longer has, or has in vain.
+fn tell_changes(rt: &impl Eprint, target: &str, first: View) {
+    if check_sum(first) != Some(0) {
+        let _ = eprintln!(rt; "petool: {target}: CheckSum is now 0");
+    }
+    if certificate_size(first).unwrap_or(0) != 0 {
+        let _ = eprintln!(rt;
+            "petool: {target}: the certificate is that of the old file, and no longer fits"
+        );
+    }
+}
+
 /// Writes the file of an image at another base, and answers the exit status.
 pub(crate) fn run_rebase<R: Files + Input + Print + Eprint + Alloc>(
     rt: &R,
@@ -64,6 +98,12 @@ where
             tell_failure(rt, target, ToolError::Write, Some(error));
             DEVICE_FAILED
         }
-        None => tell(rt, source, &file, printed),
+        None => {
+            let status = tell(rt, source, &file, printed);
+            if status == DONE {
+                tell_changes(rt, target, View::new(file.first()));
+            }
+            status
+        }
     }
 }

@@ -29,6 +29,7 @@ pub use pe_text::{
     Counted, Failed, FaultText, FaultWords, FileKind, Outcome, Sink, Source, ToolError,
     fault_words, file_kind, read_whole, status,
 };
+pub use pe_views::{FaultDetail, fault_detail};
 pub use pe_words::{AtPlace, MapFile, Shown, WordsError};
 pub use rebasing::rebase;
 pub use set_report::map_report;

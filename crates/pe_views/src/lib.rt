@@ -1,5 +1,5 @@
-//! What the views of an image or an object have in common: by which faults a file of either kind is judged, and the names that
-//! stand beside its numbers.
+//! What the views of an image or an object have in common: by which faults a file of either kind is judged, the values that a
+//! fault tells of, and the names that stand beside numbers.
 //!
 //! The names of a file are texts of it. Of a number that the format does not name there is no name:
 //!
@@ -10,6 +10,7 @@
 //! ```
 #![tactic(auto)]
 
+mod detail;
 mod export_names;
 mod flags;
 mod judged_kind;
@@ -17,6 +18,7 @@ mod relocation_types;
 mod section_names;
 mod storage_classes;
 
+pub use detail::{Amount, FaultDetail, fault_detail};
 pub use export_names::{ExportName, names_by_ordinal, names_of};
 pub use flags::{FlagKind, flag_name};
 pub use judged_kind::is_object;

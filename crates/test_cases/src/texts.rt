@@ -2,16 +2,18 @@
 //!
 //! `check`, `dump` and `object` run that engine over a file, which other words change; `tables` prints of a dump the lines of
 //! exports, imports and base relocations, and `begins` of an object's its first line. `show`, with `--all` or without, `json`, and
-//! `at` with an RVA before the file print what those engines write. `rebase` and a base prints its line,
-//! `rebased` also what differs in the new file. `map` and words of a set print its report. `head` and `layout` print the first
-//! fault of a file's headers and of its layout; `find` and names or ordinals what they export. `fault`, `faults` and `kind` print
-//! words of faults and of first bytes; `words` reads a command line, and `has` asks whether a part stands in what is told of it.
+//! `at` with an RVA before the file print what those engines write, and `refusal` the fault of a page. `rebase` and a base prints
+//! its line, `rebased` also what differs in the new file. `map` and words of a set print its report. `head` and `layout` print the
+//! first fault of a file's headers and of its layout; `find` and names or ordinals what they export. `fault`, `faults` and `kind`
+//! print words of faults and of first bytes, `names` the names of all values and flags; `words` reads a command line, and `has`
+//! asks whether a part stands in what is told of it.
 
 mod command_lines;
 mod engines;
 mod faults;
 mod headers;
 mod lookups;
+mod names;
 mod rebasing;
 mod reports;
 
@@ -20,6 +22,7 @@ use crate::texts::engines::{PAGE, Part, WHOLE_PAGE, print_at, print_dump};
 use crate::texts::faults::{print_fault, print_kind, print_words_of_faults};
 use crate::texts::headers::{print_head, print_layout};
 use crate::texts::lookups::print_found;
+use crate::texts::names::print_names;
 use crate::texts::rebasing::{print_rebase, print_rebased};
 use crate::texts::reports::print_report;
 use std::rt::Files;
@@ -40,6 +43,7 @@ pub(crate) fn run_text<R: Files + Print + AllocGlobal>(
             Some(rest) => print_dump(rt, Part::Page(WHOLE_PAGE), rest),
             None => print_dump(rt, Part::Page(PAGE), rest),
         },
+        "refusal" => print_dump(rt, Part::Refusal, rest),
         "json" => print_dump(rt, Part::Json, rest),
         "at" => print_at(rt, rest),
         "rebase" => print_rebase(rt, rest),
@@ -64,6 +68,7 @@ fn run_words<R: Print + AllocGlobal>(rt: &R, kind: &str, rest: &str) -> Option<(
     match kind {
         "fault" => print_fault(rt, rest),
         "faults" => print_words_of_faults(rt),
+        "names" => print_names(rt),
         "kind" => print_kind(rt, rest),
         "words" => print_words(rt, rest),
         "has" => print_has(rt, rest),

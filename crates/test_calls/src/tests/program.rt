@@ -21,6 +21,17 @@ const HEADERS: &[u8] = b"\
     \0\0\0\x10\0\x10\0\0\0\x02\0\0\0\0\0\0\0\0\0\0\0\0\0\0\0\0\0\0\0\x10\0\0\
     \xb8\0\0\0\0\0\0\0\0\0\0\0\0\0\0\0\0\0\0\0\0\0\0\0\0\0\0\0\0\0\0\0\0\0\0\0";
 
+/// The file of an image without a section that has a CheckSum and a certificate.
+const SIGNED: &[u8] = b"\
+    MZ\0\0\0\0\0\0\0\0\0\0\0\0\0\0\0\0\0\0\0\0\0\0\0\0\0\0\0\0\0\0\
+    \0\0\0\0\0\0\0\0\0\0\0\0\0\0\0\0\0\0\0\0\0\0\0\0\0\0\0\0@\0\0\0\
+    PE\0\0L\x01\0\0\0\0\0\0\0\0\0\0\0\0\0\0\x88\0\x02!\x0b\x01\0\0\0\0\0\0\
+    \0\0\0\0\0\0\0\0\0\0\0\0\0\0\0\0\0\0\0\0\0\0\0\x10\0\x10\0\0\0\x02\0\0\
+    \0\0\0\0\0\0\0\0\0\0\0\0\0\0\0\0\0\x10\0\0\xe0\0\0\04\x12\0\0\0\0\0\0\
+    \0\0\0\0\0\0\0\0\0\0\0\0\0\0\0\0\0\0\0\0\x05\0\0\0\0\0\0\0\0\0\0\0\
+    \0\0\0\0\0\0\0\0\0\0\0\0\0\0\0\0\0\0\0\0\0\0\0\0\xe0\0\0\0\x08\0\0\0\
+    \x08\0\0\0\0\x02\x02\0";
+
 const CHECK: &[&[u8]] = &[b"petool", b"check", b"a.dll"];
 
 const DUMP: &[&[u8]] = &[b"petool", b"dump", b"a.dll"];
@@ -30,7 +41,7 @@ const OBJECT: &[&[u8]] = &[b"petool", b"object", b"a.dll"];
 const MAP: &[&[u8]] = &[b"petool", b"map", b"10000000=a.dll"];
 
 const NO_BYTES: &str = "\
-petool: a.dll: end of the file at 0x0: the file has under 64 bytes, which an MS-DOS header takes
+petool: a.dll: end of the file at 0x0: the file has under 64 bytes, which an MS-DOS header takes: it has 0
 ";
 
 const NO_FILE_GIVEN: &str = "\
@@ -170,11 +181,11 @@ const ENDS: &[Case] = &[
 const EMPTY_PAGES: &str = "\
 a.dll: refused: 0 bytes
 
-Fault 2: end of the file at 0x0: the file has under 64 bytes, which an MS-DOS header takes
+Fault 2: end of the file at 0x0: the file has under 64 bytes, which an MS-DOS header takes: it has 0
 
 standard input: refused: 0 bytes
 
-Fault 2: end of the file at 0x0: the file has under 64 bytes, which an MS-DOS header takes
+Fault 2: end of the file at 0x0: the file has under 64 bytes, which an MS-DOS header takes: it has 0
 ";
 
 const EMPTY_JSON: &str =
@@ -206,7 +217,7 @@ const VIEW_ENDS: &[Case] = &[
         file: Stored::Bytes(b""),
         status: 1,
         printed: "a.dll: fault 2 image 0 file 0x00000000\nstandard input: fault 2 image 0 file 0x00000000\n",
-        complained: "petool: a.dll: end of the file at 0x0: the file has under 64 bytes, which an MS-DOS header takes\npetool: standard input: end of the file at 0x0: the file has under 64 bytes, which an MS-DOS header takes\n",
+        complained: "petool: a.dll: end of the file at 0x0: the file has under 64 bytes, which an MS-DOS header takes: it has 0\npetool: standard input: end of the file at 0x0: the file has under 64 bytes, which an MS-DOS header takes: it has 0\n",
         ..SILENT
     },
     // an output that fails does
@@ -235,6 +246,34 @@ const VIEW_ENDS: &[Case] = &[
     },
     Case {
         words: &[b"petool", b"json", b"a.dll"],
+        file: Stored::Broken,
+        status: 3,
+        complained: "petool: a.dll: reading failed: other error\n",
+        ..SILENT
+    },
+    // a lost output ends the others, and a reader that went away is told of by the status alone
+    Case {
+        words: &[b"petool", b"show", b"a.dll", b"b.dll"],
+        refusal: Some(ErrorKind::StorageFull),
+        status: 3,
+        complained: "petool: standard output: writing failed: no storage space\n",
+        ..SILENT
+    },
+    Case {
+        words: &[b"petool", b"json", b"a.dll", b"b.dll"],
+        refusal: Some(ErrorKind::BrokenPipe),
+        status: 3,
+        ..SILENT
+    },
+    Case {
+        words: &[b"petool", b"at", b"a.dll", b"40"],
+        refusal: Some(ErrorKind::StorageFull),
+        status: 3,
+        complained: "petool: standard output: writing failed: no storage space\n",
+        ..SILENT
+    },
+    Case {
+        words: &[b"petool", b"show", b"a.dll"],
         file: Stored::Broken,
         status: 3,
         complained: "petool: a.dll: reading failed: other error\n",
@@ -374,6 +413,11 @@ const REBASED: Case = Case {
 /// Commands that write a file.
 const REBASE_ENDS: &[Case] = &[
     REBASED,
+    Case {
+        file: Stored::Bytes(SIGNED),
+        complained: "petool: new.dll: CheckSum is now 0\npetool: new.dll: the certificate is that of the old file, and no longer fits\n",
+        ..REBASED
+    },
     // a refused file leaves the target unmade
     Case {
         words: &[b"petool", b"rebase", b"20000001", b"a.dll", b"new.dll"],

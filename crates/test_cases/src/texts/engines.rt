@@ -24,6 +24,8 @@ pub(crate) enum Part {
     ObjectHead,
     /// A page.
     Page(ShowOptions),
+    /// The line of a page that tells the fault.
+    Refusal,
     /// A line of JSON.
     Json,
     /// What stands at a place.
@@ -59,6 +61,7 @@ fn is_printed(part: Part, before: usize, line: &str) -> bool {
             TABLES.contains(&word)
         }
         Part::ObjectHead => before == 0,
+        Part::Refusal => line.starts_with("Fault "),
         _ => true,
     }
 }
@@ -78,6 +81,7 @@ fn write_text(
         Part::Whole | Part::Tables => dump(alloc, &mut reader, &mut writer),
         Part::Object | Part::ObjectHead => dump_object(alloc, &mut reader, &mut writer),
         Part::Page(options) => show(alloc, name.as_bytes(), &options, &mut reader, &mut writer),
+        Part::Refusal => show(alloc, name.as_bytes(), &PAGE, &mut reader, &mut writer),
         Part::Json => json(alloc, name.as_bytes(), &mut reader, &mut writer),
         Part::At(place) => at(alloc, place, &mut reader, &mut writer),
     }

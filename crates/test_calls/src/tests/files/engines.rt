@@ -2,8 +2,12 @@
 
 ghost use Rattle.std.specs.Prelude.{◌≡◌, ◌<◌};
 
-use pe_tool::{Outcome, Policy, SetEntry, ToolError, check, dump, dump_object, map_report};
+use pe_tool::{
+    Outcome, Policy, SetEntry, ShowOptions, ToolError, at, check, dump, dump_object, json,
+    map_report, show,
+};
 use pe_vectors::{StepReader, StepWriter};
+use pe_view::Place;
 use std::alloc::{AllocError, Allocator, Global};
 
 /// An engine that reads one file and writes a text.
@@ -12,7 +16,25 @@ pub(super) enum Engine {
     Check,
     Dump,
     Object,
+    Show,
+    Json,
+    At,
 }
+
+/// A page with all rows of tables.
+const WHOLE_PAGE: ShowOptions = ShowOptions {
+    exports: true,
+    imports: true,
+    relocations: true,
+    symbols: true,
+    is_coloured: false,
+};
+
+/// What views call the file.
+const NAME: &[u8] = b"a.dll";
+
+/// The place that is told of.
+const PLACE: Place = Place::Rva(0x40);
 
 /// How the reader and the writer of a run work: the most bytes a call, and the read and the write that fail.
 #[derive(Clone, Copy)]
@@ -52,6 +74,9 @@ pub(super) fn run_over<A: Allocator + Copy>(
         Engine::Check => check(memory, &mut reader, &mut writer),
         Engine::Dump => dump(memory, &mut reader, &mut writer),
         Engine::Object => dump_object(memory, &mut reader, &mut writer),
+        Engine::Show => show(memory, NAME, &WHOLE_PAGE, &mut reader, &mut writer),
+        Engine::Json => json(memory, NAME, &mut reader, &mut writer),
+        Engine::At => at(memory, PLACE, &mut reader, &mut writer),
     };
     Ok((answer, writer))
 }

@@ -192,6 +192,9 @@ const FAILING: &[(Engine, Vector)] = &[
     (Engine::Check, Vector::V1),
     (Engine::Dump, Vector::V1),
     (Engine::Dump, Vector::Vs),
+    (Engine::Show, Vector::V1),
+    (Engine::Json, Vector::V1),
+    (Engine::At, Vector::V1),
 ];
 
 /// Asserts what is answered where each call of either device fails in turn.

@@ -35,6 +35,34 @@ const IMPORTS: &[u8] = b"\
     \xc8\0\0\0\0\0\0\0\0\0\0\0\0\0\0\0\0\0\0\0\0\0\0\0\0\0\0\0\0\0\0\0\x02\0\0\0\
     \0\0\0\0\0\0\0\0\xf0\x0f\0\0\x14\0\0\0";
 
+/// The file of an image that imports `Sleep` of `K.dll`, with the slot at 0x140.
+const NAMED: &[u8] = b"\
+    MZ\0\0\0\0\0\0\0\0\0\0\0\0\0\0\0\0\0\0\0\0\0\0\0\0\0\0\0\0\0\0\
+    \0\0\0\0\0\0\0\0\0\0\0\0\0\0\0\0\0\0\0\0\0\0\0\0\0\0\0\0@\0\0\0\
+    PE\0\0L\x01\0\0\0\0\0\0\0\0\0\0\0\0\0\0p\0\x02!\x0b\x01\0\0\0\0\0\0\
+    \0\0\0\0\0\0\0\0\0\0\0\0\0\0\0\0\0\0\0\0\0\0\0\x10\0\x10\0\0\0\x02\0\0\
+    \0\0\0\0\0\0\0\0\0\0\0\0\0\0\0\0\0\x10\0\0`\x01\0\0\0\0\0\0\0\0\0\0\
+    \0\0\0\0\0\0\0\0\0\0\0\0\0\0\0\0\0\0\0\0\x02\0\0\0\0\0\0\0\0\0\0\0\
+    \0\x01\0\0(\0\0\0\0\0\0\0\0\0\0\0\0\0\0\0\0\0\0\0\0\0\0\0\0\0\0\0\
+    \0\0\0\0\0\0\0\0\0\0\0\0\0\0\0\0\0\0\0\0\0\0\0\0\0\0\0\0\0\0\0\0\
+    0\x01\0\0\0\0\0\0\0\0\0\0H\x01\0\0@\x01\0\0\0\0\0\0\0\0\0\0\0\0\0\0\
+    \0\0\0\0\0\0\0\0\0\0\0\0\0\0\0\0P\x01\0\0\0\0\0\0\0\0\0\0\0\0\0\0\
+    P\x01\0\0\0\0\0\0K.dll\0\0\0\0\0Sleep\0\0\0\0\0\0\0\0\0";
+
+/// The file of an image that imports what has the ordinal 7 in `K.dll`.
+const NUMBERED: &[u8] = b"\
+    MZ\0\0\0\0\0\0\0\0\0\0\0\0\0\0\0\0\0\0\0\0\0\0\0\0\0\0\0\0\0\0\
+    \0\0\0\0\0\0\0\0\0\0\0\0\0\0\0\0\0\0\0\0\0\0\0\0\0\0\0\0@\0\0\0\
+    PE\0\0L\x01\0\0\0\0\0\0\0\0\0\0\0\0\0\0p\0\x02!\x0b\x01\0\0\0\0\0\0\
+    \0\0\0\0\0\0\0\0\0\0\0\0\0\0\0\0\0\0\0\0\0\0\0\x10\0\x10\0\0\0\x02\0\0\
+    \0\0\0\0\0\0\0\0\0\0\0\0\0\0\0\0\0\x10\0\0`\x01\0\0\0\0\0\0\0\0\0\0\
+    \0\0\0\0\0\0\0\0\0\0\0\0\0\0\0\0\0\0\0\0\x02\0\0\0\0\0\0\0\0\0\0\0\
+    \0\x01\0\0(\0\0\0\0\0\0\0\0\0\0\0\0\0\0\0\0\0\0\0\0\0\0\0\0\0\0\0\
+    \0\0\0\0\0\0\0\0\0\0\0\0\0\0\0\0\0\0\0\0\0\0\0\0\0\0\0\0\0\0\0\0\
+    0\x01\0\0\0\0\0\0\0\0\0\0H\x01\0\0@\x01\0\0\0\0\0\0\0\0\0\0\0\0\0\0\
+    \0\0\0\0\0\0\0\0\0\0\0\0\0\0\0\0\x07\0\0\x80\0\0\0\0\0\0\0\0\0\0\0\0\
+    \x07\0\0\x80\0\0\0\0K.dll\0\0\0\0\0Sleep\0\0\0\0\0\0\0\0\0";
+
 /// Words, the file `a.dll`, and what stands on standard output and on standard error.
 type Refusal = (
     &'static [&'static [u8]],
@@ -64,13 +92,13 @@ const FILES: &[Refusal] = &[
         CHECK,
         b"MZ",
         "fault 2 image 0 file 0x00000002\n",
-        "petool: a.dll: end of the file at 0x2: the file has under 64 bytes, which an MS-DOS header takes\n",
+        "petool: a.dll: end of the file at 0x2: the file has under 64 bytes, which an MS-DOS header takes: it has 2\n",
     ),
     (
         DUMP,
         SECTION,
         "fault 15 image 0 file 0x000000b8\n",
-        "petool: a.dll: section header at 0xb8: the section begins before the headers or the section before it end\n",
+        "petool: a.dll: section header at 0xb8: the section begins before the headers or the section before it end: it begins at RVA 0x20, and the headers end at 0xe0\n",
     ),
     (
         DUMP,
@@ -123,6 +151,19 @@ const SETS: &[Refusal] = &[
         "fault 54 image 0 address 0x0000000010000ff8\n",
         "petool: a.dll: window 0x10000ff8: the window does not lie in one image\n",
     ),
+    // the import is named
+    (
+        MAP,
+        NAMED,
+        "fault 48 image 0 rva 0x00000140\n",
+        "petool: a.dll: import address table slot at RVA 0x140: the import leads to a module that is not in the set: K.dll Sleep; --known leaves such slots as they stand\n",
+    ),
+    (
+        MAP,
+        NUMBERED,
+        "fault 48 image 0 rva 0x00000140\n",
+        "petool: a.dll: import address table slot at RVA 0x140: the import leads to a module that is not in the set: K.dll #7; --known leaves such slots as they stand\n",
+    ),
     // no image holds the window's first address
     (
         &[b"petool", b"map", b"--window", b"0", b"10000000=a.dll"],
@@ -143,7 +184,7 @@ const KINDS: &[Refusal] = &[
         DUMP,
         b"\x7fELF\x02\x01\x01\0\0\0\0\0\0\0\0\0\x03\0\x3e\0",
         "fault 2 image 0 file 0x00000014\n",
-        "petool: a.dll: end of the file at 0x14: the file has under 64 bytes, which an MS-DOS header takes; it is an ELF file\n",
+        "petool: a.dll: end of the file at 0x14: the file has under 64 bytes, which an MS-DOS header takes: it has 20; it is an ELF file\n",
     ),
     (
         CHECK,
@@ -161,7 +202,7 @@ const KINDS: &[Refusal] = &[
         &[b"petool", b"dump", b"-"],
         b"\x64\x86\0\0\0\0\0\0\0\0\0\0\0\0\0\0\0\0\0\0",
         "fault 2 image 0 file 0x00000014\n",
-        "petool: standard input: end of the file at 0x14: the file has under 64 bytes, which an MS-DOS header takes; it is a COFF object\n",
+        "petool: standard input: end of the file at 0x14: the file has under 64 bytes, which an MS-DOS header takes: it has 20; it is a COFF object\n",
     ),
     (
         OBJECT,

@@ -1,0 +1,50 @@
+//! The faults of what an import is bound to, which name it.
+
+use pe_image::read_image;
+use pe_tables::{Import, Key};
+use pe_tool::FaultText;
+use pe_view::{Fault, Place};
+use std::alloc::Allocator;
+
+/// The fault of an import that leads to a module that is not in the set.
+const NO_MODULE: u16 = 48;
+
+/// The import of an image whose slot a fault names, where it names one, and where there is memory to look it up.
+pub(crate) fn import_of<'a, A: Allocator + Copy>(
+    alloc: A,
+    file: &'a [u8],
+    fault: &Fault,
+) -> Option<Import<'a>> {
+    let Place::Rva(slot) = fault.place else {
+        return None;
+    };
+    if !matches!(fault.number, 48..=50) {
+        return None;
+    }
+    let image = read_image(alloc, file, fault.image).ok()?;
+    image
+        .imports
+        .iter()
+        .find(|import| import.slot == slot)
+        .copied()
+}
+
+/// Tells a fault of what an import is bound to, with the import's module and its name there, or its ordinal behind `#`.
+pub(crate) fn tell_import_fault(rt: &impl Eprint, subject: &str, fault: Fault, import: &Import) {
+    let module = import.module.escape_ascii();
+    let text = FaultText(fault);
+    let way = if fault.number == NO_MODULE {
+        "; --known leaves such slots as they stand"
+    } else {
+        ""
+    };
+    let _ = match import.key {
+        Key::Name(name) => {
+            let name = name.escape_ascii();
+            eprintln!(rt; "petool: {subject}: {text}: {module} {name}{way}")
+        }
+        Key::Ordinal(ordinal) => {
+            eprintln!(rt; "petool: {subject}: {text}: {module} #{ordinal}{way}")
+        }
+    };
+}
