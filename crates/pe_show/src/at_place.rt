@@ -149,16 +149,7 @@ fn slot_cells<'a>(imports: &[Import<'a>], width: u32, rva: u32) -> [Cell<'a>; 5]
     [NOTHING; 5]
 }
 
-/// The address that a field holds while the image stands at its ImageBase, where it holds a whole one.
-fn held_address(layout: &Layout, fixup: &Fixup) -> Option<u64> {
-    match fixup.kind {
-        FixupKind::Bits32 => layout.u32_at(fixup.field).map(u64::from),
-        FixupKind::Bits64 => layout.u64_at(fixup.field),
-        FixupKind::High | FixupKind::Low => None,
-    }
-}
-
-/// Where an address that a field holds lies, as ` that points to RVA 0x1350 .text+0x350`.
+/// Where an address that a field holds while the image stands at its ImageBase lies, as ` that points to RVA 0x1350 .text+0x350`.
 fn target_cells<'a>(layout: &Layout, names: &SectionNames<'a>, address: u64) -> [Cell<'a>; 6] {
     match rva_of(layout, Place::Address(address)) {
         Some(rva) => {
@@ -196,7 +187,12 @@ fn field_cells<'a>(
 ) -> [Cell<'a>; 9] {
     for fixup in fixups {
         if is_within(rva, fixup.field, fixup.kind.width()) {
-            let [to, number, gap, name, plus, offset] = match held_address(layout, fixup) {
+            let address = match fixup.kind {
+                FixupKind::Bits32 => layout.u32_at(fixup.field).map(u64::from),
+                FixupKind::Bits64 => layout.u64_at(fixup.field),
+                FixupKind::High | FixupKind::Low => None,
+            };
+            let [to, number, gap, name, plus, offset] = match address {
                 Some(address) => target_cells(layout, names, address),
                 None => [NOTHING; 6],
             };

@@ -40,17 +40,7 @@ fn page_len(fixups: &[Fixup]) -> usize
     len.max(1).min(fixups.len())
 }
 
-/// What a field is, in the format's word.
-fn kind_name(kind: FixupKind) -> &'static str {
-    match kind {
-        FixupKind::Bits32 => "HIGHLOW",
-        FixupKind::Bits64 => "DIR64  ",
-        FixupKind::High => "HIGH   ",
-        FixupKind::Low => "LOW    ",
-    }
-}
-
-/// Adds a row of fields: their page and their kind, and where each stands in the page.
+/// Adds a row of fields: their page and their kind in the format's word, and where each stands in the page.
 fn write_row<W: Sink>(text: &mut TextWriter<W>, width: u8, row: &[Fixup])
     requires { IsReady W.failures text.old }
     ensures { AddsSome W.taken W.failures text.old text.new }
@@ -58,13 +48,19 @@ fn write_row<W: Sink>(text: &mut TextWriter<W>, width: u8, row: &[Fixup])
     let Some(first) = row.first() else {
         return;
     };
+    let kind = match first.kind {
+        FixupKind::Bits32 => "HIGHLOW",
+        FixupKind::Bits64 => "DIR64  ",
+        FixupKind::High => "HIGH   ",
+        FixupKind::Low => "LOW    ",
+    };
     write_cells(
         text,
         &[
             Cell::Words("  0x"),
             Cell::Hex(u64::from(first.field / PAGE * PAGE), width),
             Cell::Words("  "),
-            Cell::Words(kind_name(first.kind)),
+            Cell::Words(kind),
             Cell::Words(" "),
         ],
     );

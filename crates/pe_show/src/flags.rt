@@ -1,6 +1,5 @@
 //! Flags by name.
 
-ghost use Rattle.std.specs.Prelude.{◌≤◌};
 ghost use Rattle.pe_text.specs.TextWriter.{IsReady};
 ghost use Rattle.pe_show.specs.Page.{AddsSome};
 

@@ -38,26 +38,7 @@ fn module_len(imports: &[Import]) -> usize
     len.max(1).min(imports.len())
 }
 
-/// Adds the row of an import: its slot, and its name or ordinal.
-fn write_import<W: Sink>(text: &mut TextWriter<W>, width: u8, import: &Import)
-    requires { IsReady W.failures text.old }
-    ensures { AddsSome W.taken W.failures text.old text.new }
-{
-    let [first, second] = key_cells(import.key);
-    write_cells(
-        text,
-        &[
-            Cell::Words("    0x"),
-            Cell::Hex(u64::from(import.slot), width),
-            Cell::Words("  "),
-            first,
-            second,
-            Cell::Words("\n"),
-        ],
-    );
-}
-
-/// Adds the row of a module and a row for each of its imports that stand together.
+/// Adds the row of a module, and a row for each of its imports that stand together: its slot, and its name or ordinal.
 fn write_module<W: Sink>(text: &mut TextWriter<W>, width: u8, imports: &[Import])
     requires { IsReady W.failures text.old }
     ensures { AddsSome W.taken W.failures text.old text.new }
@@ -77,7 +58,20 @@ fn write_module<W: Sink>(text: &mut TextWriter<W>, width: u8, imports: &[Import]
         ],
     );
     for import in imports {
-        write_import(text, width, import);
+        let [first, second] = key_cells(import.key);
+        let slot = Cell::Hex(u64::from(import.slot), width);
+        let end = Cell::Words("\n");
+        write_cells(
+            text,
+            &[
+                Cell::Words("    0x"),
+                slot,
+                Cell::Words("  "),
+                first,
+                second,
+                end,
+            ],
+        );
     }
 }
 

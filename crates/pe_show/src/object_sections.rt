@@ -93,17 +93,17 @@ fn write_section<W: Sink>(
     );
 }
 
-/// Adds the heading of the sections and the names of their columns.
-fn write_columns<W: Sink>(
+/// Adds the table of an object's sections, which are numbered from 1.
+pub(crate) fn write_sections<W: Sink>(
     text: &mut TextWriter<W>,
     options: &ShowOptions,
-    widths: &Widths,
-    count: usize,
+    sections: &[FileSection],
 )
     requires { IsReady W.failures text.old }
     ensures { AddsSome W.taken W.failures text.old text.new }
 {
-    write_heading(text, options, "Sections", count);
+    let widths = widths_of(sections);
+    write_heading(text, options, "Sections", sections.len());
     write_cells(
         text,
         &[
@@ -116,19 +116,6 @@ fn write_columns<W: Sink>(
             Cell::Words("relocations\n"),
         ],
     );
-}
-
-/// Adds the table of an object's sections, which are numbered from 1.
-pub(crate) fn write_sections<W: Sink>(
-    text: &mut TextWriter<W>,
-    options: &ShowOptions,
-    sections: &[FileSection],
-)
-    requires { IsReady W.failures text.old }
-    ensures { AddsSome W.taken W.failures text.old text.new }
-{
-    let widths = widths_of(sections);
-    write_columns(text, options, &widths, sections.len());
     for (index, section) in sections.iter().enumerate() {
         write_section(text, &widths, index, section);
     }

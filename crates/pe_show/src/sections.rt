@@ -107,25 +107,6 @@ fn write_section<W: Sink>(
     );
 }
 
-/// Adds the names of the columns.
-fn write_columns<W: Sink>(text: &mut TextWriter<W>, widths: &Widths)
-    requires { IsReady W.failures text.old }
-    ensures { AddsSome W.taken W.failures text.old text.new }
-{
-    write_cells(
-        text,
-        &[
-            Cell::Words("   #  "),
-            Cell::Column(b"name", widths.name),
-            Cell::Words("  flags       "),
-            Cell::Column(b"RVA", usize::from(widths.rva) + 5),
-            Cell::Column(b"bytes", usize::from(widths.bytes) + 5),
-            Cell::Column(b"file", usize::from(widths.file) + 5),
-            Cell::Words("in file\n"),
-        ],
-    );
-}
-
 /// Adds the table of an image's sections.
 pub(crate) fn write_sections<W: Sink>(
     text: &mut TextWriter<W>,
@@ -139,7 +120,18 @@ pub(crate) fn write_sections<W: Sink>(
     let sections = headers.sections.as_slice();
     let widths = widths_of(headers, names);
     write_heading(text, options, "Sections", sections.len());
-    write_columns(text, &widths);
+    write_cells(
+        text,
+        &[
+            Cell::Words("   #  "),
+            Cell::Column(b"name", widths.name),
+            Cell::Words("  flags       "),
+            Cell::Column(b"RVA", usize::from(widths.rva) + 5),
+            Cell::Column(b"bytes", usize::from(widths.bytes) + 5),
+            Cell::Column(b"file", usize::from(widths.file) + 5),
+            Cell::Words("in file\n"),
+        ],
+    );
     for (index, section) in sections.iter().enumerate() {
         write_section(text, &widths, index, names.get(index), section);
     }

@@ -1,4 +1,4 @@
-use Rattle.std.proofs.Common.{ℕ, arith, length-drop, length-take}
+use Rattle.std.proofs.Common.{arith}
 use Rattle.pe_show.proofs.Adding.{◌and◌}
 use Rattle.pe_show.proofs.imports.write_imports.Goals as goal
 
