@@ -1,10 +1,8 @@
 //! The members of headers.
 
-use crate::value::Value::{Absent, Flags, Number, Text, Wide};
+use crate::value::Value::{Absent, Flags, Number, Wide};
 use crate::value::{Member, text_if};
-use coff_object::ObjectFile;
 use pe_head::{Headers, Magic, machine_name, subsystem_name};
-use pe_view::View;
 use pe_views::FlagKind;
 
 /// The fields of a COFF file header, in its order ("PE Format", COFF File Header).
@@ -34,32 +32,6 @@ pub(crate) fn coff_members(
             Flags(FlagKind::File, characteristics as u32),
         ),
     ]
-}
-
-/// The fields of an image's COFF file header.
-pub(crate) fn image_coff_members(headers: &Headers) -> [Member<'static>; 9] {
-    coff_members(
-        headers.machine,
-        headers.number_of_sections as u64,
-        headers.time_date_stamp,
-        headers.pointer_to_symbol_table,
-        headers.number_of_symbols,
-        headers.size_of_optional_header as u64,
-        headers.characteristics,
-    )
-}
-
-/// The fields of an object's COFF file header.
-pub(crate) fn object_coff_members(view: View, object: &ObjectFile) -> [Member<'static>; 9] {
-    coff_members(
-        object.machine(),
-        object.section_count() as u64,
-        object.time_stamp(),
-        view.u32_at(8).unwrap_or(0),
-        view.u32_at(12).unwrap_or(0),
-        object.optional().len() as u64,
-        object.characteristics(),
-    )
 }
 
 /// A member that is a number.

@@ -4,7 +4,7 @@ ghost use Rattle.pe_json.specs.Growing.{Grows};
 ghost use Rattle.pe_text.specs.TextWriter.{IsReady};
 
 use crate::exports::write_exports;
-use crate::headers::{image_coff_members, optional_members};
+use crate::headers::{coff_members, optional_members};
 use crate::json_text::JsonText;
 use crate::sections::section_members;
 use crate::tables::{write_fixups, write_imports};
@@ -30,7 +30,15 @@ fn add_headers<A: Allocator + Copy>(json: &mut JsonText<A>, headers: &Headers) {
     ]);
     json.token(Token::Key("headers"));
     json.token(Token::BeginObject);
-    json.members(&image_coff_members(headers));
+    json.members(&coff_members(
+        headers.machine,
+        headers.number_of_sections as u64,
+        headers.time_date_stamp,
+        headers.pointer_to_symbol_table,
+        headers.number_of_symbols,
+        headers.size_of_optional_header as u64,
+        headers.characteristics,
+    ));
     json.members(&optional_members(headers));
     json.token(Token::EndObject);
     json.list("directories");

@@ -74,20 +74,6 @@ impl<A: Allocator + Copy> JsonText<A> {
         self.token(Token::EndArray);
     }
 
-    /// Adds a name under one of two keys to the row.
-    fn name(&mut self, key: &str, key_hex: &str, name: &[u8]) {
-        match str::from_utf8(name) {
-            Ok(name) => {
-                self.token(Token::Key(key));
-                self.token(Token::String(name));
-            }
-            Err(_) => {
-                self.token(Token::Key(key_hex));
-                self.bytes(name);
-            }
-        }
-    }
-
     /// Adds a value that has one key to the row.
     fn value(&mut self, value: &Value) {
         match value {
@@ -107,12 +93,21 @@ impl<A: Allocator + Copy> JsonText<A> {
         }
     }
 
-    /// Adds members to the row.
+    /// Adds members to the row, a name under one of its two keys.
     pub fn members(&mut self, members: &[Member]) {
         for (key, value) in members {
             match value {
                 Value::Absent => {}
-                Value::Name(key_hex, name) => self.name(key, key_hex, name),
+                Value::Name(key_hex, name) => match str::from_utf8(name) {
+                    Ok(name) => {
+                        self.token(Token::Key(key));
+                        self.token(Token::String(name));
+                    }
+                    Err(_) => {
+                        self.token(Token::Key(key_hex));
+                        self.bytes(name);
+                    }
+                },
                 value => {
                     self.token(Token::Key(key));
                     self.value(value);

@@ -3,7 +3,7 @@
 ghost use Rattle.pe_json.specs.Growing.{Grows};
 ghost use Rattle.pe_text.specs.TextWriter.{IsReady};
 
-use crate::headers::object_coff_members;
+use crate::headers::coff_members;
 use crate::json_text::JsonText;
 use crate::sections::{header_at, section_members};
 use crate::value::Value::{Bytes, Name, Number, Text};
@@ -86,16 +86,6 @@ fn write_sections<A: Allocator + Copy, W: Sink>(
     json.token(Token::EndArray);
 }
 
-/// To which section a symbol belongs: a number that counts from 1, or a word.
-fn section_member(section: SymbolSection) -> Member<'static> {
-    match section {
-        SymbolSection::Section(number) => ("section_number", Number(number as u64)),
-        SymbolSection::Undefined => ("section", Text("UNDEFINED")),
-        SymbolSection::Absolute => ("section", Text("ABSOLUTE")),
-        SymbolSection::Debug => ("section", Text("DEBUG")),
-    }
-}
-
 /// Adds what an auxiliary record holds, in the shape of its symbol's class ("PE Format", Auxiliary Symbol Records).
 fn add_aux<'a, A: Allocator + Copy>(json: &mut JsonText<A>, index: Member<'a>, aux: &Aux<'a>) {
     match aux {
@@ -170,14 +160,20 @@ fn add_aux_records<A: Allocator + Copy>(json: &mut JsonText<A>, index: u32, symb
     json.token(Token::EndArray);
 }
 
-/// Adds a symbol and its auxiliary records ("PE Format", COFF Symbol Table).
+/// Adds a symbol and its auxiliary records ("PE Format", COFF Symbol Table). Its section is a number that counts from 1, or a word.
 fn add_symbol<A: Allocator + Copy>(json: &mut JsonText<A>, index: u32, symbol: &Symbol) {
+    let section = match symbol.section {
+        SymbolSection::Section(number) => ("section_number", Number(number as u64)),
+        SymbolSection::Undefined => ("section", Text("UNDEFINED")),
+        SymbolSection::Absolute => ("section", Text("ABSOLUTE")),
+        SymbolSection::Debug => ("section", Text("DEBUG")),
+    };
     json.token(Token::BeginObject);
     json.members(&[
         ("index", Number(index as u64)),
         ("name", Name("name_hex", symbol.name)),
         ("value", Number(symbol.value as u64)),
-        section_member(symbol.section),
+        section,
         ("type", Number(symbol.kind as u64)),
         ("storage_class", Number(symbol.class as u64)),
         ("storage_class_name", text_if(class_name(symbol.class))),
@@ -218,7 +214,15 @@ pub(crate) fn write_object<A: Allocator + Copy, W: Sink>(
     let view = View::new(file);
     json.members(&[("format", Text("COFF"))]);
     json.token(Token::Key("headers"));
-    json.object(&object_coff_members(view, object));
+    json.object(&coff_members(
+        object.machine(),
+        object.section_count() as u64,
+        object.time_stamp(),
+        view.u32_at(8).unwrap_or(0),
+        view.u32_at(12).unwrap_or(0),
+        object.optional().len() as u64,
+        object.characteristics(),
+    ));
     write_sections(json, text, view, object);
     write_symbols(json, text, object);
 }

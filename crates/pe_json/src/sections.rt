@@ -7,21 +7,16 @@ use pe_head::SectionHeader;
 use pe_view::View;
 use pe_views::FlagKind;
 
-/// The bytes of a name field without the zero bytes at its end.
-fn without_zeros(field: &[u8; 8]) -> &[u8] {
-    match field.as_slice().rfind_not_byteset(b"\0") {
-        Some(last) => field.get(..=last).unwrap_or(field),
-        None => b"",
-    }
-}
-
-/// A section of a name ("PE Format", Section Table).
+/// A section of a name ("PE Format", Section Table). Its short name is the field without the zero bytes at its end.
 pub(crate) fn section_members<'a>(
     number: Member<'a>,
     name: &'a [u8],
     header: &'a SectionHeader,
 ) -> [Member<'a>; 13] {
-    let field = without_zeros(&header.name);
+    let field = match header.name.as_slice().rfind_not_byteset(b"\0") {
+        Some(last) => header.name.get(..=last).unwrap_or(&header.name),
+        None => &b""[..],
+    };
     [
         number,
         ("name", Name("name_hex", name)),

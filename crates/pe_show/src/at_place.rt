@@ -35,14 +35,14 @@ fn laid_at(layout: &Layout, offset: u64) -> Option<u32> {
     if offset < u64::from(headers.size_of_headers) {
         return Some(offset as u32);
     }
-    let section = headers.sections.as_slice().iter().find(|section| {
+    for section in headers.sections.as_slice() {
         let start = u64::from(section.pointer_to_raw_data);
-        offset >= start && offset - start < u64::from(section.rawlen())
-    })?;
-    let behind = offset - u64::from(section.pointer_to_raw_data);
-    section
-        .virtual_address
-        .checked_add(u32::try_from(behind).ok()?)
+        if offset >= start && offset - start < u64::from(section.rawlen()) {
+            let behind = u32::try_from(offset - start).ok()?;
+            return section.virtual_address.checked_add(behind);
+        }
+    }
+    None
 }
 
 /// The RVA of a place of the image.
@@ -80,11 +80,14 @@ fn nearest_export<A: Allocator + Copy>(
 ) -> Option<(u64, u32)> {
     let mut nearest = None;
     for (ordinal, target) in exports.ordinals() {
-        if let Target::Rva(at) = *target
-            && at >= first
-            && at <= rva
-            && nearest.is_none_or(|(_, before)| before < at)
-        {
+        let Target::Rva(at) = *target else {
+            continue;
+        };
+        let is_nearer = match nearest {
+            Some((_, before)) => before < at,
+            None => true,
+        };
+        if at >= first && at <= rva && is_nearer {
             nearest = Some((*ordinal, at));
         }
     }
@@ -93,11 +96,12 @@ fn nearest_export<A: Allocator + Copy>(
 
 /// The first name of an ordinal.
 fn name_of<'a, A: Allocator + Copy>(exports: &Exports<'a, A>, ordinal: u64) -> Option<&'a [u8]> {
-    let index = exports
-        .name_ordinals()
-        .iter()
-        .position(|it| *it == ordinal)?;
-    exports.names().get(index).map(|name| name.0)
+    for ((name, _), it) in exports.names().iter().zip(exports.name_ordinals()) {
+        if *it == ordinal {
+            return Some(name);
+        }
+    }
+    None
 }
 
 /// Whether an RVA is one of so many from another on.
@@ -130,35 +134,22 @@ fn export_cells<'a, A: Allocator + Copy>(
 
 /// The import whose slot is at an RVA, as `  slot of KERNEL32.dll Sleep`.
 fn slot_cells<'a>(imports: &[Import<'a>], width: u32, rva: u32) -> [Cell<'a>; 5] {
-    match imports
-        .iter()
-        .find(|import| is_within(rva, import.slot, width))
-    {
-        None => [NOTHING; 5],
-        Some(import) => {
+    for import in imports {
+        if is_within(rva, import.slot, width) {
             let [first, second] = key_cells(import.key);
-            let module = Cell::Name(import.module);
-            [
+            return [
                 Cell::Words("  slot of "),
-                module,
+                Cell::Name(import.module),
                 Cell::Words(" "),
                 first,
                 second,
-            ]
+            ];
         }
     }
+    [NOTHING; 5]
 }
 
-/// The address that a field holds while the image stands at its ImageBase, where it holds a whole one.
-fn held_address(layout: &Layout, fixup: &Fixup) -> Option<u64> {
-    match fixup.kind {
-        FixupKind::Bits32 => layout.u32_at(fixup.field).map(u64::from),
-        FixupKind::Bits64 => layout.u64_at(fixup.field),
-        FixupKind::High | FixupKind::Low => None,
-    }
-}
-
-/// Where an address that a field holds lies, as ` that points to RVA 0x1350 .text+0x350`.
+/// Where an address that a field holds while the image stands at its ImageBase lies, as ` that points to RVA 0x1350 .text+0x350`.
 fn target_cells<'a>(layout: &Layout, names: &SectionNames<'a>, address: u64) -> [Cell<'a>; 6] {
     match rva_of(layout, Place::Address(address)) {
         Some(rva) => {
@@ -194,28 +185,31 @@ fn field_cells<'a>(
     fixups: &[Fixup],
     rva: u32,
 ) -> [Cell<'a>; 9] {
-    let Some(fixup) = fixups
-        .iter()
-        .find(|it| is_within(rva, it.field, it.kind.width()))
-    else {
-        return [NOTHING; 9];
-    };
-    let [to, number, gap, name, plus, offset] = match held_address(layout, fixup) {
-        Some(address) => target_cells(layout, names, address),
-        None => [NOTHING; 6],
-    };
-    let width = Cell::Right(u64::from(fixup.kind.width()), 1);
-    [
-        Cell::Words("  field of "),
-        width,
-        Cell::Words(" bytes"),
-        to,
-        number,
-        gap,
-        name,
-        plus,
-        offset,
-    ]
+    for fixup in fixups {
+        if is_within(rva, fixup.field, fixup.kind.width()) {
+            let address = match fixup.kind {
+                FixupKind::Bits32 => layout.u32_at(fixup.field).map(u64::from),
+                FixupKind::Bits64 => layout.u64_at(fixup.field),
+                FixupKind::High | FixupKind::Low => None,
+            };
+            let [to, number, gap, name, plus, offset] = match address {
+                Some(address) => target_cells(layout, names, address),
+                None => [NOTHING; 6],
+            };
+            return [
+                Cell::Words("  field of "),
+                Cell::Right(u64::from(fixup.kind.width()), 1),
+                Cell::Words(" bytes"),
+                to,
+                number,
+                gap,
+                name,
+                plus,
+                offset,
+            ];
+        }
+    }
+    [NOTHING; 9]
 }
 
 /// Where an RVA lies, as `RVA 0x251e4  address 0x241bb51e4  file 0x1ffe4  .idata+0x1e4 rw-`.
@@ -272,7 +266,10 @@ fn write_at<A: Allocator + Copy, W: Sink>(
     ensures { AddsSome W.taken W.failures text.old text.new }
 {
     let layout = &image.layout;
-    let first = section_of(layout, rva).map_or(u32::MAX, |section| section.0);
+    let first = match section_of(layout, rva) {
+        Some((first, _)) => first,
+        None => u32::MAX,
+    };
     write_cells(text, &where_cells(layout, names, rva));
     write_cells(text, &export_cells(&image.exports, first, rva));
     write_cells(text, &slot_cells(&image.imports, layout.slot_width(), rva));

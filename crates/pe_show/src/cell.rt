@@ -5,11 +5,12 @@ ghost use Rattle.pe_text.specs.TextWriter.{IsReady};
 ghost use Rattle.pe_show.specs.Page.{AddsSome};
 
 use crate::date::write_date;
-use crate::flags::{FlagField, write_flags};
+use crate::flags::write_flags;
 use crate::name::{name_part, name_width};
 use itoa::Buffer;
 use pe_text::Part::{self, Decimal, Text};
 use pe_text::{Sink, TextWriter, write_parts};
+use pe_views::FlagKind;
 
 /// A cell of a row.
 #[derive(Clone, Copy)]
@@ -31,7 +32,7 @@ pub(crate) enum Cell<'a> {
     /// A time stamp as a date.
     Date(u32),
     /// The flags that stand in a field, by name.
-    Flags(FlagField),
+    Flags(FlagKind, u32),
 }
 
 /// The word for so many things.
@@ -102,7 +103,7 @@ fn write_cell<W: Sink>(text: &mut TextWriter<W>, cell: &Cell)
             ],
         ),
         Cell::Date(seconds) => write_date(text, *seconds),
-        Cell::Flags(field) => write_flags(text, *field),
+        Cell::Flags(kind, flags) => write_flags(text, *kind, *flags),
     }
 }
 

@@ -4,10 +4,10 @@ ghost use Rattle.pe_text.specs.TextWriter.{IsReady};
 ghost use Rattle.pe_show.specs.Page.{AddsSome};
 
 use crate::cell::{Cell, hex_width, plural, write_cells};
-use crate::fixups::page_count;
+use crate::fixups::same_page;
 use crate::heading::write_heading;
 use crate::image::Tables;
-use crate::imports::{begins_run, module_of, run_len};
+use crate::imports::{module_name, same_module};
 use crate::name::name_width;
 use crate::options::ShowOptions;
 use crate::place::SectionNames;
@@ -21,9 +21,10 @@ use std::alloc::Allocator;
 /// How many modules the row of the imports names.
 const MODULES_SHOWN: usize = 4;
 
-/// How wide the columns of directories are.
+/// How many directories are present, and how wide their columns are.
 #[derive(Clone, Copy)]
 struct Widths {
+    count: usize,
     name: usize,
     rva: u8,
     size: u8,
@@ -57,9 +58,10 @@ fn section_of<'a>(
     }
 }
 
-/// The widths of the directories that are present.
+/// The number and the widths of the directories that are present.
 fn widths_of(layout: &Layout, names: &SectionNames) -> Widths {
     let mut widths = Widths {
+        count: 0,
         name: 6,
         rva: 6,
         size: 5,
@@ -67,6 +69,7 @@ fn widths_of(layout: &Layout, names: &SectionNames) -> Widths {
     };
     for (index, directory) in layout.headers().directories.as_slice().iter().enumerate() {
         if is_present(directory) {
+            widths.count = widths.count.saturating_add(1);
             widths.name = widths.name.max(name_of(index).len());
             widths.rva = widths.rva.max(hex_width(u64::from(directory.rva)));
             widths.size = widths.size.max(hex_width(u64::from(directory.size)));
@@ -102,10 +105,10 @@ fn write_export_count<A: Allocator + Copy, W: Sink>(text: &mut TextWriter<W>, ex
 fn first_runs<'a>(imports: &[Import<'a>]) -> (ArrayVec<(&'a [u8], usize), MODULES_SHOWN>, usize) {
     let mut shown = ArrayVec::new();
     let mut modules: usize = 0;
-    for index in 0..imports.len() {
-        if begins_run(imports, index) {
-            modules = modules.saturating_add(1);
-            let _ = shown.try_push((module_of(imports, index), run_len(imports, index)));
+    for module in imports.chunk_by(same_module) {
+        modules = modules.saturating_add(1);
+        if let Some(import) = module.first() {
+            let _ = shown.try_push((module_name(import), module.len()));
         }
     }
     (shown, modules)
@@ -151,7 +154,7 @@ fn write_fixup_count<W: Sink>(text: &mut TextWriter<W>, fixups: &[Fixup])
     requires { IsReady W.failures text.old }
     ensures { AddsSome W.taken W.failures text.old text.new }
 {
-    let pages = page_count(fixups);
+    let pages = fixups.chunk_by(same_page).count();
     write_cells(
         text,
         &[
@@ -226,11 +229,7 @@ pub(crate) fn write_directories<A: Allocator + Copy, W: Sink>(
 {
     let directories = layout.headers().directories.as_slice();
     let widths = widths_of(layout, names);
-    let count = directories
-        .iter()
-        .filter(|directory| is_present(directory))
-        .count();
-    write_heading(text, options, "Tables", count);
+    write_heading(text, options, "Tables", widths.count);
     for (index, directory) in directories.iter().enumerate() {
         let section = section_of(layout, names, index, directory);
         write_directory(text, &widths, index, directory, section, tables);

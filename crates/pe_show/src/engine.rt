@@ -1,25 +1,16 @@
 //! The engine that shows an image or an object.
 
-ghost use Rattle.std.specs.Prelude.{◌≡◌, ◌-◌, ◌^◌, ◌<◌, ◌↔◌, IsErrOf};
+ghost use Rattle.std.specs.Prelude.{◌-◌, ◌^◌, ◌<◌, ◌↔◌, IsErrOf};
 ghost use Rattle.pe_text.specs.Engine.{Ran};
-ghost use Rattle.pe_text.specs.FileKind.{kind_of};
-ghost use Rattle.pe_show.specs.Judged.{is_object, IsJudged};
+ghost use Rattle.pe_show.specs.Judged.{IsJudged};
 
 use crate::heading::Page;
 use crate::image::show_image;
 use crate::object::show_object;
 use crate::options::ShowOptions;
-use pe_text::{
-    FileKind, Outcome, Report, Sink, Source, TextWriter, ToolError, file_kind, run_report,
-};
+use pe_text::{Outcome, Report, Sink, Source, TextWriter, ToolError, run_report};
+use pe_views::is_object;
 use std::alloc::{AllocError, Allocator};
-
-/// Whether a file begins as an object does.
-fn is_object(file: &[u8]) -> bool
-    ensures { result ≡ is_object (kind_of file.now) }
-{
-    matches!(file_kind(file), Some(FileKind::Object))
-}
 
 impl<'p> Report for Page<'p> {
     ghost is_text = { IsJudged };

@@ -11,6 +11,7 @@ use crate::place::SectionNames;
 use pe_layout::Layout;
 use pe_tables::{Exports, Key, Target};
 use pe_text::{Sink, TextWriter};
+use pe_views::{ExportName, names_of};
 use std::alloc::Allocator;
 
 /// How wide the columns of exports are.
@@ -44,13 +45,6 @@ fn widths_of(exports: &[(u64, Target)], layout: &Layout, names: &SectionNames) -
         }
     }
     widths
-}
-
-/// The names of an ordinal among these, which are ordered by their ordinals.
-fn names_of(names: &[(u64, usize)], ordinal: u64) -> &[(u64, usize)] {
-    let first = names.partition_point(|name| name.0 < ordinal);
-    let end = names.partition_point(|name| name.0 <= ordinal);
-    names.get(first..end).unwrap_or(&[])
 }
 
 /// Adds what an ordinal exports.
@@ -113,14 +107,17 @@ fn gap_of(widths: &Widths, layout: &Layout, sections: &SectionNames, target: &Ta
 fn write_names<A: Allocator + Copy, W: Sink>(
     text: &mut TextWriter<W>,
     exports: &Exports<A>,
-    names: &[(u64, usize)],
+    names: &[ExportName],
     blanks: usize,
 )
     requires { IsReady W.failures text.old }
     ensures { AddsSome W.taken W.failures text.old text.new }
 {
     for (place, (_, index)) in names.iter().enumerate() {
-        let name = exports.names().get(*index).map_or(&b""[..], |name| name.0);
+        let name = match exports.names().get(*index) {
+            Some((name, _)) => name,
+            None => &b""[..],
+        };
         let (blanks, gap) = if place == 0 {
             (blanks, "  ")
         } else {

@@ -8,16 +8,6 @@ use crate::options::ShowOptions;
 use pe_text::{FaultWords, Outcome, Sink, TextWriter, fault_words};
 use pe_view::Place;
 
-/// The cells of a fault's place.
-fn place_cells(place: Place) -> [Cell<'static>; 2] {
-    match place {
-        Place::File(offset) => [Cell::Words(" at 0x"), Cell::Hex(offset, 1)],
-        Place::Rva(rva) => [Cell::Words(" at RVA 0x"), Cell::Hex(u64::from(rva), 1)],
-        Place::Address(address) => [Cell::Words(" 0x"), Cell::Hex(address, 1)],
-        Place::Item(item) => [Cell::Words(" "), Cell::Right(u64::from(item), 1)],
-    }
-}
-
 /// Adds the row of a fault, if there is one: `Fault 13: section header at 0x138: the section's raw data passes the end of the
 /// file`.
 pub(crate) fn write_refusal<W: Sink>(
@@ -35,7 +25,12 @@ pub(crate) fn write_refusal<W: Sink>(
         subject: "place",
         rule: "no fault has this number",
     });
-    let [at, place] = place_cells(fault.place);
+    let (at, place) = match fault.place {
+        Place::File(offset) => (Cell::Words(" at 0x"), Cell::Hex(offset, 1)),
+        Place::Rva(rva) => (Cell::Words(" at RVA 0x"), Cell::Hex(u64::from(rva), 1)),
+        Place::Address(address) => (Cell::Words(" 0x"), Cell::Hex(address, 1)),
+        Place::Item(item) => (Cell::Words(" "), Cell::Right(u64::from(item), 1)),
+    };
     write_cells(
         text,
         &[

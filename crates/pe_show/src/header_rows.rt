@@ -4,11 +4,11 @@ ghost use Rattle.pe_text.specs.TextWriter.{IsReady};
 ghost use Rattle.pe_show.specs.Page.{AddsSome};
 
 use crate::cell::{Cell, write_cells};
-use crate::flags::FlagField;
 use crate::heading::Kind;
 use crate::place::Place;
 use pe_head::{Headers, Magic, characteristic, machine_name, subsystem_name};
 use pe_text::{Sink, TextWriter};
+use pe_views::FlagKind;
 
 /// A value's name, or its number where the format has no name for it.
 pub(crate) fn named(name: Option<&'static str>, value: u16) -> [Cell<'static>; 2] {
@@ -16,19 +16,6 @@ pub(crate) fn named(name: Option<&'static str>, value: u16) -> [Cell<'static>; 2
         Some(name) => [Cell::Words(name), Cell::Words("")],
         None => [Cell::Words("0x"), Cell::Hex(u64::from(value), 4)],
     }
-}
-
-/// A time stamp as a date; 0 and the greatest number stand for none.
-fn stamp(seconds: u32) -> Cell<'static> {
-    match seconds {
-        0 | u32::MAX => Cell::Words("not set"),
-        _ => Cell::Date(seconds),
-    }
-}
-
-/// The word for a field without flags.
-fn none_of(flags: u16) -> Cell<'static> {
-    Cell::Words(if flags == 0 { " none" } else { "" })
 }
 
 /// What an image is.
@@ -44,16 +31,20 @@ pub(crate) fn image_kind(headers: &Headers) -> Kind {
     [Cell::Words(kind), machine, number, Cell::Words(", ")]
 }
 
-/// Adds the row of a time stamp.
+/// Adds the row of a time stamp; 0 and the greatest number stand for none.
 pub(crate) fn write_stamp<W: Sink>(text: &mut TextWriter<W>, seconds: u32)
     requires { IsReady W.failures text.old }
     ensures { AddsSome W.taken W.failures text.old text.new }
 {
+    let date = match seconds {
+        0 | u32::MAX => Cell::Words("not set"),
+        _ => Cell::Date(seconds),
+    };
     write_cells(
         text,
         &[
             Cell::Words("\n  Time stamp   "),
-            stamp(seconds),
+            date,
             Cell::Words(" (0x"),
             Cell::Hex(u64::from(seconds), 8),
             Cell::Words(")\n"),
@@ -62,20 +53,21 @@ pub(crate) fn write_stamp<W: Sink>(text: &mut TextWriter<W>, seconds: u32)
 }
 
 /// Adds the row of a field of flags.
-pub(crate) fn write_flag_row<W: Sink>(text: &mut TextWriter<W>, words: &str, field: FlagField)
+pub(crate) fn write_flag_row<W: Sink>(
+    text: &mut TextWriter<W>,
+    words: &str,
+    kind: FlagKind,
+    flags: u16,
+)
     requires { IsReady W.failures text.old }
     ensures { AddsSome W.taken W.failures text.old text.new }
 {
-    let none = match field {
-        FlagField::File(flags) | FlagField::Dll(flags) => none_of(flags),
-        FlagField::Section(_) => Cell::Words(""),
-    };
     write_cells(
         text,
         &[
             Cell::Words(words),
-            none,
-            Cell::Flags(field),
+            Cell::Words(if flags == 0 { " none" } else { "" }),
+            Cell::Flags(kind, u32::from(flags)),
             Cell::Words("\n"),
         ],
     );
@@ -115,14 +107,6 @@ fn write_versions<W: Sink>(text: &mut TextWriter<W>, headers: &Headers)
     );
 }
 
-/// The cells of a file offset, where there is one.
-fn file_cells(file: Option<u64>) -> [Cell<'static>; 2] {
-    match file {
-        Some(file) => [Cell::Words("  file 0x"), Cell::Hex(file, 1)],
-        None => [Cell::Words(""), Cell::Words("")],
-    }
-}
-
 /// Adds the row of the entry point: its RVA, and where it lies, if the image is laid out.
 fn write_entry<W: Sink>(text: &mut TextWriter<W>, rva: u32, place: Option<Place>)
     requires { IsReady W.failures text.old }
@@ -140,7 +124,10 @@ fn write_entry<W: Sink>(text: &mut TextWriter<W>, rva: u32, place: Option<Place>
         ),
         Some(place) => {
             let [name, plus, offset] = place.cells();
-            let [words, file] = file_cells(place.file);
+            let (words, file) = match place.file {
+                Some(file) => (Cell::Words("  file 0x"), Cell::Hex(file, 1)),
+                None => (Cell::Words(""), Cell::Words("")),
+            };
             write_cells(
                 text,
                 &[
@@ -227,11 +214,13 @@ pub(crate) fn write_headers<W: Sink>(
     write_flag_row(
         text,
         "  Image flags ",
-        FlagField::File(headers.characteristics),
+        FlagKind::File,
+        headers.characteristics,
     );
     write_flag_row(
         text,
         "  DLL flags   ",
-        FlagField::Dll(headers.dll_characteristics),
+        FlagKind::Dll,
+        headers.dll_characteristics,
     );
 }

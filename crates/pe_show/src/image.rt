@@ -6,8 +6,8 @@ ghost use Rattle.pe_layout.specs.Layout.{IsLayoutOf, image_of};
 ghost use Rattle.pe_layout.specs.SectionFaults.{layout_tests};
 ghost use Rattle.pe_image.specs.ImageTests.{table_tests, image_tests};
 ghost use Rattle.pe_text.specs.TextWriter.{IsReady};
-ghost use Rattle.pe_show.specs.Judged.{IsOutcomeOf};
 ghost use Rattle.pe_show.specs.Page.{AddsSome};
+ghost use Rattle.pe_views.specs.Judged.{IsOutcomeOf};
 
 use crate::cell::Cell;
 use crate::directories::write_directories;
@@ -24,6 +24,7 @@ use pe_layout::Layout;
 use pe_tables::{Exports, Fixup, Import, TableError, read_exports, read_fixups, read_imports};
 use pe_text::{Outcome, Sink, TextWriter};
 use pe_view::{Fault, View};
+use pe_views::{ExportName, names_by_ordinal};
 use std::alloc::{AllocError, Allocator};
 
 /// What was read of an image's tables before its first fault.
@@ -31,8 +32,8 @@ use std::alloc::{AllocError, Allocator};
 pub(crate) struct Tables<'a, A: Allocator> {
     /// The exports, unless one of faults 16 to 22 stands.
     pub exports: Option<Exports<'a, A>>,
-    /// The ordinal of each name that is exported and its index, ordered, where exports are shown.
-    pub names: Vec<(u64, usize), A>,
+    /// The names of the exports by their ordinals, where exports are shown.
+    pub names: Vec<ExportName, A>,
     /// The imports, unless one of the faults up to 32 stands.
     pub imports: Option<Vec<Import<'a>, A>>,
     /// The base relocations, unless one of the faults up to 38 stands.
@@ -69,12 +70,7 @@ impl<'a, A: Allocator + Copy> Tables<'a, A> {
         let (Some(exports), true) = (&self.exports, is_wanted) else {
             return Ok(());
         };
-        let mut names = Vec::with_capacity(alloc, exports.name_ordinals().len())?;
-        for (index, ordinal) in exports.name_ordinals().iter().enumerate() {
-            names.push((*ordinal, index))?;
-        }
-        names.sort_unstable();
-        self.names = names;
+        self.names = names_by_ordinal(alloc, exports)?;
         Ok(())
     }
 }
@@ -112,8 +108,8 @@ fn read_tables<'a, A: Allocator + Copy>(
     Ok(tables)
 }
 
-/// Adds what is shown of an image that one of faults 1 to 15 refuses: its headers, where it has them.
-fn write_unlaid<W: Sink>(text: &mut TextWriter<W>, page: &Page, view: View, outcome: Outcome)
+/// Adds the page of an image that one of faults 1 to 15 refuses, with its headers where it has them.
+fn write_refused<W: Sink>(text: &mut TextWriter<W>, page: &Page, view: View, outcome: Outcome)
     requires { IsReady W.failures text.old }
     ensures { AddsSome W.taken W.failures text.old text.new }
 {
@@ -121,25 +117,12 @@ fn write_unlaid<W: Sink>(text: &mut TextWriter<W>, page: &Page, view: View, outc
         Ok(headers) => {
             write_title(text, page, outcome, image_kind(&headers), view.len());
             write_headers(text, &headers, None);
+            write_refusal(text, page.options, outcome);
         }
-        Err(_) => write_title(text, page, outcome, [Cell::Words(""); 4], view.len()),
-    }
-}
-
-/// Adds the page of an image that one of faults 1 to 15 refuses.
-fn write_refused<W: Sink>(text: &mut TextWriter<W>, page: &Page, view: View, outcome: Outcome)
-    requires { IsReady W.failures text.old }
-    ensures { AddsSome W.taken W.failures text.old text.new }
-{
-    write_unlaid(text, page, view, outcome);
-    write_refusal(text, page.options, outcome);
-}
-
-/// The rows of a table, if it was read.
-fn rows_of<T, A: Allocator>(table: &Option<Vec<T, A>>) -> Option<&[T]> {
-    match table {
-        Some(rows) => Some(rows.as_slice()),
-        None => None,
+        Err(_) => {
+            write_title(text, page, outcome, [Cell::Words(""); 4], view.len());
+            write_refusal(text, page.options, outcome);
+        }
     }
 }
 
@@ -162,8 +145,8 @@ fn write_image<A: Allocator + Copy, W: Sink>(
     write_sections(text, page.options, headers, &names);
     write_directories(text, page.options, layout, &names, tables);
     write_exports(text, page.options, layout, &names, tables);
-    write_imports(text, page.options, rows_of(&tables.imports));
-    write_fixups(text, page.options, rows_of(&tables.fixups));
+    write_imports(text, page.options, tables);
+    write_fixups(text, page.options, tables);
     write_refusal(text, page.options, tables.outcome);
 }
 

@@ -30,7 +30,6 @@ mod object;
 mod object_sections;
 mod options;
 mod place;
-mod relocation_types;
 mod sections;
 mod symbols;
 

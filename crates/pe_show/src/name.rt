@@ -26,15 +26,6 @@ fn plain_text(name: &[u8]) -> Option<&str> {
     (!is_quoted && text.chars().all(is_safe)).then_some(text)
 }
 
-/// How many columns a byte of a name in quotes takes.
-fn quoted_width(byte: u8) -> usize {
-    match byte {
-        b'"' | b'\\' => 4,
-        b' '..=b'~' => 1,
-        _ => 4,
-    }
-}
-
 /// A name as a part of a line: as it stands where it is plain, else in quotes, with `\x` and two digits for a byte that is not
 /// printable.
 pub(crate) fn name_part(name: &[u8]) -> Part<'_> {
@@ -47,11 +38,18 @@ pub(crate) fn name_part(name: &[u8]) -> Part<'_> {
 
 /// How many columns a name takes.
 pub(crate) fn name_width(name: &[u8]) -> usize {
-    match plain_text(cut(name)) {
-        Some(text) => text.chars().count(),
-        None => cut(name).iter().fold(
-            2,
-            |width: usize, byte| width.saturating_add(quoted_width(*byte)),
-        ),
+    let name = cut(name);
+    if let Some(text) = plain_text(name) {
+        return text.chars().count();
     }
+    let mut width: usize = 2;
+    for byte in name {
+        let columns = match byte {
+            b'"' | b'\\' => 4,
+            b' '..=b'~' => 1,
+            _ => 4,
+        };
+        width = width.saturating_add(columns);
+    }
+    width
 }

@@ -3,31 +3,20 @@
 ghost use Rattle.std.specs.Prelude.{◌≡◌, ◌<◌, length, IfOk, OnErr};
 ghost use Rattle.coff_object.specs.ObjectFaults.{object_tests};
 ghost use Rattle.pe_text.specs.TextWriter.{IsReady};
-ghost use Rattle.pe_show.specs.Judged.{IsOutcomeOf};
 ghost use Rattle.pe_show.specs.Page.{AddsSome};
+ghost use Rattle.pe_views.specs.Judged.{IsOutcomeOf};
 
 use crate::cell::{Cell, write_cells};
 use crate::fault::write_refusal;
-use crate::flags::FlagField;
 use crate::header_rows::{named, write_flag_row, write_stamp};
-use crate::heading::{Kind, Page, write_title};
-use crate::object_sections::{write_relocations, write_sections};
+use crate::heading::{Page, write_title};
+use crate::object_sections::{read_sections, write_relocations, write_sections};
 use crate::symbols::{SymbolNames, write_symbols};
-use coff_object::ObjectFile;
+use coff_object::{FileSection, ObjectFile};
 use pe_head::machine_name;
 use pe_text::{Outcome, Sink, TextWriter};
+use pe_views::FlagKind;
 use std::alloc::{AllocError, Allocator};
-
-/// What an object is.
-fn object_kind(machine: u16) -> Kind {
-    let [name, number] = named(machine_name(machine), machine);
-    [
-        Cell::Words("COFF object for "),
-        name,
-        number,
-        Cell::Words(", "),
-    ]
-}
 
 /// Adds the rows of an object's header.
 fn write_header<W: Sink>(text: &mut TextWriter<W>, object: &ObjectFile)
@@ -38,7 +27,8 @@ fn write_header<W: Sink>(text: &mut TextWriter<W>, object: &ObjectFile)
     write_flag_row(
         text,
         "  Flags       ",
-        FlagField::File(object.characteristics()),
+        FlagKind::File,
+        object.characteristics(),
     );
     write_cells(
         text,
@@ -55,23 +45,22 @@ fn write_object<A: Allocator + Copy, W: Sink>(
     text: &mut TextWriter<W>,
     page: &Page,
     object: &ObjectFile,
+    sections: &[FileSection],
     names: &SymbolNames<A>,
     len: u64,
 )
     requires { IsReady W.failures text.old }
     ensures { AddsSome W.taken W.failures text.old text.new }
 {
-    write_title(
-        text,
-        page,
-        Outcome::Done,
-        object_kind(object.machine()),
-        len,
-    );
+    let machine = object.machine();
+    let [name, number] = named(machine_name(machine), machine);
+    let words = Cell::Words("COFF object for ");
+    let kind = [words, name, number, Cell::Words(", ")];
+    write_title(text, page, Outcome::Done, kind, len);
     write_header(text, object);
-    write_sections(text, page.options, object);
-    write_relocations(text, page.options, object, names);
-    write_symbols(text, page.options, object);
+    write_sections(text, page.options, sections);
+    write_relocations(text, page.options, machine, sections, names);
+    write_symbols(text, page.options, object, sections);
 }
 
 /// Adds the page of a refused object.
@@ -102,8 +91,9 @@ pub(crate) fn show_object<A: Allocator + Copy, W: Sink>(
     let len = file.len() as u64;
     match ObjectFile::new(file) {
         Ok(object) => {
+            let sections = read_sections(alloc, &object)?;
             let names = SymbolNames::new(alloc, &object, page.options.relocations)?;
-            write_object(text, page, &object, &names, len);
+            write_object(text, page, &object, &sections, &names, len);
             Ok(Outcome::Done)
         }
         Err(fault) => {

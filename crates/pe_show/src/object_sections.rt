@@ -4,18 +4,17 @@ ghost use Rattle.pe_text.specs.TextWriter.{IsReady};
 ghost use Rattle.pe_show.specs.Page.{AddsSome};
 
 use crate::cell::{Cell, decimal_width, hex_width, write_cells};
-use crate::flags::FlagField;
 use crate::header_rows::named;
 use crate::heading::write_heading;
 use crate::name::name_width;
 use crate::options::ShowOptions;
 use crate::place::cut;
-use crate::relocation_types::type_name;
 use crate::sections::{content, permissions};
 use crate::symbols::SymbolNames;
 use coff_object::{FileSection, ObjectFile, RawData, Relocation};
 use pe_text::{Sink, TextWriter};
-use std::alloc::Allocator;
+use pe_views::{FlagKind, relocation_type_name};
+use std::alloc::{AllocError, Allocator};
 
 /// How wide the columns of sections are.
 #[derive(Clone, Copy)]
@@ -23,6 +22,20 @@ struct Widths {
     number: usize,
     name: usize,
     bytes: u8,
+}
+
+/// The sections of an object. The name of each is searched for its end, so they are read once.
+pub(crate) fn read_sections<'a, A: Allocator + Copy>(
+    alloc: A,
+    object: &ObjectFile<'a>,
+) -> Result<Vec<FileSection<'a>, A>, AllocError> {
+    let mut sections = Vec::with_capacity(alloc, object.section_count())?;
+    for index in 0..object.section_count() {
+        if let Some(section) = object.section(index) {
+            sections.push(section)?;
+        }
+    }
+    Ok(sections)
 }
 
 /// How many bytes a section has, and how many of them stand in the file.
@@ -34,17 +47,15 @@ fn sizes_of(raw: &RawData) -> (u64, u64) {
 }
 
 /// The widths of an object's sections.
-fn widths_of(object: &ObjectFile) -> Widths {
+fn widths_of(sections: &[FileSection]) -> Widths {
     let mut widths = Widths {
-        number: decimal_width(object.section_count() as u64).max(4),
+        number: decimal_width(sections.len() as u64).max(4),
         name: 8,
         bytes: 6,
     };
-    for index in 0..object.section_count() {
-        if let Some(section) = object.section(index) {
-            widths.name = widths.name.max(name_width(cut(section.name)));
-            widths.bytes = widths.bytes.max(hex_width(sizes_of(&section.raw).0));
-        }
+    for section in sections {
+        widths.name = widths.name.max(name_width(cut(section.name)));
+        widths.bytes = widths.bytes.max(hex_width(sizes_of(&section.raw).0));
     }
     widths
 }
@@ -76,23 +87,23 @@ fn write_section<W: Sink>(
             Cell::Hex(in_file, widths.bytes),
             Cell::Words("   "),
             Cell::Right(section.relocations.len() as u64, 11),
-            Cell::Flags(FlagField::Section(section.flags)),
+            Cell::Flags(FlagKind::Section, section.flags),
             Cell::Words("\n"),
         ],
     );
 }
 
-/// Adds the heading of the sections and the names of their columns.
-fn write_columns<W: Sink>(
+/// Adds the table of an object's sections, which are numbered from 1.
+pub(crate) fn write_sections<W: Sink>(
     text: &mut TextWriter<W>,
     options: &ShowOptions,
-    widths: &Widths,
-    count: usize,
+    sections: &[FileSection],
 )
     requires { IsReady W.failures text.old }
     ensures { AddsSome W.taken W.failures text.old text.new }
 {
-    write_heading(text, options, "Sections", count);
+    let widths = widths_of(sections);
+    write_heading(text, options, "Sections", sections.len());
     write_cells(
         text,
         &[
@@ -105,22 +116,8 @@ fn write_columns<W: Sink>(
             Cell::Words("relocations\n"),
         ],
     );
-}
-
-/// Adds the table of an object's sections, which are numbered from 1.
-pub(crate) fn write_sections<W: Sink>(
-    text: &mut TextWriter<W>,
-    options: &ShowOptions,
-    object: &ObjectFile,
-)
-    requires { IsReady W.failures text.old }
-    ensures { AddsSome W.taken W.failures text.old text.new }
-{
-    let widths = widths_of(object);
-    write_columns(text, options, &widths, object.section_count());
-    for index in 0..object.section_count() {
-        let section = object.section(index).unwrap();
-        write_section(text, &widths, index, &section);
+    for (index, section) in sections.iter().enumerate() {
+        write_section(text, &widths, index, section);
     }
 }
 
@@ -135,7 +132,10 @@ fn write_relocation<A: Allocator + Copy, W: Sink>(
     ensures { AddsSome W.taken W.failures text.old text.new }
 {
     let [gap, name] = names.cells(relocation.symbol);
-    let [kind, number] = named(type_name(machine, relocation.kind), relocation.kind);
+    let [kind, number] = named(
+        relocation_type_name(machine, relocation.kind),
+        relocation.kind,
+    );
     write_cells(
         text,
         &[
@@ -184,12 +184,10 @@ fn write_section_relocations<A: Allocator + Copy, W: Sink>(
 }
 
 /// How many relocations an object has.
-fn relocation_count(object: &ObjectFile) -> usize {
+fn relocation_count(sections: &[FileSection]) -> usize {
     let mut count: usize = 0;
-    for index in 0..object.section_count() {
-        if let Some(section) = object.section(index) {
-            count = count.saturating_add(section.relocations.len());
-        }
+    for section in sections {
+        count = count.saturating_add(section.relocations.len());
     }
     count
 }
@@ -198,7 +196,8 @@ fn relocation_count(object: &ObjectFile) -> usize {
 pub(crate) fn write_relocations<A: Allocator + Copy, W: Sink>(
     text: &mut TextWriter<W>,
     options: &ShowOptions,
-    object: &ObjectFile,
+    machine: u16,
+    sections: &[FileSection],
     names: &SymbolNames<A>,
 )
     requires { IsReady W.failures text.old }
@@ -207,9 +206,8 @@ pub(crate) fn write_relocations<A: Allocator + Copy, W: Sink>(
     if !options.relocations {
         return;
     }
-    write_heading(text, options, "Relocations", relocation_count(object));
-    for index in 0..object.section_count() {
-        let section = object.section(index).unwrap();
-        write_section_relocations(text, object.machine(), names, &section);
+    write_heading(text, options, "Relocations", relocation_count(sections));
+    for section in sections {
+        write_section_relocations(text, machine, names, section);
     }
 }

@@ -3,9 +3,10 @@
 use crate::cell::{Cell, hex_width};
 use crate::name::name_width;
 use arrayvec::ArrayVec;
-use pe_head::{Headers, SectionHeader};
+use pe_head::Headers;
 use pe_layout::{Layout, Located};
 use pe_view::View;
+use pe_views::{section_name, string_table};
 
 /// The most bytes of a section's name that are shown.
 const NAME_LIMIT: usize = 40;
@@ -32,41 +33,13 @@ pub(crate) fn cut(name: &[u8]) -> &[u8] {
     name.get(..NAME_LIMIT).unwrap_or(name)
 }
 
-/// The number that decimal digits give.
-fn number_of(digits: &[u8]) -> Option<u64> {
-    str::from_utf8(digits).ok()?.parse().ok()
-}
-
-/// The name of a section in the string table, where it is `/` and an offset that leads to a text there. ("PE Format", COFF String
-/// Table.)
-fn long_name<'a>(view: View<'a>, headers: &Headers, short: &[u8]) -> Option<&'a [u8]> {
-    let offset = number_of(short.strip_prefix(b"/")?)?;
-    if headers.pointer_to_symbol_table == 0 {
-        return None;
-    }
-    let strings = u64::from(headers.pointer_to_symbol_table)
-        + 18 * u64::from(headers.number_of_symbols);
-    let size = u64::from(view.u32_at(strings)?);
-    if offset < 4 {
-        return None;
-    }
-    view.until_zero(strings.saturating_add(offset), strings + size)
-}
-
-/// The name of the section whose header stands at an offset of the file: its long name, or up to the first zero byte.
-fn section_name<'a>(view: View<'a>, headers: &Headers, offset: u64) -> &'a [u8] {
-    let field = view.slice(offset, 8).unwrap_or(b"");
-    let short = field.split(|byte| *byte == 0).next().unwrap_or(field);
-    cut(long_name(view, headers, short).unwrap_or(short))
-}
-
 impl<'a> SectionNames<'a> {
-    /// The names of the sections of an image's file.
-    pub fn new(view: View<'a>, headers: &Headers) -> SectionNames<'a> {
-        let count = u8::try_from(headers.number_of_sections).unwrap_or(0);
+    /// The names of the sections of an image's file. Each is searched for its end once.
+    pub fn new(view: View<'a>, headers: &'a Headers) -> SectionNames<'a> {
+        let table = string_table(view, headers);
         let mut names = ArrayVec::new();
-        for index in 0..count.min(96) {
-            names.push(section_name(view, headers, headers.section_offset(index)));
+        for section in headers.sections.as_slice() {
+            let _ = names.try_push(cut(section_name(table, &section.name)));
         }
         SectionNames { names }
     }
@@ -78,35 +51,30 @@ impl<'a> SectionNames<'a> {
 
     /// Where an RVA of the image lies.
     pub fn place(&self, layout: &Layout, rva: u32) -> Place<'a> {
-        match layout.locate(rva) {
-            Located::Header { file } => Place {
-                name: b"headers",
-                offset: Some(rva),
-                file: Some(file),
-            },
-            Located::Raw { section, file } => self.in_section(layout, section, rva, Some(file)),
-            Located::Zero { section } => self.in_section(layout, section, rva, None),
-            Located::Gap => Place {
-                name: b"no section",
-                offset: None,
-                file: None,
-            },
-            Located::Outside => Place {
-                name: b"outside the image",
-                offset: None,
-                file: None,
-            },
-        }
+        let (name, offset, file) = match layout.locate(rva) {
+            Located::Raw { section, file } => return self.in_section(
+                layout,
+                section,
+                rva,
+                Some(file),
+            ),
+            Located::Zero { section } => return self.in_section(layout, section, rva, None),
+            Located::Header { file } => (&b"headers"[..], Some(rva), Some(file)),
+            Located::Gap => (&b"no section"[..], None, None),
+            Located::Outside => (&b"outside the image"[..], None, None),
+        };
+        Place { name, offset, file }
     }
 
     /// A place in a section.
     fn in_section(&self, layout: &Layout, index: u8, rva: u32, file: Option<u64>) -> Place<'a> {
-        let sections = layout.headers().sections.as_slice();
-        let start = sections
-            .get(usize::from(index))
-            .map_or(0, |section| section.virtual_address);
+        let index = usize::from(index);
+        let start = match layout.headers().sections.as_slice().get(index) {
+            Some(section) => section.virtual_address,
+            None => 0,
+        };
         Place {
-            name: self.get(usize::from(index)),
+            name: self.get(index),
             offset: Some(rva.saturating_sub(start)),
             file,
         }
@@ -128,9 +96,10 @@ impl<'a> Place<'a> {
 
     /// How many columns they take.
     pub fn width(&self) -> usize {
-        let offset = self
-            .offset
-            .map_or(0, |offset| 3 + usize::from(hex_width(u64::from(offset))));
+        let offset = match self.offset {
+            Some(offset) => 3 + usize::from(hex_width(u64::from(offset))),
+            None => 0,
+        };
         name_width(self.name).saturating_add(offset)
     }
 }

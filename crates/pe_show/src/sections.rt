@@ -3,17 +3,17 @@
 ghost use Rattle.pe_text.specs.TextWriter.{IsReady};
 ghost use Rattle.pe_show.specs.Page.{AddsSome};
 
-use crate::cell::{Cell, decimal_width, hex_width, write_cells};
-use crate::flags::FlagField;
+use crate::cell::{Cell, hex_width, write_cells};
 use crate::heading::write_heading;
 use crate::name::name_width;
 use crate::options::ShowOptions;
 use crate::place::SectionNames;
 use pe_head::{Headers, SectionHeader, section_flag};
 use pe_text::{Sink, TextWriter};
+use pe_views::FlagKind;
 
 /// How wide the columns of sections are.
-#[derive(Clone, Copy, Default)]
+#[derive(Clone, Copy)]
 struct Widths {
     name: usize,
     rva: u8,
@@ -101,28 +101,8 @@ fn write_section<W: Sink>(
             Cell::Hex(u64::from(section.pointer_to_raw_data), widths.file),
             Cell::Words("   0x"),
             Cell::Hex(u64::from(section.rawlen()), widths.bytes),
-            Cell::Flags(FlagField::Section(section.characteristics)),
+            Cell::Flags(FlagKind::Section, section.characteristics),
             Cell::Words("\n"),
-        ],
-    );
-}
-
-/// Adds the names of the columns.
-fn write_columns<W: Sink>(text: &mut TextWriter<W>, widths: &Widths)
-    requires { IsReady W.failures text.old }
-    ensures { AddsSome W.taken W.failures text.old text.new }
-{
-    let wide = |width: u8| usize::from(width) + 5;
-    write_cells(
-        text,
-        &[
-            Cell::Words("   #  "),
-            Cell::Column(b"name", widths.name),
-            Cell::Words("  flags       "),
-            Cell::Column(b"RVA", wide(widths.rva)),
-            Cell::Column(b"bytes", wide(widths.bytes)),
-            Cell::Column(b"file", wide(widths.file)),
-            Cell::Words("in file\n"),
         ],
     );
 }
@@ -140,7 +120,18 @@ pub(crate) fn write_sections<W: Sink>(
     let sections = headers.sections.as_slice();
     let widths = widths_of(headers, names);
     write_heading(text, options, "Sections", sections.len());
-    write_columns(text, &widths);
+    write_cells(
+        text,
+        &[
+            Cell::Words("   #  "),
+            Cell::Column(b"name", widths.name),
+            Cell::Words("  flags       "),
+            Cell::Column(b"RVA", usize::from(widths.rva) + 5),
+            Cell::Column(b"bytes", usize::from(widths.bytes) + 5),
+            Cell::Column(b"file", usize::from(widths.file) + 5),
+            Cell::Words("in file\n"),
+        ],
+    );
     for (index, section) in sections.iter().enumerate() {
         write_section(text, &widths, index, names.get(index), section);
     }

@@ -7,8 +7,9 @@ use crate::cell::{Cell, decimal_width, write_cells};
 use crate::heading::write_heading;
 use crate::options::ShowOptions;
 use crate::place::cut;
-use coff_object::{ObjectFile, Symbol, SymbolSection};
+use coff_object::{FileSection, ObjectFile, Symbol, SymbolSection};
 use pe_text::{Sink, TextWriter};
+use pe_views::class_name;
 use std::alloc::{AllocError, Allocator};
 
 /// The names of an object's symbols, by the indexes of their records.
@@ -45,47 +46,13 @@ impl<'a, A: Allocator + Copy> SymbolNames<'a, A> {
     }
 }
 
-/// The name of a storage class ("PE Format", Storage Class).
-fn class_name(class: u8) -> Option<&'static str> {
-    match class {
-        0 => Some("NULL"),
-        1 => Some("AUTOMATIC"),
-        2 => Some("EXTERNAL"),
-        3 => Some("STATIC"),
-        4 => Some("REGISTER"),
-        5 => Some("EXTERNAL_DEF"),
-        6 => Some("LABEL"),
-        7 => Some("UNDEFINED_LABEL"),
-        8 => Some("MEMBER_OF_STRUCT"),
-        9 => Some("ARGUMENT"),
-        10 => Some("STRUCT_TAG"),
-        11 => Some("MEMBER_OF_UNION"),
-        12 => Some("UNION_TAG"),
-        13 => Some("TYPE_DEFINITION"),
-        14 => Some("UNDEFINED_STATIC"),
-        15 => Some("ENUM_TAG"),
-        16 => Some("MEMBER_OF_ENUM"),
-        17 => Some("REGISTER_PARAM"),
-        18 => Some("BIT_FIELD"),
-        100 => Some("BLOCK"),
-        101 => Some("FUNCTION"),
-        102 => Some("END_OF_STRUCT"),
-        103 => Some("FILE"),
-        104 => Some("SECTION"),
-        105 => Some("WEAK_EXTERNAL"),
-        107 => Some("CLR_TOKEN"),
-        255 => Some("END_OF_FUNCTION"),
-        _ => None,
-    }
-}
-
 /// The words of a symbol's section.
-fn section_name<'a>(object: &ObjectFile<'a>, section: SymbolSection) -> &'a [u8] {
+fn section_words<'a>(sections: &[FileSection<'a>], section: SymbolSection) -> &'a [u8] {
     match section {
         SymbolSection::Undefined => b"UNDEFINED",
         SymbolSection::Absolute => b"ABSOLUTE",
         SymbolSection::Debug => b"DEBUG",
-        SymbolSection::Section(number) => match object.section(usize::from(number).saturating_sub(
+        SymbolSection::Section(number) => match sections.get(usize::from(number).saturating_sub(
             1,
         )) {
             Some(section) => cut(section.name),
@@ -139,6 +106,7 @@ pub(crate) fn write_symbols<W: Sink>(
     text: &mut TextWriter<W>,
     options: &ShowOptions,
     object: &ObjectFile,
+    sections: &[FileSection],
 )
     requires { IsReady W.failures text.old }
     ensures { AddsSome W.taken W.failures text.old text.new }
@@ -149,7 +117,7 @@ pub(crate) fn write_symbols<W: Sink>(
     let width = decimal_width(object.symbol_count() as u64).max(4);
     write_heading(text, options, "Symbols", object.symbol_count());
     for (index, symbol) in object.symbols() {
-        let section = section_name(object, symbol.section);
+        let section = section_words(sections, symbol.section);
         write_symbol(text, width, index, section, &symbol);
     }
 }

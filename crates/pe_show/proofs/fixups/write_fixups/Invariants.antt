@@ -1,9 +1,14 @@
+use Rattle.std.proofs.Common.{length, ◌≤◌, ◌-◌}
 use Rattle.pe_text.specs.TextWriter.{IsReady}
 use Rattle.pe_show.specs.Page.{AddsSome}
 use Rattle.pe_show.proofs.fixups.write_fixups.Given as goal
 
-abbrev pub invariant-loop-index : goal.invariant-loop-index
-invariant-loop-index g l = record {
+abbrev pub invariant-loop-at : goal.invariant-loop-at
+invariant-loop-at g l = record {
+  within : l.at ≤ length l.fixups;
   ready : IsReady g.W.Sink.failures l.text;
   adds : AddsSome g.W.Sink.taken g.W.Sink.failures l.fn.text l.text;
 }
+
+abbrev pub decreases-loop-at : goal.decreases-loop-at
+decreases-loop-at g l = length l.fixups - l.at

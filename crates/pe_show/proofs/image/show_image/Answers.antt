@@ -5,9 +5,8 @@ use Rattle.pe_view.specs.FirstStanding.{first-in}
 use Rattle.pe_layout.specs.Image.{LaidOut, image_of_file}
 use Rattle.pe_layout.specs.SectionFaults.{layout_tests}
 use Rattle.pe_image.specs.ImageTests.{image_tests, table_tests}
-use Rattle.pe_image.proofs.Phases.{has_bytes}
-use Rattle.pe_show.specs.Judged.{IsOutcomeOf}
-use Rattle.pe_show.proofs.Outcomes.{behind}
+use Rattle.pe_views.specs.Judging.{behind, has_bytes}
+use Rattle.pe_views.specs.Judged.{IsOutcomeOf}
 use Rattle.pe_show.proofs.image.show_image.Goals as goal
 
 pub returns-in_err-tables-in-Ok-clause-reads : goal.returns-in_err-tables-in-Ok-clause-reads

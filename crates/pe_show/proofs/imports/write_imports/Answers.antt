@@ -1,5 +1,10 @@
+use Rattle.std.proofs.Common.{arith}
 use Rattle.pe_show.proofs.Adding.{◌and◌}
 use Rattle.pe_show.proofs.imports.write_imports.Goals as goal
 
-pub loop-index-preserved : goal.loop-index-preserved
-loop-index-preserved g c = record { ready = c.write_import.ensures.1.ready; adds = c.loop-index.invariant.adds and c.write_import.ensures }
+pub loop-at-preserved : goal.loop-at-preserved
+loop-at-preserved g c = record {
+  within = omega (arith, c.module_len-len.ensures.within);
+  ready = c.write_module.ensures.1.ready;
+  adds = c.loop-at.invariant.adds and c.write_module.ensures;
+}

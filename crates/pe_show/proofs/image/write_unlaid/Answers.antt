@@ -1,5 +1,0 @@
-use Rattle.pe_show.proofs.Adding.{◌and◌}
-use Rattle.pe_show.proofs.image.write_unlaid.Goals as goal
-
-pub returns-in-Ok : goal.returns-in-Ok
-returns-in-Ok g c = c.write_title.ensures and c.write_headers.ensures

@@ -1,0 +1,5 @@
+use Rattle.pe_show.proofs.Adding.{◌and◌}
+use Rattle.pe_show.proofs.imports.write_module.Goals as goal
+
+pub loop-import-preserved : goal.loop-import-preserved
+loop-import-preserved g c = record { ready = c.write_cells-in-loop-import.ensures.1.ready; adds = c.loop-import.invariant.adds and c.write_cells-in-loop-import.ensures }
