@@ -1,7 +1,7 @@
 //! What is told on standard error.
 
 use pe_tool::{FaultDetail, FaultText, FileKind, ToolError, fault_detail, file_kind};
-use pe_view::Fault;
+use pe_view::{Fault, View};
 use std::fmt::{self, Display};
 use std::io::{Error, ErrorKind};
 
@@ -62,7 +62,7 @@ impl Display for Told {
 pub(crate) fn tell_fault(rt: &impl Eprint, subject: &str, fault: Fault, first: &[u8], len: u64) {
     let told = Told {
         fault: FaultText(fault),
-        detail: fault_detail(first, len, &fault),
+        detail: fault_detail(View::new(first), len, &fault),
         kind: other_kind(&fault, first),
     };
     let _ = eprintln!(rt; "petool: {subject}: {told}");

@@ -6,14 +6,41 @@ ghost use Rattle.pe_show.specs.Page.{AddsSome};
 use crate::cell::{Cell, write_cells};
 use crate::options::ShowOptions;
 use pe_text::{FaultWords, Outcome, Sink, TextWriter, fault_words};
-use pe_view::Place;
+use pe_view::{Fault, Place, View};
+use pe_views::{Amount, fault_detail};
 
-/// Adds the row of a fault, if there is one: `Fault 13: section header at 0x138: the section's raw data passes the end of the
-/// file`.
+/// The cells of words and of the number behind them.
+fn part_cells(words: &'static str, amount: Amount) -> [Cell<'static>; 3] {
+    let (prefix, number) = match amount {
+        Amount::Nothing => (Cell::Words(""), Cell::Words("")),
+        Amount::Count(count) => (Cell::Words(""), Cell::Right(count, 1)),
+        Amount::Place(place) => (Cell::Words("0x"), Cell::Hex(place, 1)),
+    };
+    [Cell::Words(words), prefix, number]
+}
+
+/// Adds the values of the file that a fault compares, behind a colon, if it compares any.
+fn write_detail<W: Sink>(text: &mut TextWriter<W>, file: View, fault: &Fault)
+    requires { IsReady W.failures text.old }
+    ensures { AddsSome W.taken W.failures text.old text.new }
+{
+    let Some(detail) = fault_detail(file, file.len(), fault) else {
+        return;
+    };
+    let [first, second, third] = detail.parts();
+    write_cells(text, &[Cell::Words(": ")]);
+    write_cells(text, &part_cells(first.0, first.1));
+    write_cells(text, &part_cells(second.0, second.1));
+    write_cells(text, &part_cells(third.0, third.1));
+}
+
+/// Adds the row of a file's fault, if there is one: `Fault 13: section header at 0x138: the section's raw data passes the end of
+/// the file: 16 bytes at 0x200, and the file has 520`.
 pub(crate) fn write_refusal<W: Sink>(
     text: &mut TextWriter<W>,
     options: &ShowOptions,
     outcome: Outcome,
+    file: View,
 )
     requires { IsReady W.failures text.old }
     ensures { AddsSome W.taken W.failures text.old text.new }
@@ -44,8 +71,8 @@ pub(crate) fn write_refusal<W: Sink>(
             place,
             Cell::Words(": "),
             Cell::Words(rule),
-            options.plain(),
-            Cell::Words("\n"),
         ],
     );
+    write_detail(text, file, &fault);
+    write_cells(text, &[options.plain(), Cell::Words("\n")]);
 }

@@ -117,11 +117,11 @@ fn write_refused<W: Sink>(text: &mut TextWriter<W>, page: &Page, view: View, out
         Ok(headers) => {
             write_title(text, page, outcome, image_kind(&headers), view.len());
             write_headers(text, &headers, None);
-            write_refusal(text, page.options, outcome);
+            write_refusal(text, page.options, outcome, view);
         }
         Err(_) => {
             write_title(text, page, outcome, [Cell::Words(""); 4], view.len());
-            write_refusal(text, page.options, outcome);
+            write_refusal(text, page.options, outcome, view);
         }
     }
 }
@@ -147,7 +147,7 @@ fn write_image<A: Allocator + Copy, W: Sink>(
     write_exports(text, page.options, layout, &names, tables);
     write_imports(text, page.options, tables);
     write_fixups(text, page.options, tables);
-    write_refusal(text, page.options, tables.outcome);
+    write_refusal(text, page.options, tables.outcome, view);
 }
 
 /// The layout of an image's file, or the first of faults 1 to 15.

@@ -15,6 +15,7 @@ use crate::symbols::{SymbolNames, write_symbols};
 use coff_object::{FileSection, ObjectFile};
 use pe_head::machine_name;
 use pe_text::{Outcome, Sink, TextWriter};
+use pe_view::View;
 use pe_views::FlagKind;
 use std::alloc::{AllocError, Allocator};
 
@@ -64,14 +65,14 @@ fn write_object<A: Allocator + Copy, W: Sink>(
 }
 
 /// Adds the page of a refused object.
-fn write_refused<W: Sink>(text: &mut TextWriter<W>, page: &Page, outcome: Outcome, len: u64)
+fn write_refused<W: Sink>(text: &mut TextWriter<W>, page: &Page, outcome: Outcome, file: View)
     requires { IsReady W.failures text.old }
     ensures { AddsSome W.taken W.failures text.old text.new }
 {
     let nothing = Cell::Words("");
     let kind = [Cell::Words("COFF object, "), nothing, nothing, nothing];
-    write_title(text, page, outcome, kind, len);
-    write_refusal(text, page.options, outcome);
+    write_title(text, page, outcome, kind, file.len());
+    write_refusal(text, page.options, outcome, file);
 }
 
 /// Judges an object's file, and adds its page. Memory is wanted before the first byte is added.
@@ -98,7 +99,7 @@ pub(crate) fn show_object<A: Allocator + Copy, W: Sink>(
         }
         Err(fault) => {
             let outcome = Outcome::Refused(fault);
-            write_refused(text, page, outcome, len);
+            write_refused(text, page, outcome, View::new(file));
             Ok(outcome)
         }
     }

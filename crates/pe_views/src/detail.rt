@@ -273,8 +273,7 @@ fn size_detail(len: u64) -> FaultDetail {
 
 /// Which values of a file a fault of its size, of its headers or of its section headers tells of, and so which of the cases that
 /// the words of the fault name: where they are among the file's `first` bytes. `len` is how many bytes the whole file has.
-pub fn fault_detail(first: &[u8], len: u64, fault: &Fault) -> Option<FaultDetail> {
-    let first = View::new(first);
+pub fn fault_detail(first: View, len: u64, fault: &Fault) -> Option<FaultDetail> {
     let beginning = Beginning {
         first,
         len,
