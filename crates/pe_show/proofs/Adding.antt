@@ -1,7 +1,7 @@
 -- What is known of a text to which something is added, step by step.
 use Rattle.std.proofs.Common.{ℕ, List, [], ◌++◌, refl, append-nil}
 use Rattle.pe_text.specs.declared.text_writer.TextWriter.{TextWriter}
-use Rattle.pe_text.specs.TextWriter.{IsReady, Adds}
+use Rattle.pe_text.specs.TextWriter.{IsReady}
 use Rattle.pe_text.proofs.Adding.{◌then◌}
 use Rattle.pe_show.specs.Page.{AddsSome}
 
