@@ -16,20 +16,29 @@ fn put(file: &mut [u8], offset: u64, bytes: &[u8]) -> Option<()> {
     Some(())
 }
 
+/// Cuts a file, or fills it up with zeros, to so many bytes.
+fn resize(file: &mut Vec<u8>, len: u64) -> Option<()> {
+    match usize::try_from(len) {
+        Ok(len) if len as u64 <= MOST => file.resize(len, 0).ok(),
+        _ => None,
+    }
+}
+
+/// Writes the bytes of digits in pairs over a file.
+fn put_digits(alloc: Global, file: &mut [u8], offset: u64, digits: &str) -> Option<()> {
+    let bytes = hex::decode(alloc, digits).ok()?;
+    put(file, offset, &bytes)
+}
+
 /// Changes a file as a word says: `len=` and a number of bytes cuts it, or fills it up with zeros; an offset, `=` and digits in
 /// pairs writes bytes over it. `None` where the word says neither, where the bytes do not lie in the file, or where memory is
 /// wanted.
 pub(crate) fn edit(alloc: Global, file: &mut Vec<u8>, word: &str) -> Option<()> {
     let (place, digits) = word.split_once("=")?;
-    if place == "len" {
-        let len = number_of(digits)?;
-        return match usize::try_from(len) {
-            Ok(len) if len as u64 <= MOST => file.resize(len, 0).ok(),
-            _ => None,
-        };
+    match place {
+        "len" => resize(file, number_of(digits)?),
+        _ => put_digits(alloc, file, number_of(place)?, digits),
     }
-    let bytes = hex::decode(alloc, digits).ok()?;
-    put(file, number_of(place)?, &bytes)
 }
 
 /// The file that the first word names, changed as the others say; `None` also where it cannot be read.

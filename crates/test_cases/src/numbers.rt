@@ -8,16 +8,23 @@ pub(crate) fn number_of(word: &str) -> Option<u64> {
     u64::from_str_radix(digits, 16).ok()
 }
 
+/// Adds the byte of two hexadecimal digits, and answers the text behind them.
+fn push_digits<'a>(bytes: &mut Vec<u8>, text: &'a str) -> Option<&'a str> {
+    bytes
+        .push(u8::from_str_radix(text.get(..2)?, 16).ok()?)
+        .ok()?;
+    text.get(2..)
+}
+
 /// The bytes of a text in which `\x` and two hexadecimal digits stand for a byte; `None` also where memory is wanted.
 pub(crate) fn bytes_of(alloc: Global, text: &str) -> Option<Vec<u8>> {
     let mut bytes = Vec::new(alloc);
     for (index, part) in text.split("\\x").enumerate() {
-        let mut rest = part;
-        if index > 0 {
-            let digits = part.get(..2)?;
-            bytes.push(u8::from_str_radix(digits, 16).ok()?).ok()?;
-            rest = part.get(2..)?;
-        }
+        let rest = if index > 0 {
+            push_digits(&mut bytes, part)?
+        } else {
+            part
+        };
         bytes.extend_from_slice(rest.as_bytes()).ok()?;
     }
     Some(bytes)

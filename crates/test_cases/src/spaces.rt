@@ -11,13 +11,13 @@ mod commands;
 mod damaged;
 mod many;
 mod moves;
+mod questions;
 mod windows;
 
-use crate::spaces::commands::{print_bindings, print_buffers, print_replies};
+use crate::spaces::commands::print_replies;
 use crate::spaces::damaged::{print_changed, print_cut, print_slow};
 use crate::spaces::many::print_many;
-use crate::spaces::moves::{print_random, print_return};
-use crate::spaces::windows::{print_edges, print_whole};
+use crate::spaces::questions::{Question, print_question};
 use std::rt::Files;
 
 /// Runs a case of a set, or answers `None` where the line is none or not all agree.
@@ -28,12 +28,12 @@ pub(crate) fn run_space<R: Files + Print + AllocGlobal>(
 ) -> Option<()> {
     match kind {
         "space" => print_replies(rt, rest),
-        "buffer" => print_buffers(rt, rest),
-        "binds" => print_bindings(rt, rest),
-        "whole" => print_whole(rt, rest),
-        "edges" => print_edges(rt, rest),
-        "random" => print_random(rt, rest),
-        "return" => print_return(rt, rest),
+        "buffer" => print_question(rt, Question::Buffers, rest),
+        "binds" => print_question(rt, Question::Bindings, rest),
+        "whole" => print_question(rt, Question::Whole, rest),
+        "edges" => print_question(rt, Question::Edges, rest),
+        "random" => print_question(rt, Question::Random, rest),
+        "return" => print_question(rt, Question::Returns, rest),
         _ => run_damaged(rt, kind, rest),
     }
 }

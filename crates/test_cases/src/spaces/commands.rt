@@ -3,7 +3,7 @@
 use crate::fault_line::FaultLine;
 use crate::numbers::number_of;
 use crate::sets::{SetCase, read_set, set_of};
-use crate::spaces::both::{first_error, opened, print_error};
+use crate::spaces::both::{Both, first_error, opened, print_error};
 use pe_space::{Command, Policy, Reply, SetEntry, Space, run};
 use std::alloc::Global;
 use std::rt::Files;
@@ -78,6 +78,31 @@ fn replies_of<S: Space>(alloc: Global, space: &mut S, commands: &[Command]) -> O
     Some(text)
 }
 
+/// Prints a text, if the other is the same.
+fn print_same<R: Print>(rt: &R, text: &str, other: &str) -> Option<()> {
+    if text != other {
+        return None;
+    }
+    print!(rt; "{text}").ok()
+}
+
+/// Prints what commands answer of a space, if it is a text.
+fn print_replies_of<R: Print + AllocGlobal, S: Space>(
+    rt: &R,
+    space: &mut S,
+    commands: &[Command],
+    text: &str,
+) -> Option<()> {
+    let other = replies_of(rt.alloc(), space, commands)?;
+    print_same(rt, text, other.as_str())
+}
+
+/// Prints what commands answer of both spaces.
+fn print_both<R: Print + AllocGlobal>(rt: &R, both: &mut Both, commands: &[Command]) -> Option<()> {
+    let text = replies_of(rt.alloc(), &mut both.mapped, commands)?;
+    print_replies_of(rt, &mut both.filed, commands, text.as_str())
+}
+
 /// Prints what commands answer of both spaces of a set that has no fault.
 fn print_commands<R: Print + AllocGlobal>(
     rt: &R,
@@ -86,12 +111,19 @@ fn print_commands<R: Print + AllocGlobal>(
     commands: &[Command],
 ) -> Option<()> {
     let mut both = opened(rt.alloc(), set, policy)?;
-    let text = replies_of(rt.alloc(), &mut both.mapped, commands)?;
-    let other = replies_of(rt.alloc(), &mut both.filed, commands)?;
-    if text.as_str() != other.as_str() {
-        return None;
-    }
-    print!(rt; "{text}").ok()
+    print_both(rt, &mut both, commands)
+}
+
+/// Prints that a set has no fault, and what the commands of words answer of it.
+fn print_accepted<R: Print + AllocGlobal>(
+    rt: &R,
+    set: &[SetEntry],
+    policy: Policy,
+    words: &[&str],
+) -> Option<()> {
+    println!(rt; "no fault").ok()?;
+    let commands = commands_of(rt.alloc(), words)?;
+    print_commands(rt, set, policy, &commands)
 }
 
 /// Prints the first error of a set, or what commands answer of it.
@@ -103,40 +135,20 @@ pub(crate) fn print_answers<R: Print + AllocGlobal>(
 ) -> Option<()> {
     match first_error(rt.alloc(), set, policy)? {
         Some(error) => print_error(rt, error),
-        None => {
-            println!(rt; "no fault").ok()?;
-            print_commands(rt, set, policy, &commands_of(rt.alloc(), words)?)
-        }
+        None => print_accepted(rt, set, policy, words),
     }
+}
+
+/// Prints the first error of the set of a case, or what its commands answer.
+fn print_case<R: Print + AllocGlobal>(rt: &R, case: &SetCase) -> Option<()> {
+    let set = set_of(rt.alloc(), &case.members)?;
+    print_answers(rt, &set, case.policy, &case.others)
 }
 
 /// Prints the first error of the set that words make, or what the commands among them answer.
 pub(crate) fn print_replies<R: Files + Print + AllocGlobal>(rt: &R, words: &str) -> Option<()> {
-    let SetCase {
-        members,
-        policy,
-        others,
-    } = read_set(rt, words)?;
-    let set = set_of(rt.alloc(), &members)?;
-    print_answers(rt, &set, policy, &others)
-}
-
-/// Prints the bindings of the set that words make, which are the same in both spaces.
-pub(crate) fn print_bindings<R: Files + Print + AllocGlobal>(rt: &R, words: &str) -> Option<()> {
-    let SetCase {
-        members,
-        policy,
-        others: _,
-    } = read_set(rt, words)?;
-    let set = set_of(rt.alloc(), &members)?;
-    let both = opened(rt.alloc(), &set, policy)?;
-    if *both.mapped.bindings() != *both.filed.bindings() {
-        return None;
-    }
-    for binding in both.mapped.bindings() {
-        println!(rt; "{binding:?}").ok()?;
-    }
-    Some(())
+    let case = read_set(rt, words)?;
+    print_case(rt, &case)
 }
 
 /// How many bytes a buffer has.
@@ -151,22 +163,12 @@ fn buffer_of<S: Space>(space: &S, (address, count): (u64, u32)) -> Option<(bool,
     Some((is_granted, buffer))
 }
 
-/// Prints the buffers of windows of both spaces of the set that words make.
-pub(crate) fn print_buffers<R: Files + Print + AllocGlobal>(rt: &R, words: &str) -> Option<()> {
-    let SetCase {
-        members,
-        policy,
-        others,
-    } = read_set(rt, words)?;
-    let set = set_of(rt.alloc(), &members)?;
-    let both = opened(rt.alloc(), &set, policy)?;
-    for word in &others {
-        let window = window_of(word)?;
-        let (is_granted, buffer) = buffer_of(&both.mapped, window)?;
-        if buffer_of(&both.filed, window)? != (is_granted, buffer) {
-            return None;
-        }
-        println!(rt; "{is_granted} {:08x}", u32::from_be_bytes(buffer)).ok()?;
+/// Prints the buffer of a window of both spaces, in which they leave the same.
+pub(crate) fn print_buffer<R: Print>(rt: &R, both: &Both, word: &str) -> Option<()> {
+    let window = window_of(word)?;
+    let (is_granted, buffer) = buffer_of(&both.mapped, window)?;
+    if buffer_of(&both.filed, window)? != (is_granted, buffer) {
+        return None;
     }
-    Some(())
+    println!(rt; "{is_granted} {:08x}", u32::from_be_bytes(buffer)).ok()
 }

@@ -44,6 +44,22 @@ fn changes_at(alloc: Global, file: &mut Vec<u8>, base: u64, place: usize) -> Opt
     Some(sets)
 }
 
+/// Prints of how many changed files all agree, each with a byte of a range as 0 or as 255.
+fn print_changes<R: Print + AllocGlobal>(
+    rt: &R,
+    file: &mut Vec<u8>,
+    base: u64,
+    from: u64,
+    to: u64,
+) -> Option<()> {
+    let mut sets = 0_u32;
+    for place in from..to {
+        let more = changes_at(rt.alloc(), file, base, usize::try_from(place).ok()?)?;
+        sets = sets.saturating_add(more);
+    }
+    println!(rt; "{sets} files are judged alike").ok()
+}
+
 /// Prints of how many files all agree in which a byte of a range is 0, and 255. The words are the base, the first place, the
 /// place behind the last, and the file.
 pub(crate) fn print_changed<R: Files + Print + AllocGlobal>(rt: &R, words: &str) -> Option<()> {
@@ -52,24 +68,25 @@ pub(crate) fn print_changed<R: Files + Print + AllocGlobal>(rt: &R, words: &str)
     let (to, name) = words.split_once(" ")?;
     let (base, from, to) = (number_of(base)?, number_of(from)?, number_of(to)?);
     let mut file = edited_file(rt, name)?;
-    let mut sets = 0_u32;
-    for place in from..to {
-        let more = changes_at(rt.alloc(), &mut file, base, usize::try_from(place).ok()?)?;
-        sets = sets.saturating_add(more);
+    print_changes(rt, &mut file, base, from, to)
+}
+
+/// Prints what the slow checker alone answers of a set.
+fn print_slow_of<R: Print + AllocGlobal>(rt: &R, set: &[SetEntry], policy: Policy) -> Option<()> {
+    match slow_first(rt.alloc(), set, policy).ok()? {
+        Some(error) => print_error(rt, error),
+        None => println!(rt; "no fault").ok(),
     }
-    println!(rt; "{sets} files are judged alike").ok()
+}
+
+/// Prints what the slow checker alone answers of the set of a case.
+fn print_slow_case<R: Print + AllocGlobal>(rt: &R, case: &SetCase) -> Option<()> {
+    let set = set_of(rt.alloc(), &case.members)?;
+    print_slow_of(rt, &set, case.policy)
 }
 
 /// Prints what the slow checker alone answers of the set that words make.
 pub(crate) fn print_slow<R: Files + Print + AllocGlobal>(rt: &R, words: &str) -> Option<()> {
-    let SetCase {
-        members,
-        policy,
-        others: _,
-    } = read_set(rt, words)?;
-    let set = set_of(rt.alloc(), &members)?;
-    match slow_first(rt.alloc(), &set, policy).ok()? {
-        Some(error) => print_error(rt, error),
-        None => println!(rt; "no fault").ok(),
-    }
+    let case = read_set(rt, words)?;
+    print_slow_case(rt, &case)
 }

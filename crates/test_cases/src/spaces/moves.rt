@@ -1,12 +1,10 @@
 //! Moves of images in both spaces of a set.
 
-use crate::sets::{SetCase, read_set, set_of};
-use crate::spaces::both::{Both, opened};
+use crate::spaces::both::Both;
 use crate::spaces::commands::move_of;
 use crate::spaces::windows::{agree_in, whole};
 use pe_space::Space;
 use std::alloc::Global;
-use std::rt::Files;
 
 /// The bytes of all images of a space.
 fn all_bytes<S: Space>(alloc: Global, space: &S) -> Option<Vec<Vec<u8>>> {
@@ -27,26 +25,15 @@ fn returns<S: Space>(alloc: Global, space: &mut S, image: u16, away: u64) -> Opt
 }
 
 /// Prints whether the move of a word, and the one back, give every byte of before, in both spaces.
-fn print_returned<R: Print + AllocGlobal>(rt: &R, both: &mut Both, word: &str) -> Option<()> {
+pub(crate) fn print_returned<R: Print + AllocGlobal>(
+    rt: &R,
+    both: &mut Both,
+    word: &str,
+) -> Option<()> {
     let (image, away) = move_of(word)?;
     let mapped = returns(rt.alloc(), &mut both.mapped, image, away)?;
     let filed = returns(rt.alloc(), &mut both.filed, image, away)?;
     println!(rt; "as before {mapped} {filed}").ok()
-}
-
-/// Prints the same of each move that words name, in the set that the others make.
-pub(crate) fn print_return<R: Files + Print + AllocGlobal>(rt: &R, words: &str) -> Option<()> {
-    let SetCase {
-        members,
-        policy,
-        others,
-    } = read_set(rt, words)?;
-    let set = set_of(rt.alloc(), &members)?;
-    let mut both = opened(rt.alloc(), &set, policy)?;
-    for word in &others {
-        print_returned(rt, &mut both, word)?;
-    }
-    Some(())
 }
 
 /// The next of a sequence of numbers that look random.
@@ -70,17 +57,10 @@ fn step(alloc: Global, both: &mut Both, state: &mut u64) -> Option<bool> {
 }
 
 /// Prints how many of 400 windows and moves are answered the same by both spaces of a set.
-pub(crate) fn print_random<R: Files + Print + AllocGlobal>(rt: &R, words: &str) -> Option<()> {
-    let SetCase {
-        members,
-        policy,
-        others: _,
-    } = read_set(rt, words)?;
-    let set = set_of(rt.alloc(), &members)?;
-    let mut both = opened(rt.alloc(), &set, policy)?;
+pub(crate) fn print_random<R: Print + AllocGlobal>(rt: &R, both: &mut Both) -> Option<()> {
     let (mut state, mut same) = (1, 0_u32);
     for _ in 0..400_u32 {
-        if step(rt.alloc(), &mut both, &mut state)? {
+        if step(rt.alloc(), both, &mut state)? {
             same = same.saturating_add(1);
         }
     }

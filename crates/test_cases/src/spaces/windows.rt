@@ -1,12 +1,10 @@
 //! Windows of both spaces of a set, which have to be the same.
 
 use crate::numbers::number_of;
-use crate::sets::{SetCase, read_set, set_of};
-use crate::spaces::both::{Both, opened};
+use crate::spaces::both::Both;
 use crate::spaces::commands::move_of;
 use pe_space::Space;
 use std::alloc::Global;
-use std::rt::Files;
 
 /// Whether both spaces answer the same of a window, and leave the same bytes in a buffer.
 pub(crate) fn agree_in(alloc: Global, both: &Both, address: u64, len: usize) -> Option<bool> {
@@ -34,7 +32,11 @@ fn count_same(alloc: Global, both: &Both, first: u64) -> Option<u32> {
 
 /// Moves an image of both spaces, where the word is an image and a base; else prints how many windows are the same that begin at
 /// the address of the word, and up to 15 bytes behind it.
-fn print_edge<R: Print + AllocGlobal>(rt: &R, both: &mut Both, word: &str) -> Option<()> {
+pub(crate) fn print_edge<R: Print + AllocGlobal>(
+    rt: &R,
+    both: &mut Both,
+    word: &str,
+) -> Option<()> {
     if let Some((image, base)) = move_of(word) {
         let moved = both.mapped.move_image(image, base).is_ok();
         let other = both.filed.move_image(image, base).is_ok();
@@ -42,21 +44,6 @@ fn print_edge<R: Print + AllocGlobal>(rt: &R, both: &mut Both, word: &str) -> Op
     }
     let same = count_same(rt.alloc(), both, number_of(word)?)?;
     println!(rt; "{same} windows are the same").ok()
-}
-
-/// Prints how many of the windows around addresses are the same in both spaces of a set.
-pub(crate) fn print_edges<R: Files + Print + AllocGlobal>(rt: &R, words: &str) -> Option<()> {
-    let SetCase {
-        members,
-        policy,
-        others,
-    } = read_set(rt, words)?;
-    let set = set_of(rt.alloc(), &members)?;
-    let mut both = opened(rt.alloc(), &set, policy)?;
-    for word in &others {
-        print_edge(rt, &mut both, word)?;
-    }
-    Some(())
 }
 
 /// The bytes of an image of a space, which are those that stand at its addresses one by one.
@@ -81,15 +68,23 @@ fn refuses_longer<S: Space>(alloc: Global, space: &S, image: u16) -> Option<bool
     Some(is_refused && longer.iter().all(|byte| *byte == 0xee))
 }
 
+/// How many bytes an image has, where they are the same in both spaces.
+fn same_len(alloc: Global, both: &Both, image: u16) -> Option<usize> {
+    let bytes = whole(alloc, &both.mapped, image)?;
+    let others = whole(alloc, &both.filed, image)?;
+    if bytes == others {
+        Some(bytes.len())
+    } else {
+        None
+    }
+}
+
 /// Prints the base and the size of an image, whose bytes are the same in both spaces.
 fn print_image<R: Print + AllocGlobal>(rt: &R, both: &Both, image: u16) -> Option<()> {
-    let bytes = whole(rt.alloc(), &both.mapped, image)?;
-    if bytes != whole(rt.alloc(), &both.filed, image)? {
-        return None;
-    }
+    let len = same_len(rt.alloc(), both, image)?;
     let is_refused = refuses_longer(rt.alloc(), &both.mapped, image)?
         && refuses_longer(rt.alloc(), &both.filed, image)?;
-    let (base, len) = (both.filed.base_of(image)?, bytes.len());
+    let base = both.filed.base_of(image)?;
     println!(rt; "image {image} base {base:#x} size {len:#x} longer refused {is_refused}").ok()
 }
 
@@ -107,18 +102,10 @@ fn print_count<R: Print>(rt: &R, both: &Both) -> Option<()> {
     println!(rt; "images {count} size past them {has_size}").ok()
 }
 
-/// Prints the base and the size of each image of a set, whose window has the bytes that stand there one by one, and how many
-/// there are.
-pub(crate) fn print_whole<R: Files + Print + AllocGlobal>(rt: &R, words: &str) -> Option<()> {
-    let SetCase {
-        members,
-        policy,
-        others: _,
-    } = read_set(rt, words)?;
-    let set = set_of(rt.alloc(), &members)?;
-    let both = opened(rt.alloc(), &set, policy)?;
+/// Prints the base and the size of each image, whose window has the bytes that stand there one by one, and how many there are.
+pub(crate) fn print_whole<R: Print + AllocGlobal>(rt: &R, both: &Both) -> Option<()> {
     for image in 0..both.mapped.image_count() {
-        print_image(rt, &both, image)?;
+        print_image(rt, both, image)?;
     }
-    print_count(rt, &both)
+    print_count(rt, both)
 }

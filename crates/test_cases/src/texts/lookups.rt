@@ -32,14 +32,28 @@ fn print_target<R: Print>(rt: &R, word: &str, target: Option<Target>) -> Option<
     }
 }
 
+/// Prints what each of the words with commas between them looks up.
+fn print_keys<R: Print + AllocGlobal>(
+    rt: &R,
+    exports: &Exports<'_, Global>,
+    keys: &str,
+) -> Option<()> {
+    for key in keys.split(",") {
+        print_target(rt, key, found(rt.alloc(), exports, key))?;
+    }
+    Some(())
+}
+
+/// Prints what words look up in a file.
+fn print_keys_of<R: Print + AllocGlobal>(rt: &R, file: &[u8], keys: &str) -> Option<()> {
+    let layout = Layout::new(View::new(file), 0).ok()?;
+    let exports = read_exports(rt.alloc(), &layout).ok()?;
+    print_keys(rt, &exports, keys)
+}
+
 /// Prints what words with commas between them, the first of these, look up in the file that the others name and change.
 pub(crate) fn print_found<R: Files + Print + AllocGlobal>(rt: &R, words: &str) -> Option<()> {
     let (keys, words) = words.split_once(" ")?;
     let file = edited_file(rt, words)?;
-    let layout = Layout::new(View::new(&file), 0).ok()?;
-    let exports = read_exports(rt.alloc(), &layout).ok()?;
-    for key in keys.split(",") {
-        print_target(rt, key, found(rt.alloc(), &exports, key))?;
-    }
-    Some(())
+    print_keys_of(rt, &file, keys)
 }

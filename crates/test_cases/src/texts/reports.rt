@@ -25,20 +25,36 @@ fn write_report(
     status(&map_report(alloc, set, policy, window, &mut writer))
 }
 
+/// Prints a text, and a status.
+fn print_text<R: Print>(rt: &R, text: &[u8], status: u8) -> Option<()> {
+    print!(rt; "{}", str::from_utf8(text).ok()?).ok()?;
+    println!(rt; "status {status}").ok()
+}
+
+/// Prints the report of a set, and its status.
+fn print_set<R: Print + AllocGlobal>(
+    rt: &R,
+    set: &[SetEntry],
+    policy: Policy,
+    window: Option<(u64, u32)>,
+) -> Option<()> {
+    let mut text = Vec::new(rt.alloc());
+    let status = write_report(rt.alloc(), set, policy, window, &mut text);
+    print_text(rt, &text, status)
+}
+
+/// Prints the report of the set of a case, with the window that its last word asks for, and its status.
+fn print_case<R: Print + AllocGlobal>(rt: &R, case: &SetCase) -> Option<()> {
+    let window = match case.others.last() {
+        Some(word) => Some(window_of(word)?),
+        None => None,
+    };
+    let set = set_of(rt.alloc(), &case.members)?;
+    print_set(rt, &set, case.policy, window)
+}
+
 /// Prints the report of the set that words make, with the window that another word asks for, and its status.
 pub(crate) fn print_report<R: Files + Print + AllocGlobal>(rt: &R, words: &str) -> Option<()> {
-    let SetCase {
-        members,
-        policy,
-        others,
-    } = read_set(rt, words)?;
-    let set = set_of(rt.alloc(), &members)?;
-    let mut window = None;
-    for word in &others {
-        window = Some(window_of(word)?);
-    }
-    let mut text = Vec::new(rt.alloc());
-    let status = write_report(rt.alloc(), &set, policy, window, &mut text);
-    print!(rt; "{}", str::from_utf8(&text).ok()?).ok()?;
-    println!(rt; "status {status}").ok()
+    let case = read_set(rt, words)?;
+    print_case(rt, &case)
 }

@@ -6,7 +6,7 @@ ghost use Rattle.std.specs.Prelude.{◌≡◌, ◌<◌};
 use super::cycles::library;
 use super::engines::{Answered, Devices, Engine, report_over, run, steps_of};
 use crate::tests::asserts::assert_holds;
-use pe_tool::{Outcome, SetEntry, ToolError, check, status};
+use pe_tool::{Outcome, SetEntry, ToolError, check, json, status};
 use pe_vectors::files::{VECTORS, Vector, file_of};
 use pe_vectors::members::{A, B, C, files_of, set_of};
 use pe_vectors::objects::O1;
@@ -249,6 +249,23 @@ fn a_report_is_the_same_in_any_steps_and_each_write_that_fails_is_told(rt: HostR
     let files = files_of(rt.alloc(), &members).expect(&rt, "files");
     let set = set_of(rt.alloc(), &members, &files).expect(&rt, "memory");
     assert_text(&rt, rt.alloc(), Work::Set(&set));
+}
+
+/// A file's name of each byte from 1 to 127.
+const EACH_BYTE: &[u8] =
+    b"\x01\x02\x03\x04\x05\x06\x07\x08\x09\x0a\x0b\x0c\x0d\x0e\x0f\x10\x11\x12\x13\x14\x15\x16\x17\x18\x19\x1a\x1b\x1c\x1d\x1e\x1f !\"#$%&'()*+,-./0123456789:;<=>?@ABCDEFGHIJKLMNOPQRSTUVWXYZ[\\]^_`abcdefghijklmnopqrstuvwxyz{|}~\x7f";
+
+/// The line of an empty file of that name, in which Python's `json` writes the name.
+const NAMED_LINE: &[u8] =
+    b"{\"schema\":1,\"file\":\"\\u0001\\u0002\\u0003\\u0004\\u0005\\u0006\\u0007\\b\\t\\n\\u000b\\f\\r\\u000e\\u000f\\u0010\\u0011\\u0012\\u0013\\u0014\\u0015\\u0016\\u0017\\u0018\\u0019\\u001a\\u001b\\u001c\\u001d\\u001e\\u001f !\\\"#$%&'()*+,-./0123456789:;<=>?@ABCDEFGHIJKLMNOPQRSTUVWXYZ[\\\\]^_`abcdefghijklmnopqrstuvwxyz{|}~\\u007f\",\"accepted\":false,\"fault\":{\"number\":2,\"image\":0,\"place\":{\"file\":0},\"subject\":\"end of the file\",\"rule\":\"the file has under 64 bytes, which an MS-DOS header takes\"}}\n";
+
+#[test]
+fn a_line_of_json_has_the_name_of_a_file_with_escapes(rt: HostRuntime) {
+    let mut reader = StepReader::new(b"", 4096, None);
+    let mut writer = StepWriter::new(rt.alloc(), 0x400, 4096, None).expect(&rt, "memory");
+    let answer = json(rt.alloc(), EACH_BYTE, &mut reader, &mut writer);
+    assert_holds(&rt, 0, matches!(answer, Ok(Outcome::Refused(_))));
+    assert_holds(&rt, 1, writer.taken() == NAMED_LINE);
 }
 
 #[test]
