@@ -6,7 +6,7 @@ use pe_head::machine;
 type TypeName = (u16, u16, &'static str);
 
 /// The types of each machine, without the machine's part of their names.
-static TYPES: [TypeName; 71] = [
+static TYPES: [TypeName; 60] = [
     (machine::AMD64, 0x00, "ABSOLUTE"),
     (machine::AMD64, 0x01, "ADDR64"),
     (machine::AMD64, 0x02, "ADDR32"),
@@ -67,21 +67,20 @@ static TYPES: [TypeName; 71] = [
     (machine::ARM, 0x14, "THUMB_BRANCH24"),
     (machine::ARM, 0x15, "THUMB_BLX23"),
     (machine::ARM, 0x16, "PAIR"),
-    (machine::ARMNT, 0x00, "ABSOLUTE"),
-    (machine::ARMNT, 0x01, "ADDR32"),
-    (machine::ARMNT, 0x02, "ADDR32NB"),
-    (machine::ARMNT, 0x0a, "REL32"),
-    (machine::ARMNT, 0x0e, "SECTION"),
-    (machine::ARMNT, 0x0f, "SECREL"),
-    (machine::ARMNT, 0x10, "MOV32"),
-    (machine::ARMNT, 0x11, "THUMB_MOV32"),
-    (machine::ARMNT, 0x12, "THUMB_BRANCH20"),
-    (machine::ARMNT, 0x14, "THUMB_BRANCH24"),
-    (machine::ARMNT, 0x15, "THUMB_BLX23"),
 ];
+
+/// The machine under which the types of a machine stand: the format has one list for the processors of ARM.
+fn listed(machine: u16) -> u16 {
+    if machine == machine::ARMNT {
+        machine::ARM
+    } else {
+        machine
+    }
+}
 
 /// The name of a type of a machine's relocations, and `None` where the format has no name for it.
 pub fn relocation_type_name(machine: u16, kind: u16) -> Option<&'static str> {
+    let machine = listed(machine);
     for (its_machine, its_kind, name) in &TYPES {
         if *its_machine == machine && *its_kind == kind {
             return Some(name);
