@@ -182,7 +182,9 @@ def summary(image, index):
         more = f" and {len(modules) - 4:,} more" if len(modules) > 4 else ""
         return counted(len(image.imports), "import") + (": " if modules else "") + ", ".join(modules[:4]) + more
     if index == 5 and image.fixups is not None:
-        return f"{counted(len(image.fixups), 'fixup')} in {counted(len({field >> 12 for field, _ in image.fixups}), 'page')}"
+        pages = [field >> 12 for field, _ in image.fixups]
+        where = f" in {counted(len(set(pages)), 'page')}" if pages == sorted(pages) else ", not in the order of their pages"
+        return counted(len(pages), "fixup") + where
     return "not read"
 
 

@@ -40,10 +40,10 @@ pub(crate) fn plural(count: usize, one: &'static str, more: &'static str) -> Cel
     Cell::Words(if count == 1 { one } else { more })
 }
 
-/// The most blanks that stand in a row.
-const BLANKS: [u8; 64] = [b' '; 64];
+/// The most blanks that stand in a row: a cut name of a section takes fewer columns.
+const BLANKS: [u8; 256] = [b' '; 256];
 
-/// So many blanks, and not more than 64.
+/// So many blanks, and not more than 256.
 fn blanks(count: usize) -> &'static [u8] {
     &BLANKS[..count.min(BLANKS.len())]
 }

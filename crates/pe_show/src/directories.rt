@@ -149,19 +149,34 @@ fn write_import_count<W: Sink>(text: &mut TextWriter<W>, imports: &[Import])
     write_cells(text, &end);
 }
 
+/// The cells of how many pages base relocations have, where these ascend.
+fn page_cells(fixups: &[Fixup]) -> [Cell<'static>; 3] {
+    if !fixups.iter().is_sorted_by_key(|fixup| fixup.field >> 12) {
+        let words = Cell::Words(", not in the order of their pages\n");
+        return [words, Cell::Words(""), Cell::Words("")];
+    }
+    let pages = fixups.chunk_by(same_page).count();
+    [
+        Cell::Words(" in "),
+        Cell::Count(pages as u64),
+        plural(pages, " page\n", " pages\n"),
+    ]
+}
+
 /// Adds how many base relocations there are, and in how many pages.
 fn write_fixup_count<W: Sink>(text: &mut TextWriter<W>, fixups: &[Fixup])
     requires { IsReady W.failures text.old }
     ensures { AddsSome W.taken W.failures text.old text.new }
 {
-    let pages = fixups.chunk_by(same_page).count();
+    let [words, pages, end] = page_cells(fixups);
     write_cells(
         text,
         &[
             Cell::Count(fixups.len() as u64),
-            plural(fixups.len(), " fixup in ", " fixups in "),
-            Cell::Count(pages as u64),
-            plural(pages, " page\n", " pages\n"),
+            plural(fixups.len(), " fixup", " fixups"),
+            words,
+            pages,
+            end,
         ],
     );
 }
