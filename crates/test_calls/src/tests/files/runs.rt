@@ -192,15 +192,26 @@ const FAILING: &[(Engine, Vector)] = &[
     (Engine::Check, Vector::V1),
     (Engine::Dump, Vector::V1),
     (Engine::Dump, Vector::Vs),
-    (Engine::Show, Vector::V1),
-    (Engine::Json, Vector::V1),
-    (Engine::At, Vector::V1),
 ];
+
+/// The engines of views.
+const VIEWS: [Engine; 3] = [Engine::Show, Engine::Json, Engine::At];
 
 /// Asserts what is answered where each call of either device fails in turn.
 fn assert_each_call_fails(rt: &impl Abort, alloc: Global, work: Work) {
     assert_reads_fail(rt, alloc, work);
     assert_writes_fail(rt, alloc, work, &STEPS);
+}
+
+#[test]
+fn each_read_and_each_write_of_a_view_that_fails_is_told(rt: HostRuntime) {
+    let file = file_of(rt.alloc(), Vector::V1).expect(&rt, "memory");
+    for engine in VIEWS {
+        let work = Work::File(engine, &file);
+        assert_any_steps(&rt, rt.alloc(), work);
+        assert_each_fails(&rt, rt.alloc(), work, 64, Device::Reader, 1);
+        assert_writes_fail(&rt, rt.alloc(), work, &[64, 4096]);
+    }
 }
 
 #[test]
@@ -255,9 +266,9 @@ fn a_report_is_the_same_in_any_steps_and_each_write_that_fails_is_told(rt: HostR
 const EACH_BYTE: &[u8] =
     b"\x01\x02\x03\x04\x05\x06\x07\x08\x09\x0a\x0b\x0c\x0d\x0e\x0f\x10\x11\x12\x13\x14\x15\x16\x17\x18\x19\x1a\x1b\x1c\x1d\x1e\x1f !\"#$%&'()*+,-./0123456789:;<=>?@ABCDEFGHIJKLMNOPQRSTUVWXYZ[\\]^_`abcdefghijklmnopqrstuvwxyz{|}~\x7f";
 
-/// The line of an empty file of that name, in which Python's `json` writes the name.
+/// The line of an empty file of that name, with the name as Python's `json` writes it that keeps what need not be escaped.
 const NAMED_LINE: &[u8] =
-    b"{\"schema\":1,\"file\":\"\\u0001\\u0002\\u0003\\u0004\\u0005\\u0006\\u0007\\b\\t\\n\\u000b\\f\\r\\u000e\\u000f\\u0010\\u0011\\u0012\\u0013\\u0014\\u0015\\u0016\\u0017\\u0018\\u0019\\u001a\\u001b\\u001c\\u001d\\u001e\\u001f !\\\"#$%&'()*+,-./0123456789:;<=>?@ABCDEFGHIJKLMNOPQRSTUVWXYZ[\\\\]^_`abcdefghijklmnopqrstuvwxyz{|}~\\u007f\",\"accepted\":false,\"fault\":{\"number\":2,\"image\":0,\"place\":{\"file\":0},\"subject\":\"end of the file\",\"rule\":\"the file has under 64 bytes, which an MS-DOS header takes\"}}\n";
+    b"{\"schema\":1,\"file\":\"\\u0001\\u0002\\u0003\\u0004\\u0005\\u0006\\u0007\\b\\t\\n\\u000b\\f\\r\\u000e\\u000f\\u0010\\u0011\\u0012\\u0013\\u0014\\u0015\\u0016\\u0017\\u0018\\u0019\\u001a\\u001b\\u001c\\u001d\\u001e\\u001f !\\\"#$%&'()*+,-./0123456789:;<=>?@ABCDEFGHIJKLMNOPQRSTUVWXYZ[\\\\]^_`abcdefghijklmnopqrstuvwxyz{|}~\x7f\",\"accepted\":false,\"fault\":{\"number\":2,\"image\":0,\"place\":{\"file\":0},\"subject\":\"end of the file\",\"rule\":\"the file has under 64 bytes, which an MS-DOS header takes\"}}\n";
 
 #[test]
 fn a_line_of_json_has_the_name_of_a_file_with_escapes(rt: HostRuntime) {
