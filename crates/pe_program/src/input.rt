@@ -2,7 +2,6 @@
 
 ghost use Rattle.std.specs.Prelude.{◌≤◌, length, IfOk};
 
-use arrayvec::ArrayVec;
 use std::fs;
 use std::io::{self, Error, Input, Read};
 use std::rt::Files;
@@ -21,7 +20,7 @@ enum Stream<F, S> {
 #[derive(Drop)]
 pub(crate) struct InputFile<F, S> {
     stream: Stream<F, S>,
-    first: ArrayVec<u8, FIRST_BYTES>,
+    first: [u8; FIRST_BYTES],
     len: u64,
     error: Option<Error>,
 }
@@ -31,7 +30,7 @@ impl<F: Read, S: Read> InputFile<F, S> {
     fn new(stream: Stream<F, S>) -> InputFile<F, S> {
         InputFile {
             stream,
-            first: ArrayVec::new(),
+            first: [0; FIRST_BYTES],
             len: 0,
             error: None,
         }
@@ -39,7 +38,8 @@ impl<F: Read, S: Read> InputFile<F, S> {
 
     /// Its first bytes, as far as they were read.
     pub fn first(&self) -> &[u8] {
-        self.first.as_slice()
+        let len = usize::try_from(self.len).unwrap_or(FIRST_BYTES);
+        self.first.get(..len).unwrap_or(&self.first)
     }
 
     /// How many bytes were read.
@@ -64,9 +64,12 @@ impl<F: Read, S: Read> InputFile<F, S> {
 
     /// Counts bytes that were read, and keeps them as far as they are among the first.
     fn keep(&mut self, bytes: &[u8]) {
+        let start = usize::try_from(self.len).unwrap_or(FIRST_BYTES);
+        if let Some(room) = self.first.get_mut(start..) {
+            let count = bytes.len().min(room.len());
+            room[..count].copy_from_slice(&bytes[..count]);
+        }
         self.len = self.len.saturating_add(bytes.len() as u64);
-        let count = bytes.len().min(self.first.remaining_capacity());
-        self.first.try_extend_from_slice(&bytes[..count]).unwrap();
     }
 }
 
