@@ -12,15 +12,20 @@ use pe_views::{FlagKind, flag_name};
 use std::alloc::{AllocError, Allocator};
 use std::{mem, str};
 
+/// How many rows are written at once.
+const ROWS: usize = 16;
+
 /// A JSON text that is made row by row: a row is any tokens of it that stand one behind the other.
 ///
-/// Escapes, numbers and the commas in a row are those of [`Writer`]; the comma between two rows is ours. The room for a row is
-/// kept from row to row, so memory is taken only where a row is longer than all before it. Where it is refused, nothing more is
-/// written, and [`JsonText::end`] tells of it.
+/// Escapes, numbers and the commas in a row are those of [`Writer`]; the comma between rows that are not written at once
+/// is ours. The room for rows is kept, so memory is taken only where they are longer than all before them. Where it is refused,
+/// nothing more is written, and [`JsonText::end`] tells of it.
 #[derive(Drop)]
 pub(crate) struct JsonText<A: Allocator> {
     pub alloc: A,
     row: Writer<A>,
+    /// How many rows the text has that is to be written.
+    rows: usize,
     after_value: bool,
     refused: bool,
 }
@@ -31,6 +36,7 @@ impl<A: Allocator + Copy> JsonText<A> {
         JsonText {
             alloc,
             row: Writer::new(Vec::new(alloc)),
+            rows: 0,
             after_value: true,
             refused: false,
         }
@@ -129,8 +135,19 @@ impl<A: Allocator + Copy> JsonText<A> {
         self.token(Token::BeginArray);
     }
 
-    /// Writes the row, unless memory was refused, and begins the next.
+    /// Ends a row, and writes it with those before it where there are enough.
     pub fn put<W: Sink>(&mut self, text: &mut TextWriter<W>)
+        requires { IsReady W.failures text.old }
+        ensures { Grows W.taken W.failures text.old text.new }
+    {
+        self.rows = self.rows.saturating_add(1);
+        if self.rows >= ROWS {
+            self.write_rows(text);
+        }
+    }
+
+    /// Writes the rows, unless memory was refused, and begins the next.
+    fn write_rows<W: Sink>(&mut self, text: &mut TextWriter<W>)
         requires { IsReady W.failures text.old }
         ensures { Grows W.taken W.failures text.old text.new }
     {
@@ -142,6 +159,7 @@ impl<A: Allocator + Copy> JsonText<A> {
         self.write(text, &bytes);
         bytes.clear();
         self.row = Writer::new(bytes);
+        self.rows = 0;
     }
 
     /// Writes the end of the line, unless memory was refused.
@@ -150,7 +168,7 @@ impl<A: Allocator + Copy> JsonText<A> {
         ensures { Grows W.taken W.failures text.old text.new }
     {
         self.token(Token::EndObject);
-        self.put(text);
+        self.write_rows(text);
         if self.refused {
             return Err(AllocError);
         }

@@ -18,12 +18,17 @@ fn is_safe(character: char) -> bool {
         '\0'..='\x1f' | '\x7f'..='\u{9f}' | '\u{61c}' | '\u{200e}' | '\u{200f}' | '\u{2028}'..='\u{202e}' | '\u{2066}'..='\u{2069}' | '\u{feff}')
 }
 
+/// Whether all bytes are printable ASCII, as those of nearly all names are.
+fn is_printable(name: &[u8]) -> bool {
+    name.iter().all(|byte| matches!(byte, b' '..=b'~'))
+}
+
 /// The text of a name that stands as it is: UTF-8, of characters that may stand on a terminal, not empty, and not begun by a
 /// quote.
 fn plain_text(name: &[u8]) -> Option<&str> {
     let text = str::from_utf8(name).ok()?;
     let is_quoted = name.is_empty() || name.starts_with(b"\"");
-    (!is_quoted && text.chars().all(is_safe)).then_some(text)
+    (!is_quoted && (is_printable(name) || text.chars().all(is_safe))).then_some(text)
 }
 
 /// A name as a part of a line: as it stands where it is plain, else in quotes, with `\x` and two digits for a byte that is not
