@@ -1,0 +1,10 @@
+-- What `petool_read_text` answers: the text of the layout is that of the file's image.
+use Rattle.std.proofs.Common.{◌≡◌, None, Some, subst, sym}
+use Rattle.pe_layout.specs.Image.{LaidOut}
+use Rattle.petool_c.proofs.image.petool_read_text.Goals as goal
+
+pub returns-in-Some-clause-done : goal.returns-in-Some-clause-done
+returns-in-Some-clause-done c = λ _. subst (λ (i : LaidOut). i.text c.args.rva ≡ Some c.in-Some.bytes.now) c.in-Ok.ensures.1.shows (sym c.in-Some.ensures)
+
+pub returns-in-None-clause-absent : goal.returns-in-None-clause-absent
+returns-in-None-clause-absent c = λ _. subst (λ (i : LaidOut). i.text c.args.rva ≡ None) c.in-Ok.ensures.1.shows (sym c.in-None.ensures)

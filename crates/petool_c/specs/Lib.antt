@@ -1,0 +1,4 @@
+pub mod ExportRows
+pub mod Faults
+pub mod HeaderRows
+pub mod Rows

@@ -1,0 +1,216 @@
+ghost use Rattle.std.specs.Prelude.{◌≡◌, ◌≢◌, ◌⊎◌, None};
+ghost use Rattle.pe_view.specs.Faults.{first_standing};
+ghost use Rattle.pe_head.specs.Head.{head_of};
+ghost use Rattle.pe_layout.specs.SectionFaults.{layout_tests};
+ghost use Rattle.petool_c.specs.Faults.{IsRefusedBy};
+ghost use Rattle.petool_c.specs.HeaderRows.{directory_row, directory_rows, section_row, headers_record};
+ghost use Rattle.petool_c.specs.Rows.{filled};
+
+use crate::fault::{FaultRecord, refuse};
+use crate::image::lay_out;
+use crate::row::{Row, fill_rows};
+use crate::status;
+use pe_head::{Directory, Headers, Magic, SectionHeader};
+
+/// Where a table lies in the laid-out image.
+#[repr(C)]
+#[derive(Clone, Copy, Debug)]
+pub struct DirectoryRow {
+    /// The table's RVA. For the certificate table it is a file offset.
+    pub rva: u32,
+    /// The table's size in bytes.
+    pub size: u32,
+}
+
+impl Row<Directory> for DirectoryRow {
+    ghost tells = { λ item row. row ≡ directory_row item };
+
+    fn of(item: &Directory) -> Self {
+        DirectoryRow {
+            rva: item.rva,
+            size: item.size,
+        }
+    }
+}
+
+/// A section of an image. Offsets and sizes count bytes.
+#[repr(C)]
+#[derive(Clone, Copy, Debug)]
+pub struct SectionRow {
+    /// The name, filled up with zero bytes.
+    pub name: [u8; 8],
+    /// The RVA of the first byte.
+    pub rva: u32,
+    /// How many bytes of the laid-out image the section takes.
+    pub extent: u32,
+    /// How many of these, from the first on, come from the file.
+    pub file_size: u32,
+    /// The file offset of the first byte, as the header has it.
+    pub pointer_to_raw_data: u32,
+    /// The size in the file, as the header has it.
+    pub size_of_raw_data: u32,
+    /// The size in the laid-out image, as the header has it.
+    pub virtual_size: u32,
+    /// The section's flags.
+    pub characteristics: u32,
+}
+
+impl Row<SectionHeader> for SectionRow {
+    ghost tells = { λ item row. row ≡ section_row item };
+
+    fn of(item: &SectionHeader) -> Self {
+        SectionRow {
+            name: item.name,
+            rva: item.virtual_address,
+            extent: item.extent(),
+            file_size: item.rawlen(),
+            pointer_to_raw_data: item.pointer_to_raw_data,
+            size_of_raw_data: item.size_of_raw_data,
+            virtual_size: item.virtual_size,
+            characteristics: item.characteristics,
+        }
+    }
+}
+
+/// Every field of an image's headers, with the greater of two widths where PE32 and PE32+ differ. Offsets and sizes count
+/// bytes.
+#[repr(C)]
+#[derive(Clone, Copy, Debug)]
+pub struct HeadersRecord {
+    pub image_base: u64,
+    pub size_of_stack_reserve: u64,
+    pub size_of_stack_commit: u64,
+    pub size_of_heap_reserve: u64,
+    pub size_of_heap_commit: u64,
+    /// The file offset of the signature.
+    pub pe_offset: u32,
+    pub time_date_stamp: u32,
+    pub pointer_to_symbol_table: u32,
+    pub number_of_symbols: u32,
+    pub size_of_code: u32,
+    pub size_of_initialized_data: u32,
+    pub size_of_uninitialized_data: u32,
+    pub address_of_entry_point: u32,
+    pub base_of_code: u32,
+    /// 0 in PE32+, which has no such field.
+    pub base_of_data: u32,
+    pub section_alignment: u32,
+    pub file_alignment: u32,
+    pub win32_version_value: u32,
+    pub size_of_image: u32,
+    pub size_of_headers: u32,
+    pub check_sum: u32,
+    pub loader_flags: u32,
+    pub number_of_rva_and_sizes: u32,
+    /// 0x10b in PE32, 0x20b in PE32+.
+    pub magic: u16,
+    pub machine: u16,
+    pub number_of_sections: u16,
+    pub size_of_optional_header: u16,
+    pub characteristics: u16,
+    pub subsystem: u16,
+    pub dll_characteristics: u16,
+    pub major_operating_system_version: u16,
+    pub minor_operating_system_version: u16,
+    pub major_image_version: u16,
+    pub minor_image_version: u16,
+    pub major_subsystem_version: u16,
+    pub minor_subsystem_version: u16,
+    pub major_linker_version: u8,
+    pub minor_linker_version: u8,
+    /// The data directories by index; those that the headers do not hold are 0.
+    pub directories: [DirectoryRow; 16],
+}
+
+/// Sixteen directories, of which those that the headers do not hold are 0.
+fn directory_rows(directories: &[Directory]) -> [DirectoryRow; 16]
+    ensures { result ≡ directory_rows directories.now }
+{
+    let mut rows = [DirectoryRow { rva: 0, size: 0 }; 16];
+    fill_rows(&mut rows, directories);
+    rows
+}
+
+/// Fills the first rows with those of sections.
+fn put_sections(rows: &mut [SectionRow], sections: &[SectionHeader])
+    ensures { rows.new ≡ filled section_row sections.now rows.old }
+{
+    fill_rows(rows, sections);
+}
+
+/// The headers as C has them.
+fn headers_record(headers: &Headers) -> HeadersRecord
+    ensures { result ≡ headers_record headers.now }
+{
+    HeadersRecord {
+        image_base: headers.image_base,
+        size_of_stack_reserve: headers.size_of_stack_reserve,
+        size_of_stack_commit: headers.size_of_stack_commit,
+        size_of_heap_reserve: headers.size_of_heap_reserve,
+        size_of_heap_commit: headers.size_of_heap_commit,
+        pe_offset: headers.pe_offset,
+        time_date_stamp: headers.time_date_stamp,
+        pointer_to_symbol_table: headers.pointer_to_symbol_table,
+        number_of_symbols: headers.number_of_symbols,
+        size_of_code: headers.size_of_code,
+        size_of_initialized_data: headers.size_of_initialized_data,
+        size_of_uninitialized_data: headers.size_of_uninitialized_data,
+        address_of_entry_point: headers.address_of_entry_point,
+        base_of_code: headers.base_of_code,
+        base_of_data: headers.base_of_data.unwrap_or(0),
+        section_alignment: headers.section_alignment,
+        file_alignment: headers.file_alignment,
+        win32_version_value: headers.win32_version_value,
+        size_of_image: headers.size_of_image,
+        size_of_headers: headers.size_of_headers,
+        check_sum: headers.check_sum,
+        loader_flags: headers.loader_flags,
+        number_of_rva_and_sizes: headers.number_of_rva_and_sizes,
+        magic: match headers.magic {
+            Magic::Pe32 => 0x10b,
+            Magic::Pe32Plus => 0x20b,
+        },
+        machine: headers.machine,
+        number_of_sections: headers.number_of_sections,
+        size_of_optional_header: headers.size_of_optional_header,
+        characteristics: headers.characteristics,
+        subsystem: headers.subsystem,
+        dll_characteristics: headers.dll_characteristics,
+        major_operating_system_version: headers.major_operating_system_version,
+        minor_operating_system_version: headers.minor_operating_system_version,
+        major_image_version: headers.major_image_version,
+        minor_image_version: headers.minor_image_version,
+        major_subsystem_version: headers.major_subsystem_version,
+        minor_subsystem_version: headers.minor_subsystem_version,
+        major_linker_version: headers.major_linker_version,
+        minor_linker_version: headers.minor_linker_version,
+        directories: directory_rows(headers.directories.as_slice()),
+    }
+}
+
+/// Reads the headers of an image, and of its sections as many as there is room for: an image has at most 96.
+///
+/// The status is 0, or 1 with the first of faults 1 to 15, which leaves the headers and the rows as they were. No memory is
+/// taken. ("PE Format": COFF File Header, Optional Header, Section Table.)
+#[unsafe(no_mangle)]
+pub extern "C" fn petool_read_headers(
+    file: &[u8],
+    headers: &mut HeadersRecord,
+    sections: &mut [SectionRow],
+    fault: &mut FaultRecord,
+) -> u32
+    ensures status { (result ≡ 0) ⊎ (result ≡ 1) }
+    ensures refused { IsRefusedBy (first_standing (layout_tests 0 file.now)) fault.old fault.new result }
+    ensures headers { result ≡ 0 → headers.new ≡ headers_record (head_of file.now) }
+    ensures sections { result ≡ 0 → sections.new ≡ filled section_row (head_of file.now).sections.items sections.old }
+    ensures headers_kept { result ≢ 0 → headers.new ≡ headers.old }
+    ensures sections_kept { result ≢ 0 → sections.new ≡ sections.old }
+{
+    let layout = match lay_out(file) {
+        Ok(layout) => layout,
+        Err(first) => return refuse(first, fault),
+    };
+    *headers = headers_record(layout.headers());
+    put_sections(sections, layout.headers().sections.as_slice());
+    status::DONE
+}

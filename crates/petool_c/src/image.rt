@@ -1,0 +1,110 @@
+ghost use Rattle.std.specs.Prelude.{◌≡◌, ◌≢◌, ◌+◌, ◌<◌, ◌≤◌, ◌⊎◌, None, Some, length};
+ghost use Rattle.pe_view.specs.Faults.{first_standing, Answers};
+ghost use Rattle.pe_head.specs.Head.{head_of};
+ghost use Rattle.pe_layout.specs.Image.{image_of_file, bytes_at};
+ghost use Rattle.pe_layout.specs.Layout.{IsLayoutOf};
+ghost use Rattle.pe_layout.specs.Locating.{located, file_offset};
+ghost use Rattle.pe_layout.specs.SectionFaults.{layout_tests};
+ghost use Rattle.petool_c.specs.Faults.{IsRefusedBy};
+
+use crate::fault::{FaultRecord, refuse};
+use crate::status;
+use crate::text::TextRecord;
+use pe_layout::{Layout, Located};
+use pe_view::{Fault, View};
+
+/// The layout of an image's file, or the first of faults 1 to 15.
+pub(crate) fn lay_out(file: &[u8]) -> Result<Layout<'_>, Fault>
+    ensures { Answers (layout_tests 0 file.now) (IsLayoutOf file.now 0) result }
+{
+    Layout::new(View::new(file), 0)
+}
+
+/// Fills a buffer with the bytes of an image from an RVA on, as the file lays them out: raw data, or 0.
+///
+/// The status is 0; 1 with the first of faults 1 to 15; or 3 where the bytes do not all lie inside the image. The buffer is
+/// left as it was by all but 0. No memory is taken; the headers are judged anew at each call. ("PE Format": Section Table.)
+#[unsafe(no_mangle)]
+pub extern "C" fn petool_read(
+    file: &[u8],
+    rva: u32,
+    buffer: &mut [u8],
+    fault: &mut FaultRecord,
+) -> u32
+    ensures status { (result ≡ 0) ⊎ ((result ≡ 1) ⊎ (result ≡ 3)) }
+    ensures refused { IsRefusedBy (first_standing (layout_tests 0 file.now)) fault.old fault.new result }
+    ensures inside { result ≡ 0 → rva + length buffer.old ≤ (image_of_file 0 file.now).size }
+    ensures done { result ≡ 0 → buffer.new ≡ bytes_at (image_of_file 0 file.now) rva (length buffer.old) }
+    ensures absent { result ≡ 3 → (image_of_file 0 file.now).size < rva + length buffer.old }
+    ensures kept { result ≢ 0 → buffer.new ≡ buffer.old }
+{
+    let layout = match lay_out(file) {
+        Ok(layout) => layout,
+        Err(first) => return refuse(first, fault),
+    };
+    if layout.fill(rva, buffer) {
+        status::DONE
+    } else {
+        status::ABSENT
+    }
+}
+
+/// Reads the zero-ended text at an RVA of an image, as a part of the file; the zero byte is none of its bytes.
+///
+/// The status is 0; 1 with the first of faults 1 to 15; or 3 where no zero byte ends a text inside the headers or the section
+/// in which it begins, and past the image. The text is left as it was by all but 0. No memory is taken.
+#[unsafe(no_mangle)]
+pub extern "C" fn petool_read_text<'a>(
+    file: &'a [u8],
+    rva: u32,
+    text: &mut TextRecord<'a>,
+    fault: &mut FaultRecord,
+) -> u32
+    ensures status { (result ≡ 0) ⊎ ((result ≡ 1) ⊎ (result ≡ 3)) }
+    ensures refused { IsRefusedBy (first_standing (layout_tests 0 file.now)) fault.old fault.new result }
+    ensures done { result ≡ 0 → (image_of_file 0 file.now).text rva ≡ Some text.new.bytes.now }
+    ensures absent { result ≡ 3 → (image_of_file 0 file.now).text rva ≡ None }
+    ensures kept { result ≢ 0 → text.new ≡ text.old }
+{
+    let layout = match lay_out(file) {
+        Ok(layout) => layout,
+        Err(first) => return refuse(first, fault),
+    };
+    match layout.name_at(rva) {
+        Some(bytes) => {
+            *text = TextRecord { bytes };
+            status::DONE
+        }
+        None => status::ABSENT,
+    }
+}
+
+/// Tells where the file holds the byte at an RVA of an image: its offset.
+///
+/// The status is 0; 1 with the first of faults 1 to 15; or 3 where the file does not hold the byte, which is one of zero fill,
+/// of a gap, or past the image. The offset is left as it was by all but 0. No memory is taken.
+#[unsafe(no_mangle)]
+pub extern "C" fn petool_locate(
+    file: &[u8],
+    rva: u32,
+    offset: &mut u64,
+    fault: &mut FaultRecord,
+) -> u32
+    ensures status { (result ≡ 0) ⊎ ((result ≡ 1) ⊎ (result ≡ 3)) }
+    ensures refused { IsRefusedBy (first_standing (layout_tests 0 file.now)) fault.old fault.new result }
+    ensures done { result ≡ 0 → file_offset (located (head_of file.now) rva) ≡ Some offset.new }
+    ensures absent { result ≡ 3 → file_offset (located (head_of file.now) rva) ≡ None }
+    ensures kept { result ≢ 0 → offset.new ≡ offset.old }
+{
+    let layout = match lay_out(file) {
+        Ok(layout) => layout,
+        Err(first) => return refuse(first, fault),
+    };
+    match layout.locate(rva) {
+        Located::Header { file } | Located::Raw { section: _, file } => {
+            *offset = file;
+            status::DONE
+        }
+        Located::Zero { section: _ } | Located::Gap | Located::Outside => status::ABSENT,
+    }
+}

@@ -1,0 +1,19 @@
+//! The libraries for programs that are not written in Rattle, under C's rules of calling; bindings/c/petool.h declares them.
+//!
+//! Each call is a function of its arguments: it keeps nothing between calls, and nothing has to be freed. A number says how it
+//! ended:
+//!
+//! ```text
+//! uint8_t bytes[4];
+//! petool_fault fault;
+//! uint32_t status = petool_read(file, len, 0x1000, bytes, sizeof bytes, &fault);
+//! ```
+#![tactic(auto)]
+
+mod export;
+mod fault;
+mod headers;
+mod image;
+mod row;
+mod status;
+mod text;
