@@ -1,5 +1,5 @@
 -- Exports as C has them, with texts as their bytes.
-use Rattle.std.specs.Prelude.{ℕ, List, []}
+use Rattle.std.specs.Prelude.{◌≡◌, ℕ, List, [], Option, None, Some}
 use Rattle.pe_tables.specs.Key.{Ordinal, Name, Target, Rva, Forward}
 use Rattle.petool_c.specs.declared.export.ExportRow.{ExportRow}
 use Rattle.petool_c.specs.declared.export.TargetRecord.{TargetRecord}
@@ -33,3 +33,8 @@ export_by_name e = record { ordinal = 0; name = e.0; target = target_of e.1 }
 
 abbrev pub export_text : ExportRow → ExportText
 export_text row = record { ordinal = row.ordinal; name = row.name.now; target = target_text row.target }
+
+-- what is told of a target: status 0 and what it is, or 3 where there is none
+abbrev pub TellsTarget : Option Target → TargetRecord → TargetRecord → ℕ → Type 0
+TellsTarget None before after status = (status ≡ 3) × (after ≡ before)
+TellsTarget (Some target) before after status = (status ≡ 0) × (target_text after ≡ target_of target)

@@ -1,5 +1,6 @@
 -- Faults as C has them.
-use Rattle.std.specs.Prelude.{◌≡◌, ◌≢◌, ℕ, Option, None, Some}
+use Rattle.std.specs.Prelude.{◌≡◌, ◌≢◌, ◌⊎◌, ℕ, List, Option, None, Some, option_map}
+use Rattle.pe_view.specs.Faults.{Test, first_standing}
 use Rattle.pe_view.specs.declared.fault.Fault.{Fault}
 use Rattle.pe_view.specs.declared.fault.Place.{Place}
 use Rattle.pe_view.specs.declared.fault.Place.TheVariants.{File, Rva, Address, Item}
@@ -34,3 +35,19 @@ IsTold refusals.Memory before after status = (status ≡ 2) × (after ≡ before
 abbrev pub IsRefusedBy : Option Fault → FaultRecord → FaultRecord → ℕ → Type 0
 IsRefusedBy None before after status = (status ≢ 1) × (after ≡ before)
 IsRefusedBy (Some fault) before after status = (status ≡ 1) × (after ≡ fault_record fault)
+
+-- how a call that takes memory answers for the tests of a file: status 1 with the first fault; status 2, want of memory, only
+-- where none of the early tests stands; another status only where no test stands. All but 1 leave the record as it was
+pub record IsAnswered (early tests : List Test) (before after : FaultRecord) (status : ℕ) : Type 0 where
+  pub refused : status ≡ 1 → option_map fault_record (first_standing tests) ≡ Some after
+  pub memory : status ≡ 2 → first_standing early ≡ None
+  pub accepted : status ≢ 1 → status ≢ 2 → first_standing tests ≡ None
+  pub kept : status ≢ 1 → after ≡ before
+
+-- no refusal: the call did what it was asked, as far as there was room
+abbrev pub IsAccepted : ℕ → Type 0
+IsAccepted status = (status ≢ 1) × (status ≢ 2)
+
+-- a refusal: a fault, or want of memory
+abbrev pub IsRefused : ℕ → Type 0
+IsRefused status = (status ≡ 1) ⊎ (status ≡ 2)

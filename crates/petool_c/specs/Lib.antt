@@ -1,4 +1,9 @@
 pub mod ExportRows
 pub mod Faults
+pub mod FixupRows
 pub mod HeaderRows
+pub mod ImportRows
+pub mod ObjectRows
 pub mod Rows
+pub mod SetRows
+pub mod TableTests

@@ -5,19 +5,38 @@ ghost use Rattle.pe_layout.specs.Image.{image_of_file, bytes_at};
 ghost use Rattle.pe_layout.specs.Layout.{IsLayoutOf};
 ghost use Rattle.pe_layout.specs.Locating.{located, file_offset};
 ghost use Rattle.pe_layout.specs.SectionFaults.{layout_tests};
-ghost use Rattle.petool_c.specs.Faults.{IsRefusedBy};
+ghost use Rattle.pe_image.specs.ImageTests.{image_tests};
+ghost use Rattle.petool_c.specs.Faults.{IsAccepted, IsAnswered, IsRefusedBy};
 
-use crate::fault::{FaultRecord, refuse};
+use crate::fault::{FaultRecord, refuse, refuse_for};
 use crate::status;
 use crate::text::TextRecord;
+use pe_image::read_image;
 use pe_layout::{Layout, Located};
 use pe_view::{Fault, View};
+use std::alloc::Global;
 
 /// The layout of an image's file, or the first of faults 1 to 15.
 pub(crate) fn lay_out(file: &[u8]) -> Result<Layout<'_>, Fault>
     ensures { Answers (layout_tests 0 file.now) (IsLayoutOf file.now 0) result }
 {
     Layout::new(View::new(file), 0)
+}
+
+/// Judges an image's file: headers and sections, exports, imports and base relocations.
+///
+/// The status is 0 where none of faults 1 to 38 stands; 1 with the first that does; or 2 for want of memory, which never comes
+/// where one of faults 1 to 15 stands. ("PE Format": Optional Header, Section Table, The .edata Section, The .idata Section,
+/// The .reloc Section.)
+#[unsafe(no_mangle)]
+pub extern "C" fn petool_check(alloc: Global, file: &[u8], fault: &mut FaultRecord) -> u32
+    ensures faults { IsAnswered (layout_tests 0 file.now) (image_tests 0 file.now) fault.old fault.new result }
+    ensures accepted { IsAccepted result → result ≡ 0 }
+{
+    match read_image(alloc, file, 0) {
+        Ok(_image) => status::DONE,
+        Err(refusal) => refuse_for(refusal, fault),
+    }
 }
 
 /// Fills a buffer with the bytes of an image from an RVA on, as the file lays them out: raw data, or 0.

@@ -12,8 +12,15 @@
 
 mod export;
 mod fault;
+mod fixup;
 mod headers;
 mod image;
+mod import;
+mod object;
+mod reading;
+mod rebase;
 mod row;
+mod set;
 mod status;
 mod text;
+mod words;

@@ -1,0 +1,256 @@
+/*
+ * petool.h: reads, judges and moves PE images and COFF objects, from files that may be hostile.
+ *
+ * RULES, which hold for every call
+ *
+ * Bytes.    A file is a pointer and a length: all of its bytes. They are only read, and only while the call runs; nobody may
+ *           change them meanwhile. A pointer may not be NULL, also where the length or the room is 0: then any pointer to the
+ *           type will do, as that of PETOOL_NONE.
+ * Texts.    A petool_text points into the file, or to a text of this library: it is not ended by a zero byte, and lives as long
+ *           as the file's bytes. Its offset in the file is `text.at - file`, where it is not empty. An empty text points anywhere.
+ * Results.  Each call answers a status. What it fills for which status stands above it; everything else is left as it was.
+ *           PETOOL_FAULT alone fills *fault: with the first fault, in the order of docs/FAULTS.md.
+ * Rows.     A table is read into the caller's rows. *count is how many rows the table has, whether or not they fit. Where they do
+ *           not, the answer is PETOOL_SMALL, and the first rows are filled, as many as there is room for.
+ *           Records that hold texts must be set before a call: by petool_exports_init and the like, or by an earlier call.
+ * Pointers. They are aligned as their types are, and a result shares no byte with another argument.
+ * Threads.  Calls keep nothing, so any number of threads may call at once, also with one file. No call is made from a signal
+ *           handler, nor in a forked child of a process with threads.
+ * Memory.   All that a call takes it gives back before it returns. It calls malloc, realloc and free, which are to align to 16
+ *           bytes, and answers PETOOL_MEMORY where these refuse.
+ *
+ * Nothing checks that a caller keeps these rules; what is proved of each call is proved for callers that do.
+ */
+#ifndef PETOOL_H
+#define PETOOL_H
+
+#include <stdbool.h>
+#include <stddef.h>
+#include <stdint.h>
+
+#ifdef __cplusplus
+extern "C" {
+#endif
+
+/* ---- statuses, texts, faults ---- */
+
+enum {
+    PETOOL_OK = 0,
+    PETOOL_FAULT = 1,    /* a rule of the format does not hold: *fault tells which, and where */
+    PETOOL_MEMORY = 2,   /* a growth of memory was refused */
+    PETOOL_ABSENT = 3,   /* the bytes pass the image, or there is no such text, export or section */
+    PETOOL_SMALL = 4,    /* there is too little room: the count tells how much is needed */
+    PETOOL_ARGUMENT = 5  /* an argument has a value that it may not have; nothing was done */
+};
+
+typedef struct petool_text {
+    const uint8_t *at;
+    size_t len;
+} petool_text;
+
+static const uint8_t petool_no_bytes[1] = {0};
+#define PETOOL_NONE {petool_no_bytes, 0}
+
+enum {
+    PETOOL_PLACE_FILE = 0,    /* bytes of the file */
+    PETOOL_PLACE_RVA = 1,     /* bytes of the image */
+    PETOOL_PLACE_ADDRESS = 2, /* bytes of the address space */
+    PETOOL_PLACE_ITEM = 3     /* items of a list */
+};
+
+typedef struct petool_fault {
+    uint16_t number; /* as in docs/FAULTS.md, from 1 to 85 */
+    uint16_t image;  /* of a set the index of the entry, else 0 */
+    uint32_t place;  /* what `at` counts: a PETOOL_PLACE */
+    uint64_t at;
+} petool_fault;
+
+/* The version of this library: its first part times 65,536, and its second part. */
+#define PETOOL_VERSION 0x10000
+uint32_t petool_version(void);
+
+/* What stands at the place of a fault, and which rule does not hold of it: texts of this library. OK or ABSENT. */
+uint32_t petool_fault_words(uint16_t number, petool_text *subject, petool_text *rule);
+
+/* ---- an image: its headers and its bytes ---- */
+
+/* OK where none of faults 1 to 38 stands; FAULT; or MEMORY, which never comes where one of faults 1 to 15 stands. */
+uint32_t petool_check(const uint8_t *file, size_t len, petool_fault *fault);
+
+typedef struct petool_directory {
+    uint32_t rva, size;
+} petool_directory;
+
+/* Every field of the headers, with the greater of two widths where PE32 and PE32+ differ. */
+typedef struct petool_headers {
+    uint64_t image_base, size_of_stack_reserve, size_of_stack_commit, size_of_heap_reserve, size_of_heap_commit;
+    uint32_t pe_offset, time_date_stamp, pointer_to_symbol_table, number_of_symbols;
+    uint32_t size_of_code, size_of_initialized_data, size_of_uninitialized_data, address_of_entry_point;
+    uint32_t base_of_code, base_of_data /* 0 in PE32+ */, section_alignment, file_alignment, win32_version_value;
+    uint32_t size_of_image, size_of_headers, check_sum, loader_flags, number_of_rva_and_sizes;
+    uint16_t magic /* 0x10b or 0x20b */, machine, number_of_sections, size_of_optional_header, characteristics;
+    uint16_t subsystem, dll_characteristics;
+    uint16_t major_operating_system_version, minor_operating_system_version, major_image_version, minor_image_version;
+    uint16_t major_subsystem_version, minor_subsystem_version;
+    uint8_t major_linker_version, minor_linker_version;
+    petool_directory directories[16]; /* those that the headers do not hold are 0 */
+} petool_headers;
+
+typedef struct petool_section {
+    uint8_t name[8];    /* filled up with zero bytes */
+    uint32_t rva;       /* of the first byte */
+    uint32_t extent;    /* how many bytes of the laid-out image the section takes */
+    uint32_t file_size; /* how many of these, from the first on, come from the file */
+    uint32_t pointer_to_raw_data, size_of_raw_data, virtual_size, characteristics;
+} petool_section;
+
+#define PETOOL_SECTIONS 96 /* no image has more */
+
+/* The headers, and of the sections as many as there is room for: number_of_sections tells how many there are. OK exactly where
+ * none of faults 1 to 15 stands, else FAULT. */
+uint32_t petool_read_headers(const uint8_t *file, size_t len, petool_headers *headers, petool_section *sections, size_t room,
+                             petool_fault *fault);
+
+/* The bytes from an RVA on, as the file lays them out: raw data, or 0. OK; FAULT of 1 to 15; or ABSENT where they do not all lie
+ * inside the image. */
+uint32_t petool_read(const uint8_t *file, size_t len, uint32_t rva, uint8_t *buffer, size_t count, petool_fault *fault);
+
+/* The text at an RVA that a zero byte ends. OK; FAULT of 1 to 15; or ABSENT. *text must be set before. */
+uint32_t petool_read_text(const uint8_t *file, size_t len, uint32_t rva, petool_text *text, petool_fault *fault);
+
+/* The offset at which the file holds the byte at an RVA. OK; FAULT of 1 to 15; or ABSENT where the file does not hold it. */
+uint32_t petool_locate(const uint8_t *file, size_t len, uint32_t rva, uint64_t *offset, petool_fault *fault);
+
+/* ---- an image: its tables ---- */
+
+enum { PETOOL_TARGET_RVA = 0, PETOOL_TARGET_ORDINAL = 1, PETOOL_TARGET_NAME = 2 };
+
+typedef struct petool_target {
+    uint32_t kind;            /* a PETOOL_TARGET: an RVA of the image, or an ordinal or a name of another module */
+    uint32_t value;           /* the RVA, or the ordinal at the other module; 0 beside a name */
+    petool_text module, name; /* of a forwarder; else empty */
+} petool_target;
+
+typedef struct petool_export {
+    uint64_t ordinal; /* of an export by ordinal, which may pass 2^32; else 0 */
+    petool_text name; /* of an export by name; else empty */
+    petool_target target;
+} petool_export;
+
+typedef struct petool_import {
+    petool_text module, name; /* name is empty of an import by ordinal */
+    uint32_t slot;            /* the RVA of its slot */
+    uint16_t ordinal;         /* of an import by ordinal; else 0 */
+    bool by_ordinal;
+} petool_import;
+
+typedef struct petool_fixup {
+    uint32_t entry, field; /* the RVAs of the table's entry and of the field */
+    uint32_t kind;         /* the entry's type: 1 HIGH, 2 LOW, 3 HIGHLOW, 10 DIR64 */
+} petool_fixup;
+
+static inline void petool_target_init(petool_target *target)
+{
+    petool_text none = PETOOL_NONE;
+    target->kind = 0;
+    target->value = 0;
+    target->module = none;
+    target->name = none;
+}
+
+static inline void petool_exports_init(petool_export *rows, size_t room)
+{
+    petool_text none = PETOOL_NONE;
+    for (size_t i = 0; i < room; i++) {
+        rows[i].ordinal = 0;
+        rows[i].name = none;
+        petool_target_init(&rows[i].target);
+    }
+}
+
+static inline void petool_imports_init(petool_import *rows, size_t room)
+{
+    petool_text none = PETOOL_NONE;
+    for (size_t i = 0; i < room; i++) {
+        petool_import row = {none, none, 0, 0, false};
+        rows[i] = row;
+    }
+}
+
+/* Each: OK; SMALL; FAULT, with the first of the headers and sections (1 to 15) and of the table; or MEMORY, which never comes
+ * where one of faults 1 to 15 stands.
+ * Exports by ordinal, in the order of the export address table, and by name, in the order of the name pointer table, each text
+ * once (16 to 22); imports in table order (24 to 32); base relocations in table order, asked behind the imports (24 to 38). */
+uint32_t petool_exports(const uint8_t *file, size_t len, petool_export *rows, size_t room, size_t *count, petool_fault *fault);
+uint32_t petool_export_names(const uint8_t *file, size_t len, petool_export *rows, size_t room, size_t *count, petool_fault *fault);
+uint32_t petool_imports(const uint8_t *file, size_t len, petool_import *rows, size_t room, size_t *count, petool_fault *fault);
+uint32_t petool_fixups(const uint8_t *file, size_t len, petool_fixup *rows, size_t room, size_t *count, petool_fault *fault);
+
+/* What one name or one ordinal exports. As above, with ABSENT in place of SMALL. The table is read at each call; *target must be
+ * set before. */
+uint32_t petool_export_by_name(const uint8_t *file, size_t len, const uint8_t *name, size_t name_len, petool_target *target,
+                               petool_fault *fault);
+uint32_t petool_export_by_ordinal(const uint8_t *file, size_t len, uint32_t ordinal, petool_target *target, petool_fault *fault);
+
+/* ---- files at other bases ---- */
+
+/* The file of the image that is to stand at `base`, into a buffer of exactly `len` bytes: else ARGUMENT. OK; FAULT, with the first
+ * of 1 to 15, 24 to 38, 44 to 46, 51 and 52; or MEMORY, which never comes where one of faults 1 to 15 stands. */
+uint32_t petool_rebase(const uint8_t *file, size_t len, uint64_t base, uint8_t *buffer, size_t room, petool_fault *fault);
+
+/* ---- sets of images ---- */
+
+typedef struct petool_entry {
+    petool_text name; /* of the module, as "kernel32.dll"; the case of ASCII letters does not count */
+    petool_text file; /* all bytes of its file */
+    uint64_t base;    /* where it is to stand */
+} petool_entry;
+
+typedef struct petool_binding {
+    uint32_t image, slot;   /* the index of the entry whose image has the slot, and the slot's RVA */
+    uint32_t exporter, rva; /* the index of the entry whose image has the export, and its RVA */
+} petool_binding;
+
+/* Judges a set, and tells what each import is bound to. With `known`, an import from a module that is not in the set is no fault.
+ * OK; SMALL; FAULT, with the first of the set, and of 50 the length of the cycle of forwarders in *cycle; or MEMORY. */
+uint32_t petool_judge(const petool_entry *set, size_t entries, bool known, petool_binding *rows, size_t room, size_t *count,
+                      uint32_t *cycle, petool_fault *fault);
+
+/* ---- objects ---- */
+
+typedef struct petool_object_section {
+    petool_text name, bytes; /* bytes are empty where none stand in the file */
+    uint32_t absent_size;    /* then SizeOfRawData, else 0 */
+    uint32_t virtual_size, virtual_address, characteristics, relocation_count;
+} petool_object_section;
+
+typedef struct petool_object_relocation {
+    uint32_t address; /* the offset of the reference in the section's bytes */
+    uint32_t symbol;  /* the index of the symbol's record, auxiliary records counted */
+    uint32_t kind;    /* by the machine's own table of types */
+} petool_object_relocation;
+
+static inline void petool_object_sections_init(petool_object_section *rows, size_t room)
+{
+    petool_text none = PETOOL_NONE;
+    for (size_t i = 0; i < room; i++) {
+        petool_object_section row = {none, none, 0, 0, 0, 0, 0};
+        rows[i] = row;
+    }
+}
+
+/* No memory is taken. OK where none of faults 61 to 72 stands, else FAULT. */
+uint32_t petool_object_check(const uint8_t *file, size_t len, petool_fault *fault);
+
+/* OK; SMALL; or FAULT of 61 to 72. */
+uint32_t petool_object_sections(const uint8_t *file, size_t len, petool_object_section *rows, size_t room, size_t *count,
+                                petool_fault *fault);
+
+/* Those of one section, counted from 0. As above, or ABSENT where there is no such section. */
+uint32_t petool_object_relocations(const uint8_t *file, size_t len, size_t section, petool_object_relocation *rows, size_t room,
+                                   size_t *count, petool_fault *fault);
+
+#ifdef __cplusplus
+} /* extern "C" */
+#endif
+#endif /* PETOOL_H */

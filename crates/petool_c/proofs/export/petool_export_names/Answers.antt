@@ -1,0 +1,14 @@
+-- The rows tell of the table that the image has.
+use Rattle.std.proofs.Common.{ap, Err, ◌∙◌}
+use Rattle.pe_tables.specs.NameIndex.{export_view}
+use Rattle.petool_c.specs.ExportRows.{export_text, export_by_name}
+use Rattle.petool_c.proofs.Telling.{table_read, table_refused}
+use Rattle.petool_c.proofs.export.petool_export_names.Goals as goal
+
+pub returns-in-Ok : goal.returns-in-Ok
+returns-in-Ok c =
+    let told = c.put_table.ensures in
+    table_read _ _ export_text export_view export_by_name _ _ _ _ _ _ _ _ c.in-Ok.ensures.exact.0 (c.names.ensures ∙ ap (λ e. e.names) c.in-Ok.ensures.exact.1) told.rows told.count told.status
+
+pub returns-in-Err : goal.returns-in-Err
+returns-in-Err c = table_refused _ _ _ _ _ _ _ _ _ _ c.in-Err.refusal c.in-Err.ensures.exact (λ e. c.in-Err.ensures.memory (ap Err e)) c.refuse_for.ensures

@@ -1,0 +1,14 @@
+-- The rows tell of the table that the image has.
+use Rattle.std.proofs.Common.{ap, Err, ◌∙◌}
+use Rattle.std.proofs.lemmas.List.{map-id}
+use Rattle.petool_c.specs.FixupRows.{fixup_row}
+use Rattle.petool_c.proofs.Telling.{table_read, table_refused}
+use Rattle.petool_c.proofs.fixup.petool_fixups.Goals as goal
+
+pub returns-in-Ok : goal.returns-in-Ok
+returns-in-Ok c =
+    let told = c.put_table.ensures in
+    table_read _ _ (λ r. r) (λ x. x) fixup_row _ _ _ _ _ _ _ _ c.in-Ok.ensures.exact.0 (map-id _ ∙ c.as_slice.ensures.value ∙ c.in-Ok.ensures.exact.1) told.rows told.count told.status
+
+pub returns-in-Err : goal.returns-in-Err
+returns-in-Err c = table_refused _ _ _ _ _ _ _ _ _ _ c.in-Err.refusal c.in-Err.ensures.exact (λ e. c.in-Err.ensures.memory (ap Err e)) c.refuse_for.ensures

@@ -1,0 +1,16 @@
+-- One relocation more.
+use Rattle.std.proofs.Common.{◌<◌, length, sym, rules}
+use Rattle.coff_object.specs.FileView.{relocations_view}
+use Rattle.petool_c.specs.ObjectRows.{relocation_row}
+use Rattle.petool_c.proofs.Rows.{told_step, rest_step}
+use Rattle.petool_c.proofs.object.put_relocations.Goals as goal
+
+pub loop-index-preserved : goal.loop-index-preserved
+loop-index-preserved c =
+    let i = c.loop-index.invariant in
+    let under : c.loop-index.index < length c.loop-index.rows = search rules in
+    let is = sym (rw c.unwrap.ensures at c.get.ensures) in
+    record {
+      told = told_step (λ r. r) relocation_row (relocations_view c.args.relocations.now) c.loop-index.rows c.loop-index.index _ c.of.result under is c.of.ensures i.told;
+      others = rest_step c.loop-index.rows c.args.rows.now c.loop-index.index c.of.result i.others;
+    }

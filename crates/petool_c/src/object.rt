@@ -1,0 +1,184 @@
+ghost use Rattle.std.specs.Prelude.{◌≡◌, ◌≢◌, ◌⊎◌, slice_get};
+ghost use Rattle.pe_view.specs.Faults.{first_standing};
+ghost use Rattle.coff_object.specs.FileView.{file_section_view, relocations_view};
+ghost use Rattle.coff_object.specs.ObjectFaults.{object_tests};
+ghost use Rattle.coff_object.specs.ObjectFile.{file_of};
+ghost use Rattle.coff_object.specs.Reading.{object_of};
+ghost use Rattle.petool_c.specs.Faults.{IsRefusedBy};
+ghost use Rattle.petool_c.specs.ObjectRows.{section_text, section_row, relocation_row, TellsRelocations};
+ghost use Rattle.petool_c.specs.Rows.{Fills, TellsTable};
+
+use crate::fault::{FaultRecord, refuse};
+use crate::row::table_status;
+use crate::status;
+use coff_object::{FileSection, ObjectFile, RawData, Relocation, Relocations};
+
+/// A section of an object. Sizes count bytes.
+#[repr(C)]
+#[derive(Clone, Copy, Debug)]
+pub struct ObjectSectionRow<'a> {
+    /// The section's name, also where it stands in the string table.
+    pub name: &'a [u8],
+    /// The bytes; empty where none stand in the file.
+    pub bytes: &'a [u8],
+    /// Where no bytes stand in the file, SizeOfRawData; else 0.
+    pub absent_size: u32,
+    /// VirtualSize, as it is written.
+    pub virtual_size: u32,
+    /// VirtualAddress, as it is written.
+    pub virtual_address: u32,
+    /// The section's flags.
+    pub characteristics: u32,
+    /// How many relocations it has.
+    pub relocation_count: u32,
+}
+
+/// A relocation of a section of an object.
+#[repr(C)]
+#[derive(Clone, Copy, Debug)]
+pub struct ObjectRelocationRow {
+    /// Where the reference stands: its offset in the section's bytes, as VirtualAddress of the section is mostly 0.
+    pub address: u32,
+    /// The index of the symbol's record in the symbol table, auxiliary records counted.
+    pub symbol: u32,
+    /// How the reference is computed, by the machine's own table of types.
+    pub kind: u32,
+}
+
+impl<'a> ObjectSectionRow<'a> {
+    /// A section as C has it.
+    fn of(section: FileSection<'a>) -> ObjectSectionRow<'a>
+        ensures { section_text result ≡ section_row (file_section_view section.entry) }
+    {
+        let (bytes, absent_size): (&'a [u8], u32) = match section.raw {
+            RawData::Bytes(bytes) => (bytes, 0),
+            RawData::Absent(size) => (&[], size),
+        };
+        ObjectSectionRow {
+            name: section.name,
+            bytes,
+            absent_size,
+            virtual_size: section.virtual_size,
+            virtual_address: section.virtual_address,
+            characteristics: section.flags,
+            relocation_count: section.relocations.len() as u32,
+        }
+    }
+}
+
+impl ObjectRelocationRow {
+    /// A relocation as C has it.
+    fn of(relocation: Relocation) -> ObjectRelocationRow
+        ensures { result ≡ relocation_row relocation }
+    {
+        ObjectRelocationRow {
+            address: relocation.address,
+            symbol: relocation.symbol,
+            kind: u32::from(relocation.kind),
+        }
+    }
+}
+
+/// Judges an object's file.
+///
+/// The status is 0 where none of faults 61 to 72 stands, or 1 with the first that does. No memory is taken. ("PE Format": COFF
+/// File Header, Section Table, COFF Relocations, COFF Symbol Table, COFF String Table.)
+#[unsafe(no_mangle)]
+pub extern "C" fn petool_object_check(file: &[u8], fault: &mut FaultRecord) -> u32
+    ensures status { (result ≡ 0) ⊎ (result ≡ 1) }
+    ensures refused { IsRefusedBy (first_standing (object_tests file.now)) fault.old fault.new result }
+{
+    match ObjectFile::new(file) {
+        Ok(_) => status::DONE,
+        Err(first) => refuse(first, fault),
+    }
+}
+
+/// Fills the first rows with those of an object's sections.
+fn put_sections<'a>(rows: &mut [ObjectSectionRow<'a>], object: &ObjectFile<'a>)
+    ensures { Fills (λ section row. section_text row ≡ section_row section) (object_of (file_of object.now)).sections rows.old rows.new }
+{
+    let count = rows.len().min(object.section_count());
+    for index in 0..count {
+        rows[index] = ObjectSectionRow::of(object.section(index).unwrap());
+    }
+}
+
+/// Reads the sections of an object, in table order, into the caller's rows.
+///
+/// The status is 0; 4 where there are more sections than rows, of which the first are then told; or 1 with the first of faults
+/// 61 to 72. The count tells how many sections there are; it and the rows are left as they were by 1. No memory is taken.
+#[unsafe(no_mangle)]
+pub extern "C" fn petool_object_sections<'a>(
+    file: &'a [u8],
+    rows: &mut [ObjectSectionRow<'a>],
+    count: &mut usize,
+    fault: &mut FaultRecord,
+) -> u32
+    ensures refused { IsRefusedBy (first_standing (object_tests file.now)) fault.old fault.new result }
+    ensures table { result ≢ 1 → TellsTable section_text section_row (object_of file.now).sections rows.old rows.new count.new result }
+    ensures rows_kept { result ≡ 1 → rows.new ≡ rows.old }
+    ensures count_kept { result ≡ 1 → count.new ≡ count.old }
+{
+    let object = match ObjectFile::new(file) {
+        Ok(object) => object,
+        Err(first) => return refuse(first, fault),
+    };
+    *count = object.section_count();
+    put_sections(rows, &object);
+    table_status(*count, rows.len())
+}
+
+/// Fills the first rows with those of relocations.
+fn put_relocations(rows: &mut [ObjectRelocationRow], relocations: &Relocations)
+    ensures { Fills (λ relocation row. row ≡ relocation_row relocation) (relocations_view relocations.now) rows.old rows.new }
+{
+    let count = rows.len().min(relocations.len());
+    for index in 0..count {
+        rows[index] = ObjectRelocationRow::of(relocations.get(index).unwrap());
+    }
+}
+
+/// Tells the relocations of a section, and answers the status, 0 or 4; or 3 where there is no such section.
+fn put_section_relocations(
+    object: &ObjectFile,
+    section: usize,
+    rows: &mut [ObjectRelocationRow],
+    count: &mut usize,
+) -> u32
+    ensures { TellsRelocations (slice_get (object_of (file_of object.now)).sections section) rows.old rows.new count.old count.new result }
+{
+    match object.section(section) {
+        Some(section) => {
+            let relocations = section.relocations;
+            *count = relocations.len();
+            put_relocations(rows, &relocations);
+            table_status(*count, rows.len())
+        }
+        None => status::ABSENT,
+    }
+}
+
+/// Reads the relocations of one section of an object, which is counted from 0, in table order into the caller's rows.
+///
+/// The status is 0; 4 where there are more relocations than rows, of which the first are then told; 3 where there is no such
+/// section; or 1 with the first of faults 61 to 72. The count tells how many relocations there are; it and the rows are left as
+/// they were by 1 and 3. No memory is taken.
+#[unsafe(no_mangle)]
+pub extern "C" fn petool_object_relocations(
+    file: &[u8],
+    section: usize,
+    rows: &mut [ObjectRelocationRow],
+    count: &mut usize,
+    fault: &mut FaultRecord,
+) -> u32
+    ensures refused { IsRefusedBy (first_standing (object_tests file.now)) fault.old fault.new result }
+    ensures table { result ≢ 1 → TellsRelocations (slice_get (object_of file.now).sections section) rows.old rows.new count.old count.new result }
+    ensures rows_kept { result ≡ 1 → rows.new ≡ rows.old }
+    ensures count_kept { result ≡ 1 → count.new ≡ count.old }
+{
+    match ObjectFile::new(file) {
+        Ok(object) => put_section_relocations(&object, section, rows, count),
+        Err(first) => refuse(first, fault),
+    }
+}

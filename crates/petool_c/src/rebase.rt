@@ -1,0 +1,63 @@
+ghost use Rattle.std.specs.Prelude.{◌≡◌, ◌≢◌, length};
+ghost use Rattle.pe_layout.specs.SectionFaults.{layout_tests};
+ghost use Rattle.pe_write.specs.Rebase.{rebased};
+ghost use Rattle.pe_write.specs.RebaseFaults.{rebase_tests};
+ghost use Rattle.petool_c.specs.Faults.{IsAccepted, IsAnswered};
+
+use crate::fault::{FaultRecord, refuse_for};
+use crate::status;
+use pe_write::rebase_file;
+use std::alloc::Global;
+
+/// Fills a buffer of the file's length with the file of an image that is to stand at a base.
+fn rebase_into(
+    alloc: Global,
+    file: &[u8],
+    base: u64,
+    buffer: &mut [u8],
+    fault: &mut FaultRecord,
+) -> u32
+    requires { length buffer.old ≡ length file.now }
+    ensures faults { IsAnswered (layout_tests 0 file.now) (rebase_tests file.now base) fault.old fault.new result }
+    ensures accepted { IsAccepted result → result ≡ 0 }
+    ensures done { result ≡ 0 → buffer.new ≡ rebased file.now base }
+    ensures kept { result ≢ 0 → buffer.new ≡ buffer.old }
+{
+    match rebase_file(alloc, file, base) {
+        Ok(bytes) => {
+            buffer.copy_from_slice(bytes.as_slice());
+            status::DONE
+        }
+        Err(refusal) => refuse_for(refusal, fault),
+    }
+}
+
+/// Writes the file of an image that is to stand at another base into a buffer of the file's length: each field of a base
+/// relocation is moved on by as much as the base lies above ImageBase, ImageBase is the base and CheckSum is 0; every other byte
+/// is the file's.
+///
+/// The status is 0; 1 with the first fault of headers and sections (1 to 15), of imports (24 to 32) and base relocations (33 to
+/// 38), of the base (44 to 46), and of what cannot be written (51, 52); 2 for want of memory, which never comes where one of
+/// faults 1 to 15 stands; or 5 where the buffer has not the file's length. The buffer is left as it was by all but 0.
+/// ("PE Format": Optional Header, The .reloc Section.)
+#[unsafe(no_mangle)]
+pub extern "C" fn petool_rebase(
+    alloc: Global,
+    file: &[u8],
+    base: u64,
+    buffer: &mut [u8],
+    fault: &mut FaultRecord,
+) -> u32
+    ensures argument { result ≡ 5 → length buffer.old ≢ length file.now }
+    ensures same_length { result ≢ 5 → length buffer.old ≡ length file.now }
+    ensures faults { result ≢ 5 → IsAnswered (layout_tests 0 file.now) (rebase_tests file.now base) fault.old fault.new result }
+    ensures accepted { result ≢ 5 → IsAccepted result → result ≡ 0 }
+    ensures done { result ≡ 0 → buffer.new ≡ rebased file.now base }
+    ensures kept { result ≢ 0 → buffer.new ≡ buffer.old }
+    ensures fault_kept { result ≡ 5 → fault.new ≡ fault.old }
+{
+    if buffer.len() != file.len() {
+        return status::ARGUMENT;
+    }
+    rebase_into(alloc, file, base, buffer, fault)
+}

@@ -1,0 +1,139 @@
+ghost use Rattle.std.specs.Prelude.{◌≡◌, map, IfOk};
+ghost use Rattle.pe_set.specs.Bindings.{bindings_of};
+ghost use Rattle.pe_set.specs.Set.{modules_of};
+ghost use Rattle.pe_set.specs.SetErrors.{set_error, SetAnswers};
+ghost use Rattle.pe_set.specs.SetView.{entries_of};
+ghost use Rattle.petool_c.specs.Faults.{IsAccepted, IsRefused};
+ghost use Rattle.petool_c.specs.Rows.{TellsTable};
+ghost use Rattle.petool_c.specs.SetRows.{entry_text, binding_row, policy_of, IsSetTold, IsJudged};
+
+use crate::fault::{FaultRecord, refuse};
+use crate::row::{Row, put_table};
+use crate::status;
+use pe_set::{Accepted, Binding, MapError, Policy, SetEntry, judge};
+use std::alloc::{AllocError, Global};
+
+/// An image of a set: its file, the name by which others import from it, and its base.
+#[repr(C)]
+#[derive(Clone, Copy, Debug)]
+pub struct EntryRecord<'a> {
+    /// The module's name, such as `kernel32.dll`. The case of ASCII letters does not count.
+    pub name: &'a [u8],
+    /// The bytes of the file.
+    pub file: &'a [u8],
+    /// The address at which the image is to stand.
+    pub base: u64,
+}
+
+/// A slot of an image that holds the address of an export.
+#[repr(C)]
+#[derive(Clone, Copy, Debug)]
+pub struct BindingRow {
+    /// The index of the entry whose image has the slot.
+    pub image: u32,
+    /// The RVA of the slot.
+    pub slot: u32,
+    /// The index of the entry whose image has the export.
+    pub exporter: u32,
+    /// The RVA of the export.
+    pub rva: u32,
+}
+
+impl Row<Binding> for BindingRow {
+    ghost tells = { λ item row. row ≡ binding_row item };
+
+    fn of(item: &Binding) -> Self {
+        BindingRow {
+            image: u32::from(item.image),
+            slot: item.slot,
+            exporter: u32::from(item.exporter),
+            rva: item.rva,
+        }
+    }
+}
+
+/// The entries of a set.
+fn entries_of<'a>(
+    alloc: Global,
+    rows: &[EntryRecord<'a>],
+) -> Result<Vec<SetEntry<'a>, Global>, AllocError>
+    ensures { IfOk result (λ entries. entries_of entries.items ≡ map entry_text rows.now) }
+{
+    let mut entries = Vec::with_capacity(alloc, rows.len())?;
+    for row in rows {
+        entries.push(SetEntry {
+            name: row.name,
+            file: row.file,
+            base: row.base,
+        })?;
+    }
+    Ok(entries)
+}
+
+/// What becomes of an import from a module that is not in the set.
+fn policy_of(known: bool) -> Policy
+    ensures { result ≡ policy_of known }
+{
+    if known {
+        Policy::Known
+    } else {
+        Policy::Strict
+    }
+}
+
+/// Reads and judges a set.
+fn judged<'a>(
+    alloc: Global,
+    set: &[EntryRecord<'a>],
+    known: bool,
+) -> Result<Accepted<'a, Global>, MapError>
+    ensures { SetAnswers (set_error (policy_of known) (map entry_text set.now)) (λ accepted. accepted.bindings.items ≡ bindings_of (modules_of (map entry_text set.now))) result }
+{
+    let entries = entries_of(alloc, set)?;
+    judge(alloc, entries.as_slice(), policy_of(known))
+}
+
+/// Tells why a set is refused, and answers the status.
+fn refuse_set(error: MapError, fault: &mut FaultRecord, cycle: &mut u32) -> u32
+    ensures { IsSetTold error fault.old fault.new cycle.old cycle.new result }
+{
+    match error {
+        MapError::Fault(first) => refuse(first, fault),
+        MapError::Cycle {
+            fault: first,
+            length,
+        } => {
+            *cycle = length;
+            refuse(first, fault)
+        }
+        MapError::Memory => status::MEMORY,
+    }
+}
+
+/// Judges a set of images that are to stand in one address space, and tells what their imports are bound to, image by image and
+/// in the order of each one's imports. An image has the index of its entry, and so do its faults. With `known`, an import that
+/// leads to a module that is not in the set is no fault, and its slot is not bound.
+///
+/// The status is 0; 4 where there are more bindings than rows, of which the first are then told; 1 with the first fault of the
+/// set; or 2 for want of memory. The count tells how many bindings there are; it and the rows are left as they were by 1 and 2.
+/// Where the fault is 50, a cycle of forwarders, `cycle` is how long that is, and else it is left as it was.
+#[unsafe(no_mangle)]
+pub extern "C" fn petool_judge(
+    alloc: Global,
+    set: &[EntryRecord],
+    known: bool,
+    rows: &mut [BindingRow],
+    count: &mut usize,
+    cycle: &mut u32,
+    fault: &mut FaultRecord,
+) -> u32
+    ensures faults { IsJudged (set_error (policy_of known) (map entry_text set.now)) fault.old fault.new cycle.old cycle.new result }
+    ensures table { IsAccepted result → TellsTable (λ row. row) binding_row (bindings_of (modules_of (map entry_text set.now))) rows.old rows.new count.new result }
+    ensures rows_kept { IsRefused result → rows.new ≡ rows.old }
+    ensures count_kept { IsRefused result → count.new ≡ count.old }
+{
+    match judged(alloc, set, known) {
+        Ok(accepted) => put_table(rows, accepted.bindings.as_slice(), count),
+        Err(error) => refuse_set(error, fault, cycle),
+    }
+}
