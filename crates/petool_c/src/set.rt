@@ -74,11 +74,7 @@ fn entries_of<'a>(
 fn policy_of(known: bool) -> Policy
     ensures { result ≡ policy_of known }
 {
-    if known {
-        Policy::Known
-    } else {
-        Policy::Strict
-    }
+    if known { Policy::Known } else { Policy::Strict }
 }
 
 /// Reads and judges a set.

@@ -1,5 +1,5 @@
 -- What is told of the section is told of the file's object, and is no fault.
-use Rattle.std.proofs.Common.{◌≡◌, ◌≢◌, List, ℕ, Option, None, Some, subst, sym, refl}
+use Rattle.std.proofs.Common.{◌≢◌, List, ℕ, Option, None, Some, subst, sym, refl}
 use Rattle.std.specs.Prelude.{slice_get}
 use Rattle.pe_view.specs.declared.fault.Fault.{Fault}
 use Rattle.coff_object.specs.Reading.{object_of}

@@ -1,6 +1,5 @@
 -- The rows tell of the sections that the object has.
-use Rattle.std.proofs.Common.{◌≡◌, ◌∙◌, List, ℕ, ap, subst, sym}
-use Rattle.std.proofs.lemmas.List.{map-id}
+use Rattle.std.proofs.Common.{List, ℕ, subst}
 use Rattle.coff_object.specs.ObjectFile.{file_of}
 use Rattle.coff_object.specs.Reading.{object_of}
 use Rattle.petool_c.specs.ObjectRows.{section_text, section_row}

@@ -1,6 +1,5 @@
 -- The table is asked for where the layout has no fault.
 use Rattle.std.proofs.Common.{◌≡◌, subst}
-use Rattle.std.specs.Prelude.{map}
 use Rattle.std.proofs.lemmas.Result.{err_from_is_err_and}
 use Rattle.pe_view.specs.Faults.{AnswersOrWants}
 use Rattle.pe_view.specs.declared.refusal.Refusal.TheVariants as refusals

@@ -1,6 +1,4 @@
 -- The buffer holds the rebased file, or the refusal is told.
-use Rattle.std.proofs.Common.{ap, Err, ◌≡◌, None}
-use Rattle.pe_view.specs.Faults.{first_standing}
 use Rattle.petool_c.proofs.Telling.{done_told, refusal_told, told_refuses, early_none}
 use Rattle.petool_c.proofs.rebase.rebase_into.Goals as goal
 
