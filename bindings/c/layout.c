@@ -116,3 +116,12 @@ SIZE(petool_object_relocation, 12);
 AT(petool_object_relocation, address, 0);
 AT(petool_object_relocation, symbol, 4);
 AT(petool_object_relocation, kind, 8);
+
+SIZE(petool_object_symbol, 48);
+AT(petool_object_symbol, name, 0);
+AT(petool_object_symbol, aux, 16);
+AT(petool_object_symbol, index, 32);
+AT(petool_object_symbol, value, 36);
+AT(petool_object_symbol, section_number, 40);
+AT(petool_object_symbol, kind, 42);
+AT(petool_object_symbol, class_, 44);

@@ -230,11 +230,31 @@ typedef struct petool_object_relocation {
     uint32_t kind;    /* by the machine's own table of types */
 } petool_object_relocation;
 
+enum { PETOOL_SECTION_UNDEFINED = 0, PETOOL_SECTION_ABSOLUTE = 0xffff, PETOOL_SECTION_DEBUG = 0xfffe };
+
+typedef struct petool_object_symbol {
+    petool_text name, aux;   /* aux has 18 bytes for each auxiliary record */
+    uint32_t index;          /* of the symbol's record, by which relocations name it */
+    uint32_t value;          /* by the section and the class */
+    uint16_t section_number; /* counted from 1, or a PETOOL_SECTION */
+    uint16_t kind;
+    uint8_t class_;          /* the storage class */
+} petool_object_symbol;
+
 static inline void petool_object_sections_init(petool_object_section *rows, size_t room)
 {
     petool_text none = PETOOL_NONE;
     for (size_t i = 0; i < room; i++) {
         petool_object_section row = {none, none, 0, 0, 0, 0, 0};
+        rows[i] = row;
+    }
+}
+
+static inline void petool_object_symbols_init(petool_object_symbol *rows, size_t room)
+{
+    petool_text none = PETOOL_NONE;
+    for (size_t i = 0; i < room; i++) {
+        petool_object_symbol row = {none, none, 0, 0, 0, 0, 0};
         rows[i] = row;
     }
 }
@@ -245,6 +265,9 @@ uint32_t petool_object_check(const uint8_t *file, size_t len, petool_fault *faul
 /* OK; SMALL; or FAULT of 61 to 72. */
 uint32_t petool_object_sections(const uint8_t *file, size_t len, petool_object_section *rows, size_t room, size_t *count,
                                 petool_fault *fault);
+
+uint32_t petool_object_symbols(const uint8_t *file, size_t len, petool_object_symbol *rows, size_t room, size_t *count,
+                               petool_fault *fault);
 
 /* Those of one section, counted from 0. As above, or ABSENT where there is no such section. */
 uint32_t petool_object_relocations(const uint8_t *file, size_t len, size_t section, petool_object_relocation *rows, size_t room,

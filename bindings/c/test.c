@@ -74,7 +74,8 @@ static void put_relocations(uint8_t *file)
     PUT(0x400, "\x00\x10\x00\x00\x0c\x00\x00\x00\x08\x30\x00\x00");
 }
 
-/* For AMD64: a section .text$long of six bytes, with one relocation of type 4 to symbol 3 at 1, and no symbols but zeros. */
+/* For AMD64: a section .text$long of six bytes, with one relocation, of type 4 to record 3, at 1; and four symbols in five records:
+ * .file with an auxiliary record, abcdefgh in section 1, abcdefghi, and one without a name. */
 static size_t put_object(uint8_t *file)
 {
     memset(file, 0, 0x600);
@@ -83,8 +84,13 @@ static size_t put_object(uint8_t *file)
     PUT(36, "\x06\x00\x00\x00\x3c\x00\x00\x00\x42\x00\x00\x00\x00\x00\x00\x00\x01\x00\x00\x00\x20\x00\x00\x60");
     PUT(60, "\xe8\x00\x00\x00\x00\xc3");
     PUT(66, "\x01\x00\x00\x00\x03\x00\x00\x00\x04\x00");
-    PUT(166, "\x0f\x00\x00\x00.text$long");
-    return 166 + 15;
+    PUT(76, ".file");
+    PUT(88, "\xfe\xff\x00\x00\x67\x01" "a.c");
+    PUT(112, "abcdefgh\x00\x00\x00\x00\x01\x00\x20\x00\x02\x00");
+    PUT(130, "\x00\x00\x00\x00\x0f\x00\x00\x00\x00\x00\x00\x00\x00\x00\x00\x00\x02\x00");
+    PUT(148, "\x00\x00\x00\x00\x00\x00\x00\x00\x07\x00\x00\x00\xff\xff\x00\x00\x03\x00");
+    PUT(166, "\x19\x00\x00\x00.text$long\x00" "abcdefghi");
+    return 191;
 }
 
 static bool is(petool_text text, const char *expected)
@@ -239,6 +245,7 @@ static void test_object(void)
 {
     petool_object_section sections[2];
     petool_object_relocation relocations[1];
+    petool_object_symbol symbols[4];
     petool_fault fault;
     size_t count = 9, len = put_object(file);
 
@@ -252,6 +259,13 @@ static void test_object(void)
     count = 9;
     HOLDS(petool_object_relocations(file, len, 1, relocations, 1, &count, &fault) == PETOOL_ABSENT && count == 9);
     HOLDS(petool_object_sections(file, len, sections, 0, &count, &fault) == PETOOL_SMALL && count == 1);
+    petool_object_symbols_init(symbols, 4);
+    HOLDS(petool_object_symbols(file, len, symbols, 4, &count, &fault) == PETOOL_OK && count == 4);
+    HOLDS(is(symbols[0].name, ".file") && symbols[0].aux.len == 18 && symbols[0].section_number == PETOOL_SECTION_DEBUG);
+    HOLDS(symbols[0].index == 0 && symbols[0].class_ == 103 && symbols[1].index == 2 && is(symbols[1].name, "abcdefgh"));
+    HOLDS(symbols[1].section_number == 1 && symbols[1].kind == 0x20 && symbols[1].class_ == 2 && symbols[1].aux.len == 0);
+    HOLDS(symbols[2].index == 3 && is(symbols[2].name, "abcdefghi") && symbols[2].section_number == PETOOL_SECTION_UNDEFINED);
+    HOLDS(symbols[3].name.len == 0 && symbols[3].value == 7 && symbols[3].section_number == PETOOL_SECTION_ABSOLUTE);
     HOLDS(petool_object_check(file, 19, &fault) == PETOOL_FAULT && fault.number == 61);
 }
 

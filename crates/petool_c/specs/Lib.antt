@@ -6,4 +6,5 @@ pub mod ImportRows
 pub mod ObjectRows
 pub mod Rows
 pub mod SetRows
+pub mod SymbolRows
 pub mod TableTests

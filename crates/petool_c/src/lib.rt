@@ -22,5 +22,6 @@ mod rebase;
 mod row;
 mod set;
 mod status;
+mod symbol;
 mod text;
 mod words;
