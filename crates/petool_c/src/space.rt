@@ -1,0 +1,222 @@
+ghost use Rattle.std.specs.Prelude.{◌≡◌, map, ◌≢◌, ◌⊎◌, ◌↔◌, true, false, None, Some, IsSomeAnd, length};
+ghost use Rattle.pe_view.specs.Faults.{first_standing};
+ghost use Rattle.pe_set.specs.SetErrors.{set_error};
+ghost use Rattle.pe_set.specs.SetFaults.{names_tests};
+ghost use Rattle.pe_space.specs.SpaceOf.{IsSpaceOf};
+ghost use Rattle.petool_c.specs.Rows.{TellsTable};
+ghost use Rattle.petool_c.specs.SetRows.{entry_text, binding_row, policy_of, IsJudged};
+ghost use Rattle.petool_c.specs.Spaces.{IsReadOf, IsMoveOf, base_of, size_of, bindings_of};
+
+use crate::fault::{FaultRecord, refuse};
+use crate::mapping::map_entries;
+use crate::row::put_table;
+use crate::set::{BindingRow, EntryRecord, policy_of};
+use crate::status;
+use pe_handle::Handle;
+use pe_set::{Binding, MapError};
+use pe_space::Space;
+use std::alloc::Global;
+
+/// What a move rewrote.
+#[repr(C)]
+#[derive(Clone, Copy, Debug)]
+pub struct MovedRecord {
+    /// How many fields of the image: as many as it has fixups.
+    pub fields: u32,
+    /// How many bound slots, of all images, that end in it.
+    pub slots: u32,
+}
+
+/// Maps a set of images into a space: each at its base, with its fields relocated and its imports bound. A space that is open is
+/// closed first. With `known`, an import that leads to a module that is not in the set is no fault, and its slot is left as it
+/// stands in the file.
+///
+/// The space is open exactly where the status is 0. It is 1 with the set's first fault (1 to 38 and 41 to 50), and where that is
+/// 50 with the length of the cycle of forwarders; or 2, for want of memory, which is none where the names have a fault. `cycle` is
+/// else left as it was. The space keeps no byte of the files: they may go.
+#[unsafe(no_mangle)]
+pub extern "C" fn petool_space_map(
+    alloc: Global,
+    space: &mut Handle,
+    set: &[EntryRecord],
+    known: bool,
+    cycle: &mut u32,
+    fault: &mut FaultRecord,
+) -> u32
+    ensures status { (result ≡ 0) ⊎ (result ≡ 1) ⊎ (result ≡ 2) }
+    ensures faults { IsJudged (set_error (policy_of known) (map entry_text set.now)) fault.old fault.new cycle.old cycle.new result }
+    ensures done { result ≡ 0 → IsSomeAnd space.new.space (IsSpaceOf (policy_of known) (map entry_text set.now)) }
+    ensures open { result ≡ 0 → space.new.is_open ≡ true }
+    ensures none { result ≢ 0 → space.new.space ≡ None }
+    ensures closed { result ≢ 0 → space.new.is_open ≡ false }
+    ensures memory { result ≡ 2 → first_standing (names_tests (map entry_text set.now)) ≡ None }
+{
+    *space = Handle::closed(alloc);
+    match map_entries(alloc, set, policy_of(known)) {
+        Ok(mapped) => {
+            *space = Handle::of(mapped);
+            status::DONE
+        }
+        Err(MapError::Fault(first)) => refuse(first, fault),
+        Err(
+            MapError::Cycle {
+                fault: first,
+                length,
+            },
+        ) => {
+            *cycle = length;
+            refuse(first, fault)
+        }
+        Err(MapError::Memory) => status::MEMORY,
+    }
+}
+
+/// Closes a space, and gives its memory back. One that is closed stays closed.
+#[unsafe(no_mangle)]
+pub extern "C" fn petool_space_close(alloc: Global, space: &mut Handle)
+    ensures none { space.new.space ≡ None }
+    ensures closed { space.new.is_open ≡ false }
+{
+    *space = Handle::closed(alloc);
+}
+
+/// Fills a buffer with the bytes from an address on, which lie in one image; an empty buffer lies anywhere.
+///
+/// The status is 0; 1 with fault 54 at the address, of the image that holds it, or of image 65,535 where none does; or 6 where the
+/// space is closed. The buffer is left as it was by all but 0. No memory is taken.
+#[unsafe(no_mangle)]
+pub extern "C" fn petool_space_read(
+    alloc: Global,
+    space: &mut Handle,
+    address: u64,
+    buffer: &mut [u8],
+    fault: &mut FaultRecord,
+) -> u32
+    ensures exact { IsReadOf space.old.space address (length buffer.old) buffer.old buffer.new fault.old fault.new result }
+    ensures closed { (result ≡ 6) ↔ (space.old.is_open ≡ false) }
+    ensures space_kept { space.new.space ≡ space.old.space }
+    ensures open_kept { space.new.is_open ≡ space.old.is_open }
+{
+    match std::mem::replace(space, Handle::closed(alloc)).take() {
+        Some(mapped) => {
+            let answer = mapped.window(address, buffer);
+            *space = Handle::of(mapped);
+            match answer {
+                Ok(()) => status::DONE,
+                Err(first) => refuse(first, fault),
+            }
+        }
+        None => status::CLOSED,
+    }
+}
+
+/// Moves an image to another base: its fields are moved on, and the slots of all images that end in it are bound anew. `moved`
+/// tells how many of each.
+///
+/// The status is 0; 1 with the first of faults 55 and 44 to 47 of the move, which then changes nothing; or 6 where the space is
+/// closed. No memory is taken.
+#[unsafe(no_mangle)]
+pub extern "C" fn petool_space_move(
+    alloc: Global,
+    space: &mut Handle,
+    image: u16,
+    base: u64,
+    moved: &mut MovedRecord,
+    fault: &mut FaultRecord,
+) -> u32
+    ensures exact { IsMoveOf space.old.space image base space.new.space moved.old moved.new fault.old fault.new result }
+    ensures closed { (result ≡ 6) ↔ (space.old.is_open ≡ false) }
+    ensures open_kept { space.new.is_open ≡ space.old.is_open }
+{
+    match std::mem::replace(space, Handle::closed(alloc)).take() {
+        Some(mut mapped) => {
+            let answer = mapped.move_image(image, base);
+            *space = Handle::of(mapped);
+            match answer {
+                Ok(counts) => {
+                    *moved = MovedRecord {
+                        fields: counts.fields,
+                        slots: counts.slots,
+                    };
+                    status::DONE
+                }
+                Err(first) => refuse(first, fault),
+            }
+        }
+        None => status::CLOSED,
+    }
+}
+
+/// Tells where an image stands, and how many bytes it has.
+///
+/// The status is 0; 3 past the last image; or 6 where the space is closed. Both numbers are left as they were by all but 0.
+#[unsafe(no_mangle)]
+pub extern "C" fn petool_space_image(
+    alloc: Global,
+    space: &mut Handle,
+    image: u16,
+    base: &mut u64,
+    size: &mut u32,
+) -> u32
+    ensures status { (result ≡ 0) ⊎ (result ≡ 3) ⊎ (result ≡ 6) }
+    ensures base { result ≡ 0 → base_of space.old.space image ≡ Some base.new }
+    ensures size { result ≡ 0 → size_of space.old.space image ≡ Some size.new }
+    ensures absent { result ≡ 3 → base_of space.old.space image ≡ None }
+    ensures closed { (result ≡ 6) ↔ (space.old.is_open ≡ false) }
+    ensures base_kept { result ≢ 0 → base.new ≡ base.old }
+    ensures size_kept { result ≢ 0 → size.new ≡ size.old }
+    ensures space_kept { space.new.space ≡ space.old.space }
+    ensures open_kept { space.new.is_open ≡ space.old.is_open }
+{
+    match std::mem::replace(space, Handle::closed(alloc)).take() {
+        Some(mapped) => {
+            let found = (mapped.base_of(image), mapped.size_of(image));
+            *space = Handle::of(mapped);
+            match found {
+                (Some(first), Some(length)) => {
+                    *base = first;
+                    *size = length;
+                    status::DONE
+                }
+                _ => status::ABSENT,
+            }
+        }
+        None => status::CLOSED,
+    }
+}
+
+/// Tells bindings: fills the rows, counts the bindings, and answers the status, 0 or 4.
+fn put_bindings(rows: &mut [BindingRow], bindings: &[Binding], count: &mut usize) -> u32
+    ensures table { TellsTable (λ row. row) binding_row bindings.now rows.old rows.new count.new result }
+    ensures open { result ≢ 6 }
+{
+    put_table(rows, bindings, count)
+}
+
+/// Tells the slots that are bound: by image, and then in the order of its imports.
+///
+/// The status is 0; 4 where there are more than rows, of which the first are then told; or 6 where the space is closed. The count
+/// tells how many there are; it and the rows are left as they were by 6.
+#[unsafe(no_mangle)]
+pub extern "C" fn petool_space_bindings(
+    alloc: Global,
+    space: &mut Handle,
+    rows: &mut [BindingRow],
+    count: &mut usize,
+) -> u32
+    ensures table { result ≢ 6 → TellsTable (λ row. row) binding_row (bindings_of space.old.space) rows.old rows.new count.new result }
+    ensures closed { (result ≡ 6) ↔ (space.old.is_open ≡ false) }
+    ensures rows_kept { result ≡ 6 → rows.new ≡ rows.old }
+    ensures count_kept { result ≡ 6 → count.new ≡ count.old }
+    ensures space_kept { space.new.space ≡ space.old.space }
+    ensures open_kept { space.new.is_open ≡ space.old.is_open }
+{
+    match std::mem::replace(space, Handle::closed(alloc)).take() {
+        Some(mapped) => {
+            let answer = put_bindings(rows, mapped.bindings(), count);
+            *space = Handle::of(mapped);
+            answer
+        }
+        None => status::CLOSED,
+    }
+}
