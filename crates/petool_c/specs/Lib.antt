@@ -6,5 +6,6 @@ pub mod ImportRows
 pub mod ObjectRows
 pub mod Rows
 pub mod SetRows
+pub mod Spaces
 pub mod SymbolRows
 pub mod TableTests

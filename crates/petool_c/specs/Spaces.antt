@@ -1,7 +1,6 @@
 -- How the calls of a space answer.
-use Rattle.std.specs.Prelude.{◌≡◌, ℕ, List, take, [], Option, None, Some, Result, Ok, Err}
+use Rattle.std.specs.Prelude.{◌≡◌, ℕ, List, [], Option, None, Some, Result, Ok, Err}
 use Rattle.pe_view.specs.declared.fault.Fault.{Fault}
-use Rattle.pe_set.specs.Set.{Entry}
 use Rattle.pe_set.specs.declared.binding.Binding.{Binding}
 use Rattle.pe_space.specs.Content.{Content, window_at, base_at, size_at}
 use Rattle.pe_space.specs.Moves.{move_fault, moved, moved_counts}
@@ -9,10 +8,6 @@ use Rattle.pe_space.specs.declared.space.Moved.{Moved}
 use Rattle.petool_c.specs.Faults.{fault_record}
 use Rattle.petool_c.specs.declared.fault.FaultRecord.{FaultRecord}
 use Rattle.petool_c.specs.declared.space.MovedRecord.{MovedRecord}
-
--- the entries of a set that count: at the one behind the 256th stands fault 41
-abbrev pub counted : List Entry → List Entry
-counted es = take 257 es
 
 -- what a read of n bytes answers: status 0 and the bytes, or 1 and the fault, or 6 where there is no space; else both are as they were
 abbrev pub IsWindow : Result (List ℕ) Fault → List ℕ → List ℕ → FaultRecord → FaultRecord → ℕ → Type 0

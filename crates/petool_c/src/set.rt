@@ -1,17 +1,19 @@
-ghost use Rattle.std.specs.Prelude.{◌≡◌, map, IfOk};
+ghost use Rattle.std.specs.Prelude.{◌≡◌, IsErrOf, None, map};
+ghost use Rattle.pe_view.specs.Faults.{first_standing};
 ghost use Rattle.pe_set.specs.Bindings.{bindings_of};
 ghost use Rattle.pe_set.specs.Set.{modules_of};
 ghost use Rattle.pe_set.specs.SetErrors.{set_error, SetAnswers};
-ghost use Rattle.pe_set.specs.SetView.{entries_of};
+ghost use Rattle.pe_set.specs.SetFaults.{names_tests};
+ghost use Rattle.pe_set.specs.SetView.{entries_of, entry_view};
 ghost use Rattle.petool_c.specs.Faults.{IsAccepted, IsRefused};
 ghost use Rattle.petool_c.specs.Rows.{TellsTable};
-ghost use Rattle.petool_c.specs.SetRows.{entry_text, binding_row, policy_of, IsSetTold, IsJudged};
+ghost use Rattle.petool_c.specs.SetRows.{entry_text, counted, binding_row, policy_of, IsSetTold, IsJudged};
 
 use crate::fault::{FaultRecord, refuse};
-use crate::row::{Row, put_table};
+use crate::row::{Row, fill_rows, put_table};
 use crate::status;
 use pe_set::{Accepted, Binding, MapError, Policy, SetEntry, judge};
-use std::alloc::{AllocError, Global};
+use std::alloc::Global;
 
 /// An image of a set: its file, the name by which others import from it, and its base.
 #[repr(C)]
@@ -52,22 +54,37 @@ impl Row<Binding> for BindingRow {
     }
 }
 
-/// The entries of a set.
-fn entries_of<'a>(
-    alloc: Global,
-    rows: &[EntryRecord<'a>],
-) -> Result<Vec<SetEntry<'a>, Global>, AllocError>
-    ensures { IfOk result (λ entries. entries_of entries.items ≡ map entry_text rows.now) }
-{
-    let mut entries = Vec::with_capacity(alloc, rows.len())?;
-    for row in rows {
-        entries.push(SetEntry {
-            name: row.name,
-            file: row.file,
-            base: row.base,
-        })?;
+impl<'a> Row<EntryRecord<'a>> for SetEntry<'a> {
+    ghost tells = { λ item row. entry_view row ≡ entry_text item };
+
+    fn of(item: &EntryRecord<'a>) -> Self {
+        SetEntry {
+            name: item.name,
+            file: item.file,
+            base: item.base,
+        }
     }
-    Ok(entries)
+}
+
+/// How many entries of a set count: at one behind the 256th stands fault 41.
+pub(crate) const COUNTED: usize = 257;
+
+/// An entry to be written over.
+pub(crate) const NO_ENTRY: SetEntry<'static> = SetEntry {
+    name: &[],
+    file: &[],
+    base: 0,
+};
+
+/// Puts the entries of a set that count into an array, which takes no memory.
+pub(crate) fn put_entries<'s, 'a>(
+    entries: &'s mut [SetEntry<'a>; COUNTED],
+    rows: &[EntryRecord<'a>],
+) -> &'s [SetEntry<'a>]
+    ensures { entries_of result.now ≡ counted (map entry_text rows.now) }
+{
+    fill_rows(entries, rows);
+    &entries[..COUNTED.min(rows.len())]
 }
 
 /// What becomes of an import from a module that is not in the set.
@@ -83,10 +100,13 @@ fn judged<'a>(
     set: &[EntryRecord<'a>],
     known: bool,
 ) -> Result<Accepted<'a, Global>, MapError>
-    ensures { SetAnswers (set_error (policy_of known) (map entry_text set.now)) (λ accepted. accepted.bindings.items ≡ bindings_of (modules_of (map entry_text set.now))) result }
+    ensures exact { SetAnswers (set_error (policy_of known) (map entry_text set.now)) (λ accepted. accepted.bindings.items ≡ bindings_of (modules_of (map entry_text set.now))) result }
+    ensures named { IsErrOf result MapError.Memory → first_standing (names_tests (map entry_text set.now)) ≡ None }
 {
-    let entries = entries_of(alloc, set)?;
-    judge(alloc, entries.as_slice(), policy_of(known))
+    pe_set::laws::errors_count_class_by_class();
+    pe_set::laws::accepted_sets_have_no_fault();
+    let mut entries = [NO_ENTRY; COUNTED];
+    judge(alloc, put_entries(&mut entries, set), policy_of(known))
 }
 
 /// Tells why a set is refused, and answers the status.
@@ -125,6 +145,7 @@ pub extern "C" fn petool_judge(
 ) -> u32
     ensures faults { IsJudged (set_error (policy_of known) (map entry_text set.now)) fault.old fault.new cycle.old cycle.new result }
     ensures table { IsAccepted result → TellsTable (λ row. row) binding_row (bindings_of (modules_of (map entry_text set.now))) rows.old rows.new count.new result }
+    ensures memory { result ≡ 2 → first_standing (names_tests (map entry_text set.now)) ≡ None }
     ensures rows_kept { IsRefused result → rows.new ≡ rows.old }
     ensures count_kept { IsRefused result → count.new ≡ count.old }
 {

@@ -51,7 +51,7 @@ pub extern "C" fn petool_space_map(
     ensures closed { result ≢ 0 → space.new.is_open ≡ false }
     ensures memory { result ≡ 2 → first_standing (names_tests (map entry_text set.now)) ≡ None }
 {
-    *space = Handle::closed(alloc);
+    petool_space_close(alloc, space);
     match map_entries(alloc, set, policy_of(known)) {
         Ok(mapped) => {
             *space = Handle::of(mapped);

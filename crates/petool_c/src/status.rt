@@ -10,3 +10,5 @@ pub(crate) const ABSENT: u32 = 3;
 pub(crate) const SMALL: u32 = 4;
 /// An argument has a value that it may not have.
 pub(crate) const ARGUMENT: u32 = 5;
+/// The space is not open.
+pub(crate) const CLOSED: u32 = 6;

@@ -1,18 +1,24 @@
--- The set that is judged is that of the entries.
-use Rattle.std.proofs.Common.{◌≡◌, ◌∙◌, List, ap, subst}
+-- What is judged are the entries that count.
+use Rattle.std.proofs.Common.{◌≡◌, List, subst}
+use Rattle.std.specs.Prelude.{map}
 use Rattle.pe_set.specs.Bindings.{bindings_of}
 use Rattle.pe_set.specs.Set.{Entry, modules_of}
 use Rattle.pe_set.specs.SetErrors.{set_error, SetAnswers}
 use Rattle.pe_set.specs.SetView.{entries_of}
 use Rattle.pe_set.specs.declared.entry.Policy.{Policy}
-use Rattle.petool_c.specs.SetRows.{policy_of}
+use Rattle.petool_c.specs.SetRows.{entry_text, policy_of}
+use Rattle.petool_c.proofs.Counted.{answer_counts, memory_counts}
 use Rattle.petool_c.proofs.Judging.{bindings_answered}
 use Rattle.petool_c.proofs.set.judged.Goals as goal
 
-pub returns : goal.returns
-returns c =
-    let set = entries_of c.as_slice.result.now in
-    let same = ap entries_of c.as_slice.ensures.value ∙ c.in_ok-entries.ensures in
+pub returns-clause-exact : goal.returns-clause-exact
+returns-clause-exact c =
+    let set = entries_of c.put_entries.result.now in
     let asked = bindings_answered (set_error c.policy_of.result set) set c.judge.result c.judge.ensures.exact in
     let known = subst (λ (p : Policy). SetAnswers (set_error p set) (λ accepted. accepted.bindings.items ≡ bindings_of (modules_of set)) c.judge.result) c.policy_of.ensures asked in
-    subst (λ (es : List Entry). SetAnswers (set_error (policy_of c.args.known) es) (λ accepted. accepted.bindings.items ≡ bindings_of (modules_of es)) c.judge.result) same known
+    let counts = subst (λ (es : List Entry). SetAnswers (set_error (policy_of c.args.known) es) (λ accepted. accepted.bindings.items ≡ bindings_of (modules_of es)) c.judge.result) c.put_entries.ensures known in
+    answer_counts (policy_of c.args.known) (λ es accepted. accepted.bindings.items ≡ bindings_of (modules_of es)) (c.errors_count_class_by_class.ensures.names (policy_of c.args.known)) (c.accepted_sets_have_no_fault.ensures.names (policy_of c.args.known))
+    (map entry_text c.args.set.now) c.judge.result counts
+
+pub returns-clause-named : goal.returns-clause-named
+returns-clause-named c wants = memory_counts (map entry_text c.args.set.now) (rw c.put_entries.ensures at c.judge.ensures.named wants)
