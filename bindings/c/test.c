@@ -137,7 +137,7 @@ static void test_image(void)
     HOLDS(petool_locate(file, 0x400, 0x2000, &offset, &fault) == PETOOL_ABSENT && offset == 0x210);
     HOLDS(petool_check(file, 63, &fault) == PETOOL_FAULT);
     HOLDS(fault.number == 2 && fault.image == 0 && fault.place == PETOOL_PLACE_FILE);
-    HOLDS(petool_read(file, 0x3ff, 0x105a, bytes, 4, &fault) == PETOOL_FAULT && memcmp(bytes, "g\0b.", 4) == 0);
+    HOLDS(petool_read(file, 0x27f, 0x105a, bytes, 4, &fault) == PETOOL_FAULT && memcmp(bytes, "g\0b.", 4) == 0);
     HOLDS(fault.number == 13 && fault.place == PETOOL_PLACE_FILE && fault.at == 0x138);
 }
 
