@@ -6,8 +6,7 @@ use Rattle.pe_set.specs.Set.{Entry}
 use Rattle.pe_set.specs.SetView.{entries_of, entry_view}
 use Rattle.pe_set.specs.declared.entry.SetEntry.{SetEntry}
 use Rattle.petool_c.specs.Rows.{Fills}
-use Rattle.petool_c.specs.SetRows.{entry_text}
-use Rattle.petool_c.specs.Spaces.{counted}
+use Rattle.petool_c.specs.SetRows.{entry_text, counted}
 use Rattle.petool_c.specs.declared.set.EntryRecord.{EntryRecord}
 use Rattle.petool_c.proofs.Rows.{rows_filled}
 

@@ -88,7 +88,7 @@ pub(crate) fn put_entries<'s, 'a>(
 }
 
 /// What becomes of an import from a module that is not in the set.
-fn policy_of(known: bool) -> Policy
+pub(crate) fn policy_of(known: bool) -> Policy
     ensures { result ≡ policy_of known }
 {
     if known { Policy::Known } else { Policy::Strict }
