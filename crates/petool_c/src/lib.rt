@@ -23,5 +23,6 @@ mod row;
 mod set;
 mod status;
 mod symbol;
+mod tables;
 mod text;
 mod words;
