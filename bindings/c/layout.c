@@ -92,6 +92,12 @@ AT(petool_fixup, entry, 0);
 AT(petool_fixup, field, 4);
 AT(petool_fixup, kind, 8);
 
+SIZE(petool_counts, 32);
+AT(petool_counts, exports, 0);
+AT(petool_counts, names, 8);
+AT(petool_counts, imports, 16);
+AT(petool_counts, fixups, 24);
+
 SIZE(petool_entry, 40);
 AT(petool_entry, name, 0);
 AT(petool_entry, file, 16);

@@ -186,7 +186,17 @@ uint32_t petool_export_names(const uint8_t *file, size_t len, petool_export *row
 uint32_t petool_imports(const uint8_t *file, size_t len, petool_import *rows, size_t room, size_t *count, petool_fault *fault);
 uint32_t petool_fixups(const uint8_t *file, size_t len, petool_fixup *rows, size_t room, size_t *count, petool_fault *fault);
 
-/* What one name or one ordinal exports. As above, with ABSENT in place of SMALL. The table is read at each call; *target must be
+typedef struct petool_counts {
+    size_t exports, names, imports, fixups;
+} petool_counts;
+
+/* All four in one reading, with the faults of petool_check: OK; SMALL where one of the tables has more items than rows; FAULT of 1
+ * to 38; or MEMORY, which never comes where one of faults 1 to 15 stands. */
+uint32_t petool_tables(const uint8_t *file, size_t len, petool_export *exports, size_t export_room, petool_export *names,
+                       size_t name_room, petool_import *imports, size_t import_room, petool_fixup *fixups, size_t fixup_room,
+                       petool_counts *counts, petool_fault *fault);
+
+/* What one name or one ordinal exports. As petool_exports, with ABSENT in place of SMALL. The table is read at each call; *target must be
  * set before. */
 uint32_t petool_export_by_name(const uint8_t *file, size_t len, const uint8_t *name, size_t name_len, petool_target *target,
                                petool_fault *fault);

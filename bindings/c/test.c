@@ -192,6 +192,30 @@ static void test_tables(void)
     HOLDS(fixups[0].entry == 0x2008 && fixups[0].field == 0x1008 && fixups[0].kind == 3);
 }
 
+static void test_all_tables(void)
+{
+    petool_export exports[2], names[2];
+    petool_import imports[2];
+    petool_fixup fixups[2];
+    petool_counts counts = {9, 9, 9, 9};
+    petool_fault fault;
+
+    put_headers(file);
+    put_relocations(file);
+    put_exports(file);
+    petool_exports_init(exports, 2);
+    petool_exports_init(names, 2);
+    petool_imports_init(imports, 2);
+    HOLDS(petool_tables(file, 0x600, exports, 2, names, 2, imports, 2, fixups, 2, &counts, &fault) == PETOOL_OK);
+    HOLDS(counts.exports == 2 && counts.names == 1 && counts.imports == 0 && counts.fixups == 1);
+    HOLDS(exports[1].ordinal == 7 && is(names[0].name, "g") && names[1].name.len == 0 && fixups[0].field == 0x1008);
+    HOLDS(petool_tables(file, 0x600, exports, 2, names, 0, imports, 0, fixups, 1, &counts, &fault) == PETOOL_SMALL);
+    HOLDS(counts.names == 1);
+    PUT(0x408, "\x08\x40");
+    HOLDS(petool_tables(file, 0x600, exports, 2, names, 2, imports, 2, fixups, 2, &counts, &fault) == PETOOL_FAULT);
+    HOLDS(fault.number == 35 && fault.place == PETOOL_PLACE_RVA && fault.at == 0x2008 && counts.exports == 2);
+}
+
 static void test_rebase(void)
 {
     petool_fault fault;
@@ -275,6 +299,7 @@ int main(void)
     test_image();
     test_exports();
     test_tables();
+    test_all_tables();
     test_rebase();
     test_set();
     test_object();

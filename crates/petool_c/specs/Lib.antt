@@ -1,3 +1,4 @@
+pub mod Counts
 pub mod ExportRows
 pub mod Faults
 pub mod FixupRows

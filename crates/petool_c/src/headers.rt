@@ -1,4 +1,4 @@
-ghost use Rattle.std.specs.Prelude.{◌≡◌, ◌≢◌, ◌⊎◌, None};
+ghost use Rattle.std.specs.Prelude.{◌≡◌, ◌≢◌, ◌⊎◌};
 ghost use Rattle.pe_view.specs.Faults.{first_standing};
 ghost use Rattle.pe_head.specs.Head.{head_of};
 ghost use Rattle.pe_layout.specs.SectionFaults.{layout_tests};
@@ -77,46 +77,81 @@ impl Row<SectionHeader> for SectionRow {
 #[repr(C)]
 #[derive(Clone, Copy, Debug)]
 pub struct HeadersRecord {
+    /// The address at which the image prefers to stand.
     pub image_base: u64,
+    /// The bytes of stack to reserve.
     pub size_of_stack_reserve: u64,
+    /// The bytes of stack to commit.
     pub size_of_stack_commit: u64,
+    /// The bytes of heap to reserve.
     pub size_of_heap_reserve: u64,
+    /// The bytes of heap to commit.
     pub size_of_heap_commit: u64,
     /// The file offset of the signature.
     pub pe_offset: u32,
+    /// When the image was made, as its maker wrote it.
     pub time_date_stamp: u32,
+    /// The file offset of the symbol table, which is not read.
     pub pointer_to_symbol_table: u32,
+    /// How many records the symbol table has.
     pub number_of_symbols: u32,
+    /// The bytes of all code.
     pub size_of_code: u32,
+    /// The bytes of all initialized data.
     pub size_of_initialized_data: u32,
+    /// The bytes of all uninitialized data.
     pub size_of_uninitialized_data: u32,
+    /// The RVA where the image starts to run, or 0.
     pub address_of_entry_point: u32,
+    /// The RVA where code begins.
     pub base_of_code: u32,
-    /// 0 in PE32+, which has no such field.
+    /// The RVA where data begins; 0 in PE32+, which has no such field.
     pub base_of_data: u32,
+    /// The alignment of sections in the laid-out image, in bytes.
     pub section_alignment: u32,
+    /// The alignment of raw data in the file, in bytes.
     pub file_alignment: u32,
+    /// Reserved.
     pub win32_version_value: u32,
+    /// The bytes of the laid-out image.
     pub size_of_image: u32,
+    /// The bytes of the headers, as a piece of the laid-out image.
     pub size_of_headers: u32,
+    /// As it is written; it is not computed.
     pub check_sum: u32,
+    /// Reserved.
     pub loader_flags: u32,
+    /// As it is written; at most 16 directories are held.
     pub number_of_rva_and_sizes: u32,
-    /// 0x10b in PE32, 0x20b in PE32+.
+    /// The form of the optional header: 0x10b PE32, 0x20b PE32+.
     pub magic: u16,
+    /// The processor that the image is for.
     pub machine: u16,
+    /// How many sections there are.
     pub number_of_sections: u16,
+    /// The bytes from the optional header's beginning to the section table.
     pub size_of_optional_header: u16,
+    /// Flags of the image.
     pub characteristics: u16,
+    /// What the image needs to run.
     pub subsystem: u16,
+    /// Flags of a library.
     pub dll_characteristics: u16,
+    /// The operating system's version that the image needs.
     pub major_operating_system_version: u16,
+    /// The second part of the operating system's version.
     pub minor_operating_system_version: u16,
+    /// The image's own version.
     pub major_image_version: u16,
+    /// The second part of the image's version.
     pub minor_image_version: u16,
+    /// The subsystem's version that the image needs.
     pub major_subsystem_version: u16,
+    /// The second part of the subsystem's version.
     pub minor_subsystem_version: u16,
+    /// The linker's version.
     pub major_linker_version: u8,
+    /// The second part of the linker's version.
     pub minor_linker_version: u8,
     /// The data directories by index; those that the headers do not hold are 0.
     pub directories: [DirectoryRow; 16],

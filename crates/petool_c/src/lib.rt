@@ -25,5 +25,6 @@ mod set;
 mod space;
 mod status;
 mod symbol;
+mod tables;
 mod text;
 mod words;
