@@ -174,7 +174,7 @@ fn put_sections(rows: &mut [SectionRow], sections: &[SectionHeader])
 }
 
 /// The headers as C has them.
-fn headers_record(headers: &Headers) -> HeadersRecord
+pub(crate) fn headers_record(headers: &Headers) -> HeadersRecord
     ensures { result ≡ headers_record headers.now }
 {
     HeadersRecord {

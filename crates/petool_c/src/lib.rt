@@ -26,5 +26,7 @@ mod space;
 mod status;
 mod symbol;
 mod tables;
+#[cfg(test)]
+mod tests;
 mod text;
 mod words;

@@ -23,6 +23,11 @@ fn told(fault: &FaultRecord) -> (u16, u16, u32, u64) {
     (fault.number, fault.image, fault.place, fault.at)
 }
 
+/// Whether a text has these bytes.
+fn is(text: &[u8], bytes: &[u8]) -> bool {
+    *text == *bytes
+}
+
 /// Asserts what holds of a case.
 fn assert_holds(rt: &impl Abort, case: usize, holds: bool) {
     assert!(rt; holds, "in case {case}");
@@ -35,6 +40,13 @@ fn assert_status(rt: &impl Abort, case: usize, status: u32, expected: u32, fault
 }
 
 /// Asserts the fault that a call tells, of image 0 and by its file offset.
-fn assert_fault(rt: &impl Abort, case: usize, status: u32, fault: &FaultRecord, number: u16, at: u64) {
+fn assert_fault(
+    rt: &impl Abort,
+    case: usize,
+    status: u32,
+    fault: &FaultRecord,
+    number: u16,
+    at: u64,
+) {
     assert_holds(rt, case, status == 1 && told(fault) == (number, 0, 0, at));
 }

@@ -1,19 +1,21 @@
 //! One image.
 
-use super::{UNTOLD, assert_fault, assert_holds, assert_status};
+use super::{UNTOLD, assert_fault, assert_holds, assert_status, is};
 use crate::export::{
     ExportRow, TargetRecord, petool_export_by_name, petool_export_by_ordinal, petool_export_names,
     petool_exports,
 };
 use crate::fixup::{FixupRow, petool_fixups};
-use crate::headers::{HeadersRecord, SectionRow, petool_read_headers};
+use crate::headers::{HeadersRecord, SectionRow, headers_record, petool_read_headers};
 use crate::image::{petool_check, petool_locate, petool_read, petool_read_text};
 use crate::import::{ImportRow, petool_imports};
 use crate::rebase::petool_rebase;
 use crate::tables::{CountsRecord, petool_tables};
 use crate::text::TextRecord;
 use crate::words::{petool_fault_words, petool_version};
+use pe_layout::Layout;
 use pe_vectors::files::{Vector, file_of};
+use pe_view::View;
 use std::alloc::Global;
 use std::process::Abort;
 
@@ -75,30 +77,65 @@ fn a_file_is_judged(rt: HostRuntime) {
 fn assert_headers(rt: &impl Abort, headers: &HeadersRecord) {
     assert_holds(rt, 10, headers.image_base == 0x3e3d_3c3b_3a39_0000);
     assert_holds(rt, 11, headers.size_of_heap_commit == 0x7877_7675_7473_7271);
-    assert_holds(rt, 12, headers.pe_offset == 0x40 && headers.time_date_stamp == 0x1413_1211);
-    assert_holds(rt, 13, headers.size_of_image == 0x45678 && headers.size_of_headers == 0x1e0);
-    assert_holds(rt, 14, headers.loader_flags == 0x7c7b_7a79 && headers.check_sum == 0x5453_5251);
+    assert_holds(
+        rt,
+        12,
+        headers.pe_offset == 0x40 && headers.time_date_stamp == 0x1413_1211,
+    );
+    assert_holds(
+        rt,
+        13,
+        headers.size_of_image == 0x45678 && headers.size_of_headers == 0x1e0,
+    );
+    assert_holds(
+        rt,
+        14,
+        headers.loader_flags == 0x7c7b_7a79 && headers.check_sum == 0x5453_5251,
+    );
     assert_holds(rt, 15, headers.magic == 0x20b && headers.machine == 0xaa64);
-    assert_holds(rt, 16, headers.number_of_sections == 3 && headers.subsystem == 0x5655);
+    assert_holds(
+        rt,
+        16,
+        headers.number_of_sections == 3 && headers.subsystem == 0x5655,
+    );
     assert_holds(rt, 17, headers.minor_subsystem_version == 0x4c4b);
-    assert_holds(rt, 18, headers.major_linker_version == 0x21 && headers.minor_linker_version == 0x22);
+    assert_holds(
+        rt,
+        18,
+        headers.major_linker_version == 0x21 && headers.minor_linker_version == 0x22,
+    );
     assert_holds(rt, 19, headers.directories[15].rva == 0xe4e3_e2e1);
     assert_holds(rt, 20, headers.directories[15].size == 0xe8e7_e6e5);
+}
+
+/// The headers of V1, none of whose numbers is that of VR.
+fn other_headers(rt: &impl Abort, alloc: Global) -> HeadersRecord {
+    let file = vector(rt, alloc, Vector::V1);
+    let layout = Layout::new(View::new(&file), 0).ok().expect(rt, "an image");
+    headers_record(layout.headers())
 }
 
 #[test]
 fn headers_and_sections_are_read(rt: HostRuntime) {
     let file = vector(&rt, rt.alloc(), Vector::Vr);
-    let mut headers = HeadersRecord::default();
+    let mut headers = other_headers(&rt, rt.alloc());
     let mut sections = [NO_SECTION; 2];
     let mut fault = UNTOLD;
     let status = petool_read_headers(&file, &mut headers, &mut sections, &mut fault);
     assert_status(&rt, 0, status, 0, &fault);
     assert_headers(&rt, &headers);
     let [first, second] = sections;
-    assert_holds(&rt, 1, first.name == *b"\"a\\\x01\0\0\0\0" && first.rva == 0x20000);
+    assert_holds(
+        &rt,
+        1,
+        first.name == *b"\"a\\\x01\0\0\0\0" && first.rva == 0x20000,
+    );
     assert_holds(&rt, 2, first.extent == 0x2345 && first.file_size == 0x1f0);
-    assert_holds(&rt, 3, second.rva == 0x30000 && second.characteristics == 0xe200_0060);
+    assert_holds(
+        &rt,
+        3,
+        second.rva == 0x30000 && second.characteristics == 0xe200_0060,
+    );
     let status = petool_read_headers(&file[..63], &mut headers, &mut sections, &mut fault);
     assert_fault(&rt, 4, status, &fault, 2, 63);
 }
@@ -132,7 +169,7 @@ fn texts_and_offsets_are_those_of_the_file(rt: HostRuntime) {
     assert_holds(&rt, 1, offset == 0x20f);
     let status = petool_read_text(&file, 0, &mut text, &mut fault);
     assert_status(&rt, 2, status, 0, &fault);
-    assert_holds(&rt, 2, *text.bytes == *b"MZ");
+    assert_holds(&rt, 2, is(text.bytes, b"MZ"));
     let status = petool_read_text(&file, 0x3000, &mut text, &mut fault);
     assert_status(&rt, 3, status, 3, &fault);
     let status = petool_locate(&file[..63], 0, &mut offset, &mut fault);
@@ -141,7 +178,9 @@ fn texts_and_offsets_are_those_of_the_file(rt: HostRuntime) {
 
 /// Whether a target is ordinal 407 of `\o`.
 fn is_forwarder(target: &TargetRecord) -> bool {
-    (target.kind, target.value) == (1, 407) && *target.module == *b"\\o\x7f" && target.name.is_empty()
+    (target.kind, target.value) == (1, 407)
+        && is(target.module, b"\\o\x7f")
+        && target.name.is_empty()
 }
 
 #[test]
@@ -152,11 +191,27 @@ fn exports_fill_the_rows(rt: HostRuntime) {
     let mut fault = UNTOLD;
     let status = petool_exports(rt.alloc(), &file, &mut rows, &mut count, &mut fault);
     assert_status(&rt, 0, status, 0, &fault);
-    assert_holds(&rt, 0, count == 5 && rows[0].ordinal == 65534 && rows[0].name.is_empty());
-    assert_holds(&rt, 1, rows[0].target.kind == 0 && rows[0].target.value == 0x43210);
-    assert_holds(&rt, 2, rows[2].ordinal == 65537 && is_forwarder(&rows[2].target));
-    assert_holds(&rt, 3, rows[1].target.kind == 2 && *rows[1].target.name == *b"n\"m\\");
-    assert_holds(&rt, 4, rows[5].ordinal == 9 && *rows[5].name == *b"?");
+    assert_holds(
+        &rt,
+        0,
+        count == 5 && rows[0].ordinal == 65534 && rows[0].name.is_empty(),
+    );
+    assert_holds(
+        &rt,
+        1,
+        rows[0].target.kind == 0 && rows[0].target.value == 0x43210,
+    );
+    assert_holds(
+        &rt,
+        2,
+        rows[2].ordinal == 65537 && is_forwarder(&rows[2].target),
+    );
+    assert_holds(
+        &rt,
+        3,
+        rows[1].target.kind == 2 && is(rows[1].target.name, b"n\"m\\"),
+    );
+    assert_holds(&rt, 4, rows[5].ordinal == 9 && is(rows[5].name, b"?"));
     let status = petool_exports(rt.alloc(), &file[..63], &mut rows, &mut count, &mut fault);
     assert_fault(&rt, 5, status, &fault, 2, 63);
     assert_holds(&rt, 5, count == 5);
@@ -170,11 +225,19 @@ fn names_fill_the_rows_that_there_are(rt: HostRuntime) {
     let mut fault = UNTOLD;
     let status = petool_export_names(rt.alloc(), &file, &mut rows[..2], &mut count, &mut fault);
     assert_status(&rt, 0, status, 4, &fault);
-    assert_holds(&rt, 0, count == 3 && *rows[0].name == *b"\"q\\" && rows[0].ordinal == 0);
-    assert_holds(&rt, 1, *rows[2].name == *b"?");
+    assert_holds(
+        &rt,
+        0,
+        count == 3 && is(rows[0].name, b"\"q\\") && rows[0].ordinal == 0,
+    );
+    assert_holds(&rt, 1, is(rows[2].name, b"?"));
     let status = petool_export_names(rt.alloc(), &file, &mut rows, &mut count, &mut fault);
     assert_status(&rt, 2, status, 0, &fault);
-    assert_holds(&rt, 2, *rows[2].name == *b"plain" && is_forwarder(&rows[2].target));
+    assert_holds(
+        &rt,
+        2,
+        is(rows[2].name, b"plain") && is_forwarder(&rows[2].target),
+    );
     let status = petool_export_names(rt.alloc(), &file[..63], &mut rows, &mut count, &mut fault);
     assert_fault(&rt, 3, status, &fault, 2, 63);
 }
@@ -207,9 +270,21 @@ fn imports_fill_the_rows(rt: HostRuntime) {
     let mut fault = UNTOLD;
     let status = petool_imports(rt.alloc(), &file, &mut rows, &mut count, &mut fault);
     assert_status(&rt, 0, status, 0, &fault);
-    assert_holds(&rt, 0, count == 5 && *rows[0].module == *b"A\"b.DLL" && rows[5].slot == 9);
-    assert_holds(&rt, 1, *rows[0].name == *b"\x7fname" && !rows[0].by_ordinal && rows[0].slot == 0x40010);
-    assert_holds(&rt, 2, rows[1].by_ordinal && rows[1].ordinal == 777 && rows[1].name.is_empty());
+    assert_holds(
+        &rt,
+        0,
+        count == 5 && is(rows[0].module, b"A\"b.DLL") && rows[5].slot == 9,
+    );
+    assert_holds(
+        &rt,
+        1,
+        is(rows[0].name, b"\x7fname") && !rows[0].by_ordinal && rows[0].slot == 0x40010,
+    );
+    assert_holds(
+        &rt,
+        2,
+        rows[1].by_ordinal && rows[1].ordinal == 777 && rows[1].name.is_empty(),
+    );
     let status = petool_imports(rt.alloc(), &file, &mut rows[..4], &mut count, &mut fault);
     assert_status(&rt, 3, status, 4, &fault);
     let status = petool_imports(rt.alloc(), &file[..63], &mut rows, &mut count, &mut fault);
@@ -225,7 +300,11 @@ fn base_relocations_fill_the_rows(rt: HostRuntime) {
     let status = petool_fixups(rt.alloc(), &file, &mut rows, &mut count, &mut fault);
     assert_status(&rt, 0, status, 0, &fault);
     let FixupRow { entry, field, kind } = rows[0];
-    assert_holds(&rt, 0, count == 1 && (entry, field, kind) == (0x2008, 0x1008, 3));
+    assert_holds(
+        &rt,
+        0,
+        count == 1 && (entry, field, kind) == (0x2008, 0x1008, 3),
+    );
     assert_holds(&rt, 1, rows[1].field == 9);
     let status = petool_fixups(rt.alloc(), &file, &mut rows[..0], &mut count, &mut fault);
     assert_status(&rt, 2, status, 4, &fault);
@@ -234,7 +313,12 @@ fn base_relocations_fill_the_rows(rt: HostRuntime) {
 }
 
 /// Reads all tables of a file into so many rows each.
-fn tables(alloc: Global, file: &[u8], room: usize, counts: &mut CountsRecord) -> (u32, (u64, u32, u32), u16) {
+fn tables(
+    alloc: Global,
+    file: &[u8],
+    room: usize,
+    counts: &mut CountsRecord,
+) -> (u32, (u64, u32, u32), u16) {
     let (mut exports, mut names) = ([NO_EXPORT; 5], [NO_EXPORT; 5]);
     let mut imports = [NO_IMPORT; 5];
     let mut fixups = [NO_FIXUP; 5];
@@ -250,7 +334,11 @@ fn tables(alloc: Global, file: &[u8], room: usize, counts: &mut CountsRecord) ->
         counts,
         &mut fault,
     );
-    (status, (exports[4].ordinal, imports[4].slot, fixups[3].field), fault.number)
+    (
+        status,
+        (exports[4].ordinal, imports[4].slot, fixups[3].field),
+        fault.number,
+    )
 }
 
 #[test]
@@ -278,12 +366,28 @@ fn a_file_is_moved_into_a_buffer(rt: HostRuntime) {
     let mut moved = [0x5a; 0x600];
     let len = file.len().min(0x600);
     let mut fault = UNTOLD;
-    let status = petool_rebase(rt.alloc(), &file, 0x2000_0001, &mut moved[..len], &mut fault);
-    assert_holds(&rt, 0, status == 1 && fault.number == 44 && moved[0] == 0x5a);
+    let status = petool_rebase(
+        rt.alloc(),
+        &file,
+        0x2000_0001,
+        &mut moved[..len],
+        &mut fault,
+    );
+    assert_holds(
+        &rt,
+        0,
+        status == 1 && fault.number == 44 && moved[0] == 0x5a,
+    );
     fault = UNTOLD;
     let status = petool_rebase(rt.alloc(), &file, 0x2000_0000, &mut moved, &mut fault);
     assert_status(&rt, 1, status, if len == 0x600 { 0 } else { 5 }, &fault);
-    let status = petool_rebase(rt.alloc(), &file, 0x2000_0000, &mut moved[..len], &mut fault);
+    let status = petool_rebase(
+        rt.alloc(),
+        &file,
+        0x2000_0000,
+        &mut moved[..len],
+        &mut fault,
+    );
     assert_status(&rt, 2, status, 0, &fault);
     // the field at RVA 0x1008 held the address 0x10001008
     assert_holds(&rt, 2, moved[0x208..0x20c] == [8, 0x10, 0, 0x20]);
@@ -294,9 +398,9 @@ fn faults_have_words(rt: HostRuntime) {
     let mut subject = TextRecord { bytes: b"?" };
     let mut rule = TextRecord { bytes: b"?" };
     assert_holds(&rt, 0, petool_fault_words(86, &mut subject, &mut rule) == 3);
-    assert_holds(&rt, 0, *subject.bytes == *b"?" && *rule.bytes == *b"?");
+    assert_holds(&rt, 0, is(subject.bytes, b"?") && is(rule.bytes, b"?"));
     assert_holds(&rt, 1, petool_fault_words(9, &mut subject, &mut rule) == 0);
-    assert_holds(&rt, 1, *subject.bytes == *b"NumberOfSections");
-    assert_holds(&rt, 1, *rule.bytes == *b"the image has over 96 sections");
+    assert_holds(&rt, 1, is(subject.bytes, b"NumberOfSections"));
+    assert_holds(&rt, 1, is(rule.bytes, b"the image has over 96 sections"));
     assert_holds(&rt, 2, petool_version() == 0x1_0000);
 }

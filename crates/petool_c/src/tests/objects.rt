@@ -1,6 +1,6 @@
 //! Objects.
 
-use super::{UNTOLD, assert_fault, assert_holds, assert_status};
+use super::{UNTOLD, assert_fault, assert_holds, assert_status, is};
 use crate::object::{
     ObjectRelocationRow, ObjectSectionRow, petool_object_check, petool_object_relocations,
     petool_object_sections,
@@ -33,9 +33,21 @@ fn sections_fill_the_rows(rt: HostRuntime) {
     let mut fault = UNTOLD;
     let status = petool_object_sections(O1, &mut rows, &mut count, &mut fault);
     assert_status(&rt, 0, status, 0, &fault);
-    assert_holds(&rt, 0, count == 1 && *rows[0].name == *b".text$long" && *rows[1].name == *b"?");
-    assert_holds(&rt, 1, *rows[0].bytes == *b"\xe8\0\0\0\0\xc3" && rows[0].absent_size == 0);
-    assert_holds(&rt, 2, rows[0].characteristics == 0x6000_0020 && rows[0].relocation_count == 1);
+    assert_holds(
+        &rt,
+        0,
+        count == 1 && is(rows[0].name, b".text$long") && is(rows[1].name, b"?"),
+    );
+    assert_holds(
+        &rt,
+        1,
+        is(rows[0].bytes, b"\xe8\0\0\0\0\xc3") && rows[0].absent_size == 0,
+    );
+    assert_holds(
+        &rt,
+        2,
+        rows[0].characteristics == 0x6000_0020 && rows[0].relocation_count == 1,
+    );
     let status = petool_object_sections(O1, &mut rows[..0], &mut count, &mut fault);
     assert_status(&rt, 3, status, 4, &fault);
     let status = petool_object_sections(&O1[..19], &mut rows, &mut count, &mut fault);
@@ -58,8 +70,16 @@ fn relocations_fill_the_rows(rt: HostRuntime) {
     assert_status(&rt, 1, status, 4, &fault);
     let status = petool_object_relocations(O1, 0, &mut rows, &mut count, &mut fault);
     assert_status(&rt, 2, status, 0, &fault);
-    let ObjectRelocationRow { address, symbol, kind } = rows[0];
-    assert_holds(&rt, 2, count == 1 && (address, symbol, kind) == (1, 3, 4) && rows[1].kind == 9);
+    let ObjectRelocationRow {
+        address,
+        symbol,
+        kind,
+    } = rows[0];
+    assert_holds(
+        &rt,
+        2,
+        count == 1 && (address, symbol, kind) == (1, 3, 4) && rows[1].kind == 9,
+    );
     let status = petool_object_relocations(&O1[..19], 0, &mut rows, &mut count, &mut fault);
     assert_fault(&rt, 3, status, &fault, 61, 19);
 }
@@ -80,11 +100,31 @@ fn symbols_fill_the_rows(rt: HostRuntime) {
     let mut fault = UNTOLD;
     let status = petool_object_symbols(O1, &mut rows, &mut count, &mut fault);
     assert_status(&rt, 0, status, 0, &fault);
-    assert_holds(&rt, 0, count == 4 && *rows[0].name == *b".file" && rows[0].aux.len() == 18);
-    assert_holds(&rt, 1, rows[0].section_number == 0xfffe && rows[0].class == 103);
-    assert_holds(&rt, 2, *rows[1].name == *b"abcdefgh" && rows[1].index == 2 && rows[1].kind == 0x20);
-    assert_holds(&rt, 3, rows[2].section_number == 0 && rows[1].section_number == 1);
-    assert_holds(&rt, 4, rows[3].value == 7 && rows[3].section_number == 0xffff && rows[4].kind == 9);
+    assert_holds(
+        &rt,
+        0,
+        count == 4 && is(rows[0].name, b".file") && rows[0].aux.len() == 18,
+    );
+    assert_holds(
+        &rt,
+        1,
+        rows[0].section_number == 0xfffe && rows[0].class == 103,
+    );
+    assert_holds(
+        &rt,
+        2,
+        is(rows[1].name, b"abcdefgh") && rows[1].index == 2 && rows[1].kind == 0x20,
+    );
+    assert_holds(
+        &rt,
+        3,
+        rows[2].section_number == 0 && rows[1].section_number == 1,
+    );
+    assert_holds(
+        &rt,
+        4,
+        rows[3].value == 7 && rows[3].section_number == 0xffff && rows[4].kind == 9,
+    );
     let status = petool_object_symbols(O1, &mut rows[..3], &mut count, &mut fault);
     assert_status(&rt, 5, status, 4, &fault);
     let status = petool_object_symbols(&O1[..19], &mut rows, &mut count, &mut fault);
