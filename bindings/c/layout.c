@@ -1,6 +1,10 @@
 /* Compiles only where the records of petool.h are laid out as the library has them, on a machine of 64 bits. */
 #include "petool.h"
 
+#ifdef __cplusplus
+#define _Static_assert static_assert
+#endif
+
 #define SIZE(type, size) _Static_assert(sizeof(type) == (size), #type " has another size")
 #define AT(type, field, offset) _Static_assert(offsetof(type, field) == (offset), #type "." #field " stands elsewhere")
 
@@ -131,3 +135,11 @@ AT(petool_object_symbol, value, 36);
 AT(petool_object_symbol, section_number, 40);
 AT(petool_object_symbol, kind, 42);
 AT(petool_object_symbol, class_, 44);
+
+SIZE(petool_space, 16);
+AT(petool_space, state, 0);
+AT(petool_space, is_open, 8);
+
+SIZE(petool_moved, 8);
+AT(petool_moved, fields, 0);
+AT(petool_moved, slots, 4);

@@ -14,9 +14,9 @@
  *           not, the answer is PETOOL_SMALL, and the first rows are filled, as many as there is room for.
  *           Records that hold texts must be set before a call: by petool_exports_init and the like, or by an earlier call.
  * Pointers. They are aligned as their types are, and a result shares no byte with another argument.
- * Threads.  Calls keep nothing, so any number of threads may call at once, also with one file. No call is made from a signal
+ * Threads.  Calls keep nothing but a space, so any number of threads may call at once, also with one file. No call is made from a signal
  *           handler, nor in a forked child of a process with threads.
- * Memory.   All that a call takes it gives back before it returns. It calls malloc, realloc and free, which are to align to 16
+ * Memory.   All that a call takes it gives back before it returns, but for a space, until that is closed. It calls malloc, realloc and free, which are to align to 16
  *           bytes, and answers PETOOL_MEMORY where these refuse.
  *
  * Nothing checks that a caller keeps these rules; what is proved of each call is proved for callers that do.
@@ -40,7 +40,8 @@ enum {
     PETOOL_MEMORY = 2,   /* a growth of memory was refused */
     PETOOL_ABSENT = 3,   /* the bytes pass the image, or there is no such text, export or section */
     PETOOL_SMALL = 4,    /* there is too little room: the count tells how much is needed */
-    PETOOL_ARGUMENT = 5  /* an argument has a value that it may not have; nothing was done */
+    PETOOL_ARGUMENT = 5, /* an argument has a value that it may not have; nothing was done */
+    PETOOL_CLOSED = 6    /* the space is not open */
 };
 
 typedef struct petool_text {
@@ -50,6 +51,16 @@ typedef struct petool_text {
 
 static const uint8_t petool_no_bytes[1] = {0};
 #define PETOOL_NONE {petool_no_bytes, 0}
+
+/* The bytes of a string, without the zero byte that ends it. */
+static inline petool_text petool_text_of(const char *string)
+{
+    petool_text text = {(const uint8_t *)string, 0};
+    while (string[text.len] != 0) {
+        text.len++;
+    }
+    return text;
+}
 
 enum {
     PETOOL_PLACE_FILE = 0,    /* bytes of the file */
@@ -225,6 +236,46 @@ typedef struct petool_binding {
  * OK; SMALL; FAULT, with the first of the set, and of 50 the length of the cycle of forwarders in *cycle; or MEMORY. */
 uint32_t petool_judge(const petool_entry *set, size_t entries, bool known, petool_binding *rows, size_t room, size_t *count,
                       uint32_t *cycle, petool_fault *fault);
+
+/* ---- a space: many images at their bases, kept between calls ---- */
+
+/* The caller owns the struct, and sets it to PETOOL_SPACE_CLOSED before the first call. petool_space_map opens it;
+ * petool_space_close gives its memory back, and does nothing to a space that is closed. It may stand at another place in memory
+ * from one call to the next, but it is never copied: two copies are one space, and the second close of them frees it twice.
+ * Nobody but this library writes its fields; is_open may be read.
+ * It goes to one call at a time, of any thread: a lock, a thread's start or a join stands between two calls of two threads. */
+typedef struct petool_space {
+    void *state;
+    bool is_open;
+} petool_space;
+
+#define PETOOL_SPACE_CLOSED {NULL, false}
+
+/* Maps a set: each image at its base, with its fields relocated and its imports bound. An open space is closed first. With
+ * `known`, an import from a module that is not in the set is no fault, and its slot is left as it stands in the file.
+ * OK, and then the space is open; else it is closed: FAULT, with the first of the set, and of 50 the length of the cycle of
+ * forwarders in *cycle; or MEMORY, which never comes where 41 or 42 stands. The files may go: the space holds its own bytes. */
+uint32_t petool_space_map(petool_space *space, const petool_entry *set, size_t entries, bool known, uint32_t *cycle,
+                          petool_fault *fault);
+void petool_space_close(petool_space *space);
+
+/* The bytes from an address on, which all lie in one image; none lie anywhere. OK; FAULT 54, and the buffer is as it was; or
+ * CLOSED. */
+uint32_t petool_space_read(petool_space *space, uint64_t address, uint8_t *buffer, size_t len, petool_fault *fault);
+
+typedef struct petool_moved {
+    uint32_t fields, slots; /* how many fields of the image, and how many bound slots of all images, were written */
+} petool_moved;
+
+/* Moves the image of an entry to another base: its fields are moved on, and the slots that end in it are bound anew. OK; FAULT,
+ * the first of 55 and 44 to 47, and then nothing is changed; or CLOSED. */
+uint32_t petool_space_move(petool_space *space, uint16_t image, uint64_t base, petool_moved *moved, petool_fault *fault);
+
+/* Where the image of an entry stands, and how many bytes it has. OK; ABSENT past the last; or CLOSED. */
+uint32_t petool_space_image(petool_space *space, uint16_t image, uint64_t *base, uint32_t *size);
+
+/* What each import is bound to. OK; SMALL; or CLOSED. */
+uint32_t petool_space_bindings(petool_space *space, petool_binding *rows, size_t room, size_t *count);
 
 /* ---- objects ---- */
 

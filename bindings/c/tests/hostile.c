@@ -1,0 +1,157 @@
+/*
+ * Files that were cut and changed: every prefix of each small file, and each of its bytes with another value. Every call answers,
+ * reads no byte that is not the file's (each file is a block of its own), and agrees with the others about the file.
+ */
+#include "check.h"
+#include "petool.h"
+
+#define ROWS 8
+
+static unsigned long files, faults[100];
+
+/* Whether a status is one that a call on a file may have, and of a fault whether its number is one of these. */
+static int is_answer(uint32_t status, const petool_fault *fault, unsigned last)
+{
+    if (status == PETOOL_FAULT)
+        return fault->number >= 1 && fault->number <= last;
+    return status == PETOOL_OK || status == PETOOL_ABSENT || status == PETOOL_SMALL;
+}
+
+/* A judgement of headers and sections is that of petool_check, where it is of one of faults 1 to 15. */
+static int agrees(uint32_t status, const petool_fault *fault, uint32_t judged, const petool_fault *first)
+{
+    if (judged == PETOOL_FAULT && first->number <= 15)
+        return status == PETOOL_FAULT && memcmp(fault, first, sizeof *first) == 0;
+    return status != PETOOL_FAULT;
+}
+
+static void ask_headers(const uint8_t *file, size_t len, uint32_t judged, const petool_fault *first)
+{
+    static petool_headers headers;
+    static petool_section sections[ROWS];
+    petool_fault fault = {0, 0, 0, 0};
+    petool_text text = PETOOL_NONE;
+    uint8_t bytes[16];
+    uint64_t offset = 0;
+    uint32_t status = petool_read_headers(file, len, &headers, sections, ROWS, &fault);
+    int right = is_answer(status, &fault, 15) && agrees(status, &fault, judged, first);
+    status = petool_read(file, len, 0x1000, bytes, sizeof bytes, &fault);
+    right = right && is_answer(status, &fault, 15) && agrees(status, &fault, judged, first);
+    status = petool_read_text(file, len, 0x1000, &text, &fault);
+    right = right && is_answer(status, &fault, 15) && agrees(status, &fault, judged, first);
+    status = petool_locate(file, len, 0x1000, &offset, &fault);
+    right = right && is_answer(status, &fault, 15) && agrees(status, &fault, judged, first);
+    CHECK(right && offset <= len);
+}
+
+static void ask_tables(const uint8_t *file, size_t len, uint32_t judged, const petool_fault *first)
+{
+    static petool_export exports[ROWS], names[ROWS];
+    static petool_import imports[ROWS];
+    static petool_fixup fixups[ROWS];
+    petool_counts counts = {0, 0, 0, 0};
+    petool_fault fault = {0, 0, 0, 0};
+    petool_target target;
+    uint32_t status;
+    int right;
+    petool_target_init(&target);
+    petool_exports_init(exports, ROWS);
+    petool_exports_init(names, ROWS);
+    petool_imports_init(imports, ROWS);
+    status = petool_tables(file, len, exports, ROWS, names, ROWS, imports, ROWS, fixups, ROWS, &counts, &fault);
+    /* all tables are wrong exactly where the file is */
+    right = is_answer(status, &fault, 38) && (status == PETOOL_FAULT) == (judged == PETOOL_FAULT)
+        && (status != PETOOL_FAULT || memcmp(&fault, first, sizeof fault) == 0);
+    status = petool_export_by_name(file, len, (const uint8_t *)"f", 1, &target, &fault);
+    right = right && is_answer(status, &fault, 22);
+    status = petool_export_by_ordinal(file, len, 1, &target, &fault);
+    right = right && is_answer(status, &fault, 22);
+    status = petool_imports(file, len, imports, ROWS, &counts.imports, &fault);
+    right = right && is_answer(status, &fault, 32);
+    status = petool_fixups(file, len, fixups, ROWS, &counts.fixups, &fault);
+    right = right && is_answer(status, &fault, 38);
+    CHECK(right);
+}
+
+static void ask_spaces(const uint8_t *file, size_t len)
+{
+    petool_space space = PETOOL_SPACE_CLOSED;
+    petool_fault fault = {0, 0, 0, 0};
+    petool_entry set[1];
+    petool_moved moved;
+    uint8_t bytes[16];
+    uint32_t cycle = 0;
+    uint32_t status;
+    set[0].name = petool_text_of("a.dll");
+    set[0].file.at = file;
+    set[0].file.len = len;
+    set[0].base = 0x20000000;
+    status = petool_space_map(&space, set, 1, true, &cycle, &fault);
+    CHECK(is_answer(status, &fault, 50) && space.is_open == (status == PETOOL_OK));
+    if (space.is_open) {
+        CHECK(petool_space_read(&space, 0x20000000, bytes, 16, &fault) == PETOOL_OK || fault.number == 54);
+        status = petool_space_move(&space, 0, 0x60000000, &moved, &fault);
+        CHECK(is_answer(status, &fault, 55));
+    }
+    petool_space_close(&space);
+}
+
+static void ask(const uint8_t *file, size_t len)
+{
+    petool_fault first = {0, 0, 0, 0};
+    uint32_t judged = petool_check(file, len, &first);
+    uint8_t *out = (uint8_t *)malloc(len + 1);
+    petool_fault fault = {0, 0, 0, 0};
+    uint32_t status;
+    if (out == NULL)
+        exit(3);
+    CHECK(is_answer(judged, &first, 38));
+    ask_headers(file, len, judged, &first);
+    ask_tables(file, len, judged, &first);
+    ask_spaces(file, len);
+    status = petool_rebase(file, len, 0x20000000, out, len, &fault);
+    CHECK(is_answer(status, &fault, 52) && (judged != PETOOL_FAULT || memcmp(&fault, &first, sizeof fault) == 0));
+    status = petool_object_check(file, len, &fault);
+    CHECK(status == PETOOL_OK || (status == PETOOL_FAULT && fault.number >= 61 && fault.number <= 72));
+    free(out);
+    files++;
+    faults[judged == PETOOL_FAULT ? first.number : 0]++;
+}
+
+/* Every prefix of a file, in a block of just its size, and the file with each byte changed in three ways. */
+static void change(const char *folder, const char *name)
+{
+    static const uint8_t masks[3] = {0xff, 0x01, 0x80};
+    bytes all = file_in(folder, name);
+    size_t k, m;
+    for (k = 0; k < all.len; k++) {
+        uint8_t *cut = (uint8_t *)malloc(k + (k == 0));
+        if (cut == NULL)
+            exit(3);
+        memcpy(cut, all.at, k);
+        ask(cut, k);
+        free(cut);
+        for (m = 0; m < 3; m++) {
+            all.at[k] ^= masks[m];
+            ask(all.at, all.len);
+            all.at[k] ^= masks[m];
+        }
+    }
+    free(all.at);
+}
+
+int main(int argc, char **argv)
+{
+    static const char *const names[9] = {"v1.dll", "v2.dll", "v3.dll", "va.dll", "vb.dll", "vc.dll", "vd.dll", "vs.dll", "vr.dll"};
+    int k, kinds = 0;
+    if (argc != 2)
+        return 2;
+    for (k = 0; k < 9; k++)
+        change(argv[1], names[k]);
+    change(argv[1], "o1.obj");
+    for (k = 1; k < 100; k++)
+        kinds += faults[k] != 0;
+    printf("%lu files, %lu of them accepted, with %d different faults\n", files, faults[0], kinds);
+    CHECK(files > 20000 && faults[0] > 1000 && kinds > 25);
+    return told();
+}

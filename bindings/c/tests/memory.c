@@ -1,0 +1,178 @@
+/*
+ * Each growth of each call refused in turn: the call answers that it wants memory, leaves what it fills as it was, and gives all of its
+ * memory back. The linker puts the functions below in the place of malloc, realloc and free.
+ */
+#include "check.h"
+#include "petool.h"
+
+void *__real_malloc(size_t size);
+void *__real_realloc(void *at, size_t size);
+void __real_free(void *at);
+void *__wrap_malloc(size_t size);
+void *__wrap_realloc(void *at, size_t size);
+void __wrap_free(void *at);
+
+/* how many growths were asked for, after how many they are refused (never, if negative), and how many blocks live */
+static long asked, room = -1, living;
+
+static int is_refused(void)
+{
+    asked++;
+    if (room < 0)
+        return 0;
+    return room-- == 0 || (room = 0, 1);
+}
+
+void *__wrap_malloc(size_t size)
+{
+    if (is_refused())
+        return NULL;
+    living++;
+    return __real_malloc(size);
+}
+
+void *__wrap_realloc(void *at, size_t size)
+{
+    if (is_refused())
+        return NULL;
+    living += at == NULL;
+    return __real_realloc(at, size);
+}
+
+void __wrap_free(void *at)
+{
+    living -= at != NULL;
+    __real_free(at);
+}
+
+static bytes va, vb, vc, vr, v2;
+static petool_entry abc[3];
+static petool_fault fault;
+static petool_space space;
+static size_t count;
+
+static petool_entry entry(const char *name, bytes file, uint64_t base)
+{
+    petool_entry made;
+    made.name = petool_text_of(name);
+    made.file.at = file.at;
+    made.file.len = file.len;
+    made.base = base;
+    return made;
+}
+
+static uint32_t judge_file(void)
+{
+    return petool_check(vr.at, vr.len, &fault);
+}
+
+static uint32_t read_exports(void)
+{
+    petool_export rows[5];
+    petool_exports_init(rows, 5);
+    return petool_exports(vr.at, vr.len, rows, 5, &count, &fault);
+}
+
+static uint32_t read_names(void)
+{
+    petool_export rows[3];
+    petool_exports_init(rows, 3);
+    return petool_export_names(vr.at, vr.len, rows, 3, &count, &fault);
+}
+
+static uint32_t read_imports(void)
+{
+    petool_import rows[5];
+    petool_imports_init(rows, 5);
+    return petool_imports(vr.at, vr.len, rows, 5, &count, &fault);
+}
+
+static uint32_t read_fixups(void)
+{
+    petool_fixup rows[4];
+    memset(rows, 0, sizeof rows);
+    return petool_fixups(vr.at, vr.len, rows, 4, &count, &fault);
+}
+
+static uint32_t find_name(void)
+{
+    petool_target target;
+    petool_target_init(&target);
+    return petool_export_by_name(vr.at, vr.len, (const uint8_t *)"plain", 5, &target, &fault);
+}
+
+static uint32_t find_ordinal(void)
+{
+    petool_target target;
+    petool_target_init(&target);
+    return petool_export_by_ordinal(vr.at, vr.len, 65537, &target, &fault);
+}
+
+static uint32_t move_file(void)
+{
+    uint8_t out[0x600];
+    return petool_rebase(v2.at, v2.len, 0x20000000, out, v2.len, &fault);
+}
+
+static uint32_t judge_set(void)
+{
+    petool_binding row[1];
+    uint32_t cycle = 0;
+    memset(row, 0, sizeof row);
+    return petool_judge(abc, 3, false, row, 1, &count, &cycle, &fault);
+}
+
+static uint32_t map_set(void)
+{
+    uint32_t cycle = 0;
+    uint32_t status = petool_space_map(&space, abc, 3, false, &cycle, &fault);
+    CHECK(space.is_open == (status == PETOOL_OK));
+    petool_space_close(&space);
+    return status;
+}
+
+/* Runs a call with room for ever more growths, until it wants no more. */
+static void refuse_each(const char *name, uint32_t (*call)(void))
+{
+    long before = living, all, k;
+    asked = 0;
+    CHECK(call() == PETOOL_OK);
+    all = asked;
+    CHECK(all > 0 && living == before);
+    for (k = 0; k < all; k++) {
+        uint32_t status;
+        memset(&fault, 0x5a, sizeof fault);
+        count = 99;
+        room = k;
+        status = call();
+        room = -1;
+        CHECK(status == PETOOL_MEMORY && fault.number == 0x5a5a && count == 99 && living == before);
+    }
+    printf("%s: each of %ld growths refused\n", name, all);
+}
+
+int main(int argc, char **argv)
+{
+    if (argc != 2)
+        return 2;
+    va = file_in(argv[1], "va.dll");
+    vb = file_in(argv[1], "vb.dll");
+    vc = file_in(argv[1], "vc.dll");
+    vr = file_in(argv[1], "vr.dll");
+    v2 = file_in(argv[1], "v2.dll");
+    abc[0] = entry("a.dll", va, 0x10000000);
+    abc[1] = entry("b.dll", vb, 0x20000000);
+    abc[2] = entry("c.exe", vc, 0x400000);
+    refuse_each("petool_check", judge_file);
+    refuse_each("petool_exports", read_exports);
+    refuse_each("petool_export_names", read_names);
+    refuse_each("petool_imports", read_imports);
+    refuse_each("petool_fixups", read_fixups);
+    refuse_each("petool_export_by_name", find_name);
+    refuse_each("petool_export_by_ordinal", find_ordinal);
+    refuse_each("petool_rebase", move_file);
+    refuse_each("petool_judge", judge_set);
+    refuse_each("petool_space_map", map_set);
+    free(va.at), free(vb.at), free(vc.at), free(vr.at), free(v2.at);
+    return told();
+}
