@@ -4,31 +4,38 @@ ghost use Rattle.pe_json.specs.Growing.{Grows};
 ghost use Rattle.pe_text.specs.TextWriter.{IsReady};
 
 use crate::json_text::JsonText;
-use crate::tables::key_member;
-use crate::value::Value::{self, Absent, Name, Number};
-use json::Token;
-use pe_tables::{Exports, Target};
+use crate::tables::add_key;
+use pe_tables::{Exports, Key, Target};
 use pe_text::{Sink, TextWriter};
 use pe_views::{ExportName, names_by_ordinal, names_of};
 use std::alloc::Allocator;
+
+/// Adds the member of what is exported in place of an RVA.
+fn add_forwarder<A: Allocator + Copy>(json: &mut JsonText<A>, module: &[u8], key: &Key) {
+    json.key("forward");
+    json.begin_object();
+    json.name("module", "module_hex", module);
+    add_key(json, key);
+    json.end_object();
+}
 
 /// Adds a row.
 fn add_export<A: Allocator + Copy>(
     json: &mut JsonText<A>,
     ordinal: u64,
-    name: Value,
+    name: Option<&[u8]>,
     target: &Target,
 ) {
-    json.token(Token::BeginObject);
-    json.members(&[("ordinal", Number(ordinal)), ("name", name)]);
-    match target {
-        Target::Rva(rva) => json.members(&[("rva", Number(*rva as u64))]),
-        Target::Forward { module, key } => {
-            json.token(Token::Key("forward"));
-            json.object(&[("module", Name("module_hex", module)), key_member(key)]);
-        }
+    json.begin_object();
+    json.number("ordinal", ordinal);
+    if let Some(name) = name {
+        json.name("name", "name_hex", name);
     }
-    json.token(Token::EndObject);
+    match target {
+        Target::Rva(rva) => json.number("rva", *rva as u64),
+        Target::Forward { module, key } => add_forwarder(json, module, key),
+    }
+    json.end_object();
 }
 
 /// Writes the rows of an ordinal that has these names.
@@ -44,12 +51,12 @@ fn write_ordinal<A: Allocator + Copy, W: Sink>(
     ensures { Grows W.taken W.failures text.old text.new }
 {
     if own.is_empty() {
-        add_export(json, ordinal, Absent, target);
+        add_export(json, ordinal, None, target);
         json.put(text);
     }
     for (_, index) in own {
         if let Some((name, _)) = names.get(*index) {
-            add_export(json, ordinal, Name("name_hex", name), target);
+            add_export(json, ordinal, Some(name), target);
             json.put(text);
         }
     }
@@ -80,10 +87,10 @@ pub(crate) fn write_exports<A: Allocator + Copy, W: Sink>(
     requires { IsReady W.failures text.old }
     ensures { Grows W.taken W.failures text.old text.new }
 {
-    json.list("exports");
+    json.begin_list("exports");
     match names_by_ordinal(json.alloc, exports) {
         Ok(names) => write_rows(json, text, exports, &names),
         Err(error) => json.note(Err(error)),
     }
-    json.token(Token::EndArray);
+    json.end_list();
 }

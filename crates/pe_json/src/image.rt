@@ -10,7 +10,6 @@ use crate::sections::section_members;
 use crate::tables::{write_fixups, write_imports};
 use crate::value::Value::{Number, Text};
 use crate::value::text_if;
-use json::Token;
 use pe_head::{Headers, Magic, SectionHeader, directory_name};
 use pe_image::Image;
 use pe_text::{Sink, TextWriter};
@@ -28,8 +27,8 @@ fn add_headers<A: Allocator + Copy>(json: &mut JsonText<A>, headers: &Headers) {
         ("format", Text(format)),
         ("pe_offset", Number(headers.pe_offset as u64)),
     ]);
-    json.token(Token::Key("headers"));
-    json.token(Token::BeginObject);
+    json.key("headers");
+    json.begin_object();
     json.members(&coff_members(
         headers.machine,
         headers.number_of_sections as u64,
@@ -40,8 +39,8 @@ fn add_headers<A: Allocator + Copy>(json: &mut JsonText<A>, headers: &Headers) {
         headers.characteristics,
     ));
     json.members(&optional_members(headers));
-    json.token(Token::EndObject);
-    json.list("directories");
+    json.end_object();
+    json.begin_list("directories");
     for (index, directory) in headers.directories.as_slice().iter().enumerate() {
         let index = index as u32;
         json.object(&[
@@ -51,7 +50,7 @@ fn add_headers<A: Allocator + Copy>(json: &mut JsonText<A>, headers: &Headers) {
             ("size", Number(directory.size as u64)),
         ]);
     }
-    json.token(Token::EndArray);
+    json.end_list();
 }
 
 /// Writes the list of sections.
@@ -64,14 +63,14 @@ fn write_sections<A: Allocator + Copy, W: Sink>(
     requires { IsReady W.failures text.old }
     ensures { Grows W.taken W.failures text.old text.new }
 {
-    json.list("sections");
+    json.begin_list("sections");
     for (index, section) in sections.iter().enumerate() {
         let name = section_name(table, &section.name);
         let index = ("index", Number(index as u64));
         json.object(&section_members(index, name, section));
         json.put(text);
     }
-    json.token(Token::EndArray);
+    json.end_list();
 }
 
 /// Writes what an image holds.

@@ -50,10 +50,35 @@ impl<A: Allocator + Copy> JsonText<A> {
     }
 
     /// Adds a token to the row.
-    pub fn token(&mut self, token: Token)
+    fn token(&mut self, token: Token)
         requires { IsPrintable (token_of token) }
     {
         let done = self.row.token(token);
+        self.note(done);
+    }
+
+    /// Adds a member's key to the row.
+    pub fn key(&mut self, key: &str) {
+        let done = self.row.key(key);
+        self.note(done);
+    }
+
+    /// Adds a member that is a number to the row.
+    pub fn number(&mut self, key: &str, number: u64) {
+        self.key(key);
+        let done = self.row.u64(number);
+        self.note(done);
+    }
+
+    /// Adds the beginning of an object to the row.
+    pub fn begin_object(&mut self) {
+        let done = self.row.begin_object();
+        self.note(done);
+    }
+
+    /// Adds the end of an object to the row.
+    pub fn end_object(&mut self) {
+        let done = self.row.end_object();
         self.note(done);
     }
 
@@ -80,59 +105,83 @@ impl<A: Allocator + Copy> JsonText<A> {
         self.token(Token::EndArray);
     }
 
-    /// Adds a value that has one key to the row.
-    fn value(&mut self, value: &Value) {
-        match value {
-            Value::Number(number) => {
-                let done = self.row.u64(*number);
-                self.note(done);
-            }
-            Value::Wide(number) => match format!(in self.alloc; "{number:#x}") {
-                Ok(digits) => self.token(Token::String(digits.as_str())),
-                Err(error) => self.note(Err(error)),
-            },
-            Value::Truth(truth) => self.token(Token::Bool(*truth)),
-            Value::Text(text) => self.token(Token::String(text)),
-            Value::Bytes(bytes) | Value::Name(_, bytes) => self.bytes(bytes),
-            Value::Flags(kind, flags) => self.flags(*kind, *flags),
-            Value::Absent => {}
+    /// Adds a number of 64 bits to the row, as a string of hexadecimal digits.
+    fn wide(&mut self, number: u64) {
+        match format!(in self.alloc; "{number:#x}") {
+            Ok(digits) => self.token(Token::String(digits.as_str())),
+            Err(error) => self.note(Err(error)),
         }
     }
 
-    /// Adds members to the row, a name under one of its two keys.
+    /// Adds a member that is a text of ours to the row.
+    pub fn text(&mut self, key: &str, text: &str) {
+        self.key(key);
+        self.token(Token::String(text));
+    }
+
+    /// Adds a member that is a name of a file to the row: a string where it is UTF-8, else digits under the other key.
+    pub fn name(&mut self, key: &str, key_hex: &str, name: &[u8]) {
+        match str::from_utf8(name) {
+            Ok(name) => {
+                self.key(key);
+                self.token(Token::String(name));
+            }
+            Err(_) => {
+                self.key(key_hex);
+                self.bytes(name);
+            }
+        }
+    }
+
+    /// Adds a member to the row.
+    fn member(&mut self, key: &str, value: &Value) {
+        match value {
+            Value::Absent => {}
+            Value::Number(number) => self.number(key, *number),
+            Value::Wide(number) => {
+                self.key(key);
+                self.wide(*number);
+            }
+            Value::Truth(truth) => {
+                self.key(key);
+                self.token(Token::Bool(*truth));
+            }
+            Value::Text(text) => self.text(key, text),
+            Value::Name(key_hex, name) => self.name(key, key_hex, name),
+            Value::Bytes(bytes) => {
+                self.key(key);
+                self.bytes(bytes);
+            }
+            Value::Flags(kind, flags) => {
+                self.key(key);
+                self.flags(*kind, *flags);
+            }
+        }
+    }
+
+    /// Adds members to the row.
     pub fn members(&mut self, members: &[Member]) {
         for (key, value) in members {
-            match value {
-                Value::Absent => {}
-                Value::Name(key_hex, name) => match str::from_utf8(name) {
-                    Ok(name) => {
-                        self.token(Token::Key(key));
-                        self.token(Token::String(name));
-                    }
-                    Err(_) => {
-                        self.token(Token::Key(key_hex));
-                        self.bytes(name);
-                    }
-                },
-                value => {
-                    self.token(Token::Key(key));
-                    self.value(value);
-                }
-            }
+            self.member(key, value);
         }
     }
 
     /// Adds an object of these members to the row.
     pub fn object(&mut self, members: &[Member]) {
-        self.token(Token::BeginObject);
+        self.begin_object();
         self.members(members);
-        self.token(Token::EndObject);
+        self.end_object();
     }
 
     /// Adds a member's key and the beginning of its list to the row.
-    pub fn list(&mut self, key: &str) {
-        self.token(Token::Key(key));
+    pub fn begin_list(&mut self, key: &str) {
+        self.key(key);
         self.token(Token::BeginArray);
+    }
+
+    /// Adds the end of a list to the row.
+    pub fn end_list(&mut self) {
+        self.token(Token::EndArray);
     }
 
     /// Ends a row, and writes it with those before it where there are enough.
@@ -167,7 +216,7 @@ impl<A: Allocator + Copy> JsonText<A> {
         requires { IsReady W.failures text.old }
         ensures { Grows W.taken W.failures text.old text.new }
     {
-        self.token(Token::EndObject);
+        self.end_object();
         self.write_rows(text);
         if self.refused {
             return Err(AllocError);

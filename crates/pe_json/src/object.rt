@@ -8,13 +8,28 @@ use crate::json_text::JsonText;
 use crate::sections::{header_at, section_members};
 use crate::value::Value::{Bytes, Name, Number, Text};
 use crate::value::{Member, text_if};
-use coff_object::{Aux, FileSection, ObjectFile, Relocations, Symbol, SymbolSection};
-use json::Token;
+use coff_object::{Aux, FileSection, ObjectFile, Relocation, Relocations, Symbol, SymbolSection};
 use pe_head::SectionHeader;
 use pe_text::{Sink, TextWriter};
 use pe_view::View;
 use pe_views::{class_name, relocation_type_name};
 use std::alloc::Allocator;
+
+/// Adds a relocation.
+fn add_relocation<A: Allocator + Copy>(
+    json: &mut JsonText<A>,
+    machine: u16,
+    relocation: &Relocation,
+) {
+    json.begin_object();
+    json.number("virtual_address", relocation.address as u64);
+    json.number("symbol_table_index", relocation.symbol as u64);
+    json.number("type", relocation.kind as u64);
+    if let Some(name) = relocation_type_name(machine, relocation.kind) {
+        json.text("type_name", name);
+    }
+    json.end_object();
+}
 
 /// Writes the list of a section's relocations ("PE Format", COFF Relocations).
 fn write_relocations<A: Allocator + Copy, W: Sink>(
@@ -26,22 +41,14 @@ fn write_relocations<A: Allocator + Copy, W: Sink>(
     requires { IsReady W.failures text.old }
     ensures { Grows W.taken W.failures text.old text.new }
 {
-    json.list("relocations");
+    json.begin_list("relocations");
     for index in 0..relocations.len() {
         if let Some(relocation) = relocations.get(index) {
-            json.object(&[
-                ("virtual_address", Number(relocation.address as u64)),
-                ("symbol_table_index", Number(relocation.symbol as u64)),
-                ("type", Number(relocation.kind as u64)),
-                (
-                    "type_name",
-                    text_if(relocation_type_name(machine, relocation.kind)),
-                ),
-            ]);
+            add_relocation(json, machine, &relocation);
             json.put(text);
         }
     }
-    json.token(Token::EndArray);
+    json.end_list();
 }
 
 /// Writes a section, whose number counts from 1.
@@ -56,11 +63,11 @@ fn write_section<'a, A: Allocator + Copy, W: Sink>(
     requires { IsReady W.failures text.old }
     ensures { Grows W.taken W.failures text.old text.new }
 {
-    json.token(Token::BeginObject);
+    json.begin_object();
     let number = ("number", Number(number));
     json.members(&section_members(number, section.name, header));
     write_relocations(json, text, machine, section.relocations);
-    json.token(Token::EndObject);
+    json.end_object();
 }
 
 /// Writes the list of sections.
@@ -73,7 +80,7 @@ fn write_sections<A: Allocator + Copy, W: Sink>(
     requires { IsReady W.failures text.old }
     ensures { Grows W.taken W.failures text.old text.new }
 {
-    json.list("sections");
+    json.begin_list("sections");
     let table = 20 + object.optional().len() as u64;
     for index in 0..object.section_count() {
         let offset = (index as u64).saturating_mul(40).saturating_add(table);
@@ -83,7 +90,7 @@ fn write_sections<A: Allocator + Copy, W: Sink>(
             write_section(json, text, object.machine(), number, &header, &section);
         }
     }
-    json.token(Token::EndArray);
+    json.end_list();
 }
 
 /// Adds what an auxiliary record holds, in the shape of its symbol's class ("PE Format", Auxiliary Symbol Records).
@@ -150,14 +157,14 @@ fn add_aux<'a, A: Allocator + Copy>(json: &mut JsonText<A>, index: Member<'a>, a
 
 /// Adds the list of the auxiliary records that stand behind the symbol of this index.
 fn add_aux_records<A: Allocator + Copy>(json: &mut JsonText<A>, index: u32, symbol: &Symbol) {
-    json.list("auxiliary_records");
+    json.begin_list("auxiliary_records");
     for k in 0..symbol.aux_count() {
         if let Some(aux) = symbol.aux_record(k) {
             let index = (u64::from(index) + 1).saturating_add(k as u64);
             add_aux(json, ("index", Number(index)), &aux);
         }
     }
-    json.token(Token::EndArray);
+    json.end_list();
 }
 
 /// Adds a symbol and its auxiliary records ("PE Format", COFF Symbol Table). Its section is a number that counts from 1, or a word.
@@ -168,7 +175,7 @@ fn add_symbol<A: Allocator + Copy>(json: &mut JsonText<A>, index: u32, symbol: &
         SymbolSection::Absolute => ("section", Text("ABSOLUTE")),
         SymbolSection::Debug => ("section", Text("DEBUG")),
     };
-    json.token(Token::BeginObject);
+    json.begin_object();
     json.members(&[
         ("index", Number(index as u64)),
         ("name", Name("name_hex", symbol.name)),
@@ -181,7 +188,7 @@ fn add_symbol<A: Allocator + Copy>(json: &mut JsonText<A>, index: u32, symbol: &
     if symbol.aux_count() > 0 {
         add_aux_records(json, index, symbol);
     }
-    json.token(Token::EndObject);
+    json.end_object();
 }
 
 /// Writes the list of symbols.
@@ -193,12 +200,12 @@ fn write_symbols<A: Allocator + Copy, W: Sink>(
     requires { IsReady W.failures text.old }
     ensures { Grows W.taken W.failures text.old text.new }
 {
-    json.list("symbols");
+    json.begin_list("symbols");
     for (index, symbol) in object.symbols() {
         add_symbol(json, index, &symbol);
         json.put(text);
     }
-    json.token(Token::EndArray);
+    json.end_list();
 }
 
 /// Writes what an object holds.
@@ -213,7 +220,7 @@ pub(crate) fn write_object<A: Allocator + Copy, W: Sink>(
 {
     let view = View::new(file);
     json.members(&[("format", Text("COFF"))]);
-    json.token(Token::Key("headers"));
+    json.key("headers");
     json.object(&coff_members(
         object.machine(),
         object.section_count() as u64,

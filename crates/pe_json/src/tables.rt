@@ -4,18 +4,15 @@ ghost use Rattle.pe_json.specs.Growing.{Grows};
 ghost use Rattle.pe_text.specs.TextWriter.{IsReady};
 
 use crate::json_text::JsonText;
-use crate::value::Member;
-use crate::value::Value::{Name, Number, Text};
-use json::Token;
 use pe_tables::{Fixup, FixupKind, Import, Key};
 use pe_text::{Sink, TextWriter};
 use std::alloc::Allocator;
 
-/// An ordinal or a name.
-pub(crate) fn key_member<'a>(key: &Key<'a>) -> Member<'a> {
+/// Adds an ordinal or a name.
+pub(crate) fn add_key<A: Allocator + Copy>(json: &mut JsonText<A>, key: &Key) {
     match key {
-        Key::Ordinal(ordinal) => ("ordinal", Number(*ordinal as u64)),
-        Key::Name(name) => ("name", Name("name_hex", name)),
+        Key::Ordinal(ordinal) => json.number("ordinal", *ordinal as u64),
+        Key::Name(name) => json.name("name", "name_hex", name),
     }
 }
 
@@ -28,19 +25,32 @@ pub(crate) fn write_imports<A: Allocator + Copy, W: Sink>(
     requires { IsReady W.failures text.old }
     ensures { Grows W.taken W.failures text.old text.new }
 {
-    json.list("imports");
+    json.begin_list("imports");
     for import in imports {
-        json.object(&[
-            ("module", Name("module_hex", import.module)),
-            key_member(&import.key),
-            ("slot", Number(import.slot as u64)),
-        ]);
+        json.begin_object();
+        json.name("module", "module_hex", import.module);
+        add_key(json, &import.key);
+        json.number("slot", import.slot as u64);
+        json.end_object();
         json.put(text);
     }
-    json.token(Token::EndArray);
+    json.end_list();
 }
 
-/// Writes the list of base relocations: how many bits of an address each field holds, or which half of it.
+/// Adds a base relocation: how many bits of an address its field holds, or which half of it.
+fn add_fixup<A: Allocator + Copy>(json: &mut JsonText<A>, fixup: &Fixup) {
+    json.begin_object();
+    json.number("rva", fixup.field as u64);
+    match fixup.kind {
+        FixupKind::Bits32 => json.number("bits", 32),
+        FixupKind::Bits64 => json.number("bits", 64),
+        FixupKind::High => json.text("kind", "high"),
+        FixupKind::Low => json.text("kind", "low"),
+    }
+    json.end_object();
+}
+
+/// Writes the list of base relocations.
 pub(crate) fn write_fixups<A: Allocator + Copy, W: Sink>(
     json: &mut JsonText<A>,
     text: &mut TextWriter<W>,
@@ -49,16 +59,10 @@ pub(crate) fn write_fixups<A: Allocator + Copy, W: Sink>(
     requires { IsReady W.failures text.old }
     ensures { Grows W.taken W.failures text.old text.new }
 {
-    json.list("fixups");
+    json.begin_list("fixups");
     for fixup in fixups {
-        let kind = match fixup.kind {
-            FixupKind::Bits32 => ("bits", Number(32)),
-            FixupKind::Bits64 => ("bits", Number(64)),
-            FixupKind::High => ("kind", Text("high")),
-            FixupKind::Low => ("kind", Text("low")),
-        };
-        json.object(&[("rva", Number(fixup.field as u64)), kind]);
+        add_fixup(json, fixup);
         json.put(text);
     }
-    json.token(Token::EndArray);
+    json.end_list();
 }

@@ -194,7 +194,7 @@ fn read_entries<'a, A: Allocator + Copy>(
         × IsIndexOf (λ index. target_of (image_of layout.now) directory (entry (image_of layout.now) table.now index)) table.now.ordinal_base (map name_view names.now) exports.names) result }
 {
     let ordinals = read_ordinals(alloc, layout, directory, table)?;
-    let mut index = NameIndex::new(alloc);
+    let mut index = NameIndex::with_capacity(alloc, names.len())?;
     for name in names {
         let ordinal = u64::from(table.ordinal_base) + u64::from(name.entry);
         let target = target_by_ordinal(&ordinals, ordinal);

@@ -40,6 +40,21 @@ impl<'a, A: Allocator + Copy> NameIndex<'a, A> {
         }
     }
 
+    /// No names, with room for so many.
+    pub fn with_capacity(alloc: A, names: usize) -> Result<NameIndex<'a, A>, AllocError>
+        ensures exports { IfOk result (λ index. index.exports.items ≡ []) }
+        ensures ordinals { IfOk result (λ index. index.ordinals.items ≡ []) }
+        ensures held { IfOk result (λ index. (text : List ℕ) → held index text ≡ None) }
+        ensures known { IfOk result (λ index. (file : List ℕ) → AreLongTextsOf file index.long) }
+    {
+        Ok(NameIndex {
+            exports: Vec::with_capacity(alloc, names)?,
+            ordinals: Vec::with_capacity(alloc, names)?,
+            short: TextMap::with_capacity(alloc, names)?,
+            long: LongTexts::new(alloc),
+        })
+    }
+
     /// What a text exports, if it is there.
     pub fn get(&self, text: &[u8]) -> Option<Option<Target<'a>>>
         ensures { result ≡ held self.now text.now }

@@ -1,4 +1,4 @@
-ghost use Rattle.std.specs.Prelude.{◌≡◌, ◌↔◌, ℕ, List, [], None, Some, All, IsTrue, OnOk, if◌then◌else◌};
+ghost use Rattle.std.specs.Prelude.{◌≡◌, ◌↔◌, ℕ, List, [], None, Some, All, IsTrue, OnOk, IfOk, if◌then◌else◌};
 ghost use Rattle.std.specs.Str.{bytes_eq};
 ghost use Rattle.pe_tables.specs.TextMap.{IsBefore, TextsAscend, found};
 
@@ -54,6 +54,16 @@ impl<'a, A: Allocator + Copy> TextMap<'a, A> {
             run: Vec::new(alloc),
             others: BTreeMap::new(alloc),
         }
+    }
+
+    /// No texts, with room for so many that ascend.
+    pub fn with_capacity(alloc: A, texts: usize) -> Result<TextMap<'a, A>, AllocError>
+        ensures { IfOk result (λ map. entries_in map ≡ []) }
+    {
+        Ok(TextMap {
+            run: Vec::with_capacity(alloc, texts)?,
+            others: BTreeMap::new(alloc),
+        })
     }
 
     /// What a text exports, if it is there.

@@ -24,16 +24,12 @@ const EXPLAIN_ABOUT: &str = "Explains a fault by its number, or lists all faults
 
 /// The subcommand `at`.
 pub(crate) fn at_command<'a>(alloc: Global) -> Result<Command<'a>, AllocError> {
+    let offset = flag(alloc, "file", OFFSET).conflicts_with("address")?;
     let command = Ok(new_command(alloc, "at", AT_ABOUT));
     let command = with_argument(command, flag(alloc, "address", ADDRESS));
-    let command = with_argument(
-        command,
-        flag(alloc, "file", OFFSET).conflicts_with("address")?,
-    );
-    let command = with_argument(
-        command,
-        required_argument(alloc, "FILE", "The image's file, or - for standard input"),
-    );
+    let command = with_argument(command, offset);
+    let file = required_argument(alloc, "FILE", "The image's file, or - for standard input");
+    let command = with_argument(command, file);
     with_argument(command, required_argument(alloc, "ADDRESS", PLACE))
 }
 

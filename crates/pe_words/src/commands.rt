@@ -2,7 +2,7 @@
 
 use crate::at_words::{at_command, explain_command};
 use crate::builders::{new_command, with_subcommand};
-use crate::file_words::{FILE_COMMANDS, file_command, show_command};
+use crate::file_words::{FILE_COMMANDS, FileCommand, file_command, show_command};
 use crate::map_words::map_command;
 use crate::rebase_words::rebase_command;
 use clap::Command;
@@ -45,8 +45,28 @@ fn program<'a>(alloc: Global) -> Result<Command<'a>, AllocError> {
         .bin_name("petool")
 }
 
-/// The program's command line.
-pub(crate) fn command<'a>(alloc: Global) -> Result<Command<'a>, AllocError> {
+/// The row of the command of files that has this name.
+fn file_row(name: &str) -> Option<FileCommand> {
+    FILE_COMMANDS.iter().find(|row| row.name == name).copied()
+}
+
+/// The command of this name, if there is one.
+fn command_named<'a>(alloc: Global, name: &str) -> Option<Result<Command<'a>, AllocError>> {
+    match name {
+        "show" => Some(show_command(alloc)),
+        "at" => Some(at_command(alloc)),
+        "map" => Some(map_command(alloc)),
+        "rebase" => Some(rebase_command(alloc)),
+        "explain" => Some(explain_command(alloc)),
+        _ => match file_row(name) {
+            Some(row) => Some(file_command(alloc, row)),
+            None => None,
+        },
+    }
+}
+
+/// The program's command line with all commands.
+fn whole_command<'a>(alloc: Global) -> Result<Command<'a>, AllocError> {
     let mut command = with_subcommand(program(alloc), show_command(alloc));
     for row in FILE_COMMANDS {
         command = with_subcommand(command, file_command(alloc, row));
@@ -55,4 +75,13 @@ pub(crate) fn command<'a>(alloc: Global) -> Result<Command<'a>, AllocError> {
     let command = with_subcommand(command, map_command(alloc));
     let command = with_subcommand(command, rebase_command(alloc));
     with_subcommand(command, explain_command(alloc))
+}
+
+/// The program's command line: with the command alone that the first word names, which is all that its words are read by, or with
+/// all commands where it names none.
+pub(crate) fn command<'a>(alloc: Global, first: &str) -> Result<Command<'a>, AllocError> {
+    match command_named(alloc, first) {
+        Some(named) => with_subcommand(program(alloc), named),
+        None => whole_command(alloc),
+    }
 }

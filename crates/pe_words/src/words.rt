@@ -119,7 +119,8 @@ fn job_of<P: Copy>(
 
 /// What clap finds in the words after the program's name.
 fn matches_of<'a>(alloc: Global, words: &'a [String]) -> Result<ArgMatches<'a>, WordsError> {
-    match command(alloc)?.try_get_matches_from(words) {
+    let first = words.first().map_or("", |word| word.as_str());
+    match command(alloc, first)?.try_get_matches_from(words) {
         Ok(found) => Ok(found),
         Err(error) => Err(refusal(alloc, error)),
     }

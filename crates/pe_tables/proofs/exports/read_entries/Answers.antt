@@ -35,11 +35,11 @@ exported_by i d t ordinals k result within listed is =
 pub loop-name-init : goal.loop-name-init
 loop-name-init g c =
     record {
-      known = c.new-index.ensures.known (file_of c.args.layout.now);
+      known = c.in_ok-index.ensures.known (file_of c.args.layout.now);
       names = record {
-        exports = ap (map export_view) c.new-index.ensures.exports;
-        ordinals = c.new-index.ensures.ordinals;
-        targets = λ text. ap (option_map (option_map target_view)) (c.new-index.ensures.held text);
+        exports = ap (map export_view) c.in_ok-index.ensures.exports;
+        ordinals = c.in_ok-index.ensures.ordinals;
+        targets = λ text. ap (option_map (option_map target_view)) (c.in_ok-index.ensures.held text);
       };
     }
 
@@ -63,6 +63,10 @@ loop-name-preserved g c =
           (exported_by i d t ordinals k c.target_by_ordinal-target.result (c.requires.within index no_name c.loop-name-test.true).inside c.in_ok-ordinals.ensures.1.0 found)
           (subst (λ (n : ℕ). Learns c.loop-name.index c.add.new.self (get_or c.args.names.now index no_name).text.bytes n c.target_by_ordinal-target.result (held c.loop-name.index (get_or c.args.names.now index no_name).text.bytes.now)) (ap (λ (n : ℕ). n + c.from-in-loop-name.result) base ∙ ap (λ (n : ℕ). t.ordinal_base + n) own) c.in_ok-add.ensures.learns) c.loop-name.invariant.names;
     }
+
+-- the exports by ordinal ascend
+pub target_by_ordinal-target-requires : goal.target_by_ordinal-target-requires
+target_by_ordinal-target-requires g c = rw c.deref.ensures.value (c.in_ok-ordinals.ensures.1.1)
 
 pub add-requires-clause-text : goal.add-requires-clause-text
 add-requires-clause-text g c = (c.requires.within c.loop-name.name-index no_name c.loop-name-test.true).text
