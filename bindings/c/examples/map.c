@@ -131,7 +131,7 @@ static int run(petool_entry *set, size_t images)
 
 int main(int argc, char **argv)
 {
-    petool_entry set[MOST];
+    static petool_entry set[MOST];
     size_t images = (size_t)argc - 1, i;
     int status;
     if (argc < 2 || images > MOST) {

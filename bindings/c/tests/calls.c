@@ -150,7 +150,7 @@ static void check_bytes(void)
     CHECK(petool_read(v1.at, v1.len, 0x2fff, bytes, 2, &fault) == PETOOL_ABSENT);
     CHECK(bytes[0] == 0x5a && bytes[1] == 0x5a);
     CHECK(is_untold(fault));
-    CHECK(petool_read(v1.at, 100, 0, bytes, 1, &fault) == PETOOL_FAULT);
+    CHECK(petool_read(v1.at, 70, 0, bytes, 1, &fault) == PETOOL_FAULT);
     CHECK(bytes[0] == 0x5a && fault.number == 4);
 
     CHECK(petool_locate(v1.at, v1.len, 0x100f, &offset, &fault) == PETOOL_OK);

@@ -110,7 +110,9 @@ static void ask(const uint8_t *file, size_t len)
     ask_tables(file, len, judged, &first);
     ask_spaces(file, len);
     status = petool_rebase(file, len, 0x20000000, out, len, &fault);
-    CHECK(is_answer(status, &fault, 52) && (judged != PETOOL_FAULT || memcmp(&fault, &first, sizeof fault) == 0));
+    /* a rebase asks nothing of exports, of which faults 16 to 22 tell */
+    CHECK(is_answer(status, &fault, 52));
+    CHECK(judged != PETOOL_FAULT || (first.number >= 16 && first.number <= 22) || memcmp(&fault, &first, sizeof fault) == 0);
     status = petool_object_check(file, len, &fault);
     CHECK(status == PETOOL_OK || (status == PETOOL_FAULT && fault.number >= 61 && fault.number <= 72));
     free(out);

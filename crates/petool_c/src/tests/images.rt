@@ -1,6 +1,6 @@
 //! One image.
 
-use super::{UNTOLD, assert_fault, assert_holds, assert_status, is};
+use super::{UNTOLD, assert_fault, assert_holds, assert_status, is, told};
 use crate::export::{
     ExportRow, TargetRecord, petool_export_by_name, petool_export_by_ordinal, petool_export_names,
     petool_exports,
@@ -63,13 +63,18 @@ fn vector(rt: &impl Abort, alloc: Global, vector: Vector) -> Vec<u8> {
     file_of(alloc, vector).expect(rt, "a file")
 }
 
+/// The first 63 bytes of a file, of which fault 2 stands.
+fn cut(file: &[u8]) -> &[u8] {
+    &file[..file.len().min(63)]
+}
+
 #[test]
 fn a_file_is_judged(rt: HostRuntime) {
     let file = vector(&rt, rt.alloc(), Vector::Vr);
     let mut fault = UNTOLD;
     let status = petool_check(rt.alloc(), &file, &mut fault);
     assert_status(&rt, 0, status, 0, &fault);
-    let status = petool_check(rt.alloc(), &file[..63], &mut fault);
+    let status = petool_check(rt.alloc(), cut(&file), &mut fault);
     assert_fault(&rt, 1, status, &fault, 2, 63);
 }
 
@@ -136,7 +141,7 @@ fn headers_and_sections_are_read(rt: HostRuntime) {
         3,
         second.rva == 0x30000 && second.characteristics == 0xe200_0060,
     );
-    let status = petool_read_headers(&file[..63], &mut headers, &mut sections, &mut fault);
+    let status = petool_read_headers(cut(&file), &mut headers, &mut sections, &mut fault);
     assert_fault(&rt, 4, status, &fault, 2, 63);
 }
 
@@ -151,7 +156,7 @@ fn bytes_are_those_of_the_image(rt: HostRuntime) {
     let status = petool_read(&file, 0x2ffe, &mut bytes, &mut fault);
     assert_status(&rt, 1, status, 3, &fault);
     assert_holds(&rt, 1, bytes == [14, 15, 0]);
-    let status = petool_read(&file[..63], 0, &mut bytes, &mut fault);
+    let status = petool_read(cut(&file), 0, &mut bytes, &mut fault);
     assert_fault(&rt, 2, status, &fault, 2, 63);
 }
 
@@ -172,7 +177,7 @@ fn texts_and_offsets_are_those_of_the_file(rt: HostRuntime) {
     assert_holds(&rt, 2, is(text.bytes, b"MZ"));
     let status = petool_read_text(&file, 0x3000, &mut text, &mut fault);
     assert_status(&rt, 3, status, 3, &fault);
-    let status = petool_locate(&file[..63], 0, &mut offset, &mut fault);
+    let status = petool_locate(cut(&file), 0, &mut offset, &mut fault);
     assert_fault(&rt, 4, status, &fault, 2, 63);
 }
 
@@ -212,7 +217,7 @@ fn exports_fill_the_rows(rt: HostRuntime) {
         rows[1].target.kind == 2 && is(rows[1].target.name, b"n\"m\\"),
     );
     assert_holds(&rt, 4, rows[5].ordinal == 9 && is(rows[5].name, b"?"));
-    let status = petool_exports(rt.alloc(), &file[..63], &mut rows, &mut count, &mut fault);
+    let status = petool_exports(rt.alloc(), cut(&file), &mut rows, &mut count, &mut fault);
     assert_fault(&rt, 5, status, &fault, 2, 63);
     assert_holds(&rt, 5, count == 5);
 }
@@ -220,17 +225,18 @@ fn exports_fill_the_rows(rt: HostRuntime) {
 #[test]
 fn names_fill_the_rows_that_there_are(rt: HostRuntime) {
     let file = vector(&rt, rt.alloc(), Vector::Vr);
-    let mut rows = [NO_EXPORT; 3];
+    let mut few = [NO_EXPORT; 2];
+    let mut rows = [NO_EXPORT; 4];
     let mut count = 99;
     let mut fault = UNTOLD;
-    let status = petool_export_names(rt.alloc(), &file, &mut rows[..2], &mut count, &mut fault);
+    let status = petool_export_names(rt.alloc(), &file, &mut few, &mut count, &mut fault);
     assert_status(&rt, 0, status, 4, &fault);
     assert_holds(
         &rt,
         0,
-        count == 3 && is(rows[0].name, b"\"q\\") && rows[0].ordinal == 0,
+        count == 3 && is(few[0].name, b"\"q\\") && few[0].ordinal == 0,
     );
-    assert_holds(&rt, 1, is(rows[2].name, b"?"));
+    assert_holds(&rt, 1, is(rows[3].name, b"?"));
     let status = petool_export_names(rt.alloc(), &file, &mut rows, &mut count, &mut fault);
     assert_status(&rt, 2, status, 0, &fault);
     assert_holds(
@@ -238,7 +244,7 @@ fn names_fill_the_rows_that_there_are(rt: HostRuntime) {
         2,
         is(rows[2].name, b"plain") && is_forwarder(&rows[2].target),
     );
-    let status = petool_export_names(rt.alloc(), &file[..63], &mut rows, &mut count, &mut fault);
+    let status = petool_export_names(rt.alloc(), cut(&file), &mut rows, &mut count, &mut fault);
     assert_fault(&rt, 3, status, &fault, 2, 63);
 }
 
@@ -258,13 +264,14 @@ fn one_export_is_found(rt: HostRuntime) {
     assert_holds(&rt, 2, target.kind == 0 && target.value == 0x30123);
     let status = petool_export_by_name(rt.alloc(), &file, b"plai", &mut target, &mut fault);
     assert_status(&rt, 3, status, 3, &fault);
-    let status = petool_export_by_name(rt.alloc(), &file[..63], b"f", &mut target, &mut fault);
+    let status = petool_export_by_name(rt.alloc(), cut(&file), b"f", &mut target, &mut fault);
     assert_fault(&rt, 4, status, &fault, 2, 63);
 }
 
 #[test]
 fn imports_fill_the_rows(rt: HostRuntime) {
     let file = vector(&rt, rt.alloc(), Vector::Vr);
+    let mut few = [NO_IMPORT; 4];
     let mut rows = [NO_IMPORT; 6];
     let mut count = 99;
     let mut fault = UNTOLD;
@@ -285,15 +292,16 @@ fn imports_fill_the_rows(rt: HostRuntime) {
         2,
         rows[1].by_ordinal && rows[1].ordinal == 777 && rows[1].name.is_empty(),
     );
-    let status = petool_imports(rt.alloc(), &file, &mut rows[..4], &mut count, &mut fault);
+    let status = petool_imports(rt.alloc(), &file, &mut few, &mut count, &mut fault);
     assert_status(&rt, 3, status, 4, &fault);
-    let status = petool_imports(rt.alloc(), &file[..63], &mut rows, &mut count, &mut fault);
+    let status = petool_imports(rt.alloc(), cut(&file), &mut rows, &mut count, &mut fault);
     assert_fault(&rt, 4, status, &fault, 2, 63);
 }
 
 #[test]
 fn base_relocations_fill_the_rows(rt: HostRuntime) {
     let file = vector(&rt, rt.alloc(), Vector::V2);
+    let mut few: [FixupRow; 0] = [];
     let mut rows = [NO_FIXUP; 2];
     let mut count = 99;
     let mut fault = UNTOLD;
@@ -306,39 +314,36 @@ fn base_relocations_fill_the_rows(rt: HostRuntime) {
         count == 1 && (entry, field, kind) == (0x2008, 0x1008, 3),
     );
     assert_holds(&rt, 1, rows[1].field == 9);
-    let status = petool_fixups(rt.alloc(), &file, &mut rows[..0], &mut count, &mut fault);
+    let status = petool_fixups(rt.alloc(), &file, &mut few, &mut count, &mut fault);
     assert_status(&rt, 2, status, 4, &fault);
-    let status = petool_fixups(rt.alloc(), &file[..63], &mut rows, &mut count, &mut fault);
+    let status = petool_fixups(rt.alloc(), cut(&file), &mut rows, &mut count, &mut fault);
     assert_fault(&rt, 3, status, &fault, 2, 63);
 }
 
-/// Reads all tables of a file into so many rows each.
-fn tables(
+/// Reads all tables of a file, its exports into these rows and the others into five rows each: the status, the last export's
+/// ordinal, and the fault's number.
+fn tables<'a>(
     alloc: Global,
-    file: &[u8],
-    room: usize,
+    file: &'a [u8],
+    exports: &mut [ExportRow<'a>],
     counts: &mut CountsRecord,
-) -> (u32, (u64, u32, u32), u16) {
-    let (mut exports, mut names) = ([NO_EXPORT; 5], [NO_EXPORT; 5]);
+) -> (u32, Option<u64>, u16) {
+    let mut names = [NO_EXPORT; 5];
     let mut imports = [NO_IMPORT; 5];
     let mut fixups = [NO_FIXUP; 5];
     let mut fault = UNTOLD;
-    let room = room.min(5);
     let status = petool_tables(
         alloc,
         file,
-        &mut exports[..room],
-        &mut names[..room],
-        &mut imports[..room],
-        &mut fixups[..room],
+        exports,
+        &mut names,
+        &mut imports,
+        &mut fixups,
         counts,
         &mut fault,
     );
-    (
-        status,
-        (exports[4].ordinal, imports[4].slot, fixups[3].field),
-        fault.number,
-    )
+    let last = exports.last().map(|row| row.ordinal);
+    (status, last, fault.number)
 }
 
 #[test]
@@ -350,47 +355,42 @@ fn all_tables_are_read_at_once(rt: HostRuntime) {
         imports: 99,
         fixups: 99,
     };
-    let refused = tables(rt.alloc(), &file[..63], 5, &mut counts);
-    assert_holds(&rt, 0, refused == (1, (9, 9, 9), 2) && counts.exports == 99);
-    let read = tables(rt.alloc(), &file, 5, &mut counts);
-    assert_holds(&rt, 1, read == (0, (65539, 0x30078, 0x41010), 0x7777));
+    let mut few = [NO_EXPORT; 4];
+    let mut rows = [NO_EXPORT; 5];
+    let refused = tables(rt.alloc(), cut(&file), &mut rows, &mut counts);
+    assert_holds(&rt, 0, refused == (1, Some(9), 2) && counts.exports == 99);
+    let read = tables(rt.alloc(), &file, &mut rows, &mut counts);
+    assert_holds(&rt, 1, read == (0, Some(65539), 0x7777));
     assert_holds(&rt, 2, (counts.exports, counts.names) == (5, 3));
     assert_holds(&rt, 3, (counts.imports, counts.fixups) == (5, 4));
-    let small = tables(rt.alloc(), &file, 4, &mut counts);
-    assert_holds(&rt, 4, small == (4, (9, 9, 0x41010), 0x7777));
+    let small = tables(rt.alloc(), &file, &mut few, &mut counts);
+    assert_holds(&rt, 4, small == (4, Some(65538), 0x7777));
 }
 
 #[test]
 fn a_file_is_moved_into_a_buffer(rt: HostRuntime) {
     let file = vector(&rt, rt.alloc(), Vector::V2);
     let mut moved = [0x5a; 0x600];
-    let len = file.len().min(0x600);
+    let mut short = [0x5a; 0x5ff];
     let mut fault = UNTOLD;
-    let status = petool_rebase(
-        rt.alloc(),
-        &file,
-        0x2000_0001,
-        &mut moved[..len],
-        &mut fault,
-    );
+    let status = petool_rebase(rt.alloc(), &file, 0x2000_0000, &mut short, &mut fault);
+    assert_status(&rt, 0, status, 5, &fault);
+    assert_holds(&rt, 0, short[0] == 0x5a);
+    let status = petool_rebase(rt.alloc(), &file, 0x2000_0000, &mut moved, &mut fault);
+    assert_status(&rt, 1, status, 0, &fault);
+    // the field at RVA 0x1008 held the address 0x10001008
     assert_holds(
         &rt,
-        0,
-        status == 1 && fault.number == 44 && moved[0] == 0x5a,
+        1,
+        moved[0x208] == 8 && moved[0x209] == 0x10 && moved[0x20b] == 0x20,
     );
-    fault = UNTOLD;
-    let status = petool_rebase(rt.alloc(), &file, 0x2000_0000, &mut moved, &mut fault);
-    assert_status(&rt, 1, status, if len == 0x600 { 0 } else { 5 }, &fault);
-    let status = petool_rebase(
-        rt.alloc(),
-        &file,
-        0x2000_0000,
-        &mut moved[..len],
-        &mut fault,
+    let status = petool_rebase(rt.alloc(), &file, 0x2000_0001, &mut moved, &mut fault);
+    assert_holds(
+        &rt,
+        2,
+        status == 1 && told(&fault) == (44, 0, 2, 0x2000_0001),
     );
-    assert_status(&rt, 2, status, 0, &fault);
-    // the field at RVA 0x1008 held the address 0x10001008
-    assert_holds(&rt, 2, moved[0x208..0x20c] == [8, 0x10, 0, 0x20]);
+    assert_holds(&rt, 2, moved[0x208] == 8 && moved[0x20b] == 0x20);
 }
 
 #[test]

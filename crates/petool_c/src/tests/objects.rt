@@ -28,6 +28,7 @@ fn sections_fill_the_rows(rt: HostRuntime) {
         characteristics: 9,
         relocation_count: 9,
     };
+    let mut few: [ObjectSectionRow; 0] = [];
     let mut rows = [no_section; 2];
     let mut count = 99;
     let mut fault = UNTOLD;
@@ -48,7 +49,7 @@ fn sections_fill_the_rows(rt: HostRuntime) {
         2,
         rows[0].characteristics == 0x6000_0020 && rows[0].relocation_count == 1,
     );
-    let status = petool_object_sections(O1, &mut rows[..0], &mut count, &mut fault);
+    let status = petool_object_sections(O1, &mut few, &mut count, &mut fault);
     assert_status(&rt, 3, status, 4, &fault);
     let status = petool_object_sections(&O1[..19], &mut rows, &mut count, &mut fault);
     assert_fault(&rt, 4, status, &fault, 61, 19);
@@ -61,12 +62,13 @@ fn relocations_fill_the_rows(rt: HostRuntime) {
         symbol: 9,
         kind: 9,
     };
+    let mut few: [ObjectRelocationRow; 0] = [];
     let mut rows = [no_relocation; 2];
     let mut count = 99;
     let mut fault = UNTOLD;
     let status = petool_object_relocations(O1, 1, &mut rows, &mut count, &mut fault);
     assert_status(&rt, 0, status, 3, &fault);
-    let status = petool_object_relocations(O1, 0, &mut rows[..0], &mut count, &mut fault);
+    let status = petool_object_relocations(O1, 0, &mut few, &mut count, &mut fault);
     assert_status(&rt, 1, status, 4, &fault);
     let status = petool_object_relocations(O1, 0, &mut rows, &mut count, &mut fault);
     assert_status(&rt, 2, status, 0, &fault);
@@ -95,6 +97,7 @@ fn symbols_fill_the_rows(rt: HostRuntime) {
         kind: 9,
         class: 9,
     };
+    let mut few = [no_symbol; 3];
     let mut rows = [no_symbol; 5];
     let mut count = 99;
     let mut fault = UNTOLD;
@@ -125,7 +128,7 @@ fn symbols_fill_the_rows(rt: HostRuntime) {
         4,
         rows[3].value == 7 && rows[3].section_number == 0xffff && rows[4].kind == 9,
     );
-    let status = petool_object_symbols(O1, &mut rows[..3], &mut count, &mut fault);
+    let status = petool_object_symbols(O1, &mut few, &mut count, &mut fault);
     assert_status(&rt, 5, status, 4, &fault);
     let status = petool_object_symbols(&O1[..19], &mut rows, &mut count, &mut fault);
     assert_fault(&rt, 6, status, &fault, 61, 19);

@@ -52,6 +52,7 @@ fn is_bound(binding: &BindingRow) -> bool {
 
 /// Asserts what is told of the set, and of the set without A.
 fn assert_judged(rt: &impl Abort, alloc: Global, set: &[EntryRecord; 3]) {
+    let mut few: [BindingRow; 0] = [];
     let mut rows = [NO_BINDING; 2];
     let (mut count, mut cycle) = (99, 77);
     let mut fault = UNTOLD;
@@ -65,13 +66,7 @@ fn assert_judged(rt: &impl Abort, alloc: Global, set: &[EntryRecord; 3]) {
         count == 1 && is_bound(&rows[0]) && rows[1].slot == 9 && cycle == 77,
     );
     let status = petool_judge(
-        alloc,
-        set,
-        false,
-        &mut rows[..0],
-        &mut count,
-        &mut cycle,
-        &mut fault,
+        alloc, set, false, &mut few, &mut count, &mut cycle, &mut fault,
     );
     assert_status(rt, 1, status, 4, &fault);
     let status = petool_judge(
@@ -153,6 +148,7 @@ fn assert_closed(rt: &impl Abort, alloc: Global, space: &mut Handle) {
 
 /// Asserts what is told of the images of the open space, and of its bindings.
 fn assert_told(rt: &impl Abort, alloc: Global, space: &mut Handle) {
+    let mut few: [BindingRow; 0] = [];
     let mut rows = [NO_BINDING; 2];
     let (mut base, mut size, mut count) = (9, 9, 99);
     assert_holds(
@@ -179,7 +175,7 @@ fn assert_told(rt: &impl Abort, alloc: Global, space: &mut Handle) {
     assert_holds(
         rt,
         33,
-        petool_space_bindings(alloc, space, &mut rows[..0], &mut count) == 4,
+        petool_space_bindings(alloc, space, &mut few, &mut count) == 4,
     );
 }
 
