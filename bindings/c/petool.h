@@ -27,6 +27,10 @@
 #include <stdbool.h>
 #include <stddef.h>
 #include <stdint.h>
+#include <inttypes.h>
+#include <stdio.h>
+#include <stdlib.h>
+#include <string.h>
 
 #ifdef __cplusplus
 extern "C" {
@@ -82,6 +86,18 @@ uint32_t petool_version(void);
 
 /* What stands at the place of a fault, and which rule does not hold of it: texts of this library. OK or ABSENT. */
 uint32_t petool_fault_words(uint16_t number, petool_text *subject, petool_text *rule);
+
+/* A fault as one line, for people: "section header at 0x138: the section's raw data passes the end of the file". It is written as
+ * snprintf does: cut to the room, of which a zero byte takes one. Answers how many bytes the whole line has without that. */
+static inline int petool_fault_line(const petool_fault *fault, char *line, size_t room)
+{
+    static const char *const forms[4] = {"%.*s at 0x%" PRIx64 ": %.*s", "%.*s at RVA 0x%" PRIx64 ": %.*s",
+                                         "%.*s 0x%" PRIx64 ": %.*s", "%.*s %" PRIu64 ": %.*s"};
+    petool_text subject = petool_text_of("place"), rule = petool_text_of("no fault has this number");
+    petool_fault_words(fault->number, &subject, &rule);
+    return snprintf(line, room, forms[fault->place & 3], (int)subject.len, (const char *)subject.at, fault->at, (int)rule.len,
+                    (const char *)rule.at);
+}
 
 /* ---- an image: its headers and its bytes ---- */
 
@@ -196,6 +212,29 @@ uint32_t petool_exports(const uint8_t *file, size_t len, petool_export *rows, si
 uint32_t petool_export_names(const uint8_t *file, size_t len, petool_export *rows, size_t room, size_t *count, petool_fault *fault);
 uint32_t petool_imports(const uint8_t *file, size_t len, petool_import *rows, size_t room, size_t *count, petool_fault *fault);
 uint32_t petool_fixups(const uint8_t *file, size_t len, petool_fixup *rows, size_t room, size_t *count, petool_fault *fault);
+
+/* An index over rows by name, for many questions: petool_index_exports orders the rows that petool_export_names filled, and then
+ * petool_find_export finds the one of a name among them, or NULL. */
+static inline int petool_order_of_exports(const void *one, const void *other)
+{
+    const petool_text a = ((const petool_export *)one)->name, b = ((const petool_export *)other)->name;
+    int order = memcmp(a.at, b.at, a.len < b.len ? a.len : b.len);
+    return order != 0 ? order : (a.len > b.len) - (a.len < b.len);
+}
+
+static inline void petool_index_exports(petool_export *rows, size_t count)
+{
+    qsort(rows, count, sizeof *rows, petool_order_of_exports);
+}
+
+static inline const petool_export *petool_find_export(const petool_export *rows, size_t count, const uint8_t *name, size_t len)
+{
+    petool_export key;
+    petool_exports_init(&key, 1);
+    key.name.at = name;
+    key.name.len = len;
+    return (const petool_export *)bsearch(&key, rows, count, sizeof key, petool_order_of_exports);
+}
 
 typedef struct petool_counts {
     size_t exports, names, imports, fixups;

@@ -46,14 +46,13 @@ static void print_target(petool_target target)
 /* Tells a refusal on standard error; the exit status for it. */
 static int refused(const char *path, uint32_t status, const petool_fault *fault)
 {
-    petool_text subject = PETOOL_NONE, rule = PETOOL_NONE;
+    char line[200];
     if (status != PETOOL_FAULT) {
         fprintf(stderr, "%s: out of memory\n", path);
         return 4;
     }
-    petool_fault_words(fault->number, &subject, &rule);
-    fprintf(stderr, "%s: fault %u at 0x%" PRIx64 ": %.*s: %.*s\n", path, fault->number, fault->at, (int)subject.len,
-            (const char *)subject.at, (int)rule.len, (const char *)rule.at);
+    petool_fault_line(fault, line, sizeof line);
+    fprintf(stderr, "%s: fault %u: %s\n", path, fault->number, line);
     return 1;
 }
 

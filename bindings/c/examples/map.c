@@ -43,14 +43,13 @@ static petool_text name_of(const char *path)
 /* Tells a refusal on standard error; the exit status for it. */
 static int refused(uint32_t status, const petool_fault *fault)
 {
-    petool_text subject = PETOOL_NONE, rule = PETOOL_NONE;
+    char line[200];
     if (status != PETOOL_FAULT) {
         fprintf(stderr, "map: out of memory\n");
         return 4;
     }
-    petool_fault_words(fault->number, &subject, &rule);
-    fprintf(stderr, "image %u: fault %u at 0x%" PRIx64 ": %.*s: %.*s\n", fault->image, fault->number, fault->at, (int)subject.len,
-            (const char *)subject.at, (int)rule.len, (const char *)rule.at);
+    petool_fault_line(fault, line, sizeof line);
+    fprintf(stderr, "image %u: fault %u: %s\n", fault->image, fault->number, line);
     return 1;
 }
 

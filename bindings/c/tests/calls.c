@@ -241,6 +241,23 @@ static void check_searches(void)
     CHECK(is_fault(fault, 2, PETOOL_PLACE_FILE, 9));
 }
 
+/* Rows by name in an order that is not theirs: \x7f.., " and p. */
+static void check_index(void)
+{
+    petool_export rows[3];
+    petool_fault fault = UNTOLD;
+    size_t count = 99;
+    petool_exports_init(rows, 3);
+    CHECK(petool_export_names(vr.at, vr.len, rows, 3, &count, &fault) == PETOOL_OK);
+    petool_index_exports(rows, count);
+    CHECK(is_text(rows[0].name, "\"q\\", 3) && is_text(rows[1].name, "plain", 5) && is_text(rows[2].name, "\x7f\x80 ", 3));
+    CHECK(petool_find_export(rows, count, (const uint8_t *)"plain", 5) == &rows[1]);
+    CHECK(petool_find_export(rows, count, (const uint8_t *)"\x7f\x80 ", 3) == &rows[2]);
+    CHECK(petool_find_export(rows, count, (const uint8_t *)"plai", 4) == NULL);
+    CHECK(petool_find_export(rows, count, (const uint8_t *)"plainer", 7) == NULL);
+    CHECK(petool_find_export(rows, 0, (const uint8_t *)"plain", 5) == NULL);
+}
+
 static int is_import(const petool_import *row, const char *module, size_t module_len, const char *name, size_t len, uint16_t ordinal, uint32_t slot)
 {
     return is_text(row->module, module, module_len) && is_text(row->name, name, len) && row->ordinal == ordinal
@@ -335,6 +352,20 @@ static void check_rebase(void)
     free(out);
 }
 
+static void check_line(uint16_t number, uint32_t place, uint64_t at, const char *line)
+{
+    char room[200];
+    petool_fault fault;
+    fault.number = number;
+    fault.image = 0;
+    fault.place = place;
+    fault.at = at;
+    CHECK(petool_fault_line(&fault, room, sizeof room) == (int)strlen(line) && strcmp(room, line) == 0);
+    memset(room, 0x5a, sizeof room);
+    CHECK(petool_fault_line(&fault, room, 5) == (int)strlen(line) && strncmp(room, line, 4) == 0);
+    CHECK(room[4] == 0 && room[5] == 0x5a);
+}
+
 static void check_words(void)
 {
     petool_text subject = PETOOL_NONE, rule = PETOOL_NONE;
@@ -342,6 +373,11 @@ static void check_words(void)
     CHECK(is_text(subject, "section header", 14));
     CHECK(is_text(rule, "the section's raw data passes the end of the file", 49));
     CHECK(petool_fault_words(86, &subject, &rule) == PETOOL_ABSENT);
+    check_line(13, PETOOL_PLACE_FILE, 0x138, "section header at 0x138: the section's raw data passes the end of the file");
+    check_line(34, PETOOL_PLACE_RVA, 0x2000, "base relocation table at RVA 0x2000: the table passes the end of the image");
+    check_line(44, PETOOL_PLACE_ADDRESS, 0x20000001, "base 0x20000001: the base is no multiple of 65,536");
+    check_line(41, PETOOL_PLACE_ITEM, 256, "file 256: the set has over 256 files");
+    check_line(86, PETOOL_PLACE_FILE, 10, "place at 0xa: no fault has this number");
     CHECK(petool_version() == (PETOOL_VERSION));
 }
 
@@ -361,6 +397,7 @@ int main(int argc, char **argv)
     check_bytes();
     check_exports();
     check_searches();
+    check_index();
     check_imports();
     check_fixups();
     check_tables();
