@@ -1,7 +1,7 @@
 //! The libraries for programs that are not written in Rattle, under C's rules of calling; bindings/c/petool.h declares them.
 //!
-//! Each call is a function of its arguments: it keeps nothing between calls, and nothing has to be freed. A number says how it
-//! ended:
+//! Nothing is kept between calls but in a space, which its caller owns and closes; nothing else has to be freed. A number says how
+//! a call ended:
 //!
 //! ```text
 //! uint8_t bytes[4];
