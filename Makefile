@@ -1,0 +1,45 @@
+# Installs petool and libpetool, and builds what is missing by `rt`.
+#
+#   make                                 builds the program and the library
+#   make install [PREFIX=..] [DESTDIR=..]  installs them, with man pages and completions
+#
+# All but what `rt` builds, which stands in crates/*/out, is made in $(O), outside the repository.
+
+O ?= $(or $(TMPDIR),/tmp)/petool-build
+PREFIX ?= /usr/local
+DESTDIR ?=
+AT := $(DESTDIR)$(PREFIX)
+BIN := $(AT)/bin
+LIB := $(AT)/lib
+INCLUDE := $(AT)/include
+SHARE := $(AT)/share
+
+PROGRAM := crates/petool/out/petool
+SOURCES := crates.txt $(shell find crates/*/src crates/*/specs crates/*/proofs -type f)
+SHELLS := bash zsh fish
+
+.PHONY: all install
+all: $(PROGRAM) $(SHELLS:%=$(O)/completions.%)
+	$(MAKE) -C bindings/c O=$(O)/c PREFIX=$(PREFIX)
+
+$(PROGRAM): $(SOURCES)
+	cd crates/petool && rt run -- --version
+
+$(O)/completions.%: $(PROGRAM) scripts/completions.py
+	mkdir -p $(O)
+	python3 scripts/completions.py $(PROGRAM) $* > $@
+
+install: all
+	install -d $(BIN) $(LIB)/pkgconfig $(INCLUDE) $(SHARE)/man/man1 $(SHARE)/man/man3 $(SHARE)/doc/petool \
+	    $(SHARE)/bash-completion/completions $(SHARE)/zsh/site-functions $(SHARE)/fish/vendor_completions.d
+	install -m 755 $(PROGRAM) $(BIN)/petool
+	install -m 644 bindings/c/petool.h $(INCLUDE)/petool.h
+	install -m 644 $(O)/c/libpetool.a $(O)/c/libpetool.so.0 $(LIB)
+	ln -sf libpetool.so.0 $(LIB)/libpetool.so
+	install -m 644 $(O)/c/petool.pc $(LIB)/pkgconfig/petool.pc
+	install -m 644 man/petool.1 $(SHARE)/man/man1/petool.1
+	install -m 644 man/petool.h.3 $(SHARE)/man/man3/petool.h.3
+	install -m 644 README.md docs/C.md docs/FAULTS.md docs/FORMAT.md docs/JSON.md $(SHARE)/doc/petool
+	install -m 644 $(O)/completions.bash $(SHARE)/bash-completion/completions/petool
+	install -m 644 $(O)/completions.zsh $(SHARE)/zsh/site-functions/_petool
+	install -m 644 $(O)/completions.fish $(SHARE)/fish/vendor_completions.d/petool.fish
