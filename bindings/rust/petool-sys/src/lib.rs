@@ -1,0 +1,547 @@
+//! The calls and records of libpetool, as `petool.h` declares them: read its rules before calling any of these. The crate
+//! `petool` has them behind types that keep the rules.
+//!
+//! Records have the names of the header without `petool_`, calls and constants have them as they are. The functions that the
+//! header defines in C alone, such as `petool_exports_init`, are not here: [`Text::NONE`] and the `NONE` of rows with texts
+//! are for what has to be set before a call.
+#![no_std]
+#![deny(missing_docs)]
+
+use core::ffi::c_void;
+
+/// The call did what it is for.
+pub const PETOOL_OK: u32 = 0;
+/// A rule of the format does not hold: the fault tells which, and where.
+pub const PETOOL_FAULT: u32 = 1;
+/// A growth of memory was refused.
+pub const PETOOL_MEMORY: u32 = 2;
+/// The bytes pass the image, or there is no such text, export or section.
+pub const PETOOL_ABSENT: u32 = 3;
+/// There is too little room: the count tells how much is needed.
+pub const PETOOL_SMALL: u32 = 4;
+/// An argument has a value that it may not have; nothing was done.
+pub const PETOOL_ARGUMENT: u32 = 5;
+/// The space is not open.
+pub const PETOOL_CLOSED: u32 = 6;
+
+/// A fault's place counts bytes of the file.
+pub const PETOOL_PLACE_FILE: u32 = 0;
+/// A fault's place counts bytes of the image.
+pub const PETOOL_PLACE_RVA: u32 = 1;
+/// A fault's place counts bytes of the address space.
+pub const PETOOL_PLACE_ADDRESS: u32 = 2;
+/// A fault's place counts items of a list.
+pub const PETOOL_PLACE_ITEM: u32 = 3;
+
+/// The version of the header, as [`petool_version`] answers that of the library: the first part times 65,536, and the second.
+pub const PETOOL_VERSION: u32 = 0x10000;
+/// No image has more sections.
+pub const PETOOL_SECTIONS: usize = 96;
+
+/// An export's target is an RVA of the image.
+pub const PETOOL_TARGET_RVA: u32 = 0;
+/// An export's target is an ordinal of another module.
+pub const PETOOL_TARGET_ORDINAL: u32 = 1;
+/// An export's target is a name of another module.
+pub const PETOOL_TARGET_NAME: u32 = 2;
+
+/// A symbol's section: it stands in another object.
+pub const PETOOL_SECTION_UNDEFINED: u16 = 0;
+/// A symbol's section: its value is no address.
+pub const PETOOL_SECTION_ABSOLUTE: u16 = 0xffff;
+/// A symbol's section: it is for debuggers.
+pub const PETOOL_SECTION_DEBUG: u16 = 0xfffe;
+
+const NO_BYTES: &[u8; 1] = &[0];
+
+/// A part of the file, or a text of the library. An empty one points anywhere.
+#[repr(C)]
+#[derive(Clone, Copy, Debug)]
+pub struct Text {
+    /// Its first byte; never null.
+    pub at: *const u8,
+    /// How many bytes it has.
+    pub len: usize,
+}
+
+impl Text {
+    /// An empty text.
+    pub const NONE: Text = Text {
+        at: NO_BYTES.as_ptr(),
+        len: 0,
+    };
+
+    /// The text of these bytes, which live as long as it is used.
+    pub const fn of(bytes: &[u8]) -> Text {
+        Text {
+            at: bytes.as_ptr(),
+            len: bytes.len(),
+        }
+    }
+}
+
+/// Which rule does not hold, and where.
+#[repr(C)]
+#[derive(Clone, Copy, Debug, Default, PartialEq, Eq)]
+pub struct Fault {
+    /// From 1 to 85, as docs/FAULTS.md has them.
+    pub number: u16,
+    /// Of a set the index of the entry, else 0.
+    pub image: u16,
+    /// What `at` counts: a `PETOOL_PLACE`.
+    pub place: u32,
+    /// The place.
+    pub at: u64,
+}
+
+/// One of the 16 data directories.
+#[repr(C)]
+#[derive(Clone, Copy, Debug, Default, PartialEq, Eq, Hash)]
+pub struct Directory {
+    /// Where its table begins in the image; 0 where there is none.
+    pub rva: u32,
+    /// How many bytes the table has, as the file says.
+    pub size: u32,
+}
+
+/// Every field of the headers, with the greater of two widths where PE32 and PE32+ differ.
+#[repr(C)]
+#[derive(Clone, Copy, Debug, Default, PartialEq, Eq)]
+#[allow(missing_docs)] // the names are those of "PE Format"
+pub struct Headers {
+    pub image_base: u64,
+    pub size_of_stack_reserve: u64,
+    pub size_of_stack_commit: u64,
+    pub size_of_heap_reserve: u64,
+    pub size_of_heap_commit: u64,
+    pub pe_offset: u32,
+    pub time_date_stamp: u32,
+    pub pointer_to_symbol_table: u32,
+    pub number_of_symbols: u32,
+    pub size_of_code: u32,
+    pub size_of_initialized_data: u32,
+    pub size_of_uninitialized_data: u32,
+    pub address_of_entry_point: u32,
+    pub base_of_code: u32,
+    /// 0 in PE32+.
+    pub base_of_data: u32,
+    pub section_alignment: u32,
+    pub file_alignment: u32,
+    pub win32_version_value: u32,
+    pub size_of_image: u32,
+    pub size_of_headers: u32,
+    pub check_sum: u32,
+    pub loader_flags: u32,
+    pub number_of_rva_and_sizes: u32,
+    /// 0x10b of PE32 or 0x20b of PE32+.
+    pub magic: u16,
+    pub machine: u16,
+    pub number_of_sections: u16,
+    pub size_of_optional_header: u16,
+    pub characteristics: u16,
+    pub subsystem: u16,
+    pub dll_characteristics: u16,
+    pub major_operating_system_version: u16,
+    pub minor_operating_system_version: u16,
+    pub major_image_version: u16,
+    pub minor_image_version: u16,
+    pub major_subsystem_version: u16,
+    pub minor_subsystem_version: u16,
+    pub major_linker_version: u8,
+    pub minor_linker_version: u8,
+    /// Those that the headers do not hold are 0.
+    pub directories: [Directory; 16],
+}
+
+/// A section of an image.
+#[repr(C)]
+#[derive(Clone, Copy, Debug, Default, PartialEq, Eq)]
+pub struct Section {
+    /// Its name, filled up with zero bytes.
+    pub name: [u8; 8],
+    /// Where it begins in the image.
+    pub rva: u32,
+    /// How many bytes of the laid-out image it takes.
+    pub extent: u32,
+    /// How many of these, from the first on, come from the file.
+    pub file_size: u32,
+    /// PointerToRawData.
+    pub pointer_to_raw_data: u32,
+    /// SizeOfRawData.
+    pub size_of_raw_data: u32,
+    /// VirtualSize.
+    pub virtual_size: u32,
+    /// The section's flags.
+    pub characteristics: u32,
+}
+
+/// What an export stands for.
+#[repr(C)]
+#[derive(Clone, Copy, Debug)]
+pub struct Target {
+    /// A `PETOOL_TARGET`.
+    pub kind: u32,
+    /// The RVA, or the ordinal at the other module; 0 beside a name.
+    pub value: u32,
+    /// Of a forwarder; else empty.
+    pub module: Text,
+    /// Of a forwarder to a name; else empty.
+    pub name: Text,
+}
+
+impl Target {
+    /// What stands in a target before a call sets it.
+    pub const NONE: Target = Target {
+        kind: PETOOL_TARGET_RVA,
+        value: 0,
+        module: Text::NONE,
+        name: Text::NONE,
+    };
+}
+
+/// An export by ordinal or by name.
+#[repr(C)]
+#[derive(Clone, Copy, Debug)]
+pub struct Export {
+    /// Of an export by ordinal, which may pass 2^32; else 0.
+    pub ordinal: u64,
+    /// Of an export by name; else empty.
+    pub name: Text,
+    /// What it stands for.
+    pub target: Target,
+}
+
+impl Export {
+    /// What stands in a row before a call sets it.
+    pub const NONE: Export = Export {
+        ordinal: 0,
+        name: Text::NONE,
+        target: Target::NONE,
+    };
+}
+
+/// An import.
+#[repr(C)]
+#[derive(Clone, Copy, Debug)]
+pub struct Import {
+    /// The module that is to export it.
+    pub module: Text,
+    /// Empty of an import by ordinal.
+    pub name: Text,
+    /// The RVA of its slot.
+    pub slot: u32,
+    /// Of an import by ordinal; else 0.
+    pub ordinal: u16,
+    /// Whether it is one by ordinal.
+    pub by_ordinal: bool,
+}
+
+impl Import {
+    /// What stands in a row before a call sets it.
+    pub const NONE: Import = Import {
+        module: Text::NONE,
+        name: Text::NONE,
+        slot: 0,
+        ordinal: 0,
+        by_ordinal: false,
+    };
+}
+
+/// A base relocation: a field that changes with the base.
+#[repr(C)]
+#[derive(Clone, Copy, Debug, Default, PartialEq, Eq, Hash)]
+pub struct Fixup {
+    /// The RVA of the table's entry.
+    pub entry: u32,
+    /// The RVA of the field.
+    pub field: u32,
+    /// The entry's type: 1 HIGH and 2 LOW of 2 bytes, 3 HIGHLOW of 4, 10 DIR64 of 8.
+    pub kind: u32,
+}
+
+/// How many rows the tables of an image have.
+#[repr(C)]
+#[derive(Clone, Copy, Debug, Default, PartialEq, Eq)]
+pub struct Counts {
+    /// Exports by ordinal.
+    pub exports: usize,
+    /// Exports by name.
+    pub names: usize,
+    /// Imports.
+    pub imports: usize,
+    /// Base relocations.
+    pub fixups: usize,
+}
+
+/// An image of a set.
+#[repr(C)]
+#[derive(Clone, Copy, Debug)]
+pub struct Entry {
+    /// Of the module, as `kernel32.dll`; the case of ASCII letters does not count.
+    pub name: Text,
+    /// All bytes of its file.
+    pub file: Text,
+    /// Where it is to stand.
+    pub base: u64,
+}
+
+/// What an import of a set is bound to.
+#[repr(C)]
+#[derive(Clone, Copy, Debug, Default, PartialEq, Eq, Hash)]
+pub struct Binding {
+    /// The index of the entry whose image has the slot.
+    pub image: u32,
+    /// The slot's RVA.
+    pub slot: u32,
+    /// The index of the entry whose image has the export.
+    pub exporter: u32,
+    /// The export's RVA.
+    pub rva: u32,
+}
+
+/// Many images at their bases, kept between calls. Set to [`Space::CLOSED`] before the first call, and never copied.
+#[repr(C)]
+#[derive(Debug)]
+pub struct Space {
+    /// The library's own.
+    pub state: *mut c_void,
+    /// Whether a set is mapped.
+    pub is_open: bool,
+}
+
+impl Space {
+    /// A space without a set.
+    pub const CLOSED: Space = Space {
+        state: core::ptr::null_mut(),
+        is_open: false,
+    };
+}
+
+/// What a move wrote.
+#[repr(C)]
+#[derive(Clone, Copy, Debug, Default, PartialEq, Eq)]
+pub struct Moved {
+    /// How many fields of the image.
+    pub fields: u32,
+    /// How many bound slots of all images.
+    pub slots: u32,
+}
+
+/// A section of an object.
+#[repr(C)]
+#[derive(Clone, Copy, Debug)]
+pub struct ObjectSection {
+    /// Its name, also where that is long.
+    pub name: Text,
+    /// Empty where none stand in the file.
+    pub bytes: Text,
+    /// SizeOfRawData where no bytes stand in the file, else 0.
+    pub absent_size: u32,
+    /// VirtualSize.
+    pub virtual_size: u32,
+    /// VirtualAddress.
+    pub virtual_address: u32,
+    /// The section's flags.
+    pub characteristics: u32,
+    /// How many relocations it has.
+    pub relocation_count: u32,
+}
+
+impl ObjectSection {
+    /// What stands in a row before a call sets it.
+    pub const NONE: ObjectSection = ObjectSection {
+        name: Text::NONE,
+        bytes: Text::NONE,
+        absent_size: 0,
+        virtual_size: 0,
+        virtual_address: 0,
+        characteristics: 0,
+        relocation_count: 0,
+    };
+}
+
+/// A relocation of an object's section.
+#[repr(C)]
+#[derive(Clone, Copy, Debug, Default, PartialEq, Eq, Hash)]
+pub struct ObjectRelocation {
+    /// The offset of the reference in the section's bytes.
+    pub address: u32,
+    /// The index of the symbol's record, auxiliary records counted.
+    pub symbol: u32,
+    /// By the machine's own table of types.
+    pub kind: u32,
+}
+
+/// A symbol of an object.
+#[repr(C)]
+#[derive(Clone, Copy, Debug)]
+pub struct ObjectSymbol {
+    /// Its name, also where that is long.
+    pub name: Text,
+    /// 18 bytes for each auxiliary record.
+    pub aux: Text,
+    /// Of the symbol's record, by which relocations name it.
+    pub index: u32,
+    /// By the section and the class.
+    pub value: u32,
+    /// Counted from 1, or a `PETOOL_SECTION`.
+    pub section_number: u16,
+    /// Its type.
+    pub kind: u16,
+    /// The storage class.
+    pub class_: u8,
+}
+
+impl ObjectSymbol {
+    /// What stands in a row before a call sets it.
+    pub const NONE: ObjectSymbol = ObjectSymbol {
+        name: Text::NONE,
+        aux: Text::NONE,
+        index: 0,
+        value: 0,
+        section_number: 0,
+        kind: 0,
+        class_: 0,
+    };
+}
+
+#[allow(missing_docs)] // petool.h says of each call what it answers
+extern "C" {
+    pub fn petool_version() -> u32;
+    pub fn petool_fault_words(number: u16, subject: *mut Text, rule: *mut Text) -> u32;
+
+    pub fn petool_check(file: *const u8, len: usize, fault: *mut Fault) -> u32;
+    pub fn petool_read_headers(
+        file: *const u8,
+        len: usize,
+        headers: *mut Headers,
+        sections: *mut Section,
+        room: usize,
+        fault: *mut Fault,
+    ) -> u32;
+    pub fn petool_read(file: *const u8, len: usize, rva: u32, buffer: *mut u8, count: usize, fault: *mut Fault) -> u32;
+    pub fn petool_read_text(file: *const u8, len: usize, rva: u32, text: *mut Text, fault: *mut Fault) -> u32;
+    pub fn petool_locate(file: *const u8, len: usize, rva: u32, offset: *mut u64, fault: *mut Fault) -> u32;
+
+    pub fn petool_exports(
+        file: *const u8,
+        len: usize,
+        rows: *mut Export,
+        room: usize,
+        count: *mut usize,
+        fault: *mut Fault,
+    ) -> u32;
+    pub fn petool_export_names(
+        file: *const u8,
+        len: usize,
+        rows: *mut Export,
+        room: usize,
+        count: *mut usize,
+        fault: *mut Fault,
+    ) -> u32;
+    pub fn petool_imports(
+        file: *const u8,
+        len: usize,
+        rows: *mut Import,
+        room: usize,
+        count: *mut usize,
+        fault: *mut Fault,
+    ) -> u32;
+    pub fn petool_fixups(
+        file: *const u8,
+        len: usize,
+        rows: *mut Fixup,
+        room: usize,
+        count: *mut usize,
+        fault: *mut Fault,
+    ) -> u32;
+    pub fn petool_tables(
+        file: *const u8,
+        len: usize,
+        exports: *mut Export,
+        export_room: usize,
+        names: *mut Export,
+        name_room: usize,
+        imports: *mut Import,
+        import_room: usize,
+        fixups: *mut Fixup,
+        fixup_room: usize,
+        counts: *mut Counts,
+        fault: *mut Fault,
+    ) -> u32;
+    pub fn petool_export_by_name(
+        file: *const u8,
+        len: usize,
+        name: *const u8,
+        name_len: usize,
+        target: *mut Target,
+        fault: *mut Fault,
+    ) -> u32;
+    pub fn petool_export_by_ordinal(
+        file: *const u8,
+        len: usize,
+        ordinal: u32,
+        target: *mut Target,
+        fault: *mut Fault,
+    ) -> u32;
+
+    pub fn petool_rebase(
+        file: *const u8,
+        len: usize,
+        base: u64,
+        buffer: *mut u8,
+        room: usize,
+        fault: *mut Fault,
+    ) -> u32;
+
+    pub fn petool_judge(
+        set: *const Entry,
+        entries: usize,
+        known: bool,
+        rows: *mut Binding,
+        room: usize,
+        count: *mut usize,
+        cycle: *mut u32,
+        fault: *mut Fault,
+    ) -> u32;
+    pub fn petool_space_map(
+        space: *mut Space,
+        set: *const Entry,
+        entries: usize,
+        known: bool,
+        cycle: *mut u32,
+        fault: *mut Fault,
+    ) -> u32;
+    pub fn petool_space_close(space: *mut Space);
+    pub fn petool_space_read(space: *mut Space, address: u64, buffer: *mut u8, len: usize, fault: *mut Fault) -> u32;
+    pub fn petool_space_move(space: *mut Space, image: u16, base: u64, moved: *mut Moved, fault: *mut Fault) -> u32;
+    pub fn petool_space_image(space: *mut Space, image: u16, base: *mut u64, size: *mut u32) -> u32;
+    pub fn petool_space_bindings(space: *mut Space, rows: *mut Binding, room: usize, count: *mut usize) -> u32;
+
+    pub fn petool_object_check(file: *const u8, len: usize, fault: *mut Fault) -> u32;
+    pub fn petool_object_sections(
+        file: *const u8,
+        len: usize,
+        rows: *mut ObjectSection,
+        room: usize,
+        count: *mut usize,
+        fault: *mut Fault,
+    ) -> u32;
+    pub fn petool_object_symbols(
+        file: *const u8,
+        len: usize,
+        rows: *mut ObjectSymbol,
+        room: usize,
+        count: *mut usize,
+        fault: *mut Fault,
+    ) -> u32;
+    pub fn petool_object_relocations(
+        file: *const u8,
+        len: usize,
+        section: usize,
+        rows: *mut ObjectRelocation,
+        room: usize,
+        count: *mut usize,
+        fault: *mut Fault,
+    ) -> u32;
+}

@@ -1,0 +1,65 @@
+//! Each record has the size and the places of fields that the library's have, on a machine of 64 bits; `layout.c` beside the
+//! header has the same numbers.
+
+use core::mem::{align_of, offset_of, size_of};
+use petool_sys::*;
+
+/// Asserts a record's size and alignment, and the offset of each of its fields.
+macro_rules! layout {
+    ($record:ty, $size:literal, $alignment:literal, $($field:ident $offset:literal),*) => {
+        assert_eq!(size_of::<$record>(), $size, concat!("size of ", stringify!($record)));
+        assert_eq!(align_of::<$record>(), $alignment, concat!("alignment of ", stringify!($record)));
+        $(assert_eq!(offset_of!($record, $field), $offset, concat!(stringify!($record), ".", stringify!($field)));)*
+    };
+}
+
+#[test]
+fn the_records_of_faults_and_headers_are_laid_out_as_in_c() {
+    layout!(Text, 16, 8, at 0, len 8);
+    layout!(Fault, 16, 8, number 0, image 2, place 4, at 8);
+    layout!(Directory, 8, 4, rva 0, size 4);
+    layout!(Headers, 272, 8, image_base 0, size_of_stack_reserve 8, size_of_stack_commit 16,
+        size_of_heap_reserve 24, size_of_heap_commit 32, pe_offset 40, time_date_stamp 44,
+        pointer_to_symbol_table 48, number_of_symbols 52, size_of_code 56, size_of_initialized_data
+        60, size_of_uninitialized_data 64, address_of_entry_point 68, base_of_code 72, base_of_data
+        76, section_alignment 80, file_alignment 84, win32_version_value 88, size_of_image 92,
+        size_of_headers 96, check_sum 100, loader_flags 104, number_of_rva_and_sizes 108, magic 112,
+        machine 114, number_of_sections 116, size_of_optional_header 118, characteristics 120,
+        subsystem 122, dll_characteristics 124, major_operating_system_version 126,
+        minor_operating_system_version 128, major_image_version 130, minor_image_version 132,
+        major_subsystem_version 134, minor_subsystem_version 136, major_linker_version 138,
+        minor_linker_version 139, directories 140);
+    layout!(Section, 36, 4, name 0, rva 8, extent 12, file_size 16, pointer_to_raw_data 20,
+        size_of_raw_data 24, virtual_size 28, characteristics 32);
+}
+
+#[test]
+fn the_records_of_tables_are_laid_out_as_in_c() {
+    layout!(Target, 40, 8, kind 0, value 4, module 8, name 24);
+    layout!(Export, 64, 8, ordinal 0, name 8, target 24);
+    layout!(Import, 40, 8, module 0, name 16, slot 32, ordinal 36, by_ordinal 38);
+    layout!(Fixup, 12, 4, entry 0, field 4, kind 8);
+    layout!(Counts, 32, 8, exports 0, names 8, imports 16, fixups 24);
+}
+
+#[test]
+fn the_records_of_sets_and_spaces_are_laid_out_as_in_c() {
+    layout!(Entry, 40, 8, name 0, file 16, base 32);
+    layout!(Binding, 16, 4, image 0, slot 4, exporter 8, rva 12);
+    layout!(Space, 16, 8, state 0, is_open 8);
+    layout!(Moved, 8, 4, fields 0, slots 4);
+}
+
+#[test]
+fn the_records_of_objects_are_laid_out_as_in_c() {
+    layout!(ObjectSection, 56, 8, name 0, bytes 16, absent_size 32, virtual_size 36, virtual_address
+        40, characteristics 44, relocation_count 48);
+    layout!(ObjectRelocation, 12, 4, address 0, symbol 4, kind 8);
+    layout!(ObjectSymbol, 48, 8, name 0, aux 16, index 32, value 36, section_number 40, kind 42, class_ 44);
+}
+
+#[test]
+fn the_library_has_the_version_of_the_header() {
+    // SAFETY: the call takes nothing
+    assert_eq!(unsafe { petool_version() }, PETOOL_VERSION);
+}

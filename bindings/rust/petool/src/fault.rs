@@ -1,0 +1,214 @@
+//! What a call answers in place of a result.
+
+use petool_sys as sys;
+use std::{fmt, slice};
+
+/// Where a rule does not hold. It is shown as `petool check` prints it: `file 0x00000138`.
+#[derive(Clone, Copy, Debug, PartialEq, Eq, Hash)]
+pub enum Place {
+    /// Bytes from the beginning of the file.
+    File(u64),
+    /// Bytes from the beginning of the laid-out image.
+    Rva(u32),
+    /// Bytes of the address space.
+    Address(u64),
+    /// Items of a list, from 0.
+    Item(u32),
+}
+
+impl fmt::Display for Place {
+    fn fmt(&self, out: &mut fmt::Formatter<'_>) -> fmt::Result {
+        match self {
+            Place::File(at) => write!(out, "file 0x{at:08x}"),
+            Place::Rva(at) => write!(out, "rva 0x{at:08x}"),
+            Place::Address(at) => write!(out, "address 0x{at:016x}"),
+            Place::Item(at) => write!(out, "item {at}"),
+        }
+    }
+}
+
+/// A rule of the format that does not hold: the first one, in the order of docs/FAULTS.md.
+///
+/// It is shown in words: `section header at 0x138: the section's raw data passes the end of the file`.
+#[derive(Clone, Copy, Debug, PartialEq, Eq, Hash)]
+pub struct Fault {
+    /// Which rule, from 1 to 85.
+    pub number: u16,
+    /// Of a set the index of the entry, else 0.
+    pub image: u16,
+    /// Where it does not hold.
+    pub place: Place,
+}
+
+impl Fault {
+    /// What stands at the place.
+    pub fn subject(&self) -> &'static str {
+        self.words().0
+    }
+
+    /// Which rule does not hold of it.
+    pub fn rule(&self) -> &'static str {
+        self.words().1
+    }
+
+    fn words(&self) -> (&'static str, &'static str) {
+        let (mut subject, mut rule) = (sys::Text::NONE, sys::Text::NONE);
+        // SAFETY: both texts are set, and stand apart
+        let status = unsafe { sys::petool_fault_words(self.number, &mut subject, &mut rule) };
+        if status != sys::PETOOL_OK {
+            return ("place", "no fault has this number");
+        }
+        // SAFETY: with this status both are texts of the library, which live for ever
+        unsafe { (library_text(subject), library_text(rule)) }
+    }
+
+    /// The fault that a call filled in.
+    pub(crate) fn of(raw: sys::Fault) -> Fault {
+        // a place of the image or a list fits 32 bits
+        let narrow = u32::try_from(raw.at).unwrap_or(u32::MAX);
+        let place = match raw.place {
+            sys::PETOOL_PLACE_RVA => Place::Rva(narrow),
+            sys::PETOOL_PLACE_ADDRESS => Place::Address(raw.at),
+            sys::PETOOL_PLACE_ITEM => Place::Item(narrow),
+            _ => Place::File(raw.at),
+        };
+        Fault {
+            number: raw.number,
+            image: raw.image,
+            place,
+        }
+    }
+}
+
+/// # Safety
+///
+/// The text is one of the library, and not of a file.
+unsafe fn library_text(text: sys::Text) -> &'static str {
+    // SAFETY: the text lives for ever, and nobody writes to it; its pointer is not null, also where it is empty
+    let bytes: &'static [u8] = unsafe { slice::from_raw_parts(text.at, text.len) };
+    std::str::from_utf8(bytes).unwrap_or("")
+}
+
+impl fmt::Display for Fault {
+    fn fmt(&self, out: &mut fmt::Formatter<'_>) -> fmt::Result {
+        let (subject, rule) = self.words();
+        match self.place {
+            Place::File(at) => write!(out, "{subject} at 0x{at:x}: {rule}"),
+            Place::Rva(at) => write!(out, "{subject} at RVA 0x{at:x}: {rule}"),
+            Place::Address(at) => write!(out, "{subject} 0x{at:x}: {rule}"),
+            Place::Item(at) => write!(out, "{subject} {at}: {rule}"),
+        }
+    }
+}
+
+impl std::error::Error for Fault {}
+
+/// A growth of memory was refused.
+#[derive(Clone, Copy, Debug, PartialEq, Eq, Hash)]
+pub struct OutOfMemory;
+
+impl fmt::Display for OutOfMemory {
+    fn fmt(&self, out: &mut fmt::Formatter<'_>) -> fmt::Result {
+        out.write_str("out of memory")
+    }
+}
+
+impl std::error::Error for OutOfMemory {}
+
+/// Why a file is refused.
+#[derive(Clone, Copy, Debug, PartialEq, Eq, Hash)]
+pub enum Error {
+    /// A rule of the format does not hold.
+    Fault(Fault),
+    /// A growth of memory was refused: nothing is told of the file.
+    Memory,
+}
+
+impl Error {
+    /// What a status other than that of success means.
+    pub(crate) fn of(status: u32, fault: sys::Fault) -> Error {
+        match status {
+            sys::PETOOL_FAULT => Error::Fault(Fault::of(fault)),
+            _ => Error::Memory,
+        }
+    }
+}
+
+impl fmt::Display for Error {
+    fn fmt(&self, out: &mut fmt::Formatter<'_>) -> fmt::Result {
+        match self {
+            Error::Fault(fault) => fault.fmt(out),
+            Error::Memory => OutOfMemory.fmt(out),
+        }
+    }
+}
+
+impl std::error::Error for Error {}
+
+impl From<Fault> for Error {
+    fn from(fault: Fault) -> Error {
+        Error::Fault(fault)
+    }
+}
+
+impl From<OutOfMemory> for Error {
+    fn from(_: OutOfMemory) -> Error {
+        Error::Memory
+    }
+}
+
+/// Why a set is refused.
+#[derive(Clone, Copy, Debug, PartialEq, Eq, Hash)]
+pub enum SetError {
+    /// A rule does not hold; the fault's `image` is the index of the entry.
+    Fault(Fault),
+    /// Fault 50: an import leads into a cycle of forwarders.
+    Cycle {
+        /// Which import.
+        fault: Fault,
+        /// How many forwarders the cycle has.
+        length: u32,
+    },
+    /// A growth of memory was refused: nothing is told of the set.
+    Memory,
+}
+
+/// The fault of a cycle, the only one that has a length.
+const CYCLE: u16 = 50;
+
+impl SetError {
+    /// The fault, also that of a cycle.
+    pub fn fault(&self) -> Option<Fault> {
+        match self {
+            SetError::Fault(fault) | SetError::Cycle { fault, .. } => Some(*fault),
+            SetError::Memory => None,
+        }
+    }
+
+    /// What a status other than that of success means.
+    pub(crate) fn of(status: u32, fault: sys::Fault, length: u32) -> SetError {
+        match Error::of(status, fault) {
+            Error::Fault(fault) if fault.number == CYCLE => SetError::Cycle { fault, length },
+            Error::Fault(fault) => SetError::Fault(fault),
+            Error::Memory => SetError::Memory,
+        }
+    }
+}
+
+impl fmt::Display for SetError {
+    fn fmt(&self, out: &mut fmt::Formatter<'_>) -> fmt::Result {
+        match self {
+            SetError::Fault(fault) => write!(out, "image {}: {fault}", fault.image),
+            SetError::Cycle { fault, length } => write!(out, "image {}: {fault} of length {length}", fault.image),
+            SetError::Memory => OutOfMemory.fmt(out),
+        }
+    }
+}
+
+impl std::error::Error for SetError {}
+
+impl From<OutOfMemory> for SetError {
+    fn from(_: OutOfMemory) -> SetError {
+        SetError::Memory
+    }
+}

@@ -1,0 +1,158 @@
+//! One image: its bytes, its exports, and its file at another base.
+
+use crate::rows::{room_of, text_of};
+use crate::{Error, Headers, OutOfMemory, Section, Tables, Target};
+use petool_sys as sys;
+
+/// A file in which none of faults 1 to 38 stands.
+///
+/// It is judged once, when it is made. After that no call answers a fault, and only those that read tables want memory.
+#[derive(Clone, Debug)]
+pub struct Image<'a> {
+    file: &'a [u8],
+    headers: Headers,
+}
+
+impl<'a> Image<'a> {
+    /// Judges a file: headers, sections, exports, imports and base relocations.
+    pub fn new(file: &'a [u8]) -> Result<Image<'a>, Error> {
+        let mut fault = sys::Fault::default();
+        // SAFETY: the file is all of a slice, which nobody writes to
+        let status = unsafe { sys::petool_check(file.as_ptr(), file.len(), &mut fault) };
+        match status {
+            sys::PETOOL_OK => Ok(Image {
+                file,
+                headers: Headers::read(file)?,
+            }),
+            _ => Err(Error::of(status, fault)),
+        }
+    }
+
+    /// All bytes of the file.
+    pub fn file(&self) -> &'a [u8] {
+        self.file
+    }
+
+    /// The fields of its headers.
+    pub fn headers(&self) -> &Headers {
+        &self.headers
+    }
+
+    /// Its sections, in the order of their table.
+    pub fn sections(&self) -> &[Section] {
+        self.headers.sections()
+    }
+
+    /// Fills the buffer with the bytes from an RVA on, as the file lays them out: raw data, or 0. It is `None`, and the buffer
+    /// as it was, where they do not all lie inside the image.
+    ///
+    /// ```
+    /// let file: &[u8] = include_bytes!("../../../../crates/test_cases/data/v1.dll");
+    /// let image = petool::Image::new(file)?;
+    /// let mut bytes = [0; 4];
+    /// assert_eq!(image.read(0x1000, &mut bytes), Some(()));
+    /// assert_eq!(bytes, [0, 1, 2, 3]);
+    /// assert_eq!(image.read(0x2fff, &mut bytes), None);
+    /// # Ok::<(), petool::Error>(())
+    /// ```
+    pub fn read(&self, rva: u32, buffer: &mut [u8]) -> Option<()> {
+        let mut fault = sys::Fault::default();
+        // SAFETY: the file and the buffer are all of slices, of which the second is nobody else's
+        let status = unsafe {
+            sys::petool_read(
+                self.file.as_ptr(),
+                self.file.len(),
+                rva,
+                buffer.as_mut_ptr(),
+                buffer.len(),
+                &mut fault,
+            )
+        };
+        (status == sys::PETOOL_OK).then_some(())
+    }
+
+    /// The text at an RVA, without the zero byte that ends it; `None` where no zero byte does.
+    pub fn text(&self, rva: u32) -> Option<&'a [u8]> {
+        let (mut text, mut fault) = (sys::Text::NONE, sys::Fault::default());
+        // SAFETY: the file is all of a slice, which nobody writes to; the text is set
+        let status = unsafe { sys::petool_read_text(self.file.as_ptr(), self.file.len(), rva, &mut text, &mut fault) };
+        (status == sys::PETOOL_OK).then(|| text_of(self.file, text))
+    }
+
+    /// The offset at which the file holds the byte at an RVA; `None` where the file does not hold it.
+    pub fn locate(&self, rva: u32) -> Option<u64> {
+        let (mut offset, mut fault) = (0, sys::Fault::default());
+        // SAFETY: the file is all of a slice, which nobody writes to
+        let status = unsafe { sys::petool_locate(self.file.as_ptr(), self.file.len(), rva, &mut offset, &mut fault) };
+        (status == sys::PETOOL_OK).then_some(offset)
+    }
+
+    /// All rows of its tables, in one reading.
+    pub fn tables(&self) -> Result<Tables<'a>, OutOfMemory> {
+        Tables::of(self.file)
+    }
+
+    /// What a name exports. The export table is read at each call: for many names ask [`Image::tables`] once.
+    pub fn export_by_name(&self, name: &[u8]) -> Result<Option<Target<'a>>, OutOfMemory> {
+        let (mut target, mut fault) = (sys::Target::NONE, sys::Fault::default());
+        // SAFETY: the file and the name are all of slices, which nobody writes to; the target's texts are set
+        let status = unsafe {
+            sys::petool_export_by_name(
+                self.file.as_ptr(),
+                self.file.len(),
+                name.as_ptr(),
+                name.len(),
+                &mut target,
+                &mut fault,
+            )
+        };
+        self.found(status, target)
+    }
+
+    /// What an ordinal exports, as [`Image::export_by_name`].
+    pub fn export_by_ordinal(&self, ordinal: u32) -> Result<Option<Target<'a>>, OutOfMemory> {
+        let (mut target, mut fault) = (sys::Target::NONE, sys::Fault::default());
+        // SAFETY: the file is all of a slice, which nobody writes to; the target's texts are set
+        let status = unsafe {
+            sys::petool_export_by_ordinal(self.file.as_ptr(), self.file.len(), ordinal, &mut target, &mut fault)
+        };
+        self.found(status, target)
+    }
+
+    fn found(&self, status: u32, target: sys::Target) -> Result<Option<Target<'a>>, OutOfMemory> {
+        match status {
+            sys::PETOOL_OK => Ok(Some(Target::of(self.file, target))),
+            sys::PETOOL_ABSENT => Ok(None),
+            _ => Err(OutOfMemory),
+        }
+    }
+
+    /// The file of the image that is to stand at another base: with its fields moved, and without a checksum. It is refused by
+    /// faults 44 to 46, 51 and 52.
+    ///
+    /// ```
+    /// let file: &[u8] = include_bytes!("../../../../crates/test_cases/data/v2.dll");
+    /// let moved = petool::Image::new(file)?.rebased(0x2000_0000)?;
+    /// assert_eq!(petool::Image::new(&moved)?.headers().image_base, 0x2000_0000);
+    /// # Ok::<(), petool::Error>(())
+    /// ```
+    pub fn rebased(&self, base: u64) -> Result<Vec<u8>, Error> {
+        let mut out = room_of(0, self.file.len())?;
+        let mut fault = sys::Fault::default();
+        // SAFETY: the file is all of a slice, which nobody writes to, and the new one is nobody else's
+        let status = unsafe {
+            sys::petool_rebase(
+                self.file.as_ptr(),
+                self.file.len(),
+                base,
+                out.as_mut_ptr(),
+                out.len(),
+                &mut fault,
+            )
+        };
+        match status {
+            sys::PETOOL_OK => Ok(out),
+            _ => Err(Error::of(status, fault)),
+        }
+    }
+}

@@ -1,0 +1,175 @@
+//! COFF objects.
+
+use crate::rows::{read_rows, room_of, text_of};
+use crate::{Fault, OutOfMemory, Relocation};
+use petool_sys as sys;
+
+/// A COFF object in which none of faults 61 to 72 stands.
+///
+/// ```
+/// let file: &[u8] = include_bytes!("../../../../crates/test_cases/data/o1.obj");
+/// let object = petool::Object::new(file)?;
+/// assert_eq!(object.sections()?[0].name, b".text$long");
+/// # Ok::<(), Box<dyn std::error::Error>>(())
+/// ```
+#[derive(Clone, Copy, Debug)]
+pub struct Object<'a> {
+    file: &'a [u8],
+}
+
+/// A section of an object.
+#[derive(Clone, Copy, Debug, PartialEq, Eq)]
+pub struct ObjectSection<'a> {
+    /// Its name, also where that is long.
+    pub name: &'a [u8],
+    /// Its bytes; empty where none stand in the file.
+    pub bytes: &'a [u8],
+    /// SizeOfRawData where no bytes stand in the file, else 0.
+    pub absent_size: u32,
+    /// VirtualSize.
+    pub virtual_size: u32,
+    /// VirtualAddress.
+    pub virtual_address: u32,
+    /// The section's flags.
+    pub characteristics: u32,
+    /// How many relocations it has.
+    pub relocation_count: u32,
+}
+
+/// A symbol of an object.
+#[derive(Clone, Copy, Debug, PartialEq, Eq)]
+pub struct Symbol<'a> {
+    /// Its name, also where that is long.
+    pub name: &'a [u8],
+    /// 18 bytes for each auxiliary record.
+    pub aux: &'a [u8],
+    /// The index of its record, by which relocations name it.
+    pub index: u32,
+    /// By the section and the class.
+    pub value: u32,
+    /// The section's number, counted from 1; 0 UNDEFINED, 0xffff ABSOLUTE, 0xfffe DEBUG.
+    pub section_number: u16,
+    /// Its type.
+    pub kind: u16,
+    /// The storage class.
+    pub class: u8,
+}
+
+impl<'a> ObjectSection<'a> {
+    const NONE: ObjectSection<'a> = ObjectSection {
+        name: &[],
+        bytes: &[],
+        absent_size: 0,
+        virtual_size: 0,
+        virtual_address: 0,
+        characteristics: 0,
+        relocation_count: 0,
+    };
+
+    fn of(file: &'a [u8], raw: &sys::ObjectSection) -> ObjectSection<'a> {
+        ObjectSection {
+            name: text_of(file, raw.name),
+            bytes: text_of(file, raw.bytes),
+            absent_size: raw.absent_size,
+            virtual_size: raw.virtual_size,
+            virtual_address: raw.virtual_address,
+            characteristics: raw.characteristics,
+            relocation_count: raw.relocation_count,
+        }
+    }
+}
+
+impl<'a> Symbol<'a> {
+    const NONE: Symbol<'a> = Symbol {
+        name: &[],
+        aux: &[],
+        index: 0,
+        value: 0,
+        section_number: 0,
+        kind: 0,
+        class: 0,
+    };
+
+    fn of(file: &'a [u8], raw: &sys::ObjectSymbol) -> Symbol<'a> {
+        Symbol {
+            name: text_of(file, raw.name),
+            aux: text_of(file, raw.aux),
+            index: raw.index,
+            value: raw.value,
+            section_number: raw.section_number,
+            kind: raw.kind,
+            class: raw.class_,
+        }
+    }
+}
+
+impl<'a> Object<'a> {
+    /// Judges a file. No memory is taken. A status that the library is not to answer is shown as fault 0, which is none.
+    pub fn new(file: &'a [u8]) -> Result<Object<'a>, Fault> {
+        let mut fault = sys::Fault::default();
+        // SAFETY: the file is all of a slice, which nobody writes to
+        let status = unsafe { sys::petool_object_check(file.as_ptr(), file.len(), &mut fault) };
+        match status {
+            sys::PETOOL_OK => Ok(Object { file }),
+            _ => Err(Fault::of(fault)),
+        }
+    }
+
+    /// Its sections, in the order of their table.
+    pub fn sections(&self) -> Result<Vec<ObjectSection<'a>>, OutOfMemory> {
+        let rows = self.read(sys::ObjectSection::NONE, sys::petool_object_sections)?;
+        translated(&rows, ObjectSection::NONE, |row| ObjectSection::of(self.file, row))
+    }
+
+    /// Its symbols, in the order of their table.
+    pub fn symbols(&self) -> Result<Vec<Symbol<'a>>, OutOfMemory> {
+        let rows = self.read(sys::ObjectSymbol::NONE, sys::petool_object_symbols)?;
+        translated(&rows, Symbol::NONE, |row| Symbol::of(self.file, row))
+    }
+
+    /// The relocations of a section, counted from 0; `None` where there is no such section.
+    pub fn relocations(&self, section: usize) -> Result<Option<Vec<Relocation>>, OutOfMemory> {
+        let mut fault = sys::Fault::default();
+        let (at, len) = (self.file.as_ptr(), self.file.len());
+        let read = read_rows(0, Relocation::default(), |rows, count| {
+            // SAFETY: the file is all of a slice, which nobody writes to; the rows are nobody else's
+            unsafe {
+                sys::petool_object_relocations(at, len, section, rows.as_mut_ptr(), rows.len(), count, &mut fault)
+            }
+        });
+        match read {
+            Ok(rows) => Ok(Some(rows)),
+            Err(sys::PETOOL_ABSENT) => Ok(None),
+            Err(_) => Err(OutOfMemory),
+        }
+    }
+
+    fn read<Row: Copy>(&self, blank: Row, call: ReadsObject<Row>) -> Result<Vec<Row>, OutOfMemory> {
+        let mut fault = sys::Fault::default();
+        let read = read_rows(0, blank, |rows, count| {
+            // SAFETY: the file is all of a slice, which nobody writes to; the rows are nobody else's, and all are set
+            unsafe {
+                call(
+                    self.file.as_ptr(),
+                    self.file.len(),
+                    rows.as_mut_ptr(),
+                    rows.len(),
+                    count,
+                    &mut fault,
+                )
+            }
+        });
+        read.map_err(|_| OutOfMemory)
+    }
+}
+
+/// A call that reads a table of an object.
+type ReadsObject<Row> = unsafe extern "C" fn(*const u8, usize, *mut Row, usize, *mut usize, *mut sys::Fault) -> u32;
+
+fn translated<Raw, Row: Copy>(rows: &[Raw], blank: Row, one: impl Fn(&Raw) -> Row) -> Result<Vec<Row>, OutOfMemory> {
+    let mut all = room_of(blank, rows.len())?;
+    for (to, from) in all.iter_mut().zip(rows) {
+        *to = one(from);
+    }
+    Ok(all)
+}

@@ -1,0 +1,83 @@
+//! Sets of images that are to stand together.
+
+use crate::rows::{read_rows, room_of};
+use crate::{Binding, OutOfMemory, SetError};
+use petool_sys as sys;
+
+/// An image of a set.
+#[derive(Clone, Copy, Debug)]
+pub struct Entry<'a> {
+    /// Of the module, as `kernel32.dll`; the case of ASCII letters does not count.
+    pub name: &'a [u8],
+    /// All bytes of its file.
+    pub file: &'a [u8],
+    /// Where it is to stand: a multiple of 65,536.
+    pub base: u64,
+}
+
+/// What an import means whose module is not in the set.
+#[derive(Clone, Copy, Debug, PartialEq, Eq, Hash)]
+pub enum Policy {
+    /// It is fault 48.
+    Strict,
+    /// It is no fault: its slot is left as it stands in the file.
+    Known,
+}
+
+impl Policy {
+    pub(crate) fn is_known(self) -> bool {
+        self == Policy::Known
+    }
+}
+
+/// The entries as calls take them. Their texts are borrowed: the list may not outlive the entries.
+pub(crate) fn raw_entries(set: &[Entry<'_>]) -> Result<Vec<sys::Entry>, OutOfMemory> {
+    let blank = sys::Entry {
+        name: sys::Text::NONE,
+        file: sys::Text::NONE,
+        base: 0,
+    };
+    let mut raw = room_of(blank, set.len())?;
+    for (row, entry) in raw.iter_mut().zip(set) {
+        *row = sys::Entry {
+            name: sys::Text::of(entry.name),
+            file: sys::Text::of(entry.file),
+            base: entry.base,
+        };
+    }
+    Ok(raw)
+}
+
+/// How many bindings are read without a second judgement.
+const GUESS: usize = 1024;
+
+/// Judges a set of at most 256 images, and tells what each import is bound to.
+///
+/// ```
+/// use petool::{judge, Entry, Policy};
+///
+/// let b: &[u8] = include_bytes!("../../../../crates/test_cases/data/vb.dll");
+/// let set = [Entry { name: b"b.dll", file: b, base: 0x2000_0000 }];
+/// assert_eq!(judge(&set, Policy::Strict)?.len(), 0);
+/// # Ok::<(), petool::SetError>(())
+/// ```
+pub fn judge(set: &[Entry<'_>], policy: Policy) -> Result<Vec<Binding>, SetError> {
+    let raw = raw_entries(set)?;
+    let (mut cycle, mut fault) = (0, sys::Fault::default());
+    let judged = read_rows(GUESS, Binding::default(), |rows, count| {
+        // SAFETY: the entries and their texts are all of slices, which nobody writes to; the rows are nobody else's
+        unsafe {
+            sys::petool_judge(
+                raw.as_ptr(),
+                raw.len(),
+                policy.is_known(),
+                rows.as_mut_ptr(),
+                rows.len(),
+                count,
+                &mut cycle,
+                &mut fault,
+            )
+        }
+    });
+    judged.map_err(|status| SetError::of(status, fault, cycle))
+}

@@ -1,0 +1,131 @@
+//! Images that are kept at their bases, and move.
+
+use crate::rows::read_rows;
+use crate::set::raw_entries;
+use crate::{Binding, Entry, Fault, Moved, OutOfMemory, Policy, SetError};
+use petool_sys as sys;
+
+/// A set of images, mapped: each at its base, with its fields relocated and its imports bound. It holds its own bytes, so the
+/// files may go.
+///
+/// It may go to another thread, but goes to one call at a time, also to read.
+///
+/// ```
+/// use petool::{Entry, Policy, Space};
+///
+/// let file: &[u8] = include_bytes!("../../../../crates/test_cases/data/v2.dll");
+/// let mut space = Space::map(&[Entry { name: b"v2.dll", file, base: 0x2000_0000 }], Policy::Strict)?;
+/// let mut field = [0; 4];
+/// space.read(0x2000_1008, &mut field)?;
+/// assert_eq!(u32::from_le_bytes(field), 0x2000_1008);
+/// space.move_image(0, 0x5000_0000)?;
+/// space.read(0x5000_1008, &mut field)?;
+/// assert_eq!(u32::from_le_bytes(field), 0x5000_1008);
+/// # Ok::<(), Box<dyn std::error::Error>>(())
+/// ```
+#[derive(Debug)]
+pub struct Space {
+    raw: sys::Space,
+}
+
+// SAFETY: an open space goes to one call at a time of any thread, which owning it or `&mut` gives; it has no other state
+unsafe impl Send for Space {}
+
+/// Where an image of a space stands.
+#[derive(Clone, Copy, Debug, PartialEq, Eq, Hash)]
+pub struct Placed {
+    /// The address of its first byte.
+    pub base: u64,
+    /// How many bytes it has.
+    pub size: u32,
+}
+
+/// The faults of a window and of an index, as which a status counts that no call is to answer.
+const NO_WINDOW: u16 = 54;
+const NO_IMAGE: u16 = 55;
+
+impl Space {
+    /// Maps a set of at most 256 images.
+    pub fn map(set: &[Entry<'_>], policy: Policy) -> Result<Space, SetError> {
+        let raw_set = raw_entries(set)?;
+        let mut space = Space {
+            raw: sys::Space::CLOSED,
+        };
+        let (mut cycle, mut fault) = (0, sys::Fault::default());
+        // SAFETY: the space is closed; the entries and their texts are all of slices, which nobody writes to
+        let status = unsafe {
+            sys::petool_space_map(
+                &mut space.raw,
+                raw_set.as_ptr(),
+                raw_set.len(),
+                policy.is_known(),
+                &mut cycle,
+                &mut fault,
+            )
+        };
+        match status {
+            sys::PETOOL_OK => Ok(space),
+            _ => Err(SetError::of(status, fault, cycle)),
+        }
+    }
+
+    /// Fills the buffer with the bytes from an address on, which all lie in one image. Else it is refused by fault 54, and is as
+    /// it was.
+    pub fn read(&mut self, address: u64, buffer: &mut [u8]) -> Result<(), Fault> {
+        let mut fault = sys::Fault {
+            number: NO_WINDOW,
+            image: u16::MAX,
+            place: sys::PETOOL_PLACE_ADDRESS,
+            at: address,
+        };
+        // SAFETY: the space is open; the buffer is all of a slice, and nobody else's
+        let status =
+            unsafe { sys::petool_space_read(&mut self.raw, address, buffer.as_mut_ptr(), buffer.len(), &mut fault) };
+        match status {
+            sys::PETOOL_OK => Ok(()),
+            _ => Err(Fault::of(fault)),
+        }
+    }
+
+    /// Moves an image to another base: its fields are moved on, and the slots that end in it are bound anew. It is refused by
+    /// faults 55 and 44 to 47, and then nothing is changed.
+    pub fn move_image(&mut self, image: u16, base: u64) -> Result<Moved, Fault> {
+        let mut moved = Moved::default();
+        let mut fault = sys::Fault {
+            number: NO_IMAGE,
+            image,
+            place: sys::PETOOL_PLACE_ITEM,
+            at: image.into(),
+        };
+        // SAFETY: the space is open
+        let status = unsafe { sys::petool_space_move(&mut self.raw, image, base, &mut moved, &mut fault) };
+        match status {
+            sys::PETOOL_OK => Ok(moved),
+            _ => Err(Fault::of(fault)),
+        }
+    }
+
+    /// Where the image of an entry stands; `None` past the last.
+    pub fn image(&mut self, image: u16) -> Option<Placed> {
+        let mut placed = Placed { base: 0, size: 0 };
+        // SAFETY: the space is open
+        let status = unsafe { sys::petool_space_image(&mut self.raw, image, &mut placed.base, &mut placed.size) };
+        (status == sys::PETOOL_OK).then_some(placed)
+    }
+
+    /// What each import is bound to.
+    pub fn bindings(&mut self) -> Result<Vec<Binding>, OutOfMemory> {
+        let bound = read_rows(0, Binding::default(), |rows, count| {
+            // SAFETY: the space is open; the rows are nobody else's
+            unsafe { sys::petool_space_bindings(&mut self.raw, rows.as_mut_ptr(), rows.len(), count) }
+        });
+        bound.map_err(|_| OutOfMemory)
+    }
+}
+
+impl Drop for Space {
+    fn drop(&mut self) {
+        // SAFETY: the space is closed or open, was never copied, and is not used again
+        unsafe { sys::petool_space_close(&mut self.raw) }
+    }
+}

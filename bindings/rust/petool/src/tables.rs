@@ -1,0 +1,171 @@
+//! The rows of an image's tables.
+
+use crate::rows::{room_of, text_of};
+use crate::{Fixup, OutOfMemory};
+use petool_sys as sys;
+
+/// By what an export is asked for.
+#[derive(Clone, Copy, Debug, PartialEq, Eq, Hash)]
+pub enum Key<'a> {
+    /// By its ordinal.
+    Ordinal(u16),
+    /// By its name.
+    Name(&'a [u8]),
+}
+
+/// What an export stands for.
+#[derive(Clone, Copy, Debug, PartialEq, Eq, Hash)]
+pub enum Target<'a> {
+    /// An address of the image.
+    Rva(u32),
+    /// An export of another module, which is named as in the file: mostly without `.dll`.
+    Forward {
+        /// The other module.
+        module: &'a [u8],
+        /// Its export.
+        key: Key<'a>,
+    },
+}
+
+impl<'a> Target<'a> {
+    pub(crate) fn of(file: &'a [u8], raw: sys::Target) -> Target<'a> {
+        let module = text_of(file, raw.module);
+        match raw.kind {
+            sys::PETOOL_TARGET_RVA => Target::Rva(raw.value),
+            // an ordinal that a forwarder names fits 16 bits
+            sys::PETOOL_TARGET_ORDINAL => Target::Forward {
+                module,
+                key: Key::Ordinal(raw.value as u16),
+            },
+            _ => Target::Forward {
+                module,
+                key: Key::Name(text_of(file, raw.name)),
+            },
+        }
+    }
+}
+
+/// An import, and where its slot is.
+#[derive(Clone, Copy, Debug, PartialEq, Eq, Hash)]
+pub struct Import<'a> {
+    /// The module that is to export it, as in the file.
+    pub module: &'a [u8],
+    /// What it is to export.
+    pub key: Key<'a>,
+    /// The RVA of the slot of the import address table.
+    pub slot: u32,
+}
+
+impl<'a> Import<'a> {
+    fn of(file: &'a [u8], raw: &sys::Import) -> Import<'a> {
+        let key = if raw.by_ordinal {
+            Key::Ordinal(raw.ordinal)
+        } else {
+            Key::Name(text_of(file, raw.name))
+        };
+        Import {
+            module: text_of(file, raw.module),
+            key,
+            slot: raw.slot,
+        }
+    }
+}
+
+/// All rows of the tables of an image, read once.
+///
+/// ```
+/// use petool::{Image, Key};
+///
+/// let file: &[u8] = include_bytes!("../../../../crates/test_cases/data/vc.dll");
+/// let tables = Image::new(file)?.tables()?;
+/// let import = tables.imports().next().unwrap();
+/// assert_eq!((import.module, import.key, import.slot), (&b"A.DLL"[..], Key::Name(b"f"), 0x1030));
+/// # Ok::<(), petool::Error>(())
+/// ```
+#[derive(Clone, Debug)]
+pub struct Tables<'a> {
+    file: &'a [u8],
+    exports: Vec<sys::Export>,
+    names: Vec<sys::Export>,
+    imports: Vec<sys::Import>,
+    fixups: Vec<Fixup>,
+}
+
+// SAFETY: the pointers in the rows are places in the file, which is borrowed, and are never followed
+unsafe impl Send for Tables<'_> {}
+// SAFETY: as above; and nothing is changed through a shared reference
+unsafe impl Sync for Tables<'_> {}
+
+impl<'a> Tables<'a> {
+    /// The tables of a file that was judged: a call without rows counts them, and a second one reads.
+    pub(crate) fn of(file: &'a [u8]) -> Result<Tables<'a>, OutOfMemory> {
+        let mut tables = Tables {
+            file,
+            exports: Vec::new(),
+            names: Vec::new(),
+            imports: Vec::new(),
+            fixups: Vec::new(),
+        };
+        let mut counts = sys::Counts::default();
+        let mut status = tables.fill(&mut counts);
+        if status == sys::PETOOL_SMALL {
+            tables.exports = room_of(sys::Export::NONE, counts.exports)?;
+            tables.names = room_of(sys::Export::NONE, counts.names)?;
+            tables.imports = room_of(sys::Import::NONE, counts.imports)?;
+            tables.fixups = room_of(Fixup::default(), counts.fixups)?;
+            status = tables.fill(&mut counts);
+        }
+        match status {
+            sys::PETOOL_OK => Ok(tables),
+            _ => Err(OutOfMemory),
+        }
+    }
+
+    fn fill(&mut self, counts: &mut sys::Counts) -> u32 {
+        let mut fault = sys::Fault::default();
+        // SAFETY: the file is all of a slice, which nobody writes to; the rows are nobody else's, and all are set
+        unsafe {
+            sys::petool_tables(
+                self.file.as_ptr(),
+                self.file.len(),
+                self.exports.as_mut_ptr(),
+                self.exports.len(),
+                self.names.as_mut_ptr(),
+                self.names.len(),
+                self.imports.as_mut_ptr(),
+                self.imports.len(),
+                self.fixups.as_mut_ptr(),
+                self.fixups.len(),
+                counts,
+                &mut fault,
+            )
+        }
+    }
+
+    /// The exports by ordinal, in the order of the export address table. An ordinal may pass 2^32.
+    pub fn exports(&self) -> impl ExactSizeIterator<Item = (u64, Target<'a>)> + '_ {
+        let file = self.file;
+        self.exports
+            .iter()
+            .map(move |row| (row.ordinal, Target::of(file, row.target)))
+    }
+
+    /// The exports by name, in the order of the name pointer table, each name once.
+    pub fn names(&self) -> impl ExactSizeIterator<Item = (&'a [u8], Target<'a>)> + '_ {
+        let file = self.file;
+        self.names
+            .iter()
+            .map(move |row| (text_of(file, row.name), Target::of(file, row.target)))
+    }
+
+    /// The imports, in the order of their tables.
+    pub fn imports(&self) -> impl ExactSizeIterator<Item = Import<'a>> + '_ {
+        let file = self.file;
+        self.imports.iter().map(move |row| Import::of(file, row))
+    }
+
+    /// The base relocations, in the order of their table.
+    pub fn fixups(&self) -> impl ExactSizeIterator<Item = Fixup> + '_ {
+        self.fixups.iter().copied()
+    }
+}
