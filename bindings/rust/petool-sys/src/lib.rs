@@ -1,9 +1,9 @@
-//! The calls and records of libpetool, as `petool.h` declares them: read its rules before calling any of these. The crate
-//! `petool` has them behind types that keep the rules.
+//! The calls and records of libpetool, as `petool.h` declares them: read its rules before calling any of these. The
+//! crate `petool` has them behind types that keep the rules.
 //!
-//! Records have the names of the header without `petool_`, calls and constants have them as they are. The functions that the
-//! header defines in C alone, such as `petool_exports_init`, are not here: [`Text::NONE`] and the `NONE` of rows with texts
-//! are for what has to be set before a call.
+//! Records have the names of the header without `petool_`, calls and constants have them as they are. The functions
+//! that the header defines in C alone, such as `petool_exports_init`, are not here: [`Text::NONE`] and the `NONE` of
+//! rows with texts are for what has to be set before a call.
 #![no_std]
 #![deny(missing_docs)]
 
@@ -33,7 +33,8 @@ pub const PETOOL_PLACE_ADDRESS: u32 = 2;
 /// A fault's place counts items of a list.
 pub const PETOOL_PLACE_ITEM: u32 = 3;
 
-/// The version of the header, as [`petool_version`] answers that of the library: the first part times 65,536, and the second.
+/// The version of the header, as [`petool_version`] answers that of the library: the first part times 65,536, and the
+/// second.
 pub const PETOOL_VERSION: u32 = 0x10000;
 /// No image has more sections.
 pub const PETOOL_SECTIONS: usize = 96;

@@ -1,5 +1,5 @@
-//! Each record has the size and the places of fields that the library's have, on a machine of 64 bits; `layout.c` beside the
-//! header has the same numbers.
+//! Each record has the size and the places of fields that the library's have, on a machine of 64 bits; `layout.c`
+//! beside the header has the same numbers.
 
 use core::mem::{align_of, offset_of, size_of};
 use petool_sys::*;

@@ -1,7 +1,8 @@
-//! Who exports what a program imports: `imports_closure PROGRAM FOLDER` follows the imports of a program, and those of each DLL of
-//! the folder that they lead to, and prints a line for each: importer, import, and the module that exports it, behind forwarders.
+//! Who exports what a program imports: `imports_closure PROGRAM FOLDER` follows the imports of a program, and those of
+//! each DLL of the folder that they lead to, and prints a line for each: importer, import, and the module that exports
+//! it, behind forwarders.
 
-use petool::{Image, Key, Target};
+use petool::{Image, Key, OutOfMemory, Target};
 use std::collections::{BTreeMap, BTreeSet};
 use std::error::Error;
 use std::path::Path;
@@ -39,27 +40,31 @@ fn files_of(folder: &Path) -> Result<BTreeMap<String, Vec<u8>>, Box<dyn Error>> 
     Ok(files)
 }
 
-/// What a search comes to: the module that has the export, or why there is none.
-fn exporter_of<'a>(images: &BTreeMap<&str, Image<'a>>, module: &[u8], key: Key<'a>) -> Result<String, Box<dyn Error>> {
+/// The module at which a search ends, and what it finds there.
+fn exporter_of<'a>(
+    images: &BTreeMap<&str, Image<'a>>,
+    module: &[u8],
+    key: Key<'a>,
+) -> Result<(String, String), OutOfMemory> {
     let (mut module, mut key) = (module_of(module), key);
     for _ in 0..MOST_FORWARDERS {
         let Some(image) = images.get(module.as_str()) else {
-            return Ok(format!("{module}, which is not there"));
+            return Ok((module, "no such file".into()));
         };
         let target = match key {
             Key::Name(name) => image.export_by_name(name)?,
             Key::Ordinal(ordinal) => image.export_by_ordinal(ordinal.into())?,
         };
         match target {
-            None => return Ok(format!("nothing: {module} has no {}", shown(key))),
-            Some(Target::Rva(rva)) => return Ok(format!("{module} at {rva:#x}")),
+            None => return Ok((module, "no such export".into())),
+            Some(Target::Rva(rva)) => return Ok((module, format!("{rva:#x}"))),
             Some(Target::Forward {
                 module: next,
                 key: as_key,
             }) => (module, key) = (module_of(next), as_key),
         }
     }
-    Ok("a long way of forwarders".into())
+    Ok((module, "too many forwarders".into()))
 }
 
 fn run(program: &Path, folder: &Path) -> Result<(), Box<dyn Error>> {
@@ -80,8 +85,8 @@ fn run(program: &Path, folder: &Path) -> Result<(), Box<dyn Error>> {
             continue;
         };
         for import in image.tables()?.imports() {
-            let exporter = exporter_of(&images, import.module, import.key)?;
-            println!("{importer}: {} of {}", shown(import.key), exporter);
+            let (exporter, found) = exporter_of(&images, import.module, import.key)?;
+            println!("{importer}: {} of {exporter}: {found}", shown(import.key));
             let next = [
                 module_of(import.module),
                 exporter.split([' ', ',']).next().unwrap_or("").to_string(),

@@ -1,7 +1,8 @@
-//! Maps images at given bases and writes the bytes that then stand there: `map_process OUT BASE=FILE...`, with bases in hexadecimal.
+//! Maps images at given bases and writes the bytes that then stand there: `map_process OUT BASE=FILE...`, with bases in
+//! hexadecimal.
 //!
-//! The images stand behind one another in OUT, and a line for each says where. An import from a module that is none of them leaves
-//! its slot as it is.
+//! The images stand behind one another in OUT, and a line for each says where. An import from a module that is none of
+//! them leaves its slot as it is.
 
 use petool::{Entry, Policy, Space};
 use std::error::Error;

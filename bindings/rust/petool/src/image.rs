@@ -11,20 +11,23 @@ use petool_sys as sys;
 pub struct Image<'a> {
     file: &'a [u8],
     headers: Headers,
+    counts: sys::Counts,
 }
 
 impl<'a> Image<'a> {
-    /// Judges a file: headers, sections, exports, imports and base relocations.
+    /// Judges a file: headers, sections, exports, imports and base relocations. The rows of its tables are counted on
+    /// the way.
     pub fn new(file: &'a [u8]) -> Result<Image<'a>, Error> {
-        let mut fault = sys::Fault::default();
-        // SAFETY: the file is all of a slice, which nobody writes to
-        let status = unsafe { sys::petool_check(file.as_ptr(), file.len(), &mut fault) };
-        match status {
-            sys::PETOOL_OK => Ok(Image {
+        let mut tables = Tables::empty(file);
+        let (mut counts, mut fault) = (sys::Counts::default(), sys::Fault::default());
+        match tables.fill(&mut counts, &mut fault) {
+            // there is no room for rows, so only an image without tables is read at once
+            sys::PETOOL_OK | sys::PETOOL_SMALL => Ok(Image {
                 file,
                 headers: Headers::read(file)?,
+                counts,
             }),
-            _ => Err(Error::of(status, fault)),
+            status => Err(Error::of(status, fault)),
         }
     }
 
@@ -43,8 +46,8 @@ impl<'a> Image<'a> {
         self.headers.sections()
     }
 
-    /// Fills the buffer with the bytes from an RVA on, as the file lays them out: raw data, or 0. It is `None`, and the buffer
-    /// as it was, where they do not all lie inside the image.
+    /// Fills the buffer with the bytes from an RVA on, as the file lays them out: raw data, or 0. It is `None`, and the
+    /// buffer as it was, where they do not all lie inside the image.
     ///
     /// ```
     /// let file: &[u8] = include_bytes!("../../../../crates/test_cases/data/v1.dll");
@@ -89,7 +92,7 @@ impl<'a> Image<'a> {
 
     /// All rows of its tables, in one reading.
     pub fn tables(&self) -> Result<Tables<'a>, OutOfMemory> {
-        Tables::of(self.file)
+        Tables::of(self.file, self.counts)
     }
 
     /// What a name exports. The export table is read at each call: for many names ask [`Image::tables`] once.
@@ -127,8 +130,8 @@ impl<'a> Image<'a> {
         }
     }
 
-    /// The file of the image that is to stand at another base: with its fields moved, and without a checksum. It is refused by
-    /// faults 44 to 46, 51 and 52.
+    /// The file of the image that is to stand at another base: with its fields moved, and without a checksum. It is
+    /// refused by faults 44 to 46, 51 and 52.
     ///
     /// ```
     /// let file: &[u8] = include_bytes!("../../../../crates/test_cases/data/v2.dll");

@@ -1,8 +1,9 @@
-//! Reads, judges and moves PE images and COFF objects, from files that may be hostile, by the proved calls of libpetool.
+//! Reads, judges and moves PE images and COFF objects, from files that may be hostile, by the proved calls of
+//! libpetool.
 //!
-//! An [`Image`] is a file in which no fault stands: judged once, it answers without errors but for want of memory. [`Headers`]
-//! asks headers and sections alone. [`judge`] tells what the imports of a set of images are bound to, a [`Space`] maps a set
-//! and moves its images, and an [`Object`] is a COFF object.
+//! An [`Image`] is a file in which no fault stands: judged once, it answers without errors but for want of memory.
+//! [`Headers`] asks headers and sections alone. [`judge`] tells what the imports of a set of images are bound to, a
+//! [`Space`] maps a set and moves its images, and an [`Object`] is a COFF object.
 //!
 //! ```
 //! use petool::{Error, Image};
@@ -21,9 +22,9 @@
 //! # Ok::<(), Error>(())
 //! ```
 //!
-//! A file is lent as its bytes, and every name that is handed out is a part of it: nothing is copied. No call panics, whatever
-//! the file holds. A status that the library is not to answer counts as want of memory, or as absence where a call has no such
-//! error: never as success.
+//! A file is lent as its bytes, and every name that is handed out is a part of it: nothing is copied. No call panics,
+//! whatever the file holds. A status that the library is not to answer counts as want of memory, or as absence where a
+//! call has no such error: never as success.
 #![deny(missing_docs, unsafe_op_in_unsafe_fn)]
 
 mod fault;

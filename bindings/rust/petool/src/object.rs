@@ -104,7 +104,8 @@ impl<'a> Symbol<'a> {
 }
 
 impl<'a> Object<'a> {
-    /// Judges a file. No memory is taken. A status that the library is not to answer is shown as fault 0, which is none.
+    /// Judges a file. No memory is taken. A status that the library is not to answer is shown as fault 0, which is
+    /// none.
     pub fn new(file: &'a [u8]) -> Result<Object<'a>, Fault> {
         let mut fault = sys::Fault::default();
         // SAFETY: the file is all of a slice, which nobody writes to

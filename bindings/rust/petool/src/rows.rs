@@ -3,8 +3,8 @@
 use crate::OutOfMemory;
 use petool_sys as sys;
 
-/// The bytes of a text that a call found in this file. They are cut out of the file, so no pointer is followed; a text that is
-/// not in the file would be an empty one.
+/// The bytes of a text that a call found in this file. They are cut out of the file, so no pointer is followed; a text
+/// that is not in the file would be an empty one.
 pub(crate) fn text_of(file: &[u8], text: sys::Text) -> &[u8] {
     let offset = (text.at as usize).wrapping_sub(file.as_ptr() as usize);
     let from = file.get(offset..).unwrap_or(&[]);
@@ -19,8 +19,8 @@ pub(crate) fn room_of<Row: Copy>(blank: Row, count: usize) -> Result<Vec<Row>, O
     Ok(rows)
 }
 
-/// All rows of a table, or the status with which it was not read. The call gets rows, which are all set, and a count to fill: once
-/// with the room that is guessed, and once more with the room that it then asks for.
+/// All rows of a table, or the status with which it was not read. The call gets rows, which are all set, and a count to
+/// fill: once with the room that is guessed, and once more with the room that it then asks for.
 pub(crate) fn read_rows<Row: Copy>(
     guess: usize,
     blank: Row,

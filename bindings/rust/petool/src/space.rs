@@ -5,10 +5,15 @@ use crate::set::raw_entries;
 use crate::{Binding, Entry, Fault, Moved, OutOfMemory, Policy, SetError};
 use petool_sys as sys;
 
-/// A set of images, mapped: each at its base, with its fields relocated and its imports bound. It holds its own bytes, so the
-/// files may go.
+/// A set of images, mapped: each at its base, with its fields relocated and its imports bound. It holds its own bytes,
+/// so the files may go.
 ///
-/// It may go to another thread, but goes to one call at a time, also to read.
+/// It may go to another thread, but goes to one call at a time, also to read: it is `Send`, and not `Sync`.
+///
+/// ```compile_fail,E0277
+/// fn share<T: Sync>() {}
+/// share::<petool::Space>();
+/// ```
 ///
 /// ```
 /// use petool::{Entry, Policy, Space};
@@ -28,7 +33,8 @@ pub struct Space {
     raw: sys::Space,
 }
 
-// SAFETY: an open space goes to one call at a time of any thread, which owning it or `&mut` gives; it has no other state
+// SAFETY: an open space goes to one call at a time of any thread, which owning it or `&mut` gives; it has no other
+// state
 unsafe impl Send for Space {}
 
 /// Where an image of a space stands.
@@ -69,8 +75,8 @@ impl Space {
         }
     }
 
-    /// Fills the buffer with the bytes from an address on, which all lie in one image. Else it is refused by fault 54, and is as
-    /// it was.
+    /// Fills the buffer with the bytes from an address on, which all lie in one image. Else it is refused by fault 54,
+    /// and is as it was.
     pub fn read(&mut self, address: u64, buffer: &mut [u8]) -> Result<(), Fault> {
         let mut fault = sys::Fault {
             number: NO_WINDOW,
@@ -87,8 +93,8 @@ impl Space {
         }
     }
 
-    /// Moves an image to another base: its fields are moved on, and the slots that end in it are bound anew. It is refused by
-    /// faults 55 and 44 to 47, and then nothing is changed.
+    /// Moves an image to another base: its fields are moved on, and the slots that end in it are bound anew. It is
+    /// refused by faults 55 and 44 to 47, and then nothing is changed.
     pub fn move_image(&mut self, image: u16, base: u64) -> Result<Moved, Fault> {
         let mut moved = Moved::default();
         let mut fault = sys::Fault {

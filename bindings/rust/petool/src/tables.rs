@@ -97,32 +97,34 @@ unsafe impl Send for Tables<'_> {}
 unsafe impl Sync for Tables<'_> {}
 
 impl<'a> Tables<'a> {
-    /// The tables of a file that was judged: a call without rows counts them, and a second one reads.
-    pub(crate) fn of(file: &'a [u8]) -> Result<Tables<'a>, OutOfMemory> {
-        let mut tables = Tables {
+    /// Tables without room for rows.
+    pub(crate) fn empty(file: &'a [u8]) -> Tables<'a> {
+        Tables {
             file,
             exports: Vec::new(),
             names: Vec::new(),
             imports: Vec::new(),
             fixups: Vec::new(),
-        };
-        let mut counts = sys::Counts::default();
-        let mut status = tables.fill(&mut counts);
-        if status == sys::PETOOL_SMALL {
-            tables.exports = room_of(sys::Export::NONE, counts.exports)?;
-            tables.names = room_of(sys::Export::NONE, counts.names)?;
-            tables.imports = room_of(sys::Import::NONE, counts.imports)?;
-            tables.fixups = room_of(Fixup::default(), counts.fixups)?;
-            status = tables.fill(&mut counts);
         }
-        match status {
+    }
+
+    /// The tables of a file that was judged, and has so many rows.
+    pub(crate) fn of(file: &'a [u8], mut counts: sys::Counts) -> Result<Tables<'a>, OutOfMemory> {
+        let mut tables = Tables {
+            file,
+            exports: room_of(sys::Export::NONE, counts.exports)?,
+            names: room_of(sys::Export::NONE, counts.names)?,
+            imports: room_of(sys::Import::NONE, counts.imports)?,
+            fixups: room_of(Fixup::default(), counts.fixups)?,
+        };
+        match tables.fill(&mut counts, &mut sys::Fault::default()) {
             sys::PETOOL_OK => Ok(tables),
             _ => Err(OutOfMemory),
         }
     }
 
-    fn fill(&mut self, counts: &mut sys::Counts) -> u32 {
-        let mut fault = sys::Fault::default();
+    /// Reads all tables into the rows that there are: a status of `petool_tables`, with the faults of `petool_check`.
+    pub(crate) fn fill(&mut self, counts: &mut sys::Counts, fault: &mut sys::Fault) -> u32 {
         // SAFETY: the file is all of a slice, which nobody writes to; the rows are nobody else's, and all are set
         unsafe {
             sys::petool_tables(
@@ -137,7 +139,7 @@ impl<'a> Tables<'a> {
                 self.fixups.as_mut_ptr(),
                 self.fixups.len(),
                 counts,
-                &mut fault,
+                fault,
             )
         }
     }

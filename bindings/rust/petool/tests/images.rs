@@ -1,5 +1,5 @@
-//! One image, on its good path and refused. The values are those of the files, which were made by hand from the format: vr.dll has
-//! another value in each field.
+//! One image, on its good path and refused. The values are those of the files, which were made by hand from the format:
+//! vr.dll has another value in each field.
 
 use petool::{Error, Fault, Headers, Image, Import, Key, OutOfMemory, Place, Target};
 

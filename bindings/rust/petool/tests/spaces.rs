@@ -1,5 +1,5 @@
-//! Sets and spaces. Of va.dll, vb.dll and vc.dll, at the bases below, one slot is bound: that of c.exe at RVA 0x1030, to ordinal 7
-//! of b.dll, which is its RVA 0x1010, by way of a forwarder of a.dll.
+//! Sets and spaces. Of va.dll, vb.dll and vc.dll, at the bases below, one slot is bound: that of c.exe at RVA 0x1030,
+//! to ordinal 7 of b.dll, which is its RVA 0x1010, by way of a forwarder of a.dll.
 
 use petool::{judge, Binding, Entry, Fault, Moved, Place, Placed, Policy, SetError, Space};
 
