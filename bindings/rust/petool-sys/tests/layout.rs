@@ -1,6 +1,8 @@
 //! Each record has the size and the places of fields that the library's have, on a machine of 64 bits; `layout.c`
 //! beside the header has the same numbers.
 
+#![cfg(target_pointer_width = "64")]
+
 use core::mem::{align_of, offset_of, size_of};
 use petool_sys::*;
 
