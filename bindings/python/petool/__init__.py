@@ -1,0 +1,96 @@
+"""Reads, judges and moves PE images and COFF objects, from files that may be hostile, by proved calls of libpetool.
+
+    import petool
+
+    with petool.open("zlib1.dll") as image:
+        print(hex(image.headers.image_base), image.sections[0].name)
+        print(image.exports["crc32"])
+        for it in image.imports:
+            print(it.module, it.key, hex(it.slot))
+
+What is raised:
+
+- ``FormatFault``, a ``ValueError``: a rule of the format does not hold; its ``number`` is that of docs/FAULTS.md.
+- ``IndexError``: bytes that pass an image (``Image.read``, ``read_into``), or an index of no image (``Space.move``) or of no section
+  (``Object.relocations``).
+- ``KeyError``: nothing is exported under a key (``Image.exports[key]``). Both are ``LookupError``.
+- ``MemoryError``: memory was refused.
+- ``OverflowError``: a base or an address has over 64 bits, or is negative.
+- ``ValueError``: an image, an object or a space was closed before the call.
+- ``TypeError`` and ``BufferError``: an object has no bytes that stand in one piece.
+
+``Image.text`` and ``Image.locate`` answer None where there is nothing to answer.
+
+Data is any object with the buffer protocol: bytes, bytearray, memoryview, mmap. It is not copied, and nobody may change it while a
+call runs. Calls do not hold the interpreter's lock. No call is made in a forked child of a process with threads.
+"""
+
+from ._bytes import Buffer
+from ._fault import FormatFault, Place
+from ._image import (
+    Directory,
+    Export,
+    Exports,
+    Fixup,
+    Forward,
+    Headers,
+    Image,
+    Import,
+    Rva,
+    Section,
+    Target,
+    check,
+    open,
+    rebase,
+)
+from ._library import library as _shared
+from ._object import (
+    SECTION_ABSOLUTE,
+    SECTION_DEBUG,
+    SECTION_UNDEFINED,
+    Object,
+    ObjectRelocation,
+    ObjectSection,
+    ObjectSymbol,
+)
+from ._space import Binding, Moved, Space, Standing, judge
+
+
+def version() -> str:
+    """The version of the library, as "1.0"."""
+    number = _shared.petool_version()
+    return f"{number >> 16}.{number & 0xffff}"
+
+
+__all__ = [
+    "Binding",
+    "Buffer",
+    "Directory",
+    "Export",
+    "Exports",
+    "Fixup",
+    "FormatFault",
+    "Forward",
+    "Headers",
+    "Image",
+    "Import",
+    "Moved",
+    "Object",
+    "ObjectRelocation",
+    "ObjectSection",
+    "ObjectSymbol",
+    "Place",
+    "Rva",
+    "SECTION_ABSOLUTE",
+    "SECTION_DEBUG",
+    "SECTION_UNDEFINED",
+    "Section",
+    "Space",
+    "Standing",
+    "Target",
+    "check",
+    "judge",
+    "open",
+    "rebase",
+    "version",
+]

@@ -1,0 +1,177 @@
+"""Bytes where they stand: those of a caller's object, whose address a call needs, and the rows that a call fills."""
+
+from __future__ import annotations
+
+import ctypes
+import mmap
+import operator
+import struct
+from collections.abc import Sequence as AbstractSequence
+from typing import Any, Callable, Generic, Iterator, List, Sequence, Tuple, TypeVar, Union, overload
+
+from . import _library
+
+#: Anything with the buffer protocol whose bytes stand in one piece.
+Buffer = Union[bytes, bytearray, memoryview, mmap.mmap]
+Row = TypeVar("Row")
+
+
+class _PyBuffer(ctypes.Structure):
+    """Py_buffer, of which `buf` alone is read."""
+
+    _fields_ = [
+        ("buf", ctypes.c_void_p),
+        ("obj", ctypes.c_void_p),
+        ("len", ctypes.c_ssize_t),
+        ("itemsize", ctypes.c_ssize_t),
+        ("readonly", ctypes.c_int),
+        ("ndim", ctypes.c_int),
+        ("others", ctypes.c_void_p * 5),
+    ]
+
+
+_get_buffer = ctypes.pythonapi.PyObject_GetBuffer
+_get_buffer.argtypes = [ctypes.py_object, ctypes.POINTER(_PyBuffer), ctypes.c_int]
+_release_buffer = ctypes.pythonapi.PyBuffer_Release
+_release_buffer.argtypes = [ctypes.POINTER(_PyBuffer)]
+_release_buffer.restype = None
+
+
+def address_of(view: memoryview) -> int:
+    """Where the bytes of a view stand, for as long as the view is not released: it holds the buffer.
+
+    ctypes' own from_buffer wants bytes that may be written, so Python is asked itself: this takes `bytes` and a read-only
+    mmap too, and copies nothing.
+    """
+    buffer = _PyBuffer()
+    _get_buffer(view, ctypes.byref(buffer), 0)
+    address: int = buffer.buf or _library.NO_BYTES
+    _release_buffer(ctypes.byref(buffer))
+    return address
+
+
+def view_of(data: Any) -> memoryview:
+    """A view of all bytes of an object. TypeError or BufferError where it has none that stand in one piece."""
+    view = memoryview(data)
+    if not view.c_contiguous:
+        raise BufferError("the bytes do not stand in one piece")
+    if view.format == "B" and view.ndim == 1:
+        return view
+    return view.cast("B") if view.nbytes else memoryview(b"")
+
+
+class FileBytes:
+    """All bytes of a file, which are held until close(): a bytearray cannot change its size meanwhile."""
+
+    __slots__ = ("_view", "address", "length")
+
+    def __init__(self, data: Any) -> None:
+        self._view = view_of(data)
+        self.address = address_of(self._view)
+        self.length = len(self._view)
+
+    def hold(self) -> memoryview:
+        """A hold of the bytes for one call: until it goes they stand where they are, also if another thread calls close()."""
+        try:
+            return self._view[:]
+        except ValueError:
+            raise ValueError("it is closed") from None
+
+    def text(self, at: int, length: int) -> bytes:
+        """The bytes of a text that a call filled: one that is not empty lies in the file."""
+        if length == 0:
+            return b""
+        start = at - self.address
+        return bytes(self._view[start : start + length])
+
+    def close(self) -> None:
+        self._view.release()
+
+
+def unsigned(value: int, bits: int, what: str) -> int:
+    """The number, which ctypes would cut to its width without a word. OverflowError where it does not fit."""
+    number = operator.index(value)
+    if not 0 <= number < 1 << bits:
+        raise OverflowError(f"{what} is not a number of {bits} bits")
+    return number
+
+
+class RowLayout:
+    """The layout of a row, in the letters of `struct`: P and N are a text's pointer and length."""
+
+    def __init__(self, form: str) -> None:
+        self.struct = struct.Struct(form)
+        self.size = self.struct.size
+        # no pointer of a text may be NULL before a call
+        self.blank = self.struct.pack(*(_library.NO_BYTES if code == "P" else 0 for code in form if code != "x"))
+
+
+EXPORT = RowLayout("QPNIIPNPN")
+IMPORT = RowLayout("PNPNIH?x")
+FIXUP = RowLayout("III")
+BINDING = RowLayout("IIII")
+OBJECT_SECTION = RowLayout("PNPNIIIIIxxxx")
+OBJECT_RELOCATION = RowLayout("III")
+OBJECT_SYMBOL = RowLayout("PNPNIIHHBxxx")
+
+
+def read_rows(layout: RowLayout, room: int, call: Callable[[int, int, Any], int]) -> memoryview:
+    """The rows that a call fills, read with a second call where there are more of them than `room`."""
+    while True:
+        # Python's allocator aligns to 16 bytes, which is enough for each row
+        rows = memoryview(bytearray(layout.blank * max(room, 1)))
+        count = ctypes.c_size_t()
+        if call(address_of(rows), room, ctypes.byref(count)) != _library.SMALL:
+            return rows[: count.value * layout.size].toreadonly()
+        room = count.value
+
+
+class Rows(AbstractSequence, Generic[Row]):  # type: ignore[type-arg]
+    """A sequence over rows as the library filled them: an item is made of its row whenever it is asked for."""
+
+    __slots__ = ("_rows", "_layout", "_make")
+
+    def __init__(self, rows: memoryview, layout: RowLayout, make: Callable[..., Row]) -> None:
+        self._rows, self._layout, self._make = rows, layout, make
+
+    def __len__(self) -> int:
+        return len(self._rows) // self._layout.size
+
+    @overload
+    def __getitem__(self, index: int) -> Row: ...
+
+    @overload
+    def __getitem__(self, index: slice) -> List[Row]: ...
+
+    def __getitem__(self, index: Union[int, slice]) -> Union[Row, List[Row]]:
+        found = range(len(self))[index]
+        return [self._at(it) for it in found] if isinstance(found, range) else self._at(found)
+
+    def _at(self, index: int) -> Row:
+        return self._make(*self._layout.struct.unpack_from(self._rows, index * self._layout.size))
+
+    def __iter__(self) -> Iterator[Row]:
+        for values in self._layout.struct.iter_unpack(self._rows):
+            yield self._make(*values)
+
+    def __repr__(self) -> str:
+        return f"<{len(self)} rows>"
+
+
+class FileSet:
+    """The entries of a set, (name, file, base) each, in the form that a call takes; holds all of their bytes."""
+
+    def __init__(self, images: Sequence[Tuple[Union[str, bytes], Any, int]]) -> None:
+        self._held: List[FileBytes] = []
+        entries = [self._entry(*image) for image in images]
+        self.count = len(entries)
+        self.entries = (_library.Entry * max(self.count, 1))(*entries)
+
+    def _entry(self, name: Union[str, bytes], data: Any, base: int) -> _library.Entry:
+        text = self._text(name.encode() if isinstance(name, str) else name)
+        return _library.Entry(text, self._text(data), unsigned(base, 64, "a base"))
+
+    def _text(self, data: Any) -> _library.Text:
+        held = FileBytes(data)
+        self._held.append(held)
+        return _library.Text(held.address, held.length)

@@ -1,0 +1,81 @@
+"""Faults: the rules of the format that do not hold, and what a call's status raises."""
+
+from __future__ import annotations
+
+import ctypes
+import enum
+from typing import Any, Optional, Tuple
+
+from . import _library
+from ._library import library
+
+
+class Place(enum.IntEnum):
+    """What ``at`` of a fault counts."""
+
+    FILE = 0  #: bytes of the file
+    RVA = 1  #: bytes of the laid-out image
+    ADDRESS = 2  #: bytes of the address space
+    ITEM = 3  #: items of a list
+
+
+_FORMS = {
+    Place.FILE: "{} at 0x{:x}",
+    Place.RVA: "{} at RVA 0x{:x}",
+    Place.ADDRESS: "{} 0x{:x}",
+    Place.ITEM: "{} {}",
+}
+
+
+def _words(number: int) -> Tuple[str, str]:
+    """What stands at the place of a fault, and which rule does not hold of it."""
+    subject, rule = _library.Text.none(), _library.Text.none()
+    if library.petool_fault_words(number, ctypes.byref(subject), ctypes.byref(rule)) != _library.OK:
+        return "place", "no fault has this number"
+    # these texts are the library's own, and live as long as it does
+    return tuple(ctypes.string_at(text.at, text.len).decode() for text in (subject, rule))  # type: ignore[return-value]
+
+
+class FormatFault(ValueError):
+    """The first rule of the format that does not hold, in the order of docs/FAULTS.md.
+
+    ``str()`` is the fault in the words of the program ``petool``.
+    """
+
+    number: int  #: as in docs/FAULTS.md, from 1 to 85
+    image: int  #: of a set the index of the entry, else 0
+    place: Place  #: what ``at`` counts
+    at: int
+    subject: str  #: what stands at the place
+    rule: str  #: which rule does not hold of it
+    cycle: Optional[int]  #: of fault 50 the length of the cycle of forwarders, else None
+
+    def __init__(self, number: int, image: int, place: int, at: int, cycle: Optional[int] = None) -> None:
+        super().__init__(number, image, place, at, cycle)
+        self.number, self.image, self.place, self.at = number, image, Place(place), at
+        self.subject, self.rule = _words(number)
+        self.cycle = cycle
+
+    def __str__(self) -> str:
+        return f"fault {self.number}: {_FORMS[self.place].format(self.subject, self.at)}: {self.rule}"
+
+
+def raise_for(status: int) -> None:
+    """Raises what stands for a status that is neither OK, ABSENT nor SMALL, and no fault."""
+    if status == _library.MEMORY:
+        raise MemoryError("libpetool was refused memory")
+    if status == _library.CLOSED:
+        raise ValueError("the space is closed")
+    if status not in (_library.OK, _library.ABSENT, _library.SMALL):
+        raise RuntimeError(f"libpetool answered status {status}")
+
+
+def ask(function: Any, *arguments: Any, cycle: Optional[ctypes.c_uint32] = None) -> int:
+    """The status of a call whose last argument is a fault: OK, ABSENT or SMALL. The others are raised."""
+    fault = _library.Fault()
+    status: int = function(*arguments, ctypes.byref(fault))
+    if status == _library.FAULT:
+        length = cycle.value if cycle is not None and fault.number == 50 else None
+        raise FormatFault(fault.number, fault.image, fault.place, fault.at, length)
+    raise_for(status)
+    return status

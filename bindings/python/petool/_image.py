@@ -1,0 +1,384 @@
+"""One image: its headers, its bytes and its tables."""
+
+from __future__ import annotations
+
+import ctypes
+import mmap
+import os
+from collections.abc import Mapping as AbstractMapping
+from ctypes import byref
+from dataclasses import dataclass, fields
+from typing import Any, Callable, Dict, Iterator, Optional, Sequence, Tuple, Union
+
+from . import _library
+from ._bytes import EXPORT, FIXUP, IMPORT, Buffer, FileBytes, RowLayout, Rows, address_of, read_rows, unsigned, view_of
+from ._fault import FormatFault, ask
+from ._library import library
+
+
+@dataclass(frozen=True)
+class Directory:
+    """Where a table of the image stands, and how many bytes it has."""
+
+    rva: int
+    size: int
+
+
+@dataclass(frozen=True)
+class Headers:
+    """Every field of the headers, in the order of the format. Those that PE32+ does not have are 0 in it."""
+
+    pe_offset: int
+    machine: int
+    number_of_sections: int
+    time_date_stamp: int
+    pointer_to_symbol_table: int
+    number_of_symbols: int
+    size_of_optional_header: int
+    characteristics: int
+    magic: int  #: 0x10b (PE32) or 0x20b (PE32+)
+    major_linker_version: int
+    minor_linker_version: int
+    size_of_code: int
+    size_of_initialized_data: int
+    size_of_uninitialized_data: int
+    address_of_entry_point: int
+    base_of_code: int
+    base_of_data: int  #: 0 in PE32+
+    image_base: int
+    section_alignment: int
+    file_alignment: int
+    major_operating_system_version: int
+    minor_operating_system_version: int
+    major_image_version: int
+    minor_image_version: int
+    major_subsystem_version: int
+    minor_subsystem_version: int
+    win32_version_value: int
+    size_of_image: int
+    size_of_headers: int
+    check_sum: int
+    subsystem: int
+    dll_characteristics: int
+    size_of_stack_reserve: int
+    size_of_stack_commit: int
+    size_of_heap_reserve: int
+    size_of_heap_commit: int
+    loader_flags: int
+    number_of_rva_and_sizes: int
+    directories: Tuple[Directory, ...]  #: 16 of them; those that the headers do not hold are 0
+
+
+@dataclass(frozen=True)
+class Section:
+    name: bytes  #: without the zero bytes behind it
+    rva: int  #: of the first byte
+    extent: int  #: how many bytes of the laid-out image the section takes
+    file_size: int  #: how many of these, from the first on, come from the file
+    pointer_to_raw_data: int
+    size_of_raw_data: int
+    virtual_size: int
+    characteristics: int
+
+
+@dataclass(frozen=True)
+class Rva:
+    """An export that stands in the image itself."""
+
+    rva: int
+
+
+@dataclass(frozen=True)
+class Forward:
+    """An export that is another module's."""
+
+    module: bytes
+    key: Union[bytes, int]  #: its name or its ordinal there
+
+
+Target = Union[Rva, Forward]
+Key = Union[bytes, str, int]
+
+
+@dataclass(frozen=True)
+class Export:
+    name: Optional[bytes]  #: of an export by name. Names are bytes, since the format gives them no encoding
+    ordinal: Optional[int]  #: of an export by ordinal
+    target: Target
+
+
+@dataclass(frozen=True)
+class Import:
+    module: bytes
+    key: Union[bytes, int]  #: the name or the ordinal that is asked of the module
+    slot: int  #: the RVA of its slot
+
+    @property
+    def name(self) -> Optional[bytes]:
+        return self.key if isinstance(self.key, bytes) else None
+
+    @property
+    def ordinal(self) -> Optional[int]:
+        return self.key if isinstance(self.key, int) else None
+
+
+_WIDTHS = {1: 2, 2: 2, 3: 4, 10: 8}
+
+
+@dataclass(frozen=True)
+class Fixup:
+    """A base relocation: a field that changes with the image's base."""
+
+    entry: int  #: the RVA of the table's entry
+    field: int  #: the RVA of the field
+    kind: int  #: 1 HIGH, 2 LOW, 3 HIGHLOW, 10 DIR64
+
+    @property
+    def width(self) -> int:
+        """How many bytes the field has."""
+        return _WIDTHS[self.kind]
+
+
+_TARGET_RVA, _TARGET_ORDINAL, _TARGET_NAME = range(3)
+
+
+def _headers_of(record: _library.Headers) -> Headers:
+    values = {it.name: getattr(record, it.name) for it in fields(Headers)}
+    values["directories"] = tuple(Directory(it.rva, it.size) for it in record.directories)
+    return Headers(**values)
+
+
+def _section_of(record: _library.Section) -> Section:
+    values = {it.name: getattr(record, it.name) for it in fields(Section)}
+    values["name"] = bytes(record.name).rstrip(b"\0")
+    return Section(**values)
+
+
+def _export_maker(file: FileBytes, by_name: bool) -> Callable[..., Export]:
+    def target(kind: int, value: int, module: bytes, name: bytes) -> Target:
+        return Rva(value) if kind == _TARGET_RVA else Forward(module, value if kind == _TARGET_ORDINAL else name)
+
+    def make(ordinal: int, at: int, length: int, kind: int, value: int, *texts: int) -> Export:
+        found = target(kind, value, file.text(*texts[:2]), file.text(*texts[2:]))
+        return Export(file.text(at, length), None, found) if by_name else Export(None, ordinal, found)
+
+    return make
+
+
+def _import_maker(file: FileBytes) -> Callable[..., Import]:
+    def make(module_at: int, module: int, at: int, length: int, slot: int, ordinal: int, by_ordinal: bool) -> Import:
+        return Import(file.text(module_at, module), ordinal if by_ordinal else file.text(at, length), slot)
+
+    return make
+
+
+class Exports(AbstractMapping):  # type: ignore[type-arg]
+    """What an image exports: targets by name (bytes, or str as UTF-8) and by ordinal (int).
+
+    KeyError where nothing is exported under a key. Its keys are the names, in the order of the name pointer table, and then the
+    ordinals, in the order of the export address table, so ``len()`` counts both. A dict is made at the first question.
+    """
+
+    def __init__(self, names: Sequence[Export], ordinals: Sequence[Export]) -> None:
+        self._names, self._ordinals = names, ordinals
+        self._targets: Optional[Dict[Union[bytes, int], Target]] = None
+
+    def names(self) -> Sequence[Export]:
+        """The exports by name, each text once."""
+        return self._names
+
+    def ordinals(self) -> Sequence[Export]:
+        """The exports by ordinal."""
+        return self._ordinals
+
+    def _index(self) -> Dict[Union[bytes, int], Target]:
+        if self._targets is None:
+            targets: Dict[Union[bytes, int], Target] = {}
+            targets.update((it.name, it.target) for it in self._names if it.name is not None)
+            targets.update((it.ordinal, it.target) for it in self._ordinals if it.ordinal is not None)
+            self._targets = targets
+        return self._targets
+
+    def __getitem__(self, key: Key) -> Target:
+        # a str that has no UTF-8 form names nothing, and no other has a lone surrogate's bytes
+        found = key.encode("utf-8", "surrogatepass") if isinstance(key, str) else key
+        try:
+            return self._index()[found]
+        except KeyError:
+            raise KeyError(key) from None
+
+    def __iter__(self) -> Iterator[Union[bytes, int]]:
+        return iter(self._index())
+
+    def __len__(self) -> int:
+        return len(self._index())
+
+    def __repr__(self) -> str:
+        return f"<Exports: {len(self._names)} names, {len(self._ordinals)} ordinals>"
+
+
+class Image:
+    """One image, from the bytes of its file. FormatFault where one of faults 1 to 38 stands of them.
+
+    With ``check=False`` the headers and sections alone are judged (1 to 15), and each table at its first question. Nothing is
+    copied, and nobody may change the bytes while the image is open; a bytearray cannot be resized until ``close()``. After that
+    each question raises ValueError. Any number of threads may ask one image.
+    """
+
+    def __init__(self, data: Buffer, *, check: bool = True) -> None:
+        self._file = FileBytes(data)
+        self._exports: Optional[Exports] = None
+        self._imports: Optional[Rows[Import]] = None
+        self._fixup_rows: Optional[memoryview] = None
+        try:
+            self._counts = self._judge() if check else _library.Counts()
+            self._headers, self._sections = self._read_headers()
+        except BaseException:
+            self.close()
+            raise
+
+    def _ask(self, function: Any, *arguments: Any) -> int:
+        with self._file.hold():
+            return ask(function, self._file.address, self._file.length, *arguments)
+
+    def _judge(self) -> _library.Counts:
+        """Judges the whole image, and counts the rows of its tables in the same reading."""
+        counts = _library.Counts()
+        self._ask(library.petool_tables, *((_library.NO_BYTES, 0) * 4), byref(counts))
+        return counts
+
+    def _read_headers(self) -> Tuple[Headers, Tuple[Section, ...]]:
+        headers, sections = _library.Headers(), (_library.Section * _library.MOST_SECTIONS)()
+        self._ask(library.petool_read_headers, byref(headers), sections, len(sections))
+        return _headers_of(headers), tuple(map(_section_of, sections[: headers.number_of_sections]))
+
+    def _rows(self, function: Any, layout: RowLayout, count: int) -> memoryview:
+        return read_rows(layout, count, lambda *rows: self._ask(function, *rows))
+
+    @property
+    def headers(self) -> Headers:
+        return self._headers
+
+    @property
+    def sections(self) -> Tuple[Section, ...]:
+        return self._sections
+
+    @property
+    def exports(self) -> Exports:
+        """Read at the first question. Without ``check`` FormatFault of 16 to 22."""
+        if self._exports is None:
+            names = self._rows(library.petool_export_names, EXPORT, self._counts.names)
+            ordinals = self._rows(library.petool_exports, EXPORT, self._counts.exports)
+            by_name = Rows(names, EXPORT, _export_maker(self._file, True))
+            self._exports = Exports(by_name, Rows(ordinals, EXPORT, _export_maker(self._file, False)))
+        return self._exports
+
+    @property
+    def imports(self) -> Sequence[Import]:
+        """In table order, read at the first question. Without ``check`` FormatFault of 24 to 32."""
+        if self._imports is None:
+            rows = self._rows(library.petool_imports, IMPORT, self._counts.imports)
+            self._imports = Rows(rows, IMPORT, _import_maker(self._file))
+        return self._imports
+
+    @property
+    def fixups(self) -> Sequence[Fixup]:
+        """The base relocations in table order, read at the first question. Without ``check`` FormatFault of 24 to 38."""
+        return Rows(self._fixups(), FIXUP, Fixup)
+
+    def _fixups(self) -> memoryview:
+        if self._fixup_rows is None:
+            self._fixup_rows = self._rows(library.petool_fixups, FIXUP, self._counts.fixups)
+        return self._fixup_rows
+
+    def fixup_array(self) -> memoryview:
+        """The base relocations as numbers of format ``I``: entry, field and kind of each, one after the other.
+
+        So ``struct.iter_unpack("III", array)`` goes through them, ``array[1::3]`` has all fields, and
+        ``numpy.frombuffer(array, "u4").reshape(-1, 3)`` is a table of them. It may be kept after the image is closed.
+        """
+        return self._fixups().cast("I")
+
+    def read(self, rva: int, count: int) -> bytes:
+        """The bytes from an RVA on, as the file lays them out. IndexError where they do not all lie in the image."""
+        # asked before there is room for them, since a count may be any number
+        if count < 0 or rva < 0 or rva + count > self._headers.size_of_image:
+            raise IndexError("the bytes pass the image")
+        buffer = bytearray(count)
+        self.read_into(rva, buffer)
+        return bytes(buffer)
+
+    def read_into(self, rva: int, buffer: Union[bytearray, memoryview]) -> None:
+        """Fills a buffer with the bytes from an RVA on. IndexError, and the buffer is as it was, where they pass the image."""
+        view = writable(buffer)
+        if not 0 <= rva < 1 << 32:
+            raise IndexError("the bytes pass the image")
+        if self._ask(library.petool_read, rva, address_of(view), len(view)) == _library.ABSENT:
+            raise IndexError("the bytes pass the image")
+
+    def text(self, rva: int) -> Optional[bytes]:
+        """The bytes from an RVA to the next zero byte, without it; None where no zero byte of the image ends them."""
+        text = _library.Text.none()
+        found = 0 <= rva < 1 << 32 and self._ask(library.petool_read_text, rva, byref(text)) == _library.OK
+        return self._file.text(text.at, text.len) if found else None
+
+    def locate(self, rva: int) -> Optional[int]:
+        """The offset at which the file holds the byte at an RVA; None where it does not hold it."""
+        offset = ctypes.c_uint64()
+        found = 0 <= rva < 1 << 32 and self._ask(library.petool_locate, rva, byref(offset)) == _library.OK
+        return offset.value if found else None
+
+    def rebased(self, base: int) -> bytes:
+        """The file of the image that is to stand at another base; FormatFault of 24 to 38, 44 to 46, 51 and 52."""
+        room = bytearray(max(self._file.length, 1))
+        view = memoryview(room)
+        self._ask(library.petool_rebase, unsigned(base, 64, "a base"), address_of(view), self._file.length)
+        return bytes(view[: self._file.length])
+
+    def close(self) -> None:
+        """Lets the bytes go. What was taken from the image before stays, but for sequences of exports and imports."""
+        self._file.close()
+
+    def __enter__(self) -> "Image":
+        return self
+
+    def __exit__(self, *_: object) -> None:
+        self.close()
+
+
+def writable(buffer: Any) -> memoryview:
+    """A view of a buffer that may be written, else TypeError."""
+    view = view_of(buffer)
+    if view.readonly and len(view):
+        raise TypeError("the buffer may not be written")
+    return view
+
+
+def check(data: Buffer) -> Optional[FormatFault]:
+    """The first of faults 1 to 38 that stands of an image, as a value: for those who sort files."""
+    file = FileBytes(data)
+    try:
+        ask(library.petool_check, file.address, file.length)
+    except FormatFault as fault:
+        return fault.with_traceback(None)
+    finally:
+        file.close()
+    return None
+
+
+def open(path: Union[str, "os.PathLike[str]"], *, check: bool = True) -> Image:
+    """The image of a file, which is mapped and not read: it may not be changed or cut while the image is open."""
+    descriptor = os.open(path, os.O_RDONLY | getattr(os, "O_CLOEXEC", 0))
+    try:
+        # no file without bytes can be mapped
+        empty = os.fstat(descriptor).st_size == 0
+        data: Buffer = b"" if empty else mmap.mmap(descriptor, 0, access=mmap.ACCESS_READ)
+    finally:
+        os.close(descriptor)
+    return Image(data, check=check)
+
+
+def rebase(data: Buffer, base: int) -> bytes:
+    """The file of the image that is to stand at another base; FormatFault of 1 to 15, 24 to 38, 44 to 46, 51 and 52."""
+    with Image(data, check=False) as image:
+        return image.rebased(base)

@@ -1,0 +1,147 @@
+"""Sets of images, and spaces: many images at their bases, kept between calls."""
+
+from __future__ import annotations
+
+import ctypes
+import threading
+from ctypes import byref
+from dataclasses import dataclass
+from typing import Any, List, NamedTuple, Sequence, Tuple, Union
+
+from . import _library
+from ._bytes import BINDING, Buffer, FileSet, Rows, address_of, read_rows, unsigned
+from ._fault import ask, raise_for
+from ._image import writable
+from ._library import library
+
+#: The name of a module, all bytes of its file, and the base at which it is to stand.
+SetEntry = Tuple[Union[str, bytes], Buffer, int]
+
+# how many bindings there is room for before they are counted
+_GUESS = 4096
+
+
+@dataclass(frozen=True)
+class Binding:
+    """What an import is bound to."""
+
+    image: int  #: the index of the entry whose image has the slot
+    slot: int  #: the slot's RVA
+    exporter: int  #: the index of the entry whose image has the export
+    rva: int  #: the export's RVA
+
+
+class Moved(NamedTuple):
+    """What a move wrote."""
+
+    fields: int  #: fields of the image
+    slots: int  #: bound slots of all images
+
+
+class Standing(NamedTuple):
+    """Where an image stands."""
+
+    base: int
+    size: int
+
+
+def judge(images: Sequence[SetEntry], known: bool = False) -> List[Binding]:
+    """Judges a set, and tells what each import is bound to. FormatFault of 1 to 38 and 41 to 50.
+
+    With ``known``, an import from a module that is not in the set is no fault.
+    """
+    held, cycle = FileSet(images), ctypes.c_uint32()
+
+    def call(rows: int, room: int, count: Any) -> int:
+        return ask(library.petool_judge, held.entries, held.count, known, rows, room, count, byref(cycle), cycle=cycle)
+
+    return list(Rows(read_rows(BINDING, _GUESS, call), BINDING, Binding))
+
+
+class Space:
+    """Images in one address space, each at its base, with its fields relocated and its imports bound.
+
+    ``images`` are tuples of a module's name, its file's bytes and its base; the index of a tuple is that of its image. FormatFault
+    of 1 to 38 and 41 to 50. With ``known``, an import from a module that is not in the set is no fault, and its slot is left as it
+    stands in the file. A space holds its own bytes: the files may go. A lock is taken by each call, so threads may share a space.
+    After ``close()`` each question raises ValueError.
+    """
+
+    def __init__(self, images: Sequence[SetEntry], *, known: bool = False) -> None:
+        self._lock = threading.Lock()
+        self._space = _library.Space(None, False)
+        held, cycle = FileSet(images), ctypes.c_uint32()
+        entries = (held.entries, held.count, known)
+        ask(library.petool_space_map, byref(self._space), *entries, byref(cycle), cycle=cycle)
+        self._count = held.count
+        self._largest = max((it.size for it in self.images), default=0)
+
+    def read(self, address: int, count: int) -> bytes:
+        """The bytes from an address on. FormatFault 54 where they do not all lie in one image."""
+        if count < 0:
+            raise ValueError("the count is negative")
+        # where no image has so many bytes, one byte too many meets the same fault
+        buffer = bytearray(min(count, self._largest + 1))
+        self.read_into(address, buffer)
+        return bytes(buffer)
+
+    def read_into(self, address: int, buffer: Union[bytearray, memoryview]) -> None:
+        """Fills a buffer with the bytes from an address on. FormatFault 54, and then the buffer is as it was."""
+        view = writable(buffer)
+        at = unsigned(address, 64, "an address")
+        with self._lock:
+            ask(library.petool_space_read, byref(self._space), at, address_of(view), len(view))
+
+    def move(self, image: int, base: int) -> Moved:
+        """Moves an image: its fields are moved on, and the slots that end in it are bound anew.
+
+        IndexError where there is no such image. FormatFault of 44 to 47, and then nothing is changed.
+        """
+        if not 0 <= image < self._count:
+            raise IndexError("there is no image of this index")
+        moved, to = _library.Moved(), unsigned(base, 64, "a base")
+        with self._lock:
+            ask(library.petool_space_move, byref(self._space), image, to, byref(moved))
+        return Moved(moved.fields, moved.slots)
+
+    @property
+    def images(self) -> Tuple[Standing, ...]:
+        """Where each image stands now, and how many bytes it has."""
+        with self._lock:
+            return tuple(map(self._standing, range(self._count)))
+
+    def _standing(self, image: int) -> Standing:
+        base, size = ctypes.c_uint64(), ctypes.c_uint32()
+        raise_for(library.petool_space_image(byref(self._space), image, byref(base), byref(size)))
+        return Standing(base.value, size.value)
+
+    @property
+    def bindings(self) -> Sequence[Binding]:
+        """What each import is bound to."""
+
+        def call(*rows: Any) -> int:
+            status: int = library.petool_space_bindings(byref(self._space), *rows)
+            raise_for(status)
+            return status
+
+        with self._lock:
+            return Rows(read_rows(BINDING, _GUESS, call), BINDING, Binding)
+
+    def close(self) -> None:
+        """Gives the memory back. Closing a closed space does nothing."""
+        with self._lock:
+            library.petool_space_close(byref(self._space))
+
+    def __enter__(self) -> "Space":
+        return self
+
+    def __exit__(self, *_: object) -> None:
+        self.close()
+
+    def __del__(self) -> None:
+        # there is nothing to close where __init__ did not come so far
+        if hasattr(self, "_space"):
+            self.close()
+
+    def __reduce_ex__(self, protocol: Any) -> Any:
+        raise TypeError("a space is never copied")
