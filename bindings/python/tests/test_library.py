@@ -1,0 +1,91 @@
+"""The library: its records' layout, how it is found, and the package as a wheel."""
+
+import ctypes
+import importlib.util
+import os
+import re
+import shutil
+import subprocess
+import sys
+import tempfile
+import unittest
+
+import petool
+from petool import _bytes, _library
+
+from . import DATA, PACKAGE, TOP
+
+RECORDS = {
+    "text": _library.Text,
+    "fault": _library.Fault,
+    "directory": _library.Directory,
+    "headers": _library.Headers,
+    "section": _library.Section,
+    "counts": _library.Counts,
+    "entry": _library.Entry,
+    "space": _library.Space,
+    "moved": _library.Moved,
+}
+ROWS = {
+    "export": _bytes.EXPORT,
+    "import": _bytes.IMPORT,
+    "fixup": _bytes.FIXUP,
+    "binding": _bytes.BINDING,
+    "object_section": _bytes.OBJECT_SECTION,
+    "object_relocation": _bytes.OBJECT_RELOCATION,
+    "object_symbol": _bytes.OBJECT_SYMBOL,
+}
+
+
+def run(code, library):
+    environment = {**os.environ, "PETOOL_LIBRARY": library, "PYTHONPATH": str(PACKAGE), "PYTHONDONTWRITEBYTECODE": "1"}
+    return subprocess.run([sys.executable, "-c", code], env=environment, capture_output=True, text=True)
+
+
+class Library(unittest.TestCase):
+    def test_layout(self):
+        numbers = (TOP / "bindings" / "c" / "layout.c").read_text()
+        sizes = dict(re.findall(r"SIZE\(petool_(\w+), (\d+)\)", numbers))
+        for name, record in RECORDS.items():
+            self.assertEqual(ctypes.sizeof(record), int(sizes[name]), name)
+            places = re.findall(rf"AT\(petool_{name}, (\w+), (\d+)\)", numbers)
+            self.assertEqual([(field, getattr(record, field).offset) for field, _ in record._fields_],
+                             [(field, int(place)) for field, place in places])
+        for name, row in ROWS.items():
+            self.assertEqual(row.size, int(sizes[name]), name)
+
+    def test_version(self):
+        self.assertEqual(petool.version(), "1.0")
+        known = [0x10000, 0x10001]
+        self.assertEqual([it for it in (0xFFFF, 0x10000, 0x10001, 0x20000) if _library.is_known(it)], known)
+
+    def test_no_library(self):
+        found = run("import petool", "/dev/null")
+        self.assertIn("ImportError: no libpetool at /dev/null", found.stderr)
+
+    def test_another_library(self):
+        found = run("import petool", "libc.so.6")
+        self.assertIn("ImportError", found.stderr)
+
+    @unittest.skipUnless(importlib.util.find_spec("setuptools") and importlib.util.find_spec("wheel")
+                         and importlib.util.find_spec("pip"), "pip, setuptools or wheel is not here")
+    def test_wheel(self):
+        with tempfile.TemporaryDirectory() as folder:
+            source = os.path.join(folder, "source")
+            shutil.copytree(PACKAGE, source, ignore=shutil.ignore_patterns("tests", "__pycache__"))
+            shutil.copy(_library.library._name, os.path.join(source, "petool", "libpetool.so.0"))
+            pip = [sys.executable, "-m", "pip"]
+            offline = ["--no-index", "--no-deps", "--quiet", "--disable-pip-version-check"]
+            wheel = [*pip, "wheel", *offline, "--no-build-isolation", "-w", folder, source]
+            subprocess.run(wheel, check=True, capture_output=True)
+            made = [it for it in os.listdir(folder) if it.endswith(".whl")]
+            self.assertEqual(made, ["petool-1.0-py3-none-linux_x86_64.whl"])
+            installed = os.path.join(folder, "installed")
+            # what is in a wheel is unpacked as it is
+            shutil.unpack_archive(os.path.join(folder, made[0]), installed, "zip")
+            environment = {it: value for it, value in os.environ.items() if it != "PETOOL_LIBRARY"}
+            code = f"import petool; print(petool.open({str(DATA / 'vb.dll')!r}).exports['g'], petool.__file__)"
+            environment["PYTHONPATH"] = installed
+            out = subprocess.run([sys.executable, "-c", code], cwd=folder, env=environment, capture_output=True, text=True)
+            self.assertIn("Rva(rva=4112)", out.stdout, out.stderr)
+            self.assertIn(installed, out.stdout)

@@ -1,0 +1,119 @@
+"""Sets and spaces: of va.dll, vb.dll and vc.dll one slot is bound, that of c.exe at RVA 0x1030, to RVA 0x1010 of b.dll."""
+
+import copy
+import threading
+import unittest
+
+import petool
+
+from . import data
+
+BOUND = petool.Binding(2, 0x1030, 1, 0x1010)
+
+
+def entries():
+    named = [("a.dll", "va.dll", 0x10000000), (b"b.dll", "vb.dll", 0x20000000), ("c.exe", "vc.dll", 0x400000)]
+    return [(name, data(file), base) for name, file, base in named]
+
+
+class Sets(unittest.TestCase):
+    def test_judge(self):
+        self.assertEqual(petool.judge(entries()), [BOUND])
+        self.assertEqual(petool.judge(entries()[1:], known=True), [])
+        self.assertEqual(petool.judge([]), [])
+        with self.assertRaises(petool.FormatFault) as caught:
+            petool.judge(entries()[1:])
+        fault = caught.exception
+        self.assertEqual((fault.number, fault.image, fault.at, fault.cycle), (48, 1, 0x1030, None))
+
+    def test_a_base_of_more_bits(self):
+        with self.assertRaises(OverflowError):
+            petool.judge([("a.dll", data("va.dll"), 1 << 64)])
+
+
+class Spaces(unittest.TestCase):
+    def test_a_slot_follows_a_move(self):
+        with petool.Space(entries()) as space:
+            self.assertEqual(space.read(0x401030, 4), b"\x10\x10\x00\x20")
+            self.assertEqual(list(space.bindings), [BOUND])
+            self.assertEqual(space.images[1], (0x20000000, 0x3000))
+            self.assertEqual(space.move(1, 0x30000000), petool.Moved(0, 1))
+            self.assertEqual(space.read(0x401030, 4), b"\x10\x10\x00\x30")
+            buffer = bytearray(4)
+            space.read_into(0x401030, buffer)
+            self.assertEqual(buffer, b"\x10\x10\x00\x30")
+            self.assertEqual(space.images[1].base, 0x30000000)
+
+    def test_refusals(self):
+        with petool.Space(entries()) as space:
+            for address, count, image in ((0x402FFF, 2, 2), (0x403000, 1, 65535), (0x402FFF, 1 << 60, 2)):
+                with self.assertRaises(petool.FormatFault) as caught:
+                    space.read(address, count)
+                fault = caught.exception
+                self.assertEqual((fault.number, fault.image, fault.at), (54, image, address))
+            with self.assertRaises(petool.FormatFault) as caught:
+                space.move(1, 0x10000000)
+            self.assertEqual(caught.exception.number, 47)
+            for image in (3, -1, 65536):
+                with self.assertRaises(IndexError):
+                    space.move(image, 0x50000000)
+            with self.assertRaises(OverflowError):
+                space.read(1 << 64, 1)
+            with self.assertRaises(TypeError):
+                copy.copy(space)
+
+    def test_closed(self):
+        space = petool.Space(entries())
+        space.close()
+        space.close()
+        asked = [lambda: space.read(0x401030, 4), lambda: space.move(0, 0), lambda: space.images, lambda: space.bindings]
+        for ask in asked:
+            with self.assertRaises(ValueError) as caught:
+                ask()
+            self.assertNotIsInstance(caught.exception, petool.FormatFault)
+
+    def test_the_files_may_go(self):
+        files = [(name, bytearray(file), base) for name, file, base in entries()]
+        with petool.Space(files) as space:
+            for _, file, _ in files:
+                file.clear()
+            self.assertEqual(space.read(0x10000000, 2), b"MZ")
+
+    def test_threads(self):
+        image, wrong = petool.Image(data("vr.dll")), []
+
+        def ask(space):
+            for k in range(200):
+                slot = space.read(0x401030, 4)
+                space.move(1, 0x30000000 + (k % 2 << 16))
+                if slot[:2] != b"\x10\x10" or len(image.imports) != 5 or image.read(0, 2) != b"MZ":
+                    wrong.append(slot)
+
+        with petool.Space(entries()) as space:
+            threads = [threading.Thread(target=ask, args=(space,)) for _ in range(4)]
+            for thread in threads:
+                thread.start()
+            for thread in threads:
+                thread.join()
+        self.assertEqual(wrong, [])
+
+
+class Objects(unittest.TestCase):
+    def test_values(self):
+        with petool.Object(data("o1.obj")) as found:
+            self.assertEqual(found.sections[0].name, b".text$long")
+            self.assertEqual(found.sections[0].data, b"\xe8\0\0\0\0\xc3")
+            self.assertEqual(list(found.relocations(0)), [petool.ObjectRelocation(1, 3, 4)])
+            self.assertEqual([it.name for it in found.symbols], [b".file", b"abcdefgh", b"abcdefghi", b""])
+            self.assertEqual(len(found.symbols[0].aux), 18)
+            self.assertEqual(found.symbols[3].section_number, petool.SECTION_ABSOLUTE)
+            for section in (1, -1):
+                with self.assertRaises(IndexError):
+                    found.relocations(section)
+        two = petool.Object(data("two.obj"))
+        self.assertEqual([(it.name, it.absent_size) for it in two.sections], [(b".bss", 0x12345678), (b".data", 0)])
+
+    def test_refused(self):
+        with self.assertRaises(petool.FormatFault) as caught:
+            petool.Object(data("o1.obj")[:19])
+        self.assertEqual((caught.exception.number, caught.exception.at), (61, 19))
