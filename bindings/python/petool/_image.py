@@ -200,11 +200,9 @@ class Exports(AbstractMapping):  # type: ignore[type-arg]
         return self._targets
 
     def __getitem__(self, key: Key) -> Target:
-        # a str that has no UTF-8 form names nothing, and no other has a lone surrogate's bytes
-        found = key.encode("utf-8", "surrogatepass") if isinstance(key, str) else key
         try:
-            return self._index()[found]
-        except KeyError:
+            return self._index()[key.encode("utf-8") if isinstance(key, str) else key]
+        except (KeyError, UnicodeEncodeError):  # a str without a UTF-8 form names nothing
             raise KeyError(key) from None
 
     def __iter__(self) -> Iterator[Union[bytes, int]]:
