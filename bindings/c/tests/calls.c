@@ -3,7 +3,6 @@
  * from the format: vr.dll has another value in each field.
  */
 #include "check.h"
-#include "petool.h"
 
 static bytes v1, v2, v3, va, vb, vc, vr;
 

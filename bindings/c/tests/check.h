@@ -1,6 +1,8 @@
-/* What the tests of libpetool share: checks that count, and files. */
+/* What the tests of libpetool share: checks that count, files, and the set of three of them. */
 #ifndef CHECK_H
 #define CHECK_H
+
+#include "petool.h"
 
 #include <inttypes.h>
 #include <stdio.h>
@@ -54,6 +56,25 @@ static inline bytes file_in(const char *folder, const char *name)
     }
     fclose(file);
     return all;
+}
+
+/* An image of a set. */
+static inline petool_entry entry(const char *name, bytes file, uint64_t base)
+{
+    petool_entry made;
+    made.name = petool_text_of(name);
+    made.file.at = file.at;
+    made.file.len = file.len;
+    made.base = base;
+    return made;
+}
+
+/* The set of va.dll, vb.dll and vc.dll, of which the slot of c.exe at RVA 0x1030 is bound to RVA 0x1010 of b.dll. */
+static inline void set_abc(petool_entry set[3], bytes va, bytes vb, bytes vc)
+{
+    set[0] = entry("a.dll", va, 0x10000000);
+    set[1] = entry("b.dll", vb, 0x20000000);
+    set[2] = entry("c.exe", vc, 0x400000);
 }
 
 #endif

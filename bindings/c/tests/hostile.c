@@ -3,7 +3,6 @@
  * reads no byte that is not the file's (each file is a block of its own), and agrees with the others about the file.
  */
 #include "check.h"
-#include "petool.h"
 
 #define ROWS 8
 

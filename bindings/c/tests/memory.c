@@ -3,7 +3,6 @@
  * memory back. The linker puts the functions below in the place of malloc, realloc and free.
  */
 #include "check.h"
-#include "petool.h"
 
 void *__real_malloc(size_t size);
 void *__real_realloc(void *at, size_t size);
@@ -50,16 +49,6 @@ static petool_entry abc[3];
 static petool_fault fault;
 static petool_space space;
 static size_t count;
-
-static petool_entry entry(const char *name, bytes file, uint64_t base)
-{
-    petool_entry made;
-    made.name = petool_text_of(name);
-    made.file.at = file.at;
-    made.file.len = file.len;
-    made.base = base;
-    return made;
-}
 
 static uint32_t judge_file(void)
 {
@@ -160,9 +149,7 @@ int main(int argc, char **argv)
     vc = file_in(argv[1], "vc.dll");
     vr = file_in(argv[1], "vr.dll");
     v2 = file_in(argv[1], "v2.dll");
-    abc[0] = entry("a.dll", va, 0x10000000);
-    abc[1] = entry("b.dll", vb, 0x20000000);
-    abc[2] = entry("c.exe", vc, 0x400000);
+    set_abc(abc, va, vb, vc);
     refuse_each("petool_check", judge_file);
     refuse_each("petool_exports", read_exports);
     refuse_each("petool_export_names", read_names);

@@ -1,6 +1,5 @@
 /* Objects: each call on its good path and in each of its statuses. The values are those of o1.obj and two.obj, made by hand. */
 #include "check.h"
-#include "petool.h"
 
 static bytes o1, two;
 

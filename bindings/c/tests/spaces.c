@@ -3,20 +3,9 @@
  * is bound: that of c.exe at RVA 0x1030, to ordinal 7 of b.dll, which is its RVA 0x1010, by way of a forwarder of a.dll.
  */
 #include "check.h"
-#include "petool.h"
 
 static bytes v2, va, vb, vc;
 static petool_entry abc[3];
-
-static petool_entry entry(const char *name, bytes file, uint64_t base)
-{
-    petool_entry made;
-    made.name = petool_text_of(name);
-    made.file.at = file.at;
-    made.file.len = file.len;
-    made.base = base;
-    return made;
-}
 
 static int is_bound(petool_binding binding)
 {
@@ -50,7 +39,8 @@ static void check_judging(void)
     CHECK(fault.number == 44 && fault.image == 0 && fault.place == PETOOL_PLACE_ADDRESS && fault.at == 0x20000001);
 }
 
-static void check_cycle(void)
+/* Asserts that a set of a.dll and c.exe is refused at the slot of c.exe by this fault, and how long its cycle is told to be. */
+static void check_refused(bytes a, unsigned number, uint32_t length)
 {
     petool_space space = PETOOL_SPACE_CLOSED;
     petool_fault fault = {0, 0, 0, 0};
@@ -58,14 +48,27 @@ static void check_cycle(void)
     petool_binding row[1];
     size_t count = 99;
     uint32_t cycle = 77;
-    /* the forwarder of a.dll leads to `b`: with a.dll under that name it has no ordinal 7, so the search ends there with fault 49 */
-    set[0] = entry("a.dll", va, 0x10000000);
+    set[0] = entry("a.dll", a, 0x10000000);
     set[1] = entry("c.exe", vc, 0x400000);
     memset(row, 0, sizeof row);
     CHECK(petool_space_map(&space, set, 2, false, &cycle, &fault) == PETOOL_FAULT);
-    CHECK(fault.number == 48 && fault.image == 1 && !space.is_open && cycle == 77);
+    CHECK(fault.number == number && fault.image == 1 && fault.place == PETOOL_PLACE_RVA && fault.at == 0x1030);
+    CHECK(!space.is_open && cycle == length);
+    cycle = 77;
     CHECK(petool_judge(set, 2, false, row, 1, &count, &cycle, &fault) == PETOOL_FAULT);
-    CHECK(fault.number == 48 && count == 99);
+    CHECK(fault.number == number && cycle == length && count == 99);
+}
+
+/* The forwarder of va.dll leads to `b`, which the set lacks; with another text it leads to itself. */
+static void check_searches(void)
+{
+    size_t at = 0;
+    check_refused(va, 48, 77);
+    while (at + 5 < va.len && memcmp(va.at + at, "b.#7", 5) != 0)
+        at++;
+    memcpy(va.at + at, "a.f", 4);
+    check_refused(va, 50, 1);
+    memcpy(va.at + at, "b.#7", 5);
 }
 
 /* One open space: bytes, images and bindings. */
@@ -182,11 +185,9 @@ int main(int argc, char **argv)
     va = file_in(argv[1], "va.dll");
     vb = file_in(argv[1], "vb.dll");
     vc = file_in(argv[1], "vc.dll");
-    abc[0] = entry("a.dll", va, 0x10000000);
-    abc[1] = entry("b.dll", vb, 0x20000000);
-    abc[2] = entry("c.exe", vc, 0x400000);
+    set_abc(abc, va, vb, vc);
     check_judging();
-    check_cycle();
+    check_searches();
     check_space();
     free(v2.at), free(va.at), free(vb.at), free(vc.at);
     return told();

@@ -1,6 +1,5 @@
 /* Eight threads call at once, over one file and each with its own space: all get the same answers. */
 #include "check.h"
-#include "petool.h"
 
 #include <pthread.h>
 
@@ -18,9 +17,7 @@ static void *run(void *wrong)
         uint32_t cycle = 0;
         uint8_t slot[4] = {0, 0, 0, 0};
         petool_target_init(&target);
-        set[0].name = petool_text_of("a.dll"), set[0].file.at = va.at, set[0].file.len = va.len, set[0].base = 0x10000000;
-        set[1].name = petool_text_of("b.dll"), set[1].file.at = vb.at, set[1].file.len = vb.len, set[1].base = 0x20000000;
-        set[2].name = petool_text_of("c.exe"), set[2].file.at = vc.at, set[2].file.len = vc.len, set[2].base = 0x400000;
+        set_abc(set, va, vb, vc);
         *(int *)wrong += petool_check(vb.at, vb.len, &fault) != PETOOL_OK;
         *(int *)wrong += petool_export_by_name(vb.at, vb.len, (const uint8_t *)"g", 1, &target, &fault) != PETOOL_OK;
         *(int *)wrong += target.value != 0x1010;
