@@ -87,6 +87,7 @@ _petool() {{
     )
     if (( CURRENT == 2 )); then
         _describe 'command' commands
+        compadd -- {words_of(options)}
         return
     fi
     local command=$words[2]
@@ -102,6 +103,8 @@ _petool "$@"
 
 def fish(commands, options):
     lines = ["# completion of petool for fish"]
+    for option, short, _, does in options:
+        lines.append(f"complete -c petool -n __fish_use_subcommand -s {short} -l {option} -d '{quoted(does)}'")
     for name, does, _ in commands:
         lines.append(f"complete -c petool -n __fish_use_subcommand -f -a {name} -d '{quoted(does)}'")
     for name, _, own in commands:

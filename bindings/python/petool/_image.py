@@ -13,6 +13,7 @@ from typing import Any, Callable, Dict, Iterator, Optional, Sequence, Tuple, Uni
 from . import _library
 from ._bytes import EXPORT, FIXUP, IMPORT, Buffer, FileBytes, RowLayout, Rows, address_of, read_rows, unsigned, view_of
 from ._fault import FormatFault, ask
+from ._file import OfFile
 from ._library import library
 
 
@@ -215,7 +216,7 @@ class Exports(AbstractMapping):  # type: ignore[type-arg]
         return f"<Exports: {len(self._names)} names, {len(self._ordinals)} ordinals>"
 
 
-class Image:
+class Image(OfFile):
     """One image, from the bytes of its file. FormatFault where one of faults 1 to 38 stands of them.
 
     With ``check=False`` the headers and sections alone are judged (1 to 15), and each table at its first question. Nothing is
@@ -224,7 +225,7 @@ class Image:
     """
 
     def __init__(self, data: Buffer, *, check: bool = True) -> None:
-        self._file = FileBytes(data)
+        super().__init__(data)
         self._exports: Optional[Exports] = None
         self._imports: Optional[Rows[Import]] = None
         self._fixup_rows: Optional[memoryview] = None
@@ -234,10 +235,6 @@ class Image:
         except BaseException:
             self.close()
             raise
-
-    def _ask(self, function: Any, *arguments: Any) -> int:
-        with self._file.hold():
-            return ask(function, self._file.address, self._file.length, *arguments)
 
     def _judge(self) -> _library.Counts:
         """Judges the whole image, and counts the rows of its tables in the same reading."""
@@ -332,16 +329,6 @@ class Image:
         view = memoryview(room)
         self._ask(library.petool_rebase, unsigned(base, 64, "a base"), address_of(view), self._file.length)
         return bytes(view[: self._file.length])
-
-    def close(self) -> None:
-        """Lets the bytes go. What was taken from the image before stays, but for sequences of exports and imports."""
-        self._file.close()
-
-    def __enter__(self) -> "Image":
-        return self
-
-    def __exit__(self, *_: object) -> None:
-        self.close()
 
 
 def writable(buffer: Any) -> memoryview:

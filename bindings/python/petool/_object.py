@@ -7,7 +7,7 @@ from typing import Any, Callable, Optional, Sequence, Tuple
 
 from . import _library
 from ._bytes import OBJECT_RELOCATION, OBJECT_SECTION, OBJECT_SYMBOL, Buffer, FileBytes, RowLayout, Rows, read_rows
-from ._fault import ask
+from ._file import OfFile
 from ._library import library
 
 SECTION_UNDEFINED = 0  #: a symbol's section number that names no section
@@ -53,11 +53,11 @@ def _maker(file: FileBytes, kind: Callable[..., Any]) -> Callable[..., Any]:
     return make
 
 
-class Object:
+class Object(OfFile):
     """One COFF object, from the bytes of its file. FormatFault of 61 to 72. What Image says of bytes holds here too."""
 
     def __init__(self, data: Buffer) -> None:
-        self._file = FileBytes(data)
+        super().__init__(data)
         self._sections: Optional[Tuple[ObjectSection, ...]] = None
         self._symbols: Optional[Rows[ObjectSymbol]] = None
         try:
@@ -65,10 +65,6 @@ class Object:
         except BaseException:
             self.close()
             raise
-
-    def _ask(self, function: Any, *arguments: Any) -> int:
-        with self._file.hold():
-            return ask(function, self._file.address, self._file.length, *arguments)
 
     def _rows(self, function: Any, layout: RowLayout) -> memoryview:
         return read_rows(layout, 64, lambda *rows: self._ask(function, *rows))
@@ -98,13 +94,3 @@ class Object:
 
         room = self.sections[section].relocation_count
         return Rows(read_rows(OBJECT_RELOCATION, room, call), OBJECT_RELOCATION, ObjectRelocation)
-
-    def close(self) -> None:
-        """Lets the bytes go."""
-        self._file.close()
-
-    def __enter__(self) -> "Object":
-        return self
-
-    def __exit__(self, *_: object) -> None:
-        self.close()
