@@ -18,6 +18,7 @@ pub mod StringPlaces
 pub mod Strings
 pub mod StringTableView
 pub mod StringTableWords
+pub mod SectionsLeft
 pub mod SymbolsLeft
 pub mod WriteFaults
 pub mod NamePlaces

@@ -5,6 +5,7 @@ use Rattle.coff_object.specs.ObjectView.{symbol_view}
 use Rattle.coff_object.specs.Reading.{record_start, symbol_at, symbols_from}
 use Rattle.coff_object.specs.Records as format
 use Rattle.coff_object.specs.declared.symbol.Symbol.{Symbol}
+use Rattle.coff_object.specs.declared.symbols.EachSymbol.{EachSymbol}
 use Rattle.coff_object.specs.declared.symbols.Symbols.{Symbols}
 
 abbrev pub item_view : ℕ × Symbol → ℕ × format.Symbol
@@ -16,3 +17,6 @@ indexed file records = map (λ k. (k, symbol_at file (record_start file k))) rec
 
 abbrev pub symbols_left : Symbols → List (ℕ × format.Symbol)
 symbols_left s = indexed (bytes_of s.view) (symbols_from (bytes_of s.view) s.next (s.tables.records - s.next) 0)
+
+abbrev pub each_symbol_left : {A : Type 0} → EachSymbol A → List (ℕ × format.Symbol)
+each_symbol_left s = indexed (bytes_of s.view) (symbols_from (bytes_of s.view) s.next (s.tables.records - s.next) 0)

@@ -11,8 +11,9 @@ use crate::names::{name_of, section_name_field};
 use crate::object::Object;
 use crate::relocation::check_relocations;
 use crate::section::{FileSection, check_sections, read_sections, section_at};
+use crate::sections::EachSection;
 use crate::symbol::{check_symbols, read_symbols};
-use crate::symbols::Symbols;
+use crate::symbols::{EachSymbol, Symbols};
 use crate::tables::{HEADER_LEN, SECTION_LEN, Tables, check_header, read_tables};
 use pe_view::{Fault, TextEnds, View};
 use std::alloc::{AllocError, Allocator};
@@ -20,7 +21,8 @@ use std::alloc::{AllocError, Allocator};
 /// An object's file of which none of faults 61 to 72 stands. It keeps nothing but where the tables stand: sections, relocations
 /// and symbols are decoded where they are asked, and their texts and bytes are parts of the file.
 ///
-/// Only [`ObjectFile::read`] takes memory.
+/// Only [`ObjectFile::read`] takes memory, and, to remember where texts end, [`ObjectFile::each_section`] and
+/// [`ObjectFile::each_symbol`].
 #[derive(Clone, Copy)]
 pub struct ObjectFile<'a> {
     pub(crate) view: View<'a>,
@@ -49,7 +51,8 @@ impl<'a> ObjectFile<'a> {
     ghost use Rattle.coff_object.specs.ObjectFile.{file_of};
     ghost use Rattle.coff_object.specs.ObjectView.{object_view};
     ghost use Rattle.coff_object.specs.Reading.{object_of};
-    ghost use Rattle.coff_object.specs.SymbolsLeft.{indexed, symbols_left};
+    ghost use Rattle.coff_object.specs.SectionsLeft.{each_section_left};
+    ghost use Rattle.coff_object.specs.SymbolsLeft.{indexed, each_symbol_left, symbols_left};
 
     /// The object's file with these bytes, which are all of it, or the first fault that stands.
     ///
@@ -122,6 +125,19 @@ impl<'a> ObjectFile<'a> {
         Some(section_at(self.view, h, name))
     }
 
+    /// The sections in table order, in the time of the section table and of the string table: no byte of a text is searched
+    /// twice.
+    pub fn each_section<A: Allocator + Copy>(&self, alloc: A) -> EachSection<'a, A>
+        ensures { each_section_left result ≡ (object_of (file_of self.now)).sections }
+    {
+        EachSection {
+            view: self.view,
+            tables: self.tables,
+            next: 0,
+            ends: TextEnds::new(alloc),
+        }
+    }
+
     /// How many symbols the object has.
     pub fn symbol_count(&self) -> usize
         ensures { result ≡ length (object_of (file_of self.now)).symbols }
@@ -137,6 +153,19 @@ impl<'a> ObjectFile<'a> {
             view: self.view,
             tables: self.tables,
             next: 0,
+        }
+    }
+
+    /// The symbols as [`ObjectFile::symbols`] gives them, in the time of the symbol table and of the string table: no byte of a
+    /// text is searched twice.
+    pub fn each_symbol<A: Allocator + Copy>(&self, alloc: A) -> EachSymbol<'a, A>
+        ensures { each_symbol_left result ≡ indexed (file_of self.now) (symbol_indexes (file_of self.now)) }
+    {
+        EachSymbol {
+            view: self.view,
+            tables: self.tables,
+            next: 0,
+            ends: TextEnds::new(alloc),
         }
     }
 
