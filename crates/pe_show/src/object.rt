@@ -43,6 +43,7 @@ fn write_header<W: Sink>(text: &mut TextWriter<W>, object: &ObjectFile)
 
 /// Adds the page of an accepted object.
 fn write_object<A: Allocator + Copy, W: Sink>(
+    alloc: A,
     text: &mut TextWriter<W>,
     page: &Page,
     object: &ObjectFile,
@@ -61,7 +62,7 @@ fn write_object<A: Allocator + Copy, W: Sink>(
     write_header(text, object);
     write_sections(text, page.options, sections);
     write_relocations(text, page.options, machine, sections, names);
-    write_symbols(text, page.options, object, sections);
+    write_symbols(alloc, text, page.options, object, sections);
 }
 
 /// Adds the page of a refused object.
@@ -94,7 +95,7 @@ pub(crate) fn show_object<A: Allocator + Copy, W: Sink>(
         Ok(object) => {
             let sections = read_sections(alloc, &object)?;
             let names = SymbolNames::new(alloc, &object, page.options.relocations)?;
-            write_object(text, page, &object, &sections, &names, len);
+            write_object(alloc, text, page, &object, &sections, &names, len);
             Ok(Outcome::Done)
         }
         Err(fault) => {

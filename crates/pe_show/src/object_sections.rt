@@ -24,16 +24,14 @@ struct Widths {
     bytes: u8,
 }
 
-/// The sections of an object. The name of each is searched for its end, so they are read once.
+/// The sections of an object.
 pub(crate) fn read_sections<'a, A: Allocator + Copy>(
     alloc: A,
     object: &ObjectFile<'a>,
 ) -> Result<Vec<FileSection<'a>, A>, AllocError> {
     let mut sections = Vec::with_capacity(alloc, object.section_count())?;
-    for index in 0..object.section_count() {
-        if let Some(section) = object.section(index) {
-            sections.push(section)?;
-        }
+    for section in object.each_section(alloc) {
+        sections.push(section)?;
     }
     Ok(sections)
 }

@@ -30,7 +30,7 @@ impl<'a, A: Allocator + Copy> SymbolNames<'a, A> {
             return Ok(SymbolNames { names });
         }
         names.reserve(object.symbol_count())?;
-        for (index, symbol) in object.symbols() {
+        for (index, symbol) in object.each_symbol(alloc) {
             names.push((index, symbol.name))?;
         }
         Ok(SymbolNames { names })
@@ -102,7 +102,8 @@ fn write_symbol<'a, W: Sink>(
 }
 
 /// Adds a row for each symbol of an object, under the index of its record, where the options want it.
-pub(crate) fn write_symbols<W: Sink>(
+pub(crate) fn write_symbols<A: Allocator + Copy, W: Sink>(
+    alloc: A,
     text: &mut TextWriter<W>,
     options: &ShowOptions,
     object: &ObjectFile,
@@ -116,7 +117,7 @@ pub(crate) fn write_symbols<W: Sink>(
     }
     let width = decimal_width(object.symbol_count() as u64).max(4);
     write_heading(text, options, "Symbols", object.symbol_count());
-    for (index, symbol) in object.symbols() {
+    for (index, symbol) in object.each_symbol(alloc) {
         let section = section_words(sections, symbol.section);
         write_symbol(text, width, index, section, &symbol);
     }
