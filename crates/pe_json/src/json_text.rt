@@ -142,10 +142,6 @@ impl<A: Allocator + Copy> JsonText<A> {
                 self.key(key);
                 self.wide(*number);
             }
-            Value::Truth(truth) => {
-                self.key(key);
-                self.token(Token::Bool(*truth));
-            }
             Value::Text(text) => self.text(key, text),
             Value::Name(key_hex, name) => self.name(key, key_hex, name),
             Value::Bytes(bytes) => {

@@ -11,8 +11,6 @@ pub(crate) enum Value<'a> {
     Number(u64),
     /// A number of 64 bits, as a string of `0x` and hexadecimal digits.
     Wide(u64),
-    /// `true` or `false`.
-    Truth(bool),
     /// A text of ours.
     Text(&'static str),
     /// A name of a file: a string where it is UTF-8, else a string of two hexadecimal digits a byte, under this key.
