@@ -71,7 +71,8 @@ def coff_object(sections, symbols, texts, relocations=b""):
 
 
 def object_kinds(size):
-    """The kinds of objects, by name: those that are refused are so by their last record."""
+    """The kinds of objects, by name: those that are refused are so by their last record. What shows the names of `shown_..` whole
+    writes a product of two sizes; `show` writes a beginning of each."""
     count = min(size // 16, 65534)
     text = b"a" * (size - 1) + b"\0"
     good, bad = struct.pack("<IIH", 0, 0, 4), struct.pack("<IIH", 0, 5, 4)
@@ -80,6 +81,8 @@ def object_kinds(size):
     yield "relocations_shared", lambda: coff_object(sections[: size // 16384], [0], b"a\0", good * count)
     yield "symbols_refused", lambda: coff_object([], [0] * (size // 4) + [77], text)
     yield "sections_refused", lambda: coff_object([(b"/4", 0)] * (size // 32) + [(b"/2", 0)], [0], text)
+    yield "shown_symbols", lambda: coff_object([], [0] * (size // 4), text)
+    yield "shown_sections", lambda: coff_object([(b"/4", 0)] * (size // 32), [0], text)
 
 
 def kinds(size):

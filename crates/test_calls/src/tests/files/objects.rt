@@ -1,8 +1,9 @@
 //! What `coff_object` reads of object files.
 
 use super::o1::{O1_SYMBOLS, list, o1, reads_as, with_sections};
-use crate::tests::asserts::assert_holds;
+use crate::tests::asserts::{assert_holds, bytes_from};
 use coff_object::{Aux, Object, ObjectFile, Symbol, SymbolSection};
+use pe_vectors::files::{Piece, put_pieces};
 use pe_vectors::objects::O1;
 use std::alloc::Global;
 use std::process::Abort;
@@ -34,6 +35,54 @@ fn symbols_have_the_indexes_of_their_records(rt: HostRuntime) {
         assert!(&rt; symbols.next() == Some((*index, *expected)));
     }
     assert!(&rt; symbols.next().is_none() && object.symbol_count() == 4);
+}
+
+/// An object of two sections and three symbols, whose names are the text behind it, of 700 letters, and its last 400 letters: the
+/// header, the names of the sections, each symbol's name, value and section, and the size of the string table.
+const SHARED: &[Piece] = &[
+    (0, &[0x64, 0x86, 0x02, 0x00]),
+    (8, &[0x64, 0x00, 0x00, 0x00, 0x03]),
+    (20, b"/4"),
+    (60, b"/304"),
+    (104, &[0x04, 0x00, 0x00, 0x00, 0x01, 0x00, 0x00, 0x00, 0x01]),
+    (122, &[0x30, 0x01, 0x00, 0x00, 0x02, 0x00, 0x00, 0x00, 0x02]),
+    (140, &[0x04, 0x00, 0x00, 0x00, 0x03, 0x00, 0x00, 0x00, 0x01]),
+    (154, &[0xc1, 0x02]),
+];
+
+/// The file of that object, and its text's letters.
+fn shared(rt: &impl Abort, alloc: Global) -> Vec<u8> {
+    let mut file = vec![in alloc; 0; 158].expect(rt, "memory");
+    put_pieces(&mut file, SHARED).expect(rt, "pieces in the file");
+    file.resize(858, b'a').expect(rt, "memory");
+    file.push(0).expect(rt, "memory");
+    file
+}
+
+#[test]
+fn sections_that_share_a_text_are_named(rt: HostRuntime) {
+    let file = shared(&rt, rt.alloc());
+    let object = ObjectFile::new(&file).expect(&rt, "an object");
+    let mut sections = object.each_section(rt.alloc());
+    for len in [700, 400] {
+        let section = sections.next().expect(&rt, "a section");
+        assert!(&rt; section.name == bytes_from(&rt, &[b'a'; 700], 700 - len));
+    }
+    assert!(&rt; sections.next().is_none());
+}
+
+#[test]
+fn symbols_that_share_a_text_are_named(rt: HostRuntime) {
+    let file = shared(&rt, rt.alloc());
+    let object = ObjectFile::new(&file).expect(&rt, "an object");
+    let mut symbols = object.each_symbol(rt.alloc());
+    for (len, number, value) in [(700, 1, 1), (400, 2, 2), (700, 1, 3)] {
+        let (index, symbol) = symbols.next().expect(&rt, "a symbol");
+        assert!(&rt; symbol.name == bytes_from(&rt, &[b'a'; 700], 700 - len));
+        assert!(&rt; symbol.section == SymbolSection::Section(number));
+        assert!(&rt; symbol.value == value && index == value - 1);
+    }
+    assert!(&rt; symbols.next().is_none());
 }
 
 #[test]
