@@ -1,8 +1,9 @@
 -- A set is judged by its first 257 entries: one that has more has fault 41, or 42 before it.
 use Rattle.std.proofs.Common.{◌≡◌, ◌⊎◌, ℕ, ◌+◌, ◌≤◌, ◌<◌, ◌==◌, List, [], ◌∷◌, ◌++◌, length, take, drop, Option, None, Some, Result, Ok, Err, inl, inr, refl, sym, ap, subst, ◌∙◌, arith}
 use Rattle.std.proofs.lemmas.Bool.{cases_lt}
-use Rattle.std.proofs.lemmas.List.{length-take, take-append-le, take-append-drop, take_all}
+use Rattle.std.proofs.lemmas.List.{length-map, length-take, take-append-le, take-append-drop, take_all}
 use Rattle.std.specs.List.{list_any}
+use Rattle.std.specs.Prelude.{map}
 use Rattle.pe_view.specs.Faults.{Test, test, first_standing}
 use Rattle.pe_view.specs.FirstStanding.{first-in, first-past}
 use Rattle.pe_view.specs.declared.fault.Fault.{Fault}
@@ -11,7 +12,9 @@ use Rattle.pe_set.specs.Numbered.{numbered}
 use Rattle.pe_set.specs.Set.{Entry, same_name}
 use Rattle.pe_set.specs.SetErrors.{SetAnswers, ErrorIs, set_error}
 use Rattle.pe_set.specs.SetFaults.{name_tests, names_tests}
+use Rattle.pe_set.specs.SetView.{entry_view}
 use Rattle.pe_set.specs.declared.entry.Policy.{Policy}
+use Rattle.pe_set.specs.declared.entry.SetEntry.{SetEntry}
 use Rattle.pe_set.specs.declared.error.MapError.{MapError}
 use Rattle.pe_set.specs.declared.error.MapError.TheVariants as errors
 use Rattle.pe_set.proofs.Distinct.{few_entries}
@@ -70,6 +73,12 @@ pub answer_counts : {X : Type 0} (policy : Policy) (P : List Entry → X → Typ
     → (es : List Entry) (result : Result X MapError) → SetAnswers (set_error policy (take 257 es)) (P (take 257 es)) result → SetAnswers (set_error policy es) (P es) result
 answer_counts policy P names none es (Ok x) answers = (sym (error_counts policy names es) ∙ answers.0, subst (λ (all : List Entry). P all x) (all_count es (none (take 257 es) answers.0)) answers.1)
 answer_counts policy P names none es (Err error) answers = subst (λ (first : Option MapError). ErrorIs first error) (error_counts policy names es) answers
+
+-- no entries are put for a set of none
+pub none_put : (set : List SetEntry) (es : List Entry) → map entry_view set ≡ take 257 es → length es ≡ 0 → length set ≡ 0
+none_put set es put none =
+    let as_many : length set ≡ length (take 257 es) = sym (length-map set entry_view) ∙ ap length put in
+    omega (arith, as_many, length-take 257 es, none)
 
 pub memory_counts : (es : List Entry) → first_standing (names_tests (take 257 es)) ≡ None → first_standing (names_tests es) ≡ None
 memory_counts es none = ap (λ (all : List Entry). first_standing (names_tests all)) (sym (all_count es none)) ∙ none

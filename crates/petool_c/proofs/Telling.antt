@@ -14,15 +14,15 @@ use Rattle.petool_c.specs.declared.fault.FaultRecord.{FaultRecord}
 use Rattle.petool_c.proofs.Rows.{table_told}
 
 -- a refusal, which is told
-pub refusal_told : (early tests : List Test) (refusal : Refusal) (before after : FaultRecord) (status : ℕ) → Refuses tests refusal → (refusal ≡ refusals.Memory → first_standing early ≡ None)
-    → IsTold refusal before after status → IsAnswered early tests before after status
-refusal_told early tests (refusals.Fault fault) before after status refused memory told = record {
+pub refusal_told : (wants : Type 0) (tests : List Test) (refusal : Refusal) (before after : FaultRecord) (status : ℕ) → Refuses tests refusal → (refusal ≡ refusals.Memory → wants)
+    → IsTold refusal before after status → IsAnswered wants tests before after status
+refusal_told wants tests (refusals.Fault fault) before after status refused memory told = record {
   refused = λ _. ap (option_map fault_record) refused ∙ ap Some (sym told.1);
   memory = λ e. absurd cc (told.0, e);
   accepted = λ other _. absurd (other told.0);
   kept = λ other. absurd (other told.0);
 }
-refusal_told early tests refusals.Memory before after status refused memory told = record {
+refusal_told wants tests refusals.Memory before after status refused memory told = record {
   refused = λ e. absurd cc (told.0, e);
   memory = λ _. memory refl;
   accepted = λ _ other. absurd (other told.0);
@@ -30,8 +30,8 @@ refusal_told early tests refusals.Memory before after status refused memory told
 }
 
 -- no refusal: another status, and the record as it was
-pub none_told : (early tests : List Test) (before : FaultRecord) (status : ℕ) → first_standing tests ≡ None → status ≢ 1 → status ≢ 2 → IsAnswered early tests before before status
-none_told early tests before status none not_fault not_memory = record {
+pub none_told : (wants : Type 0) (tests : List Test) (before : FaultRecord) (status : ℕ) → first_standing tests ≡ None → status ≢ 1 → status ≢ 2 → IsAnswered wants tests before before status
+none_told wants tests before status none not_fault not_memory = record {
   refused = λ e. absurd (not_fault e);
   memory = λ e. absurd (not_memory e);
   accepted = λ _ _. none;
@@ -52,42 +52,42 @@ pub accepted_or_refused : {X : Type 0} (status : ℕ) → IsAccepted status → 
 accepted_or_refused status accepted refused = elim refused [ inl one ↦ absurd (accepted.0 one) | inr two ↦ absurd (accepted.1 two) ]
 
 -- a table that is told
-pub table_read : {T R S W : Type 0} (early tests : List Test) (view : R → W) (item : T → S) (row : S → W) (table : List T) (items : List S) (old new : List R) (before count : ℕ) (fault : FaultRecord) (status : ℕ)
+pub table_read : {T R S W : Type 0} (wants : Type 0) (tests : List Test) (view : R → W) (item : T → S) (row : S → W) (table : List T) (items : List S) (old new : List R) (before count : ℕ) (fault : FaultRecord) (status : ℕ)
     → first_standing tests ≡ None → map item table ≡ items → Fills (λ x r. view r ≡ row (item x)) table old new → count ≡ length table → status ≡ (if nat_le (length table) (length old) then 0 else 4)
-    → ReadsTable early tests view row items old new before count fault fault status
-table_read early tests view item row table items old new before count fault status none shown fills counted answered =
+    → ReadsTable wants tests view row items old new before count fault fault status
+table_read wants tests view item row table items old new before count fault status none shown fills counted answered =
     let accepted = no_refusal (nat_le (length table) (length old)) status answered in
     record {
-      faults = none_told early tests fault status none accepted.0 accepted.1;
+      faults = none_told wants tests fault status none accepted.0 accepted.1;
       table_is = λ _. table_told view item row table items old new count status shown fills counted answered;
       rows_kept = λ refused. accepted_or_refused status accepted refused;
       count_kept = λ refused. accepted_or_refused status accepted refused;
     }
 
 -- a table that is not told
-pub table_refused : {T R W : Type 0} (early tests : List Test) (view : R → W) (row : T → W) (items : List T) (rows : List R) (count : ℕ) (before after : FaultRecord) (status : ℕ) (refusal : Refusal)
-    → Refuses tests refusal → (refusal ≡ refusals.Memory → first_standing early ≡ None) → IsTold refusal before after status
-    → ReadsTable early tests view row items rows rows count count before after status
-table_refused early tests view row items rows count before after status refusal refused memory told = record {
-  faults = refusal_told early tests refusal before after status refused memory told;
+pub table_refused : {T R W : Type 0} (wants : Type 0) (tests : List Test) (view : R → W) (row : T → W) (items : List T) (rows : List R) (count : ℕ) (before after : FaultRecord) (status : ℕ) (refusal : Refusal)
+    → Refuses tests refusal → (refusal ≡ refusals.Memory → wants) → IsTold refusal before after status
+    → ReadsTable wants tests view row items rows rows count count before after status
+table_refused wants tests view row items rows count before after status refusal refused memory told = record {
+  faults = refusal_told wants tests refusal before after status refused memory told;
   table_is = λ accepted. told_refuses refusal before after status told accepted;
   rows_kept = λ _. refl;
   count_kept = λ _. refl;
 }
 
 -- what is told of a target is no refusal
-pub target_answered : (early tests : List Test) (fault : FaultRecord) (target : Option Target) (before after : TargetRecord) (status : ℕ) → first_standing tests ≡ None → TellsTarget target before after status
-    → IsAnswered early tests fault fault status
-target_answered early tests fault None before after status none told = none_told early tests fault status none (λ one. absurd cc (told.0, one)) (λ two. absurd cc (told.0, two))
-target_answered early tests fault (Some target) before after status none told = none_told early tests fault status none (λ one. absurd cc (told.0, one)) (λ two. absurd cc (told.0, two))
+pub target_answered : (wants : Type 0) (tests : List Test) (fault : FaultRecord) (target : Option Target) (before after : TargetRecord) (status : ℕ) → first_standing tests ≡ None → TellsTarget target before after status
+    → IsAnswered wants tests fault fault status
+target_answered wants tests fault None before after status none told = none_told wants tests fault status none (λ one. absurd cc (told.0, one)) (λ two. absurd cc (told.0, two))
+target_answered wants tests fault (Some target) before after status none told = none_told wants tests fault status none (λ one. absurd cc (told.0, one)) (λ two. absurd cc (told.0, two))
 
 pub target_kept : (target : Option Target) (before after : TargetRecord) (status : ℕ) → TellsTarget target before after status → IsRefused status → after ≡ before
 target_kept None before after status told refused = told.1
 target_kept (Some target) before after status told refused = elim refused [ inl one ↦ absurd cc (told.0, one) | inr two ↦ absurd cc (told.0, two) ]
 
 -- a call that did all it was asked
-pub done_told : (early tests : List Test) (before : FaultRecord) → first_standing tests ≡ None → IsAnswered early tests before before 0
-done_told early tests before none = none_told early tests before 0 none (λ one. absurd cc) (λ two. absurd cc)
+pub done_told : (wants : Type 0) (tests : List Test) (before : FaultRecord) → first_standing tests ≡ None → IsAnswered wants tests before before 0
+done_told wants tests before none = none_told wants tests before 0 none (λ one. absurd cc) (λ two. absurd cc)
 
 -- want of memory comes only where no early fault stands, if each of these is refused as itself
 pub early_none : {X : Type 0} (first : Option Fault) (refusal : Refusal) → refusal ≡ refusals.Memory → ((fault : Fault) → first ≡ Some fault → ◌≡◌ {A = Result X Refusal} (Err refusal) (Err (refusals.Fault fault))) → first ≡ None

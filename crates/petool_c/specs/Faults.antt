@@ -30,17 +30,17 @@ abbrev pub IsTold : Refusal → FaultRecord → FaultRecord → ℕ → Type 0
 IsTold (refusals.Fault fault) before after status = (status ≡ 1) × (after ≡ fault_record fault)
 IsTold refusals.Memory before after status = (status ≡ 2) × (after ≡ before)
 
--- how the first fault of a call that takes no memory is told: status 1 and the fault exactly where there is one, and else
+-- how the first fault of a call that wants no memory is told: status 1 and the fault exactly where there is one, and else
 -- another status and the record as it was
 abbrev pub IsRefusedBy : Option Fault → FaultRecord → FaultRecord → ℕ → Type 0
 IsRefusedBy None before after status = (status ≢ 1) × (after ≡ before)
 IsRefusedBy (Some fault) before after status = (status ≡ 1) × (after ≡ fault_record fault)
 
 -- how a call that takes memory answers for the tests of a file: status 1 with the first fault; status 2, want of memory, only
--- where none of the early tests stands; another status only where no test stands. All but 1 leave the record as it was
-pub record IsAnswered (early tests : List Test) (before after : FaultRecord) (status : ℕ) : Type 0 where
+-- where `wants` says; another status only where no test stands. All but 1 leave the record as it was
+pub record IsAnswered (wants : Type 0) (tests : List Test) (before after : FaultRecord) (status : ℕ) : Type 0 where
   pub refused : status ≡ 1 → option_map fault_record (first_standing tests) ≡ Some after
-  pub memory : status ≡ 2 → first_standing early ≡ None
+  pub memory : status ≡ 2 → wants
   pub accepted : status ≢ 1 → status ≢ 2 → first_standing tests ≡ None
   pub kept : status ≢ 1 → after ≡ before
 

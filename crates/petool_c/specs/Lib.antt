@@ -10,3 +10,4 @@ pub mod SetRows
 pub mod Spaces
 pub mod SymbolRows
 pub mod TableTests
+pub mod Wants

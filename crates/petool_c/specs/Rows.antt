@@ -21,8 +21,8 @@ pub record TellsTable {T R W : Type 0} (view : R → W) (row : T → W) (table :
   pub status_is : status ≡ (if nat_le (length table) (length before) then 0 else 4)
 
 -- how a call that reads a table of a file answers: as its tests say, and where it is not refused with the table
-pub record ReadsTable {T R W : Type 0} (early tests : List Test) (view : R → W) (row : T → W) (table : List T) (rows rows_after : List R) (count count_after : ℕ) (fault fault_after : FaultRecord) (status : ℕ) : Type 0 where
-  pub faults : IsAnswered early tests fault fault_after status
+pub record ReadsTable {T R W : Type 0} (wants : Type 0) (tests : List Test) (view : R → W) (row : T → W) (table : List T) (rows rows_after : List R) (count count_after : ℕ) (fault fault_after : FaultRecord) (status : ℕ) : Type 0 where
+  pub faults : IsAnswered wants tests fault fault_after status
   pub table_is : IsAccepted status → TellsTable view row table rows rows_after count_after status
   pub rows_kept : IsRefused status → rows_after ≡ rows
   pub count_kept : IsRefused status → count_after ≡ count

@@ -14,9 +14,12 @@ file_export_tests file = layout_tests 0 file ++ export_tests (image_of_file 0 fi
 unfoldable pub file_import_tests : List ℕ → List Test
 file_import_tests file = layout_tests 0 file ++ import_tests (image_of_file 0 file)
 
+abbrev pub import_slots : LaidOut → List ℕ
+import_slots i = map (λ m. m.slot) (imports_of i)
+
 -- base relocations are asked beside the slots of the imports
 unfoldable pub relocation_tests : LaidOut → List Test
-relocation_tests i = import_tests i ++ fixup_tests i (map (λ m. m.slot) (imports_of i))
+relocation_tests i = import_tests i ++ fixup_tests i (import_slots i)
 
 unfoldable pub file_relocation_tests : List ℕ → List Test
 file_relocation_tests file = layout_tests 0 file ++ relocation_tests (image_of_file 0 file)

@@ -1,6 +1,5 @@
 ghost use Rattle.std.specs.Prelude.{◌≡◌, option_map};
 ghost use Rattle.pe_layout.specs.Image.{image_of_file};
-ghost use Rattle.pe_layout.specs.SectionFaults.{layout_tests};
 ghost use Rattle.pe_tables.specs.Exports.{exports_of, target_at};
 ghost use Rattle.pe_tables.specs.ExportsView.{ordinal_view};
 ghost use Rattle.pe_tables.specs.Key.{Name, Ordinal, target_view};
@@ -9,6 +8,7 @@ ghost use Rattle.petool_c.specs.ExportRows.{target_text, export_text, target_of,
 ghost use Rattle.petool_c.specs.Faults.{IsAccepted, IsAnswered, IsRefused};
 ghost use Rattle.petool_c.specs.Rows.{ReadsTable};
 ghost use Rattle.petool_c.specs.TableTests.{file_export_tests};
+ghost use Rattle.petool_c.specs.Wants.{ExportsTakeMemory, IsLaidOutAnd};
 
 use crate::fault::{FaultRecord, refuse_for};
 use crate::reading::exports_in;
@@ -102,8 +102,9 @@ impl<'a> Row<(&'a [u8], Target<'a>)> for ExportRow<'a> {
 /// Reads the exports of an image by ordinal, in the order of the export address table, into the caller's rows.
 ///
 /// The status is 0; 4 where there are more exports than rows, of which the first are then told; 1 with the first fault of the
-/// headers and sections (1 to 15) and of the export table (16 to 22); or 2 for want of memory. The count tells how many exports
-/// there are; it and the rows are left as they were by 1 and 2. ("PE Format": The .edata Section.)
+/// headers and sections (1 to 15) and of the export table (16 to 22); or 2 for want of memory, which comes only where none of
+/// faults 1 to 18 stands and the table has a name or an entry. The count tells how many exports there are; it and the rows are
+/// left as they were by 1 and 2. ("PE Format": The .edata Section.)
 #[unsafe(no_mangle)]
 pub extern "C" fn petool_exports<'a>(
     alloc: Global,
@@ -112,7 +113,7 @@ pub extern "C" fn petool_exports<'a>(
     count: &mut usize,
     fault: &mut FaultRecord,
 ) -> u32
-    ensures { ReadsTable (layout_tests 0 file.now) (file_export_tests file.now) export_text export_by_ordinal (exports_of (image_of_file 0 file.now)).ordinals
+    ensures { ReadsTable (IsLaidOutAnd ExportsTakeMemory file.now) (file_export_tests file.now) export_text export_by_ordinal (exports_of (image_of_file 0 file.now)).ordinals
         rows.old rows.new count.old count.new fault.old fault.new result }
 {
     match exports_in(alloc, file) {
@@ -132,7 +133,7 @@ pub extern "C" fn petool_export_names<'a>(
     count: &mut usize,
     fault: &mut FaultRecord,
 ) -> u32
-    ensures { ReadsTable (layout_tests 0 file.now) (file_export_tests file.now) export_text export_by_name (exports_of (image_of_file 0 file.now)).names
+    ensures { ReadsTable (IsLaidOutAnd ExportsTakeMemory file.now) (file_export_tests file.now) export_text export_by_name (exports_of (image_of_file 0 file.now)).names
         rows.old rows.new count.old count.new fault.old fault.new result }
 {
     match exports_in(alloc, file) {
@@ -157,8 +158,8 @@ fn put_target<'a>(target: Option<Target<'a>>, told: &mut TargetRecord<'a>) -> u3
 /// Tells what a name of an image exports: what the first of the names with this text does.
 ///
 /// The status is 0; 3 where no such name exports anything; 1 with the first fault of the headers and sections (1 to 15) and of
-/// the export table (16 to 22); or 2 for want of memory. The target is left as it was by all but 0. The table is read at each
-/// call.
+/// the export table (16 to 22); or 2 for want of memory, where [`petool_exports`] may want it. The target is left as it was by all
+/// but 0. The table is read at each call.
 #[unsafe(no_mangle)]
 pub extern "C" fn petool_export_by_name<'a>(
     alloc: Global,
@@ -167,7 +168,7 @@ pub extern "C" fn petool_export_by_name<'a>(
     target: &mut TargetRecord<'a>,
     fault: &mut FaultRecord,
 ) -> u32
-    ensures faults { IsAnswered (layout_tests 0 file.now) (file_export_tests file.now) fault.old fault.new result }
+    ensures faults { IsAnswered (IsLaidOutAnd ExportsTakeMemory file.now) (file_export_tests file.now) fault.old fault.new result }
     ensures target { IsAccepted result → TellsTarget (target_at (exports_of (image_of_file 0 file.now)) (Name name.now)) target.old target.new result }
     ensures kept { IsRefused result → target.new ≡ target.old }
 {
@@ -186,7 +187,7 @@ pub extern "C" fn petool_export_by_ordinal<'a>(
     target: &mut TargetRecord<'a>,
     fault: &mut FaultRecord,
 ) -> u32
-    ensures faults { IsAnswered (layout_tests 0 file.now) (file_export_tests file.now) fault.old fault.new result }
+    ensures faults { IsAnswered (IsLaidOutAnd ExportsTakeMemory file.now) (file_export_tests file.now) fault.old fault.new result }
     ensures target { IsAccepted result → TellsTarget (target_at (exports_of (image_of_file 0 file.now)) (Ordinal ordinal)) target.old target.new result }
     ensures kept { IsRefused result → target.new ≡ target.old }
 {

@@ -1,11 +1,11 @@
 ghost use Rattle.std.specs.Prelude.{◌≡◌};
 ghost use Rattle.pe_layout.specs.Image.{image_of_file};
-ghost use Rattle.pe_layout.specs.SectionFaults.{layout_tests};
 ghost use Rattle.pe_tables.specs.Encoded.{type_of};
 ghost use Rattle.pe_tables.specs.Fixups.{fixups_of};
 ghost use Rattle.petool_c.specs.FixupRows.{fixup_row};
 ghost use Rattle.petool_c.specs.Rows.{ReadsTable};
 ghost use Rattle.petool_c.specs.TableTests.{file_relocation_tests};
+ghost use Rattle.petool_c.specs.Wants.{FixupsTakeMemory, IsLaidOutAnd};
 
 use crate::fault::{FaultRecord, refuse_for};
 use crate::reading::fixups_in;
@@ -53,7 +53,8 @@ impl Row<Fixup> for FixupRow {
 ///
 /// The status is 0; 4 where there are more base relocations than rows, of which the first are then told; 1 with the first fault
 /// of the headers and sections (1 to 15), of the import table (24 to 32) and of the base relocation table (33 to 38); or 2 for
-/// want of memory. The count tells how many base relocations there are; it and the rows are left as they were by 1 and 2.
+/// want of memory, which comes only where `petool_imports` may want it, or where none of them stands up to 34 and 33 of the first
+/// block. The count tells how many base relocations there are; it and the rows are left as they were by 1 and 2.
 /// ("PE Format": The .reloc Section.)
 #[unsafe(no_mangle)]
 pub extern "C" fn petool_fixups(
@@ -63,7 +64,7 @@ pub extern "C" fn petool_fixups(
     count: &mut usize,
     fault: &mut FaultRecord,
 ) -> u32
-    ensures { ReadsTable (layout_tests 0 file.now) (file_relocation_tests file.now) (λ row. row) fixup_row (fixups_of (image_of_file 0 file.now))
+    ensures { ReadsTable (IsLaidOutAnd FixupsTakeMemory file.now) (file_relocation_tests file.now) (λ row. row) fixup_row (fixups_of (image_of_file 0 file.now))
         rows.old rows.new count.old count.new fault.old fault.new result }
 {
     match fixups_in(alloc, file) {

@@ -7,6 +7,7 @@ ghost use Rattle.pe_layout.specs.Locating.{located, file_offset};
 ghost use Rattle.pe_layout.specs.SectionFaults.{layout_tests};
 ghost use Rattle.pe_image.specs.ImageTests.{image_tests};
 ghost use Rattle.petool_c.specs.Faults.{IsAccepted, IsAnswered, IsRefusedBy};
+ghost use Rattle.petool_c.specs.Wants.{IsLaidOut};
 
 use crate::fault::{FaultRecord, refuse, refuse_for};
 use crate::status;
@@ -30,7 +31,7 @@ pub(crate) fn lay_out(file: &[u8]) -> Result<Layout<'_>, Fault>
 /// The .reloc Section.)
 #[unsafe(no_mangle)]
 pub extern "C" fn petool_check(alloc: Global, file: &[u8], fault: &mut FaultRecord) -> u32
-    ensures faults { IsAnswered (layout_tests 0 file.now) (image_tests 0 file.now) fault.old fault.new result }
+    ensures faults { IsAnswered (IsLaidOut file.now) (image_tests 0 file.now) fault.old fault.new result }
     ensures accepted { IsAccepted result → result ≡ 0 }
 {
     match read_image(alloc, file, 0) {

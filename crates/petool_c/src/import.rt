@@ -1,11 +1,11 @@
 ghost use Rattle.std.specs.Prelude.{◌≡◌};
 ghost use Rattle.pe_layout.specs.Image.{image_of_file};
-ghost use Rattle.pe_layout.specs.SectionFaults.{layout_tests};
 ghost use Rattle.pe_tables.specs.Imports.{imports_of};
 ghost use Rattle.pe_tables.specs.ImportView.{import_view};
 ghost use Rattle.petool_c.specs.ImportRows.{import_text, import_row};
 ghost use Rattle.petool_c.specs.Rows.{ReadsTable};
 ghost use Rattle.petool_c.specs.TableTests.{file_import_tests};
+ghost use Rattle.petool_c.specs.Wants.{ImportsTakeMemory, IsLaidOutAnd};
 
 use crate::fault::{FaultRecord, refuse_for};
 use crate::reading::imports_in;
@@ -55,8 +55,9 @@ impl<'a> Row<Import<'a>> for ImportRow<'a> {
 /// Reads the imports of an image, in the order of its import table, into the caller's rows.
 ///
 /// The status is 0; 4 where there are more imports than rows, of which the first are then told; 1 with the first fault of the
-/// headers and sections (1 to 15) and of the import table (24 to 32); or 2 for want of memory. The count tells how many imports
-/// there are; it and the rows are left as they were by 1 and 2. ("PE Format": The .idata Section.)
+/// headers and sections (1 to 15) and of the import table (24 to 32); or 2 for want of memory, which comes only where a lookup
+/// entry was found to be an import without a fault and no fault stands before it. The count tells how many imports there are; it
+/// and the rows are left as they were by 1 and 2. ("PE Format": The .idata Section.)
 #[unsafe(no_mangle)]
 pub extern "C" fn petool_imports<'a>(
     alloc: Global,
@@ -65,7 +66,7 @@ pub extern "C" fn petool_imports<'a>(
     count: &mut usize,
     fault: &mut FaultRecord,
 ) -> u32
-    ensures { ReadsTable (layout_tests 0 file.now) (file_import_tests file.now) import_text import_row (imports_of (image_of_file 0 file.now))
+    ensures { ReadsTable (IsLaidOutAnd ImportsTakeMemory file.now) (file_import_tests file.now) import_text import_row (imports_of (image_of_file 0 file.now))
         rows.old rows.new count.old count.new fault.old fault.new result }
 {
     match imports_in(alloc, file) {

@@ -12,6 +12,7 @@ use crate::fault::{FaultRecord, refuse};
 use crate::row::table_status;
 use crate::status;
 use coff_object::{FileSection, ObjectFile, RawData, Relocation, Relocations};
+use std::alloc::Global;
 
 /// A section of an object. Sizes count bytes.
 #[repr(C)]
@@ -95,21 +96,28 @@ pub extern "C" fn petool_object_check(file: &[u8], fault: &mut FaultRecord) -> u
 }
 
 /// Fills the first rows with those of an object's sections.
-fn put_sections<'a>(rows: &mut [ObjectSectionRow<'a>], object: &ObjectFile<'a>)
+fn put_sections<'a>(alloc: Global, rows: &mut [ObjectSectionRow<'a>], object: &ObjectFile<'a>)
     ensures { Fills (λ section row. section_text row ≡ section_row section) (object_of (file_of object.now)).sections rows.old rows.new }
 {
+    let mut sections = object.each_section(alloc);
     let count = rows.len().min(object.section_count());
     for index in 0..count {
-        rows[index] = ObjectSectionRow::of(object.section(index).unwrap());
+        match sections.next() {
+            Some(section) => rows[index] = ObjectSectionRow::of(section),
+            None => return,
+        }
     }
 }
 
 /// Reads the sections of an object, in table order, into the caller's rows.
 ///
 /// The status is 0; 4 where there are more sections than rows, of which the first are then told; or 1 with the first of faults
-/// 61 to 72. The count tells how many sections there are; it and the rows are left as they were by 1. No memory is taken.
+/// 61 to 72. The count tells how many sections there are; it and the rows are left as they were by 1. Memory is taken to remember
+/// where texts end, so that one that many share is searched once: where it is refused a text is searched again, and no status
+/// tells it.
 #[unsafe(no_mangle)]
 pub extern "C" fn petool_object_sections<'a>(
+    alloc: Global,
     file: &'a [u8],
     rows: &mut [ObjectSectionRow<'a>],
     count: &mut usize,
@@ -125,7 +133,7 @@ pub extern "C" fn petool_object_sections<'a>(
         Err(first) => return refuse(first, fault),
     };
     *count = object.section_count();
-    put_sections(rows, &object);
+    put_sections(alloc, rows, &object);
     table_status(*count, rows.len())
 }
 

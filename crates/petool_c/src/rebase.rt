@@ -1,8 +1,8 @@
 ghost use Rattle.std.specs.Prelude.{◌≡◌, ◌≢◌, length};
-ghost use Rattle.pe_layout.specs.SectionFaults.{layout_tests};
 ghost use Rattle.pe_write.specs.Rebase.{rebased};
 ghost use Rattle.pe_write.specs.RebaseFaults.{rebase_tests};
 ghost use Rattle.petool_c.specs.Faults.{IsAccepted, IsAnswered};
+ghost use Rattle.petool_c.specs.Wants.{IsLaidOut};
 
 use crate::fault::{FaultRecord, refuse_for};
 use crate::status;
@@ -18,7 +18,7 @@ fn rebase_into(
     fault: &mut FaultRecord,
 ) -> u32
     requires { length buffer.old ≡ length file.now }
-    ensures faults { IsAnswered (layout_tests 0 file.now) (rebase_tests file.now base) fault.old fault.new result }
+    ensures faults { IsAnswered (IsLaidOut file.now) (rebase_tests file.now base) fault.old fault.new result }
     ensures accepted { IsAccepted result → result ≡ 0 }
     ensures done { result ≡ 0 → buffer.new ≡ rebased file.now base }
     ensures kept { result ≢ 0 → buffer.new ≡ buffer.old }
@@ -50,7 +50,7 @@ pub extern "C" fn petool_rebase(
 ) -> u32
     ensures argument { result ≡ 5 → length buffer.old ≢ length file.now }
     ensures same_length { result ≢ 5 → length buffer.old ≡ length file.now }
-    ensures faults { result ≢ 5 → IsAnswered (layout_tests 0 file.now) (rebase_tests file.now base) fault.old fault.new result }
+    ensures faults { result ≢ 5 → IsAnswered (IsLaidOut file.now) (rebase_tests file.now base) fault.old fault.new result }
     ensures accepted { result ≢ 5 → IsAccepted result → result ≡ 0 }
     ensures done { result ≡ 0 → buffer.new ≡ rebased file.now base }
     ensures kept { result ≢ 0 → buffer.new ≡ buffer.old }

@@ -1,4 +1,4 @@
-ghost use Rattle.std.specs.Prelude.{◌≡◌, IsErrOf, None, map};
+ghost use Rattle.std.specs.Prelude.{◌≡◌, ◌<◌, IsErrOf, None, length, map};
 ghost use Rattle.pe_view.specs.Faults.{first_standing};
 ghost use Rattle.pe_set.specs.Bindings.{bindings_of};
 ghost use Rattle.pe_set.specs.Set.{modules_of};
@@ -102,6 +102,7 @@ fn judged<'a>(
 ) -> Result<Accepted<'a, Global>, MapError>
     ensures exact { SetAnswers (set_error (policy_of known) (map entry_text set.now)) (λ accepted. accepted.bindings.items ≡ bindings_of (modules_of (map entry_text set.now))) result }
     ensures named { IsErrOf result MapError.Memory → first_standing (names_tests (map entry_text set.now)) ≡ None }
+    ensures not_empty { IsErrOf result MapError.Memory → 0 < length set.now }
 {
     pe_set::laws::errors_count_class_by_class();
     pe_set::laws::accepted_sets_have_no_fault();
@@ -131,8 +132,9 @@ fn refuse_set(error: MapError, fault: &mut FaultRecord, cycle: &mut u32) -> u32
 /// leads to a module that is not in the set is no fault, and its slot is not bound.
 ///
 /// The status is 0; 4 where there are more bindings than rows, of which the first are then told; 1 with the first fault of the
-/// set; or 2 for want of memory. The count tells how many bindings there are; it and the rows are left as they were by 1 and 2.
-/// Where the fault is 50, a cycle of forwarders, `cycle` is how long that is, and else it is left as it was.
+/// set; or 2 for want of memory, which never comes where a name has a fault (41, 42), nor of a set of no entries. The count tells
+/// how many bindings there are; it and the rows are left as they were by 1 and 2. Where the fault is 50, a cycle of forwarders,
+/// `cycle` is how long that is, and else it is left as it was.
 #[unsafe(no_mangle)]
 pub extern "C" fn petool_judge(
     alloc: Global,
@@ -146,6 +148,7 @@ pub extern "C" fn petool_judge(
     ensures faults { IsJudged (set_error (policy_of known) (map entry_text set.now)) fault.old fault.new cycle.old cycle.new result }
     ensures table { IsAccepted result → TellsTable (λ row. row) binding_row (bindings_of (modules_of (map entry_text set.now))) rows.old rows.new count.new result }
     ensures memory { result ≡ 2 → first_standing (names_tests (map entry_text set.now)) ≡ None }
+    ensures not_empty { result ≡ 2 → 0 < length set.now }
     ensures rows_kept { IsRefused result → rows.new ≡ rows.old }
     ensures count_kept { IsRefused result → count.new ≡ count.old }
 {

@@ -10,6 +10,7 @@ ghost use Rattle.petool_c.specs.SymbolRows.{section_number, symbol_row, symbol_t
 use crate::fault::{FaultRecord, refuse};
 use crate::row::table_status;
 use coff_object::{ObjectFile, Symbol, SymbolSection};
+use std::alloc::Global;
 
 /// A symbol of an object.
 #[repr(C)]
@@ -68,10 +69,10 @@ fn symbol_count(object: &ObjectFile) -> usize
 }
 
 /// Fills the first rows with those of an object's symbols.
-fn put_symbols<'a>(rows: &mut [ObjectSymbolRow<'a>], object: &ObjectFile<'a>)
+fn put_symbols<'a>(alloc: Global, rows: &mut [ObjectSymbolRow<'a>], object: &ObjectFile<'a>)
     ensures { Fills (λ symbol row. symbol_text row ≡ symbol_row symbol) (symbols_of (file_of object.now)) rows.old rows.new }
 {
-    let mut symbols = object.symbols();
+    let mut symbols = object.each_symbol(alloc);
     let count = rows.len().min(symbol_count(object));
     for index in 0..count {
         match symbols.next() {
@@ -84,6 +85,7 @@ fn put_symbols<'a>(rows: &mut [ObjectSymbolRow<'a>], object: &ObjectFile<'a>)
 /// Reads the symbols of an object, in table order, into the caller's rows. It answers as `petool_object_sections` does.
 #[unsafe(no_mangle)]
 pub extern "C" fn petool_object_symbols<'a>(
+    alloc: Global,
     file: &'a [u8],
     rows: &mut [ObjectSymbolRow<'a>],
     count: &mut usize,
@@ -99,6 +101,6 @@ pub extern "C" fn petool_object_symbols<'a>(
         Err(first) => return refuse(first, fault),
     };
     *count = symbol_count(&object);
-    put_symbols(rows, &object);
+    put_symbols(alloc, rows, &object);
     table_status(*count, rows.len())
 }

@@ -1,6 +1,5 @@
 ghost use Rattle.std.specs.Prelude.{◌≡◌, length, map, if◌then◌else◌};
 ghost use Rattle.pe_layout.specs.Image.{image_of_file};
-ghost use Rattle.pe_layout.specs.SectionFaults.{layout_tests};
 ghost use Rattle.pe_tables.specs.Exports.{exports_of};
 ghost use Rattle.pe_tables.specs.ExportsView.{exports_view};
 ghost use Rattle.pe_tables.specs.Fixups.{fixups_of};
@@ -13,6 +12,7 @@ ghost use Rattle.petool_c.specs.Faults.{IsAccepted, IsAnswered, IsRefused};
 ghost use Rattle.petool_c.specs.FixupRows.{fixup_row};
 ghost use Rattle.petool_c.specs.ImportRows.{import_text, import_row};
 ghost use Rattle.petool_c.specs.Rows.{filled};
+ghost use Rattle.petool_c.specs.Wants.{IsLaidOut};
 
 use crate::export::ExportRow;
 use crate::fault::{FaultRecord, refuse_for};
@@ -148,7 +148,7 @@ pub extern "C" fn petool_tables<'a>(
     counts: &mut CountsRecord,
     fault: &mut FaultRecord,
 ) -> u32
-    ensures faults { IsAnswered (layout_tests 0 file.now) (image_tests 0 file.now) fault.old fault.new result }
+    ensures faults { IsAnswered (IsLaidOut file.now) (image_tests 0 file.now) fault.old fault.new result }
     ensures exports { IsAccepted result → map export_text exports.new ≡ filled export_by_ordinal (exports_of (image_of_file 0 file.now)).ordinals (map export_text exports.old) }
     ensures names { IsAccepted result → map export_text names.new ≡ filled export_by_name (exports_of (image_of_file 0 file.now)).names (map export_text names.old) }
     ensures imports { IsAccepted result → map import_text imports.new ≡ filled import_row (imports_of (image_of_file 0 file.now)) (map import_text imports.old) }

@@ -32,7 +32,7 @@ fn sections_fill_the_rows(rt: HostRuntime) {
     let mut rows = [no_section; 2];
     let mut count = 99;
     let mut fault = UNTOLD;
-    let status = petool_object_sections(O1, &mut rows, &mut count, &mut fault);
+    let status = petool_object_sections(rt.alloc(), O1, &mut rows, &mut count, &mut fault);
     assert_status(&rt, 0, status, 0, &fault);
     assert_holds(
         &rt,
@@ -49,9 +49,9 @@ fn sections_fill_the_rows(rt: HostRuntime) {
         2,
         rows[0].characteristics == 0x6000_0020 && rows[0].relocation_count == 1,
     );
-    let status = petool_object_sections(O1, &mut few, &mut count, &mut fault);
+    let status = petool_object_sections(rt.alloc(), O1, &mut few, &mut count, &mut fault);
     assert_status(&rt, 3, status, 4, &fault);
-    let status = petool_object_sections(&O1[..19], &mut rows, &mut count, &mut fault);
+    let status = petool_object_sections(rt.alloc(), &O1[..19], &mut rows, &mut count, &mut fault);
     assert_fault(&rt, 4, status, &fault, 61, 19);
 }
 
@@ -101,7 +101,7 @@ fn symbols_fill_the_rows(rt: HostRuntime) {
     let mut rows = [no_symbol; 5];
     let mut count = 99;
     let mut fault = UNTOLD;
-    let status = petool_object_symbols(O1, &mut rows, &mut count, &mut fault);
+    let status = petool_object_symbols(rt.alloc(), O1, &mut rows, &mut count, &mut fault);
     assert_status(&rt, 0, status, 0, &fault);
     assert_holds(
         &rt,
@@ -128,8 +128,8 @@ fn symbols_fill_the_rows(rt: HostRuntime) {
         4,
         rows[3].value == 7 && rows[3].section_number == 0xffff && rows[4].kind == 9,
     );
-    let status = petool_object_symbols(O1, &mut few, &mut count, &mut fault);
+    let status = petool_object_symbols(rt.alloc(), O1, &mut few, &mut count, &mut fault);
     assert_status(&rt, 5, status, 4, &fault);
-    let status = petool_object_symbols(&O1[..19], &mut rows, &mut count, &mut fault);
+    let status = petool_object_symbols(rt.alloc(), &O1[..19], &mut rows, &mut count, &mut fault);
     assert_fault(&rt, 6, status, &fault, 61, 19);
 }

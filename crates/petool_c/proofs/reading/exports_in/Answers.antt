@@ -10,6 +10,7 @@ use Rattle.pe_tables.specs.ExportFaults.{export_tests}
 use Rattle.pe_tables.specs.Exports.{exports_of}
 use Rattle.pe_tables.specs.ExportsView.{exports_view}
 use Rattle.petool_c.specs.TableTests.{file_export_tests}
+use Rattle.petool_c.specs.Wants.{ExportsTakeMemory}
 use Rattle.petool_c.proofs.Phases.{behind}
 use Rattle.petool_c.proofs.reading.exports_in.Goals as goal
 
@@ -29,4 +30,6 @@ returns-clause-exact c =
     behind (layout_tests 0 file) (export_tests (image_of_file 0 file)) _ c.read_exports.result laid.0 asked
 
 pub returns-clause-memory : goal.returns-clause-memory
-returns-clause-memory c = λ _. c.in_ok-layout.ensures.0
+returns-clause-memory c wants =
+    let laid = c.in_ok-layout.ensures in
+    (laid.0, subst ExportsTakeMemory laid.1.shows (c.read_exports.ensures.memory wants))

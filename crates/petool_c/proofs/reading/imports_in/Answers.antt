@@ -11,6 +11,7 @@ use Rattle.pe_tables.specs.ImportFaults.{import_tests}
 use Rattle.pe_tables.specs.Imports.{imports_of}
 use Rattle.pe_tables.specs.ImportView.{import_view}
 use Rattle.petool_c.specs.TableTests.{file_import_tests}
+use Rattle.petool_c.specs.Wants.{ImportsTakeMemory}
 use Rattle.petool_c.proofs.Phases.{behind}
 use Rattle.petool_c.proofs.reading.imports_in.Goals as goal
 
@@ -30,4 +31,6 @@ returns-clause-exact c =
     behind (layout_tests 0 file) (import_tests (image_of_file 0 file)) _ c.read_imports.result laid.0 asked
 
 pub returns-clause-memory : goal.returns-clause-memory
-returns-clause-memory c = λ _. c.in_ok-layout.ensures.0
+returns-clause-memory c wants =
+    let laid = c.in_ok-layout.ensures in
+    (laid.0, subst ImportsTakeMemory laid.1.shows (c.read_imports.ensures.memory wants))

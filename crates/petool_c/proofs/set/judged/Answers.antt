@@ -1,5 +1,7 @@
 -- What is judged are the entries that count.
-use Rattle.std.proofs.Common.{◌≡◌, List, subst}
+use Rattle.std.proofs.Common.{◌≡◌, List, length, inl, inr, subst, arith}
+use Rattle.std.proofs.lemmas.Bool.{cases_lt}
+use Rattle.std.proofs.lemmas.List.{length-map}
 use Rattle.std.specs.Prelude.{map}
 use Rattle.pe_set.specs.Bindings.{bindings_of}
 use Rattle.pe_set.specs.Set.{Entry, modules_of}
@@ -7,7 +9,7 @@ use Rattle.pe_set.specs.SetErrors.{set_error, SetAnswers}
 use Rattle.pe_set.specs.SetView.{entries_of}
 use Rattle.pe_set.specs.declared.entry.Policy.{Policy}
 use Rattle.petool_c.specs.SetRows.{entry_text, policy_of}
-use Rattle.petool_c.proofs.Counted.{answer_counts, memory_counts}
+use Rattle.petool_c.proofs.Counted.{answer_counts, none_put, memory_counts}
 use Rattle.petool_c.proofs.Judging.{bindings_answered}
 use Rattle.petool_c.proofs.set.judged.Goals as goal
 
@@ -22,3 +24,13 @@ returns-clause-exact c =
 
 pub returns-clause-named : goal.returns-clause-named
 returns-clause-named c wants = memory_counts (map entry_text c.args.set.now) (rw c.put_entries.ensures at c.judge.ensures.named wants)
+
+pub returns-clause-not_empty : goal.returns-clause-not_empty
+returns-clause-not_empty c wants =
+    let set = c.args.set.now in
+    elim (cases_lt 0 (length set)) [
+      | inl some ↦ some
+      | inr few ↦
+          let none : length (map entry_text set) ≡ 0 = omega (arith, few, length-map set entry_text) in
+          absurd (c.judge.ensures.no_memory (inl (none_put c.put_entries.result.now (map entry_text set) c.put_entries.ensures none)) wants)
+    ]

@@ -3,7 +3,7 @@ use Rattle.std.proofs.Common.{ℕ, ◌<◌, ◌≤◌, ◌∙◌, length, refl, 
 use Rattle.coff_object.specs.ObjectFile.{file_of}
 use Rattle.coff_object.specs.ObjectView.{symbol_view}
 use Rattle.coff_object.specs.Records.{Symbol}
-use Rattle.coff_object.specs.SymbolsLeft.{symbols_left}
+use Rattle.coff_object.specs.SymbolsLeft.{each_symbol_left}
 use Rattle.petool_c.specs.SymbolRows.{symbol_row, symbol_text, symbols_of}
 use Rattle.petool_c.proofs.Left.{first_left, none_left}
 use Rattle.petool_c.proofs.Rows.{told_step, rest_step}
@@ -14,7 +14,7 @@ unfolding symbols_of
 loop-index-init c = record {
   told = λ symbol row k h. absurd (omega (arith, h));
   others = refl;
-  left = c.symbols-symbols.ensures;
+  left = c.each_symbol-symbols.ensures;
 }
 
 pub loop-index-preserved : goal.loop-index-preserved
@@ -22,7 +22,7 @@ loop-index-preserved c =
     let i = c.loop-index.invariant in
     let table = symbols_of (file_of c.args.object.now) in
     let shown : ℕ × Symbol = (c.in-Some.number, symbol_view c.in-Some.symbol) in
-    let next = first_left table c.loop-index.index shown (symbols_left c.next.new.self) (sym i.left ∙ c.in-Some.ensures.steps) in
+    let next = first_left table c.loop-index.index shown (each_symbol_left c.next.new.self) (sym i.left ∙ c.in-Some.ensures.steps) in
     let under : c.loop-index.index < length c.loop-index.rows = search rules in
     record {
       told = told_step symbol_text symbol_row table c.loop-index.rows c.loop-index.index shown c.of.result under next.0 c.of.ensures i.told;
