@@ -1,31 +1,7 @@
-/* Lists what a DLL exports, by name and by ordinal: exports FILE */
-#include "petool.h"
+/* Lists what a DLL exports by name: exports FILE */
+#include "files.h"
 
-#include <inttypes.h>
-#include <stdio.h>
-#include <stdlib.h>
-
-/* All bytes of a file; NULL where it cannot be read. */
-static uint8_t *file_of(const char *path, size_t *len)
-{
-    uint8_t *bytes = NULL;
-    FILE *file = fopen(path, "rb");
-    if (file == NULL)
-        return NULL;
-    if (fseek(file, 0, SEEK_END) == 0) {
-        long end = ftell(file);
-        rewind(file);
-        bytes = end < 0 ? NULL : (uint8_t *)malloc((size_t)end + 1);
-        *len = bytes == NULL ? 0 : fread(bytes, 1, (size_t)end, file);
-    }
-    fclose(file);
-    return bytes;
-}
-
-static void print_text(petool_text text)
-{
-    fwrite(text.at, 1, text.len, stdout);
-}
+static const char usage[] = "usage: exports FILE\n\nLists what a DLL exports by name, and where each leads.\n";
 
 static void print_target(petool_target target)
 {
@@ -43,56 +19,52 @@ static void print_target(petool_target target)
     putchar('\n');
 }
 
-/* Tells a refusal on standard error; the exit status for it. */
-static int refused(const char *path, uint32_t status, const petool_fault *fault)
+static void print_rows(const petool_export *rows, size_t count)
 {
-    char line[200];
-    if (status != PETOOL_FAULT) {
-        fprintf(stderr, "%s: out of memory\n", path);
-        return 4;
-    }
-    petool_fault_line(fault, line, sizeof line);
-    fprintf(stderr, "%s: fault %u: %s\n", path, fault->number, line);
-    return 1;
-}
-
-int main(int argc, char **argv)
-{
-    petool_fault fault = {0, 0, 0, 0};
-    petool_export none, *rows;
-    size_t len = 0, count = 0, i;
-    uint32_t status;
-    uint8_t *file;
-
-    if (argc != 2) {
-        fprintf(stderr, "usage: exports FILE\n");
-        return 2;
-    }
-    file = file_of(argv[1], &len);
-    if (file == NULL) {
-        perror(argv[1]);
-        return 3;
-    }
-
-    /* no row: the call counts them */
-    status = petool_export_names(file, len, &none, 0, &count, &fault);
-    if (status != PETOOL_OK && status != PETOOL_SMALL) {
-        free(file);
-        return refused(argv[1], status, &fault);
-    }
-    rows = (petool_export *)malloc((count + 1) * sizeof *rows);
-    if (rows == NULL) {
-        free(file);
-        return 4;
-    }
-    petool_exports_init(rows, count);
-    petool_export_names(file, len, rows, count, &count, &fault);
+    size_t i;
     for (i = 0; i < count; i++) {
         print_text(rows[i].name);
         putchar(' ');
         print_target(rows[i].target);
     }
+}
+
+/* Lists the exports of a file's bytes; the exit status. */
+static int list(const char *path, petool_text file)
+{
+    petool_fault fault = {0, 0, 0, 0};
+    petool_export none, *rows;
+    size_t count = 0;
+    /* no row: the call counts them */
+    uint32_t status = petool_export_names(file.at, file.len, &none, 0, &count, &fault);
+    if (status != PETOOL_OK && status != PETOOL_SMALL)
+        return refused(path, status, &fault);
+    rows = (petool_export *)malloc((count + 1) * sizeof *rows);
+    if (rows == NULL)
+        return refused(path, PETOOL_MEMORY, &fault);
+    petool_exports_init(rows, count);
+    status = petool_export_names(file.at, file.len, rows, count, &count, &fault);
+    if (status == PETOOL_OK)
+        print_rows(rows, count);
     free(rows);
-    free(file);
-    return 0;
+    return status == PETOOL_OK ? 0 : refused(path, status, &fault);
+}
+
+int main(int argc, char **argv)
+{
+    petool_text file = PETOOL_NONE;
+    int status;
+    if (argc == 2 && strcmp(argv[1], "--help") == 0) {
+        fputs(usage, stdout);
+        return 0;
+    }
+    if (argc != 2) {
+        fputs(usage, stderr);
+        return BAD_WORDS;
+    }
+    if (!read_file(argv[1], &file))
+        return DEVICE_FAILED;
+    status = list(argv[1], file);
+    free_bytes(file);
+    return is_printed() ? status : DEVICE_FAILED;
 }

@@ -3,55 +3,13 @@
  *
  * The images stand behind one another from 0x10000000 on. An import from a module that is none of them leaves its slot as it is.
  */
-#include "petool.h"
+#include "files.h"
 
-#include <inttypes.h>
-#include <stdio.h>
-#include <stdlib.h>
-#include <string.h>
-
-#define MOST 16
 #define UNIT 0x10000
 
-/* All bytes of a file; of none where it cannot be read. */
-static petool_text file_of(const char *path)
-{
-    petool_text text = PETOOL_NONE;
-    FILE *file = fopen(path, "rb");
-    if (file == NULL)
-        return text;
-    if (fseek(file, 0, SEEK_END) == 0) {
-        long end = ftell(file);
-        uint8_t *bytes = end < 0 ? NULL : (uint8_t *)malloc((size_t)end + 1);
-        rewind(file);
-        if (bytes != NULL) {
-            text.at = bytes;
-            text.len = fread(bytes, 1, (size_t)end, file);
-        }
-    }
-    fclose(file);
-    return text;
-}
-
-/* The module's name of a path: what stands behind its last slash. */
-static petool_text name_of(const char *path)
-{
-    const char *slash = strrchr(path, '/');
-    return petool_text_of(slash == NULL ? path : slash + 1);
-}
-
-/* Tells a refusal on standard error; the exit status for it. */
-static int refused(uint32_t status, const petool_fault *fault)
-{
-    char line[200];
-    if (status != PETOOL_FAULT) {
-        fprintf(stderr, "map: out of memory\n");
-        return 4;
-    }
-    petool_fault_line(fault, line, sizeof line);
-    fprintf(stderr, "image %u: fault %u: %s\n", fault->image, fault->number, line);
-    return 1;
-}
+static const char usage[] = "usage: map FILE...\n\n"
+                            "Maps images behind one another from 0x10000000 on, moves the one in the middle, and tells each time\n"
+                            "where they stand and what their first bound slots hold.\n";
 
 /* Where each image stands. */
 static void show_images(petool_space *space, size_t images)
@@ -105,46 +63,63 @@ static uint64_t place(petool_entry *set, size_t images, petool_fault *fault)
     return base;
 }
 
+/* Tells of a space, moves an image in it behind all others, and tells of it again. */
+static uint32_t show_move(petool_space *space, size_t images, uint64_t behind, petool_fault *fault)
+{
+    petool_moved moved = {0, 0};
+    uint32_t status;
+    show_images(space, images);
+    show_slots(space);
+    status = petool_space_move(space, (uint16_t)(images / 2), behind, &moved, fault);
+    if (status == PETOOL_OK) {
+        printf("moved image %zu: %" PRIu32 " fields, %" PRIu32 " slots\n", images / 2, moved.fields, moved.slots);
+        show_slots(space);
+    }
+    return status;
+}
+
 static int run(petool_entry *set, size_t images)
 {
     petool_space space = PETOOL_SPACE_CLOSED;
     petool_fault fault = {0, 0, 0, 0};
-    petool_moved moved = {0, 0};
     uint32_t cycle = 0, status;
     uint64_t behind = place(set, images, &fault);
     if (behind == 0)
-        return refused(PETOOL_FAULT, &fault);
+        return set_refused(set, images, PETOOL_FAULT, &fault);
     status = petool_space_map(&space, set, images, true, &cycle, &fault);
-    if (status != PETOOL_OK)
-        return refused(status, &fault);
-    show_images(&space, images);
-    show_slots(&space);
-    status = petool_space_move(&space, (uint16_t)(images / 2), behind, &moved, &fault);
-    if (status == PETOOL_OK) {
-        printf("moved image %zu: %" PRIu32 " fields, %" PRIu32 " slots\n", images / 2, moved.fields, moved.slots);
-        show_slots(&space);
-    }
+    if (status == PETOOL_OK)
+        status = show_move(&space, images, behind, &fault);
     petool_space_close(&space);
-    return status == PETOOL_OK ? 0 : refused(status, &fault);
+    return status == PETOOL_OK ? 0 : set_refused(set, images, status, &fault);
+}
+
+/* Reads a set of so many files, and maps it; the exit status. */
+static int map(char **paths, size_t images)
+{
+    petool_entry *set = (petool_entry *)malloc(images * sizeof *set);
+    size_t are_read = 0;
+    int status;
+    if (set == NULL)
+        return refused("map", PETOOL_MEMORY, NULL);
+    while (are_read < images && read_entry(paths[are_read], 0, &set[are_read]))
+        are_read++;
+    status = are_read == images ? run(set, images) : DEVICE_FAILED;
+    free_entries(set, are_read);
+    free(set);
+    return status;
 }
 
 int main(int argc, char **argv)
 {
-    static petool_entry set[MOST];
-    size_t images = (size_t)argc - 1, i;
     int status;
-    if (argc < 2 || images > MOST) {
-        fprintf(stderr, "usage: map FILE...\n");
-        return 2;
+    if (argc == 2 && strcmp(argv[1], "--help") == 0) {
+        fputs(usage, stdout);
+        return 0;
     }
-    for (i = 0; i < images; i++) {
-        set[i].name = name_of(argv[i + 1]);
-        set[i].file = file_of(argv[i + 1]);
-        set[i].base = 0;
+    if (argc < 2) {
+        fputs(usage, stderr);
+        return BAD_WORDS;
     }
-    status = run(set, images);
-    for (i = 0; i < images; i++)
-        if (set[i].file.len > 0)
-            free((void *)(uintptr_t)set[i].file.at);
-    return status;
+    status = map(argv + 1, (size_t)argc - 1);
+    return is_printed() ? status : DEVICE_FAILED;
 }

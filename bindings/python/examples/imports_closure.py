@@ -1,8 +1,12 @@
 #!/usr/bin/env python3
-"""Who exports what a program imports: follows its imports, and those of each DLL of a folder to which they lead."""
+"""Tells who exports what a program imports: follows its imports, and those of each DLL of a folder to which they lead.
+
+A DLL that is refused is told of on standard error, and counts as no file.
+"""
 
 import argparse
 import pathlib
+import sys
 
 import petool
 
@@ -20,17 +24,29 @@ def shown(key):
     return f"#{key}" if isinstance(key, int) else key.decode("utf-8", "replace")
 
 
+def opened(path):
+    """The image of a file, or None where it is refused, which is told."""
+    try:
+        return petool.open(path)
+    except petool.FormatFault as fault:
+        print(f"{path}: {fault}", file=sys.stderr)
+        return None
+
+
 class Folder:
     """The images of a folder, each read when it is first asked for."""
 
     def __init__(self, folder):
-        self.paths = {module_of(path.name.encode()): path for path in pathlib.Path(folder).iterdir() if path.is_file()}
+        self.paths = {path.name.lower(): path for path in pathlib.Path(folder).iterdir() if path.is_file()}
         self.images = {}
+        self.status = 0
 
     def image(self, module):
-        """The image of a module, or None where the folder has no such file."""
+        """The image of a module, or None where the folder has no such file, or its file is refused."""
         if module not in self.images and module in self.paths:
-            self.images[module] = petool.open(self.paths[module])
+            self.images[module] = opened(self.paths[module])
+            if self.images[module] is None:
+                self.status = 1
         return self.images.get(module)
 
     def exporter(self, module, key):
@@ -48,22 +64,31 @@ class Folder:
         return module, "too many forwarders"
 
 
+def follow(folder, name, image):
+    """Prints a line for each import of an image, and gives the modules to which they lead."""
+    for it in image.imports:
+        module, found = folder.exporter(module_of(it.module), it.key)
+        print(f"{name}: {it.module.decode('utf-8', 'replace')} {shown(it.key)} -> {module} {found}")
+        yield module
+
+
 def main():
     arguments = argparse.ArgumentParser(description=__doc__)
-    arguments.add_argument("program")
-    arguments.add_argument("folder")
+    arguments.add_argument("program", type=pathlib.Path)
+    arguments.add_argument("folder", type=pathlib.Path)
     words = arguments.parse_args()
-    folder = Folder(words.folder)
-    waiting, met = [(pathlib.Path(words.program).name, petool.open(words.program))], set()
+    folder, program = Folder(words.folder), opened(words.program)
+    if program is None:
+        return 1
+    waiting, met = [(words.program.name, program)], set()
     while waiting:
-        importer, image = waiting.pop()
-        for it in image.imports:
-            module, found = folder.exporter(module_of(it.module), it.key)
-            print(f"{importer}: {it.module.decode('utf-8', 'replace')} {shown(it.key)} -> {module} {found}")
+        name, image = waiting.pop()
+        for module in follow(folder, name, image):
             if module not in met and folder.image(module) is not None:
                 met.add(module)
-                waiting.append((module, folder.image(module)))
+                waiting.append((folder.paths[module].name, folder.image(module)))
+    return folder.status
 
 
 if __name__ == "__main__":
-    main()
+    sys.exit(main())

@@ -3,6 +3,7 @@
 
 import argparse
 import pathlib
+import sys
 
 import petool
 
@@ -14,20 +15,31 @@ def entry_of(word):
     return path.name, path.read_bytes(), int(base, 16)
 
 
+def write(space, names, out):
+    """Writes each image at its place in a file, and prints a line for each."""
+    lowest = min(it.base for it in space.images)
+    for name, it in zip(names, space.images):
+        out.seek(it.base - lowest)
+        out.write(space.read(it.base, it.size))
+        print(f"{name}: {it.base:#x}, {it.size:#x} bytes, at {it.base - lowest:#x} of {out.name}")
+    print(f"{len(space.bindings)} slots are bound")
+
+
 def main():
     arguments = argparse.ArgumentParser(description=__doc__)
     arguments.add_argument("out")
     arguments.add_argument("images", nargs="+", metavar="BASE=FILE", type=entry_of)
     arguments.add_argument("--known", action="store_true", help="leave slots of modules that are not among the files")
     words = arguments.parse_args()
-    with petool.Space(words.images, known=words.known) as space, open(words.out, "wb") as out:
-        lowest = min(it.base for it in space.images)
-        for (name, _, _), it in zip(words.images, space.images):
-            out.seek(it.base - lowest)
-            out.write(space.read(it.base, it.size))
-            print(f"{name}: {it.base:#x}, {it.size:#x} bytes, at {it.base - lowest:#x} of {words.out}")
-        print(f"{len(space.bindings)} slots are bound")
+    names = [name for name, _, _ in words.images]
+    try:
+        with petool.Space(words.images, known=words.known) as space, open(words.out, "wb") as out:
+            write(space, names, out)
+    except petool.FormatFault as fault:
+        print(f"{names[fault.image] if fault.image < len(names) else 'the set'}: {fault}", file=sys.stderr)
+        return 1
+    return 0
 
 
 if __name__ == "__main__":
-    main()
+    sys.exit(main())

@@ -1,5 +1,8 @@
 #!/usr/bin/env python3
-"""Rebases the DLLs of a folder to bases that are apart, and writes them to another folder."""
+"""Rebases the DLLs of a folder to bases that are apart, in the order of their names, and writes them to another folder.
+
+A DLL that is refused is told of, and left out.
+"""
 
 import argparse
 import pathlib
@@ -10,11 +13,15 @@ import petool
 UNIT = 0x10000
 
 
+def hexadecimal(word):
+    return int(word, 16)
+
+
 def main():
     arguments = argparse.ArgumentParser(description=__doc__)
     arguments.add_argument("folder", type=pathlib.Path)
     arguments.add_argument("out", type=pathlib.Path)
-    arguments.add_argument("--base", type=lambda word: int(word, 16), default=0x10000000, help="the first base, in hexadecimal")
+    arguments.add_argument("--base", type=hexadecimal, default=0x10000000, metavar="HEX", help="the first base; else 10000000")
     words = arguments.parse_args()
     words.out.mkdir(parents=True, exist_ok=True)
     base = words.base

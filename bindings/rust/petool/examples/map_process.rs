@@ -1,66 +1,115 @@
-//! Maps images at given bases and writes the bytes that then stand there: `map_process OUT BASE=FILE...`, with bases in
-//! hexadecimal.
+//! Maps images at bases, and writes the bytes of their address space to a file: `map_process [--known] OUT
+//! BASE=FILE...`, with bases in hexadecimal.
 //!
-//! The images stand behind one another in OUT, and a line for each says where. An import from a module that is none of
-//! them leaves its slot as it is.
+//! The file begins at the lowest base. Nothing is written between the images, which leaves holes that read as zeros.
 
-use petool::{Entry, Policy, Space};
+use petool::{Entry, Policy, SetError, Space};
 use std::error::Error;
-use std::io::Write;
+use std::io::{Seek, SeekFrom, Write};
 use std::path::{Path, PathBuf};
 use std::{env, fs, process};
 
-/// A base and a path, of a word `BASE=FILE`.
-fn placed(word: &str) -> Result<(u64, PathBuf), Box<dyn Error>> {
-    let (base, path) = word.split_once('=').ok_or("a word is no BASE=FILE")?;
-    Ok((u64::from_str_radix(base.trim_start_matches("0x"), 16)?, path.into()))
+const USAGE: &str = "usage: map_process [--known] OUT BASE=FILE...
+
+Maps images at bases, which are hexadecimal, and writes the bytes of their address space to a file, from the lowest
+base to the highest end.
+
+  --known  leave slots of modules that are not among the files";
+
+/// A file that is to stand at a base.
+struct Module {
+    name: String,
+    bytes: Vec<u8>,
+    base: u64,
 }
 
-fn run(out: &Path, words: &[String]) -> Result<(), Box<dyn Error>> {
-    let (mut names, mut files, mut bases) = (Vec::new(), Vec::new(), Vec::new());
-    for word in words {
-        let (base, path) = placed(word)?;
-        names.push(path.file_name().unwrap_or_default().to_string_lossy().into_owned());
-        files.push(fs::read(&path)?);
-        bases.push(base);
-    }
-    let parts = names.iter().zip(&files).zip(&bases);
-    let set: Vec<_> = parts
-        .map(|((name, file), base)| Entry {
-            name: name.as_bytes(),
-            file,
-            base: *base,
+impl Module {
+    /// The module of a word `BASE=FILE`.
+    fn of(word: &str) -> Result<Module, Box<dyn Error>> {
+        let (base, path) = word.split_once('=').ok_or("a word is not BASE=FILE")?;
+        let path = PathBuf::from(path);
+        Ok(Module {
+            name: path.file_name().unwrap_or_default().to_string_lossy().into_owned(),
+            bytes: fs::read(&path)?,
+            base: u64::from_str_radix(base.trim_start_matches("0x"), 16)?,
         })
-        .collect();
-    let mut space = Space::map(&set, Policy::Known)?;
-    let (mut file, mut offset) = (fs::File::create(out)?, 0);
-    for (index, name) in names.iter().enumerate() {
-        let Some(placed) = space.image(u16::try_from(index)?) else {
-            continue;
-        };
-        let mut bytes = vec![0; usize::try_from(placed.size)?];
+    }
+
+    fn entry(&self) -> Entry<'_> {
+        Entry {
+            name: self.name.as_bytes(),
+            file: &self.bytes,
+            base: self.base,
+        }
+    }
+}
+
+/// Writes each image at its place in a file, and prints a line for each.
+fn write(space: &mut Space, modules: &[Module], out: &Path) -> Result<(), Box<dyn Error>> {
+    let lowest = modules.iter().map(|module| module.base).min().unwrap_or(0);
+    let mut file = fs::File::create(out)?;
+    for (index, module) in modules.iter().enumerate() {
+        let placed = space.image(u16::try_from(index)?).ok_or("there is no such image")?;
+        let (mut bytes, offset) = (vec![0; usize::try_from(placed.size)?], placed.base - lowest);
         space.read(placed.base, &mut bytes)?;
+        file.seek(SeekFrom::Start(offset))?;
         file.write_all(&bytes)?;
+        let (name, out) = (&module.name, out.display());
         println!(
-            "{name} at {:#x}, {:#x} bytes, in {} from {offset:#x} on",
-            placed.base,
-            placed.size,
-            out.display()
+            "{name}: {:#x}, {:#x} bytes, at {offset:#x} of {out}",
+            placed.base, placed.size
         );
-        offset += u64::from(placed.size);
     }
     println!("{} slots are bound", space.bindings()?.len());
     Ok(())
 }
 
+/// Tells why a set is refused; the exit status for it.
+fn refused(modules: &[Module], error: SetError) -> i32 {
+    match error {
+        SetError::Fault(fault) | SetError::Cycle { fault, .. } => {
+            let name = modules
+                .get(usize::from(fault.image))
+                .map_or("the set", |module| &module.name);
+            eprintln!("{name}: fault {}: {fault}", fault.number);
+            1
+        }
+        SetError::Memory => {
+            eprintln!("map_process: out of memory");
+            4
+        }
+    }
+}
+
+/// The exit status.
+fn run(policy: Policy, out: &Path, words: &[String]) -> Result<i32, Box<dyn Error>> {
+    let modules = words
+        .iter()
+        .map(|word| Module::of(word))
+        .collect::<Result<Vec<_>, _>>()?;
+    let set: Vec<_> = modules.iter().map(Module::entry).collect();
+    match Space::map(&set, policy) {
+        Ok(mut space) => write(&mut space, &modules, out).map(|()| 0),
+        Err(error) => Ok(refused(&modules, error)),
+    }
+}
+
 fn main() {
     let words: Vec<String> = env::args().skip(1).collect();
-    let [out, images @ ..] = &words[..] else {
-        eprintln!("usage: map_process OUT BASE=FILE...");
+    if words == ["--help"] {
+        println!("{USAGE}");
+        return;
+    }
+    let (policy, rest) = match words.split_first() {
+        Some((first, rest)) if first == "--known" => (Policy::Known, rest),
+        _ => (Policy::Strict, &words[..]),
+    };
+    let [out, _, ..] = rest else {
+        eprintln!("{USAGE}");
         process::exit(2);
     };
-    if let Err(error) = run(out.as_ref(), images) {
+    process::exit(run(policy, out.as_ref(), &rest[1..]).unwrap_or_else(|error| {
         eprintln!("map_process: {error}");
-        process::exit(1);
-    }
+        3
+    }));
 }

@@ -1,21 +1,28 @@
-//! Writes the DLLs of a folder for bases that are apart: `rebase_folder FOLDER OUT`, where OUT is another folder.
+//! Rebases the DLLs of a folder to bases that are apart, in the order of their names, and writes them to another folder:
+//! `rebase_folder [--base HEX] FOLDER OUT`.
 //!
-//! A file that is refused is told of on standard error and left out.
+//! A DLL that is refused is told of, and left out.
 
 use petool::Image;
 use std::error::Error;
 use std::path::{Path, PathBuf};
 use std::{env, fs, io, process};
 
+const USAGE: &str = "usage: rebase_folder [--base HEX] FOLDER OUT
+
+Rebases the DLLs of a folder to bases that are apart, in the order of their names, and writes them to another folder.
+A DLL that is refused is told of, and left out.
+
+  --base HEX  the first base, in hexadecimal; else 10000000";
+
 /// Bases are multiples of this.
 const UNIT: u64 = 0x10000;
-/// Where the first image stands: of PE32, and of PE32+, which has room above 4 GB.
-const FIRST: [u64; 2] = [0x1000_0000, 0x1_8000_0000];
+/// Where the first image stands.
+const FIRST: u64 = 0x1000_0000;
 
 fn dlls_of(folder: &Path) -> io::Result<Vec<PathBuf>> {
-    let mut paths = fs::read_dir(folder)?
-        .map(|entry| Ok(entry?.path()))
-        .collect::<io::Result<Vec<_>>>()?;
+    let paths = fs::read_dir(folder)?.map(|entry| Ok(entry?.path()));
+    let mut paths = paths.collect::<io::Result<Vec<_>>>()?;
     paths.retain(|path| {
         path.extension()
             .is_some_and(|extension| extension.eq_ignore_ascii_case("dll"))
@@ -24,36 +31,55 @@ fn dlls_of(folder: &Path) -> io::Result<Vec<PathBuf>> {
     Ok(paths)
 }
 
-/// Writes one file for the next base of its form, which is then the one behind it.
-fn rebase(path: &Path, out: &Path, next: &mut [u64; 2]) -> Result<(), Box<dyn Error>> {
-    let file = fs::read(path)?;
-    let image = Image::new(&file)?;
-    let base = &mut next[usize::from(image.headers().is_wide())];
-    fs::write(out.join(path.file_name().unwrap_or_default()), image.rebased(*base)?)?;
-    println!("{:#018x} {}", *base, path.display());
-    *base += u64::from(image.headers().size_of_image).div_ceil(UNIT) * UNIT;
-    Ok(())
+/// The file of an image for a base, and how many bytes it takes there.
+fn rebased(file: &[u8], base: u64) -> Result<(Vec<u8>, u64), petool::Error> {
+    let image = Image::new(file)?;
+    Ok((image.rebased(base)?, u64::from(image.headers().size_of_image)))
 }
 
-fn run(folder: &Path, out: &Path) -> Result<(), Box<dyn Error>> {
-    let mut next = FIRST;
+fn run(folder: &Path, out: &Path, first: u64) -> Result<(), Box<dyn Error>> {
+    let mut base = first;
     fs::create_dir_all(out)?;
     for path in dlls_of(folder)? {
-        if let Err(error) = rebase(&path, out, &mut next) {
-            eprintln!("{}: {error}", path.display());
+        let name = path.file_name().unwrap_or_default();
+        let shown = name.to_string_lossy();
+        match rebased(&fs::read(&path)?, base) {
+            Ok((moved, size)) => {
+                fs::write(out.join(name), moved)?;
+                println!("{shown}: {base:#x}");
+                base += size.div_ceil(UNIT) * UNIT;
+            }
+            Err(petool::Error::Fault(fault)) => println!("{shown}: fault {}: {fault}", fault.number),
+            Err(error) => return Err(error.into()),
         }
     }
     Ok(())
 }
 
+/// The first base and the two folders that words name.
+fn parsed(words: &[String]) -> Option<(u64, &String, &String)> {
+    match words {
+        [option, base, folder, out] if option == "--base" => {
+            let base = u64::from_str_radix(base.trim_start_matches("0x"), 16).ok()?;
+            Some((base, folder, out))
+        }
+        [folder, out] => Some((FIRST, folder, out)),
+        _ => None,
+    }
+}
+
 fn main() {
-    let words: Vec<_> = env::args_os().skip(1).collect();
-    let [folder, out] = &words[..] else {
-        eprintln!("usage: rebase_folder FOLDER OUT");
+    let words: Vec<String> = env::args().skip(1).collect();
+    if words == ["--help"] {
+        println!("{USAGE}");
+        return;
+    }
+    let Some((first, folder, out)) = parsed(&words) else {
+        eprintln!("{USAGE}");
         process::exit(2);
     };
-    if let Err(error) = run(folder.as_ref(), out.as_ref()) {
+    if let Err(error) = run(folder.as_ref(), out.as_ref(), first) {
         eprintln!("rebase_folder: {error}");
-        process::exit(1);
+        process::exit(3);
     }
 }

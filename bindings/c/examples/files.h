@@ -1,0 +1,127 @@
+/* What the examples share: the bytes of files, names in paths, and what is told of a refusal. */
+#ifndef FILES_H
+#define FILES_H
+
+#include "petool.h"
+
+#include <errno.h>
+
+/* exit statuses, which are those of the program petool */
+enum { REFUSED = 1, BAD_WORDS = 2, DEVICE_FAILED = 3, NO_MEMORY = 4 };
+
+/* Reads what is left of an open file. Where it cannot, errno says why. */
+static inline bool read_open(FILE *file, petool_text *bytes)
+{
+    uint8_t *all = NULL;
+    size_t len = 0, room = 0, got;
+    do {
+        if (len == room) {
+            uint8_t *more = (uint8_t *)realloc(all, room * 2 + 4096);
+            if (more == NULL) {
+                free(all);
+                return false;
+            }
+            all = more;
+            room = room * 2 + 4096;
+        }
+        got = fread(all + len, 1, room - len, file);
+        len += got;
+    } while (got > 0);
+    if (ferror(file)) {
+        free(all);
+        return false;
+    }
+    bytes->at = all;
+    bytes->len = len;
+    return true;
+}
+
+/* Reads all bytes of a file, which are given back by free_bytes. Where it cannot, that is told on standard error. */
+static inline bool read_file(const char *path, petool_text *bytes)
+{
+    FILE *file = fopen(path, "rb");
+    bool is_read = file != NULL && read_open(file, bytes);
+    if (!is_read)
+        perror(path);
+    if (file != NULL)
+        fclose(file);
+    return is_read;
+}
+
+/* Gives back what read_file has read; nothing where it has read nothing. */
+static inline void free_bytes(petool_text bytes)
+{
+    if (bytes.at != petool_no_bytes)
+        free((void *)(uintptr_t)bytes.at);
+}
+
+/* What stands behind the last slash of a path. */
+static inline const char *name_in(const char *path)
+{
+    const char *slash = strrchr(path, '/');
+    return slash == NULL ? path : slash + 1;
+}
+
+static inline void print_text(petool_text text)
+{
+    fwrite(text.at, 1, text.len, stdout);
+}
+
+/* Tells on standard error which fault a file has, or that memory was refused; the exit status for it. */
+static inline int refused(const char *name, uint32_t status, const petool_fault *fault)
+{
+    char line[200];
+    if (status != PETOOL_FAULT) {
+        fprintf(stderr, "%s: out of memory\n", name);
+        return NO_MEMORY;
+    }
+    petool_fault_line(fault, line, sizeof line);
+    fprintf(stderr, "%s: fault %u: %s\n", name, (unsigned)fault->number, line);
+    return REFUSED;
+}
+
+/* The same of a set, of which the fault names an image. */
+static inline int set_refused(const petool_entry *set, size_t entries, uint32_t status, const petool_fault *fault)
+{
+    bool has_image = status == PETOOL_FAULT && fault->image < entries;
+    return refused(has_image ? (const char *)set[fault->image].name.at : "the set", status, fault);
+}
+
+/* An entry of a set, whose file is read: whether it could. */
+static inline bool read_entry(const char *path, uint64_t base, petool_entry *entry)
+{
+    petool_text none = PETOOL_NONE;
+    entry->name = petool_text_of(name_in(path));
+    entry->file = none;
+    entry->base = base;
+    return read_file(path, &entry->file);
+}
+
+static inline void free_entries(const petool_entry *set, size_t entries)
+{
+    size_t i;
+    for (i = 0; i < entries; i++)
+        free_bytes(set[i].file);
+}
+
+/* Reads an address, which is hexadecimal and ends at a character or at the end of the word: what stands behind it, or NULL. */
+static inline const char *read_address(const char *word, uint64_t *address)
+{
+    char *end;
+    if (strspn(word, "0123456789abcdefABCDEF") == 0)
+        return NULL;
+    errno = 0;
+    *address = strtoull(word, &end, 16);
+    return errno == 0 ? end : NULL;
+}
+
+/* Whether all that was printed has been written. */
+static inline bool is_printed(void)
+{
+    bool is_written = fflush(stdout) == 0 && !ferror(stdout);
+    if (!is_written)
+        perror("standard output");
+    return is_written;
+}
+
+#endif /* FILES_H */

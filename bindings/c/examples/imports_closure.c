@@ -1,0 +1,334 @@
+/*
+ * Who exports what a program imports: imports_closure PROGRAM FOLDER
+ *
+ * Follows the imports of a program, and those of each DLL of a folder to which they lead, through all forwarders.
+ */
+#define _POSIX_C_SOURCE 200809L
+#include "files.h"
+
+#include <ctype.h>
+#include <dirent.h>
+#include <strings.h>
+
+/* a search that passes more forwarders is given up */
+#define MOST_FORWARDERS 32
+
+static const char usage[] =
+    "usage: imports_closure PROGRAM FOLDER\n\n"
+    "Tells who exports what a program imports: follows its imports, and those of each DLL of a folder to which they lead.\n"
+    "A DLL that is refused is told of on standard error, and counts as no file.\n";
+
+/* An image: the program, or a file of the folder, which is read when it is first asked for. */
+typedef struct module {
+    char *path;
+    petool_text file;
+    petool_export *names; /* in the order of petool_index_exports */
+    petool_import *imports;
+    petool_counts counts;
+    bool is_asked, is_accepted, is_met;
+} module;
+
+typedef struct folder {
+    module *modules;
+    size_t count;
+    int status; /* the worst exit status so far */
+} folder;
+
+/* What is searched for: a name or an ordinal of a module. */
+typedef struct search {
+    petool_text module, name;
+    uint32_t ordinal;
+    bool by_ordinal;
+} search;
+
+/* ---- images ---- */
+
+/* Makes rows for the tables of an image that was counted: whether there is memory. */
+static bool make_rows(module *image)
+{
+    image->names = (petool_export *)malloc((image->counts.names + 1) * sizeof *image->names);
+    image->imports = (petool_import *)malloc((image->counts.imports + 1) * sizeof *image->imports);
+    if (image->names == NULL || image->imports == NULL)
+        return false;
+    petool_exports_init(image->names, image->counts.names);
+    petool_imports_init(image->imports, image->counts.imports);
+    return true;
+}
+
+/* Judges an image whose bytes are read, and reads its exports by name and its imports. */
+static uint32_t read_tables(module *image, petool_fault *fault)
+{
+    petool_export no_export, no_name;
+    petool_import no_import;
+    petool_fixup no_fixup;
+    petool_text file = image->file;
+    petool_counts *counts = &image->counts;
+    /* no row: the call judges the file and counts what it has */
+    uint32_t status = petool_tables(file.at, file.len, &no_export, 0, &no_name, 0, &no_import, 0, &no_fixup, 0, counts, fault);
+    if (status != PETOOL_OK && status != PETOOL_SMALL)
+        return status;
+    if (!make_rows(image))
+        return PETOOL_MEMORY;
+    status = petool_export_names(file.at, file.len, image->names, counts->names, &counts->names, fault);
+    if (status != PETOOL_OK)
+        return status;
+    petool_index_exports(image->names, counts->names);
+    return petool_imports(file.at, file.len, image->imports, counts->imports, &counts->imports, fault);
+}
+
+/* Reads an image, where that was not tried before; the exit status. */
+static int open_module(module *image)
+{
+    petool_fault fault = {0, 0, 0, 0};
+    uint32_t status;
+    if (image->is_asked)
+        return 0;
+    image->is_asked = true;
+    if (!read_file(image->path, &image->file))
+        return DEVICE_FAILED;
+    status = read_tables(image, &fault);
+    image->is_accepted = status == PETOOL_OK;
+    return image->is_accepted ? 0 : refused(image->path, status, &fault);
+}
+
+static void set_module(module *image, char *path)
+{
+    petool_text none = PETOOL_NONE;
+    memset(image, 0, sizeof *image);
+    image->path = path;
+    image->file = none;
+}
+
+static void free_module(module *image)
+{
+    free(image->names);
+    free(image->imports);
+    free_bytes(image->file);
+    free(image->path);
+}
+
+/* ---- the folder ---- */
+
+/* The path of a name in a folder, to be freed; NULL where memory is refused. */
+static char *path_in(const char *folder_path, const char *name)
+{
+    size_t room = strlen(folder_path) + strlen(name) + 2;
+    char *path = (char *)malloc(room);
+    if (path != NULL)
+        snprintf(path, room, "%s/%s", folder_path, name);
+    return path;
+}
+
+/* Adds a file to those of a folder, whose rows there are enough of: whether there is memory. */
+static bool add_module(folder *files, const char *folder_path, const char *name)
+{
+    char *path = path_in(folder_path, name);
+    if (path == NULL)
+        return false;
+    set_module(&files->modules[files->count++], path);
+    return true;
+}
+
+/* Lists the files of a folder, in the order of their names; the exit status. */
+static int list_folder(folder *files, const char *path)
+{
+    struct dirent **found = NULL;
+    int count = scandir(path, &found, NULL, alphasort), i;
+    bool has_memory;
+    if (count < 0) {
+        perror(path);
+        return DEVICE_FAILED;
+    }
+    files->modules = (module *)malloc(((size_t)count + 1) * sizeof *files->modules);
+    has_memory = files->modules != NULL;
+    for (i = 0; i < count; i++) {
+        has_memory = has_memory && add_module(files, path, found[i]->d_name);
+        free(found[i]);
+    }
+    free(found);
+    return has_memory ? 0 : refused(path, PETOOL_MEMORY, NULL);
+}
+
+static void free_folder(folder *files)
+{
+    size_t i;
+    for (i = 0; i < files->count; i++)
+        free_module(&files->modules[i]);
+    free(files->modules);
+}
+
+/* Whether a module's name has no extension: then it is that of a DLL. */
+static bool lacks_extension(petool_text name)
+{
+    return memchr(name.at, '.', name.len) == NULL;
+}
+
+static bool is_named(const module *image, petool_text name)
+{
+    const char *file_name = name_in(image->path);
+    size_t len = strlen(file_name);
+    if (len != name.len + (lacks_extension(name) ? 4 : 0))
+        return false;
+    return strncasecmp(file_name, (const char *)name.at, name.len) == 0
+        && (len == name.len || strcasecmp(file_name + name.len, ".dll") == 0);
+}
+
+/* The image of a module; NULL where the folder has none. */
+static module *image_of(folder *files, petool_text name)
+{
+    size_t i;
+    for (i = 0; i < files->count; i++) {
+        if (is_named(&files->modules[i], name)) {
+            int status = open_module(&files->modules[i]);
+            if (status > files->status)
+                files->status = status;
+            return files->modules[i].is_accepted ? &files->modules[i] : NULL;
+        }
+    }
+    return NULL;
+}
+
+/* ---- searches ---- */
+
+static void print_lower(petool_text name)
+{
+    size_t i;
+    for (i = 0; i < name.len; i++)
+        putchar(tolower(name.at[i]));
+}
+
+/* Prints the name of a module in lower case, with an extension. */
+static void print_module(petool_text name)
+{
+    print_lower(name);
+    if (lacks_extension(name))
+        printf(".dll");
+}
+
+static void print_import(const char *importer, const search *wanted)
+{
+    printf("%s: ", importer);
+    print_text(wanted->module);
+    if (wanted->by_ordinal) {
+        printf(" #%" PRIu32, wanted->ordinal);
+    } else {
+        putchar(' ');
+        print_text(wanted->name);
+    }
+}
+
+/* What an image exports of what is searched for: whether there is such an export. */
+static bool find_export(const module *image, const search *wanted, petool_target *target)
+{
+    petool_fault fault = {0, 0, 0, 0};
+    const petool_export *row;
+    if (wanted->by_ordinal)
+        return petool_export_by_ordinal(image->file.at, image->file.len, wanted->ordinal, target, &fault) == PETOOL_OK;
+    row = petool_find_export(image->names, image->counts.names, wanted->name.at, wanted->name.len);
+    if (row != NULL)
+        *target = row->target;
+    return row != NULL;
+}
+
+static void print_end(petool_text name, const char *found)
+{
+    printf(" -> ");
+    print_module(name);
+    printf(" %s\n", found);
+}
+
+/* Prints where a search ends, and what it finds there; the image there, or NULL. */
+static module *search_exporter(folder *files, search wanted)
+{
+    petool_target target;
+    char rva[16];
+    int forwarders;
+    petool_target_init(&target);
+    for (forwarders = 0; forwarders < MOST_FORWARDERS; forwarders++) {
+        module *image = image_of(files, wanted.module);
+        if (image == NULL || !find_export(image, &wanted, &target)) {
+            print_end(wanted.module, image == NULL ? "no such file" : "no such export");
+            return image;
+        }
+        if (target.kind == PETOOL_TARGET_RVA) {
+            snprintf(rva, sizeof rva, "0x%" PRIx32, target.value);
+            print_end(wanted.module, rva);
+            return image;
+        }
+        wanted.module = target.module;
+        wanted.name = target.name;
+        wanted.ordinal = target.value;
+        wanted.by_ordinal = target.kind == PETOOL_TARGET_ORDINAL;
+    }
+    print_end(wanted.module, "too many forwarders");
+    return image_of(files, wanted.module);
+}
+
+/* Prints a line for each import of an image, and adds the images that are met for the first time to those that wait. */
+static size_t follow(folder *files, const module *image, module **waiting, size_t count)
+{
+    size_t i;
+    for (i = 0; i < image->counts.imports; i++) {
+        const petool_import *row = &image->imports[i];
+        search wanted = {row->module, row->name, row->ordinal, row->by_ordinal};
+        module *exporter;
+        print_import(name_in(image->path), &wanted);
+        exporter = search_exporter(files, wanted);
+        if (exporter != NULL && !exporter->is_met) {
+            exporter->is_met = true;
+            waiting[count++] = exporter;
+        }
+    }
+    return count;
+}
+
+/* Follows the imports of a program; the exit status. */
+static int close_over(folder *files, const module *program)
+{
+    /* each image of the folder waits at most once */
+    module **waiting = (module **)malloc((files->count + 1) * sizeof *waiting);
+    size_t count;
+    if (waiting == NULL)
+        return refused("imports_closure", PETOOL_MEMORY, NULL);
+    count = follow(files, program, waiting, 0);
+    while (count > 0) {
+        const module *next = waiting[--count];
+        count = follow(files, next, waiting, count);
+    }
+    free(waiting);
+    return files->status;
+}
+
+static int run(const char *program_path, const char *folder_path)
+{
+    folder files = {NULL, 0, 0};
+    module program;
+    int status;
+    set_module(&program, (char *)malloc(strlen(program_path) + 1));
+    if (program.path == NULL)
+        return refused("imports_closure", PETOOL_MEMORY, NULL);
+    strcpy(program.path, program_path);
+    status = open_module(&program);
+    if (status == 0)
+        status = list_folder(&files, folder_path);
+    if (status == 0)
+        status = close_over(&files, &program);
+    free_folder(&files);
+    free_module(&program);
+    return status;
+}
+
+int main(int argc, char **argv)
+{
+    int status;
+    if (argc == 2 && strcmp(argv[1], "--help") == 0) {
+        fputs(usage, stdout);
+        return 0;
+    }
+    if (argc != 3) {
+        fputs(usage, stderr);
+        return BAD_WORDS;
+    }
+    status = run(argv[1], argv[2]);
+    return is_printed() ? status : DEVICE_FAILED;
+}

@@ -1,0 +1,148 @@
+/* Rebases the DLLs of a folder to bases that are apart, and writes them to another folder: rebase_folder [--base HEX] FOLDER OUT */
+#define _POSIX_C_SOURCE 200809L
+#include "files.h"
+
+#include <dirent.h>
+#include <strings.h>
+#include <sys/stat.h>
+
+/* bases are multiples of this */
+#define UNIT 0x10000
+
+static const char usage[] =
+    "usage: rebase_folder [--base HEX] FOLDER OUT\n\n"
+    "Rebases the DLLs of a folder to bases that are apart, in the order of their names, and writes them to another folder.\n"
+    "A DLL that is refused is told of, and left out.\n\n"
+    "  --base HEX  the first base, in hexadecimal; else 10000000\n";
+
+static int is_dll(const struct dirent *entry)
+{
+    size_t len = strlen(entry->d_name);
+    return len >= 4 && strcasecmp(entry->d_name + len - 4, ".dll") == 0;
+}
+
+/* In the order of their bytes, whatever the locale is. */
+static int by_name(const struct dirent **one, const struct dirent **other)
+{
+    return strcmp((*one)->d_name, (*other)->d_name);
+}
+
+/* The path of a name in a folder, to be freed; NULL where memory is refused. */
+static char *path_in(const char *folder, const char *name)
+{
+    size_t room = strlen(folder) + strlen(name) + 2;
+    char *path = (char *)malloc(room);
+    if (path != NULL)
+        snprintf(path, room, "%s/%s", folder, name);
+    return path;
+}
+
+/* Writes a file: whether it could. Where not, that is told on standard error. */
+static bool write_file(const char *path, const uint8_t *bytes, size_t len)
+{
+    FILE *file = fopen(path, "wb");
+    bool is_written = file != NULL && fwrite(bytes, 1, len, file) == len;
+    if (file != NULL && fclose(file) != 0)
+        is_written = false;
+    if (!is_written)
+        perror(path);
+    return is_written;
+}
+
+/* Tells of an image that is refused, which is no failure of this program. */
+static void tell_fault(const char *name, const petool_fault *fault)
+{
+    char line[200];
+    petool_fault_line(fault, line, sizeof line);
+    printf("%s: fault %u: %s\n", name, (unsigned)fault->number, line);
+}
+
+/* The next base behind an image that stands at a base. */
+static uint64_t behind(petool_text file, uint64_t base)
+{
+    petool_headers headers;
+    petool_section none[1];
+    petool_fault fault = {0, 0, 0, 0};
+    if (petool_read_headers(file.at, file.len, &headers, none, 0, &fault) != PETOOL_OK)
+        return base;
+    return base + (headers.size_of_image + (uint64_t)UNIT - 1) / UNIT * UNIT;
+}
+
+/* Writes the file of an image for a base, which then is the one behind it; the exit status. */
+static int rebase(petool_text file, const char *name, const char *out, uint64_t *base)
+{
+    petool_fault fault = {0, 0, 0, 0};
+    uint8_t *moved = (uint8_t *)malloc(file.len + 1);
+    uint32_t status = PETOOL_MEMORY;
+    int answer = 0;
+    if (moved != NULL)
+        status = petool_rebase(file.at, file.len, *base, moved, file.len, &fault);
+    if (status == PETOOL_FAULT)
+        tell_fault(name, &fault);
+    else if (status != PETOOL_OK)
+        answer = refused(name, status, &fault);
+    else if (!write_file(out, moved, file.len))
+        answer = DEVICE_FAILED;
+    else {
+        printf("%s: 0x%" PRIx64 "\n", name, *base);
+        *base = behind(file, *base);
+    }
+    free(moved);
+    return answer;
+}
+
+/* Reads an image of a folder, and writes it to the other one; the exit status. */
+static int rebase_named(const char *folder, const char *out_folder, const char *name, uint64_t *base)
+{
+    petool_text file = PETOOL_NONE;
+    char *path = path_in(folder, name), *out = path_in(out_folder, name);
+    int status;
+    if (path == NULL || out == NULL)
+        status = refused(name, PETOOL_MEMORY, NULL);
+    else
+        status = read_file(path, &file) ? rebase(file, name, out, base) : DEVICE_FAILED;
+    free_bytes(file);
+    free(path);
+    free(out);
+    return status;
+}
+
+/* Goes through a folder, up to the first file that cannot be read or written; the exit status. */
+static int rebase_folder(const char *folder, const char *out_folder, uint64_t base)
+{
+    struct dirent **found = NULL;
+    int count = scandir(folder, &found, is_dll, by_name), status = 0, i;
+    if (count < 0) {
+        perror(folder);
+        return DEVICE_FAILED;
+    }
+    if (mkdir(out_folder, 0777) != 0 && errno != EEXIST) {
+        perror(out_folder);
+        status = DEVICE_FAILED;
+    }
+    for (i = 0; i < count; i++) {
+        if (status == 0)
+            status = rebase_named(folder, out_folder, found[i]->d_name, &base);
+        free(found[i]);
+    }
+    free(found);
+    return status;
+}
+
+int main(int argc, char **argv)
+{
+    uint64_t base = 0x10000000;
+    bool has_base = argc > 1 && strcmp(argv[1], "--base") == 0;
+    int first = has_base ? 3 : 1, status;
+    const char *rest = has_base && argc > 2 ? read_address(argv[2], &base) : "";
+    if (argc == 2 && strcmp(argv[1], "--help") == 0) {
+        fputs(usage, stdout);
+        return 0;
+    }
+    if (argc != first + 2 || rest == NULL || *rest != 0) {
+        fputs(usage, stderr);
+        return BAD_WORDS;
+    }
+    status = rebase_folder(argv[first], argv[first + 1], base);
+    return is_printed() ? status : DEVICE_FAILED;
+}
