@@ -7,6 +7,7 @@ A DLL that is refused is told of on standard error, and counts as no file.
 import argparse
 import pathlib
 import sys
+from typing import Dict, Iterator, Optional, Tuple, Union
 
 import petool
 
@@ -14,17 +15,17 @@ import petool
 MOST_FORWARDERS = 32
 
 
-def module_of(name):
+def module_of(raw: bytes) -> str:
     """The key of a module: its name in lower case, with an extension."""
-    name = name.decode("utf-8", "replace").lower()
+    name = raw.decode("utf-8", "replace").lower()
     return name if "." in name else name + ".dll"
 
 
-def shown(key):
+def shown(key: Union[bytes, int]) -> str:
     return f"#{key}" if isinstance(key, int) else key.decode("utf-8", "replace")
 
 
-def opened(path):
+def opened(path: pathlib.Path) -> Optional[petool.Image]:
     """The image of a file, or None where it is refused, which is told."""
     try:
         return petool.open(path)
@@ -36,12 +37,12 @@ def opened(path):
 class Folder:
     """The images of a folder, each read when it is first asked for."""
 
-    def __init__(self, folder):
-        self.paths = {path.name.lower(): path for path in pathlib.Path(folder).iterdir() if path.is_file()}
-        self.images = {}
+    def __init__(self, folder: pathlib.Path) -> None:
+        self.paths = {path.name.lower(): path for path in folder.iterdir() if path.is_file()}
+        self.images: Dict[str, Optional[petool.Image]] = {}
         self.status = 0
 
-    def image(self, module):
+    def image(self, module: str) -> Optional[petool.Image]:
         """The image of a module, or None where the folder has no such file, or its file is refused."""
         if module not in self.images and module in self.paths:
             self.images[module] = opened(self.paths[module])
@@ -49,7 +50,7 @@ class Folder:
                 self.status = 1
         return self.images.get(module)
 
-    def exporter(self, module, key):
+    def exporter(self, module: str, key: Union[bytes, int]) -> Tuple[str, str]:
         """The module at which a search ends, and what it finds there."""
         for _ in range(MOST_FORWARDERS):
             image = self.image(module)
@@ -63,30 +64,29 @@ class Folder:
             module, key = module_of(target.module), target.key
         return module, "too many forwarders"
 
+    def follow(self, name: str, image: petool.Image) -> Iterator[str]:
+        """Prints a line for each import of an image, and gives the modules to which they lead."""
+        for it in image.imports:
+            module, found = self.exporter(module_of(it.module), it.key)
+            print(f"{name}: {it.module.decode('utf-8', 'replace')} {shown(it.key)} -> {module} {found}")
+            yield module
 
-def follow(folder, name, image):
-    """Prints a line for each import of an image, and gives the modules to which they lead."""
-    for it in image.imports:
-        module, found = folder.exporter(module_of(it.module), it.key)
-        print(f"{name}: {it.module.decode('utf-8', 'replace')} {shown(it.key)} -> {module} {found}")
-        yield module
 
-
-def main():
+def main() -> int:
     arguments = argparse.ArgumentParser(description=__doc__)
     arguments.add_argument("program", type=pathlib.Path)
     arguments.add_argument("folder", type=pathlib.Path)
     words = arguments.parse_args()
-    folder, program = Folder(words.folder), opened(words.program)
+    program, folder = opened(words.program), Folder(words.folder)
     if program is None:
         return 1
     waiting, met = [(words.program.name, program)], set()
     while waiting:
-        name, image = waiting.pop()
-        for module in follow(folder, name, image):
-            if module not in met and folder.image(module) is not None:
+        for module in folder.follow(*waiting.pop()):
+            image = folder.image(module)
+            if image is not None and module not in met:
                 met.add(module)
-                waiting.append((folder.paths[module].name, folder.image(module)))
+                waiting.append((folder.paths[module].name, image))
     return folder.status
 
 

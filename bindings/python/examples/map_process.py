@@ -4,18 +4,19 @@
 import argparse
 import pathlib
 import sys
+from typing import BinaryIO, List, Tuple
 
 import petool
 
 
-def entry_of(word):
+def entry_of(word: str) -> Tuple[str, bytes, int]:
     """The module's name, the bytes and the base of a word BASE=FILE, whose base is hexadecimal."""
-    base, path = word.split("=", 1)
-    path = pathlib.Path(path)
+    base, name = word.split("=", 1)
+    path = pathlib.Path(name)
     return path.name, path.read_bytes(), int(base, 16)
 
 
-def write(space, names, out):
+def write(space: petool.Space, names: List[str], out: BinaryIO) -> None:
     """Writes each image at its place in a file, and prints a line for each."""
     lowest = min(it.base for it in space.images)
     for name, it in zip(names, space.images):
@@ -25,7 +26,7 @@ def write(space, names, out):
     print(f"{len(space.bindings)} slots are bound")
 
 
-def main():
+def main() -> int:
     arguments = argparse.ArgumentParser(description=__doc__)
     arguments.add_argument("out")
     arguments.add_argument("images", nargs="+", metavar="BASE=FILE", type=entry_of)

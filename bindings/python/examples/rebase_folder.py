@@ -13,11 +13,11 @@ import petool
 UNIT = 0x10000
 
 
-def hexadecimal(word):
+def hexadecimal(word: str) -> int:
     return int(word, 16)
 
 
-def main():
+def main() -> None:
     arguments = argparse.ArgumentParser(description=__doc__)
     arguments.add_argument("folder", type=pathlib.Path)
     arguments.add_argument("out", type=pathlib.Path)

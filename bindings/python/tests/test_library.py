@@ -1,7 +1,6 @@
 """The library: its records' layout, how it is found, and the package as a wheel."""
 
 import ctypes
-import importlib.util
 import os
 import re
 import shutil
@@ -42,6 +41,24 @@ def run(code, library):
     return subprocess.run([sys.executable, "-c", code], env=environment, capture_output=True, text=True)
 
 
+def wheel_maker():
+    """A Python that can make a wheel: this one, or the system's; else None."""
+    for python in (sys.executable, "/usr/bin/python3"):
+        words = [python, "-c", "import setuptools, wheel, pip"]
+        if shutil.which(python) and subprocess.run(words, capture_output=True).returncode == 0:
+            return python
+    return None
+
+
+WHEEL_MAKER = wheel_maker()
+
+
+def pip(verb, *words):
+    """Runs pip without the network."""
+    offline = ["--no-index", "--no-deps", "--quiet", "--disable-pip-version-check"]
+    subprocess.run([WHEEL_MAKER, "-m", "pip", verb, *offline, *words], check=True, capture_output=True)
+
+
 class Library(unittest.TestCase):
     def test_layout(self):
         numbers = (TOP / "bindings" / "c" / "layout.c").read_text()
@@ -67,25 +84,18 @@ class Library(unittest.TestCase):
         found = run("import petool", "libc.so.6")
         self.assertIn("ImportError", found.stderr)
 
-    @unittest.skipUnless(importlib.util.find_spec("setuptools") and importlib.util.find_spec("wheel")
-                         and importlib.util.find_spec("pip"), "pip, setuptools or wheel is not here")
+    @unittest.skipUnless(WHEEL_MAKER, "no Python with pip, setuptools and wheel is here")
     def test_wheel(self):
         with tempfile.TemporaryDirectory() as folder:
-            source = os.path.join(folder, "source")
+            source, installed = os.path.join(folder, "source"), os.path.join(folder, "installed")
             shutil.copytree(PACKAGE, source, ignore=shutil.ignore_patterns("tests", "__pycache__"))
             shutil.copy(_library.library._name, os.path.join(source, "petool", "libpetool.so.0"))
-            pip = [sys.executable, "-m", "pip"]
-            offline = ["--no-index", "--no-deps", "--quiet", "--disable-pip-version-check"]
-            wheel = [*pip, "wheel", *offline, "--no-build-isolation", "-w", folder, source]
-            subprocess.run(wheel, check=True, capture_output=True)
+            pip("wheel", "--no-build-isolation", "-w", folder, source)
             made = [it for it in os.listdir(folder) if it.endswith(".whl")]
             self.assertEqual(made, ["petool-1.0-py3-none-linux_x86_64.whl"])
-            installed = os.path.join(folder, "installed")
-            # what is in a wheel is unpacked as it is
-            shutil.unpack_archive(os.path.join(folder, made[0]), installed, "zip")
+            pip("install", "--target", installed, os.path.join(folder, made[0]))
             environment = {it: value for it, value in os.environ.items() if it != "PETOOL_LIBRARY"}
-            code = f"import petool; print(petool.open({str(DATA / 'vb.dll')!r}).exports['g'], petool.__file__)"
             environment["PYTHONPATH"] = installed
+            code = f"import petool; print(petool.open({str(DATA / 'vb.dll')!r}).exports['g'], petool._library.library._name)"
             out = subprocess.run([sys.executable, "-c", code], cwd=folder, env=environment, capture_output=True, text=True)
-            self.assertIn("Rva(rva=4112)", out.stdout, out.stderr)
-            self.assertIn(installed, out.stdout)
+            self.assertEqual(out.stdout, f"Rva(rva=4112) {installed}/petool/libpetool.so.0\n", out.stderr)
