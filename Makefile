@@ -1,16 +1,22 @@
 # Installs petool and libpetool, and builds what is missing by `rt`.
 #
-#   make                                 builds the program and the library
+#   make                                   builds the program and the library
 #   make install [PREFIX=..] [DESTDIR=..]  installs them, with man pages and completions
+#
+# LIBDIR and ZSHDIR name other folders for the library and for zsh's completion. What `rt ci` has left is taken where it is newer than
+# the sources. PROGRAM and CALLS may name a program and an archive of the calls that stand already.
 #
 # All but what `rt` builds, which stands in crates/*/out, is made in $(O), outside the repository.
 
 O ?= $(or $(TMPDIR),/tmp)/petool-build
 PREFIX ?= /usr/local
+LIBDIR ?= $(PREFIX)/lib
+ZSHDIR ?= $(PREFIX)/share/zsh/site-functions
 DESTDIR ?=
 AT := $(DESTDIR)$(PREFIX)
 BIN := $(AT)/bin
-LIB := $(AT)/lib
+LIB := $(DESTDIR)$(LIBDIR)
+ZSH := $(DESTDIR)$(ZSHDIR)
 INCLUDE := $(AT)/include
 SHARE := $(AT)/share
 
@@ -18,11 +24,12 @@ PROGRAM := crates/petool/out/petool
 SOURCES := crates.txt $(shell find crates/*/src crates/*/specs crates/*/proofs -type f)
 SHELLS := bash zsh fish
 
+.DELETE_ON_ERROR:
 .PHONY: all install
 all: $(PROGRAM) $(SHELLS:%=$(O)/completions.%)
-	$(MAKE) -C bindings/c O=$(O)/c PREFIX=$(PREFIX)
+	$(MAKE) -C bindings/c O=$(O)/c PREFIX=$(PREFIX) LIBDIR=$(LIBDIR)
 
-$(PROGRAM): $(SOURCES)
+crates/petool/out/petool: $(SOURCES)
 	cd crates/petool && rt run -- --version
 
 $(O)/completions.%: $(PROGRAM) scripts/completions.py
@@ -31,7 +38,7 @@ $(O)/completions.%: $(PROGRAM) scripts/completions.py
 
 install: all
 	install -d $(BIN) $(LIB)/pkgconfig $(INCLUDE) $(SHARE)/man/man1 $(SHARE)/man/man3 $(SHARE)/doc/petool \
-	    $(SHARE)/bash-completion/completions $(SHARE)/zsh/site-functions $(SHARE)/fish/vendor_completions.d
+	    $(SHARE)/bash-completion/completions $(ZSH) $(SHARE)/fish/vendor_completions.d
 	install -m 755 $(PROGRAM) $(BIN)/petool
 	install -m 644 bindings/c/petool.h $(INCLUDE)/petool.h
 	install -m 644 $(O)/c/libpetool.a $(O)/c/libpetool.so.0 $(LIB)
@@ -41,5 +48,5 @@ install: all
 	install -m 644 man/petool.h.3 $(SHARE)/man/man3/petool.h.3
 	install -m 644 README.md docs/C.md docs/FAULTS.md docs/FORMAT.md docs/JSON.md $(SHARE)/doc/petool
 	install -m 644 $(O)/completions.bash $(SHARE)/bash-completion/completions/petool
-	install -m 644 $(O)/completions.zsh $(SHARE)/zsh/site-functions/_petool
+	install -m 644 $(O)/completions.zsh $(ZSH)/_petool
 	install -m 644 $(O)/completions.fish $(SHARE)/fish/vendor_completions.d/petool.fish
