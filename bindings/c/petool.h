@@ -16,8 +16,9 @@
  * Pointers. They are aligned as their types are, and a result shares no byte with another argument.
  * Threads.  Calls keep nothing but a space, so any number of threads may call at once, also with one file. No call is made from a signal
  *           handler, nor in a forked child of a process with threads.
- * Memory.   All that a call takes it gives back before it returns, but for a space, until that is closed. It calls malloc, realloc and free, which are to align to 16
- *           bytes, and answers PETOOL_MEMORY where these refuse.
+ * Memory.   All that a call takes it gives back before it returns, but for a space, until that is closed. It calls malloc, realloc and
+ *           free, which are to align to 16 bytes, and answers PETOOL_MEMORY where these refuse; petool_object_sections and
+ *           petool_object_symbols then do without.
  *
  * Nothing checks that a caller keeps these rules; what is proved of each call is proved for callers that do.
  */
@@ -272,7 +273,8 @@ typedef struct petool_binding {
 } petool_binding;
 
 /* Judges a set, and tells what each import is bound to. With `known`, an import from a module that is not in the set is no fault.
- * OK; SMALL; FAULT, with the first of the set, and of 50 the length of the cycle of forwarders in *cycle; or MEMORY. */
+ * OK; SMALL; FAULT, with the first of the set, and of 50 the length of the cycle of forwarders in *cycle; or MEMORY, which never comes
+ * where a name has a fault (41, 42), nor of no entries. */
 uint32_t petool_judge(const petool_entry *set, size_t entries, bool known, petool_binding *rows, size_t room, size_t *count,
                       uint32_t *cycle, petool_fault *fault);
 
@@ -362,14 +364,14 @@ static inline void petool_object_symbols_init(petool_object_symbol *rows, size_t
 /* No memory is taken. OK where none of faults 61 to 72 stands, else FAULT. */
 uint32_t petool_object_check(const uint8_t *file, size_t len, petool_fault *fault);
 
-/* OK; SMALL; or FAULT of 61 to 72. */
+/* OK; SMALL; or FAULT of 61 to 72. Memory is taken to remember where names end; where it is refused, a name is searched again. */
 uint32_t petool_object_sections(const uint8_t *file, size_t len, petool_object_section *rows, size_t room, size_t *count,
                                 petool_fault *fault);
 
 uint32_t petool_object_symbols(const uint8_t *file, size_t len, petool_object_symbol *rows, size_t room, size_t *count,
                                petool_fault *fault);
 
-/* Those of one section, counted from 0. As above, or ABSENT where there is no such section. */
+/* Those of one section, counted from 0. OK; SMALL; ABSENT where there is no such section; or FAULT of 61 to 72. No memory is taken. */
 uint32_t petool_object_relocations(const uint8_t *file, size_t len, size_t section, petool_object_relocation *rows, size_t room,
                                    size_t *count, petool_fault *fault);
 
