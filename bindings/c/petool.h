@@ -17,8 +17,8 @@
  * Threads.  Calls keep nothing but a space, so any number of threads may call at once, also with one file. No call is made from a signal
  *           handler, nor in a forked child of a process with threads.
  * Memory.   All that a call takes it gives back before it returns, but for a space, until that is closed. It calls malloc, realloc and
- *           free, which are to align to 16 bytes, and answers PETOOL_MEMORY where these refuse; petool_object_sections and
- *           petool_object_symbols then do without.
+ *           free, which are to align to 16 bytes, and answers PETOOL_MEMORY where these refuse; petool_object_sections,
+ *           petool_object_symbols and petool_object_all_relocations then do without.
  *
  * Nothing checks that a caller keeps these rules; what is proved of each call is proved for callers that do.
  */
@@ -374,6 +374,14 @@ uint32_t petool_object_symbols(const uint8_t *file, size_t len, petool_object_sy
 /* Those of one section, counted from 0. OK; SMALL; ABSENT where there is no such section; or FAULT of 61 to 72. No memory is taken. */
 uint32_t petool_object_relocations(const uint8_t *file, size_t len, size_t section, petool_object_relocation *rows, size_t room,
                                    size_t *count, petool_fault *fault);
+
+/* Those of all sections, section by section, without the first `skipped` of them; the sections' rows tell how many each has.
+ * OK; SMALL; or FAULT of 61 to 72; memory as of the sections. The count is of those behind the skipped ones, and 0 past the last.
+ * Each call judges the whole object, and then takes a step for each section and one for each row that it fills. So whoever wants
+ * all relocations asks here, once, and not for section after section; with fewer rows by windows: the calls skip 0, room,
+ * 2 * room, .. of them, up to the first that answers OK. */
+uint32_t petool_object_all_relocations(const uint8_t *file, size_t len, size_t skipped, petool_object_relocation *rows, size_t room,
+                                       size_t *count, petool_fault *fault);
 
 #ifdef __cplusplus
 } /* extern "C" */

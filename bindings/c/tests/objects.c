@@ -1,4 +1,5 @@
-/* Objects: each call on its good path and in each of its statuses. The values are those of o1.obj and two.obj, made by hand. */
+/* Objects: each call on its good path and in each of its statuses. The values are those of o1.obj, two.obj and an object that
+ * stands here, made by hand. */
 #include "check.h"
 
 static bytes o1, two;
@@ -53,6 +54,102 @@ static void check_relocations(void)
     CHECK(petool_object_relocations(o1.at, 19, 0, rows, 2, &count, &fault) == PETOOL_FAULT && fault.number == 61 && count == 99);
 }
 
+/* An object of three sections, which have two relocations, none and three, and one symbol. */
+static uint8_t three_bytes[] = {
+    /* the COFF header: the symbol table stands at 190 */
+    0x64, 0x86, 3, 0, 0, 0, 0, 0, 190, 0, 0, 0, 1, 0, 0, 0, 0, 0, 0, 0,
+    /* 20: two relocations, at 140 */
+    '.', 'a', 0, 0, 0, 0, 0, 0, 0, 0, 0, 0, 0, 0, 0, 0, 0, 0, 0, 0, 0, 0, 0, 0, 140, 0, 0, 0, 0, 0, 0, 0, 2, 0, 0, 0, 0x20, 0, 0, 0x60,
+    /* 60: none */
+    '.', 'b', 0, 0, 0, 0, 0, 0, 0, 0, 0, 0, 0, 0, 0, 0, 0, 0, 0, 0, 0, 0, 0, 0, 0, 0, 0, 0, 0, 0, 0, 0, 0, 0, 0, 0, 0x20, 0, 0, 0x60,
+    /* 100: three relocations, at 160 */
+    '.', 'c', 0, 0, 0, 0, 0, 0, 0, 0, 0, 0, 0, 0, 0, 0, 0, 0, 0, 0, 0, 0, 0, 0, 160, 0, 0, 0, 0, 0, 0, 0, 3, 0, 0, 0, 0x20, 0, 0, 0x60,
+    /* 140 */
+    1, 0, 0, 0, 0, 0, 0, 0, 4, 0,
+    2, 0, 0, 0, 0, 0, 0, 0, 4, 0,
+    /* 160 */
+    3, 0, 0, 0, 0, 0, 0, 0, 2, 0,
+    4, 0, 0, 0, 0, 0, 0, 0, 3, 0,
+    0x44, 0x33, 0x22, 0x11, 0, 0, 0, 0, 0x34, 0x12,
+    /* 190: the symbol, and an empty string table */
+    'x', 0, 0, 0, 0, 0, 0, 0, 0, 0, 0, 0, 0, 0, 0, 0, 2, 0,
+    4, 0, 0, 0,
+};
+
+/* the relocations of all sections, asked section by section */
+static size_t section_by_section(bytes object, petool_object_relocation *rows, size_t room)
+{
+    petool_fault fault = {0, 0, 0, 0};
+    size_t all = 0;
+    for (size_t section = 0;; section++) {
+        size_t count = 0;
+        uint32_t status = petool_object_relocations(object.at, object.len, section, rows + all, room - all, &count, &fault);
+        if (status == PETOOL_ABSENT)
+            return all;
+        CHECK(status == PETOOL_OK);
+        all += count;
+    }
+}
+
+/* the relocations of all sections, read by windows of so many rows; no row behind a window is written */
+static size_t by_windows(bytes object, size_t room, petool_object_relocation *all)
+{
+    petool_fault fault = {0, 0, 0, 0};
+    size_t skipped = 0;
+    for (;;) {
+        petool_object_relocation rows[9];
+        size_t count = 99;
+        memset(rows, 0x55, sizeof rows);
+        uint32_t status = petool_object_all_relocations(object.at, object.len, skipped, rows, room, &count, &fault);
+        size_t told = count < room ? count : room;
+        CHECK(status == (count > room ? PETOOL_SMALL : PETOOL_OK));
+        CHECK(rows[told].address == 0x55555555 && rows[told].kind == 0x55555555);
+        memcpy(all + skipped, rows, told * sizeof *rows);
+        skipped += told;
+        if (status == PETOOL_OK)
+            return skipped;
+    }
+}
+
+static void check_all_relocations_of(bytes object, size_t expected)
+{
+    petool_object_relocation single[8], all[8];
+    petool_fault fault = {0, 0, 0, 0};
+    memset(single, 0, sizeof single);
+    CHECK(section_by_section(object, single, 8) == expected);
+    for (size_t room = 1; room <= 8; room++) {
+        memset(all, 0, sizeof all);
+        CHECK(by_windows(object, room, all) == expected && memcmp(all, single, sizeof all) == 0);
+    }
+    for (size_t skipped = 0; skipped <= expected + 1; skipped++) {
+        size_t behind = skipped < expected ? expected - skipped : 0, count = 99;
+        uint32_t status = petool_object_all_relocations(object.at, object.len, skipped, all, 0, &count, &fault);
+        CHECK(status == (behind == 0 ? PETOOL_OK : PETOOL_SMALL) && count == behind);
+    }
+    CHECK(fault.number == 0);
+}
+
+static void check_all_relocations(void)
+{
+    bytes three = {three_bytes, sizeof three_bytes};
+    petool_object_relocation rows[2];
+    petool_fault fault = {0, 0, 0, 0};
+    size_t count = 99;
+    check_all_relocations_of(o1, 1);
+    check_all_relocations_of(two, 0);
+    check_all_relocations_of(three, 5);
+
+    memset(rows, 0, sizeof rows);
+    CHECK(petool_object_all_relocations(three.at, three.len, 1, rows, 2, &count, &fault) == PETOOL_SMALL && count == 4);
+    CHECK(rows[0].address == 2 && rows[0].kind == 4 && rows[1].address == 3 && rows[1].kind == 2);
+    CHECK(petool_object_all_relocations(three.at, three.len, 4, rows, 2, &count, &fault) == PETOOL_OK && count == 1);
+    CHECK(rows[0].address == 0x11223344 && rows[0].kind == 0x1234 && rows[1].address == 3);
+    CHECK(petool_object_all_relocations(three.at, three.len, SIZE_MAX, rows, 2, &count, &fault) == PETOOL_OK && count == 0);
+    CHECK(rows[0].address == 0x11223344);
+    count = 99;
+    CHECK(petool_object_all_relocations(o1.at, 19, 0, rows, 2, &count, &fault) == PETOOL_FAULT && fault.number == 61 && count == 99);
+}
+
 static void check_symbols(void)
 {
     petool_object_symbol rows[5];
@@ -81,6 +178,7 @@ int main(int argc, char **argv)
     check_judging();
     check_sections();
     check_relocations();
+    check_all_relocations();
     check_symbols();
     free(o1.at), free(two.at);
     return told();

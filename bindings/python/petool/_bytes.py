@@ -126,6 +126,14 @@ def read_rows(layout: RowLayout, room: int, call: Callable[[int, int, Any], int]
         room = count.value
 
 
+def first_rows(layout: RowLayout, room: int, call: Callable[[int, int, Any], int]) -> memoryview:
+    """The rows that a call fills, so many of them at most."""
+    rows = memoryview(bytearray(layout.blank * room))
+    count = ctypes.c_size_t()
+    call(address_of(rows), room, ctypes.byref(count))
+    return rows[: min(count.value, room) * layout.size].toreadonly()
+
+
 class Rows(AbstractSequence, Generic[Row]):  # type: ignore[type-arg]
     """A sequence over rows as the library filled them: an item is made of its row whenever it is asked for."""
 

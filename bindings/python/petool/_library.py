@@ -114,6 +114,7 @@ _ARGUMENTS: Dict[str, List[Any]] = {
     "petool_object_sections": _FILE + _ROWS + _FAULT,
     "petool_object_symbols": _FILE + _ROWS + _FAULT,
     "petool_object_relocations": [*_FILE, c_size_t, *_ROWS, *_FAULT],
+    "petool_object_all_relocations": [*_FILE, c_size_t, *_ROWS, *_FAULT],
 }
 
 

@@ -3,16 +3,20 @@
 from __future__ import annotations
 
 from dataclasses import dataclass
-from typing import Any, Callable, Optional, Sequence, Tuple
+from itertools import accumulate
+from typing import Any, Callable, List, Optional, Sequence, Tuple
 
 from . import _library
-from ._bytes import OBJECT_RELOCATION, OBJECT_SECTION, OBJECT_SYMBOL, Buffer, FileBytes, RowLayout, Rows, read_rows
+from ._bytes import OBJECT_RELOCATION, OBJECT_SECTION, OBJECT_SYMBOL, Buffer, FileBytes, RowLayout, Rows, first_rows, read_rows
 from ._file import OfFile
 from ._library import library
 
 SECTION_UNDEFINED = 0  #: a symbol's section number that names no section
 SECTION_ABSOLUTE = 0xFFFF
 SECTION_DEBUG = 0xFFFE
+
+#: How many relocations at least are read at once, where there are so many.
+_WINDOW = 4096
 
 
 @dataclass(frozen=True)
@@ -59,6 +63,8 @@ class Object(OfFile):
     def __init__(self, data: Buffer) -> None:
         super().__init__(data)
         self._sections: Optional[Tuple[ObjectSection, ...]] = None
+        self._starts: Optional[List[int]] = None
+        self._window = 0, memoryview(b"")
         self._symbols: Optional[Rows[ObjectSymbol]] = None
         try:
             self._ask(library.petool_object_check)
@@ -85,12 +91,27 @@ class Object(OfFile):
         return self._symbols
 
     def relocations(self, section: int) -> Sequence[ObjectRelocation]:
-        """Those of one section, counted from 0. IndexError where there is no such section."""
+        """Those of one section, counted from 0. IndexError where there is no such section.
+
+        They are read with those of the sections behind it, some thousands at once, so ask for section after section.
+        """
+        if self._starts is None:
+            self._starts = list(accumulate((it.relocation_count for it in self.sections), initial=0))
         if not 0 <= section < len(self.sections):
             raise IndexError("there is no section of this index")
+        start, end = self._starts[section], self._starts[section + 1]
+        size = OBJECT_RELOCATION.size
+        with self._file.hold():
+            first, rows = self._window
+            if start < end and (start < first or first + len(rows) // size < end):
+                room = min(max(end - start, _WINDOW), self._starts[-1] - start)
+                first, rows = self._window = start, self._window_from(start, room)
+        return Rows(rows[(start - first) * size : (end - first) * size], OBJECT_RELOCATION, ObjectRelocation)
+
+    def _window_from(self, skipped: int, room: int) -> memoryview:
+        """Rows of the relocations of all sections, from one on."""
 
         def call(*rows: Any) -> int:
-            return self._ask(library.petool_object_relocations, section, *rows)
+            return self._ask(library.petool_object_all_relocations, skipped, *rows)
 
-        room = self.sections[section].relocation_count
-        return Rows(read_rows(OBJECT_RELOCATION, room, call), OBJECT_RELOCATION, ObjectRelocation)
+        return first_rows(OBJECT_RELOCATION, room, call)

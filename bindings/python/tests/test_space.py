@@ -1,8 +1,10 @@
-"""Sets and spaces: of va.dll, vb.dll and vc.dll one slot is bound, that of c.exe at RVA 0x1030, to RVA 0x1010 of b.dll."""
+"""Sets and spaces: of va.dll, vb.dll and vc.dll one slot is bound, that of c.exe at RVA 0x1030, to RVA 0x1010 of b.dll. Objects."""
 
 import copy
+import struct
 import threading
 import unittest
+from unittest import mock
 
 import petool
 
@@ -14,6 +16,18 @@ BOUND = petool.Binding(2, 0x1030, 1, 0x1010)
 def entries():
     named = [("a.dll", "va.dll", 0x10000000), (b"b.dll", "vb.dll", 0x20000000), ("c.exe", "vc.dll", 0x400000)]
     return [(name, data(file), base) for name, file, base in named]
+
+
+def object_with(counts):
+    """An object of sections with so many relocations each. The address of a relocation is its index among those of all."""
+    at = 20 + 40 * len(counts)
+    header = struct.pack("<HHIIIHH", 0x8664, len(counts), 0, at + 10 * sum(counts), 1, 0, 0)
+    sections = []
+    for count in counts:
+        sections.append(struct.pack("<8s6IHHI", b".a", 0, 0, 0, 0, at, 0, count, 0, 0x60000020))
+        at += 10 * count
+    relocations = [struct.pack("<IIH", address, 0, 4) for address in range(sum(counts))]
+    return b"".join([header, *sections, *relocations, struct.pack("<8sIHHBBI", b"x", 0, 0, 0, 2, 0, 4)])
 
 
 class Sets(unittest.TestCase):
@@ -112,6 +126,29 @@ class Objects(unittest.TestCase):
                     found.relocations(section)
         two = petool.Object(data("two.obj"))
         self.assertEqual([(it.name, it.absent_size) for it in two.sections], [(b".bss", 0x12345678), (b".data", 0)])
+
+    def test_relocations(self):
+        counts = [3000, 0, 1000, 2000, 5000, 0, 1, 65534, 1, 0]
+        starts = [sum(counts[:k]) for k in range(len(counts))]
+        backwards = range(len(counts) - 1, -1, -1)
+        with petool.Object(object_with(counts)) as found:
+            for k in [*range(len(counts)), *backwards, 9, 3, 0, 8, 2, 2, 5]:
+                self.assertEqual([it.address for it in found.relocations(k)], list(range(starts[k], starts[k] + counts[k])))
+            self.assertEqual(found.relocations(3)[-1], petool.ObjectRelocation(5999, 0, 4))
+            with self.assertRaises(IndexError):
+                found.relocations(len(counts))
+        with self.assertRaises(ValueError) as caught:
+            found.relocations(3)
+        self.assertNotIsInstance(caught.exception, petool.FormatFault)
+        with self.assertRaises(IndexError):
+            petool.Object(object_with([])).relocations(0)
+
+    def test_relocations_are_read_by_windows(self):
+        found = petool.Object(object_with([1] * 10000))
+        with mock.patch.object(found, "_window_from", wraps=found._window_from) as window_from:
+            for k in range(10000):
+                self.assertEqual(list(found.relocations(k)), [petool.ObjectRelocation(k, 0, 4)])
+        self.assertEqual(window_from.call_count, 3)
 
     def test_refused(self):
         with self.assertRaises(petool.FormatFault) as caught:

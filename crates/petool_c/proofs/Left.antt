@@ -1,5 +1,5 @@
 -- The items that are left of a list from an index on.
-use Rattle.std.proofs.Common.{◌≡◌, ◌∙◌, ℕ, zero, suc, ◌+◌, ◌≤◌, List, [], ◌∷◌, length, drop, Some, ap, arith}
+use Rattle.std.proofs.Common.{◌≡◌, ◌∙◌, ℕ, zero, suc, ◌+◌, ◌≤◌, List, [], ◌∷◌, length, drop, Some, refl, ap, arith}
 use Rattle.std.specs.Prelude.{slice_get}
 
 from_index : {X : Type 0} (xs : List X) (i : ℕ) (x : X) (rest : List X) → drop i xs ≡ x ∷ rest → (slice_get xs i ≡ Some x) × (drop (suc i) xs ≡ rest)
@@ -20,3 +20,9 @@ pub none_left : {X : Type 0} (xs : List X) (i : ℕ) → drop i xs ≡ [] → le
 none_left [] i e = omega arith
 none_left (y ∷ xs) zero e = absurd cc
 none_left (y ∷ xs) (suc i) e = let shorter = none_left xs i e in omega (arith, shorter)
+
+-- an item that is left stands so much farther in the list
+pub got_left : {X : Type 0} (xs : List X) (n i : ℕ) → slice_get (drop n xs) i ≡ slice_get xs (n + i)
+got_left xs zero i = let here : 0 + i ≡ i = omega arith in rw here refl
+got_left [] (suc n) i = refl
+got_left (x ∷ xs) (suc n) i = let next : suc n + i ≡ suc (n + i) = omega arith in rw next (got_left xs n i)

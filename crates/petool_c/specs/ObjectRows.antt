@@ -1,10 +1,12 @@
 -- Sections and relocations of an object as C has them, with texts and bytes as lists.
 use Rattle.std.specs.Prelude.{◌≡◌, ℕ, List, [], length, Option, None, Some}
+use Rattle.std.specs.List.{flat_map}
+use Rattle.coff_object.specs.Reading.{object_of}
 use Rattle.coff_object.specs.Records.{Raw, Bytes, Absent, Section}
 use Rattle.coff_object.specs.declared.relocation.Relocation.{Relocation}
 use Rattle.petool_c.specs.declared.object.ObjectRelocationRow.{ObjectRelocationRow}
 use Rattle.petool_c.specs.declared.object.ObjectSectionRow.{ObjectSectionRow}
-use Rattle.petool_c.specs.Rows.{TellsTable}
+use Rattle.petool_c.specs.Rows.{Fills, TellsTable}
 
 -- a section, of which the bytes are empty where none stand in the file, and the absent size is 0 where they do
 pub record SectionText : Type 0 where
@@ -48,6 +50,14 @@ section_text row = record {
 
 abbrev pub relocation_row : Relocation → ObjectRelocationRow
 relocation_row r = record { address = r.address; symbol = r.symbol; kind = r.kind }
+
+-- the first rows are those of relocations, and the others are as they were
+abbrev pub FillsRelocations : List Relocation → List ObjectRelocationRow → List ObjectRelocationRow → Type 0
+FillsRelocations relocations rows rows_after = Fills (λ relocation row. row ≡ relocation_row relocation) relocations rows rows_after
+
+-- the relocations of all sections of the object that a file holds, section by section
+unfoldable pub relocations_of : List ℕ → List Relocation
+relocations_of file = flat_map (λ s. s.relocations) (object_of file).sections
 
 -- how the relocations of a section are told, or status 3 and all as it was where there is no section
 abbrev pub TellsRelocations : Option Section → List ObjectRelocationRow → List ObjectRelocationRow → ℕ → ℕ → ℕ → Type 0

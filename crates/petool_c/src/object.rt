@@ -1,11 +1,11 @@
-ghost use Rattle.std.specs.Prelude.{◌≡◌, ◌≢◌, ◌⊎◌, slice_get};
+ghost use Rattle.std.specs.Prelude.{◌≡◌, ◌≢◌, ◌⊎◌, ◌++◌, drop, length, slice_get};
 ghost use Rattle.pe_view.specs.Faults.{first_standing};
 ghost use Rattle.coff_object.specs.FileView.{file_section_view, relocations_view};
 ghost use Rattle.coff_object.specs.ObjectFaults.{object_tests};
 ghost use Rattle.coff_object.specs.ObjectFile.{file_of};
 ghost use Rattle.coff_object.specs.Reading.{object_of};
 ghost use Rattle.petool_c.specs.Faults.{IsRefusedBy};
-ghost use Rattle.petool_c.specs.ObjectRows.{section_text, section_row, relocation_row, TellsRelocations};
+ghost use Rattle.petool_c.specs.ObjectRows.{section_text, section_row, relocation_row, relocations_of, FillsRelocations, TellsRelocations};
 ghost use Rattle.petool_c.specs.Rows.{Fills, TellsTable};
 
 use crate::fault::{FaultRecord, refuse};
@@ -137,13 +137,13 @@ pub extern "C" fn petool_object_sections<'a>(
     table_status(*count, rows.len())
 }
 
-/// Fills the first rows with those of relocations.
-fn put_relocations(rows: &mut [ObjectRelocationRow], relocations: &Relocations)
-    ensures { Fills (λ relocation row. row ≡ relocation_row relocation) (relocations_view relocations.now) rows.old rows.new }
+/// Fills the first rows with those of relocations, without the first of them.
+fn put_relocations(rows: &mut [ObjectRelocationRow], relocations: &Relocations, skipped: usize)
+    ensures { FillsRelocations (drop skipped (relocations_view relocations.now)) rows.old rows.new }
 {
-    let count = rows.len().min(relocations.len());
+    let count = rows.len().min(relocations.len().saturating_sub(skipped));
     for index in 0..count {
-        rows[index] = ObjectRelocationRow::of(relocations.get(index).unwrap());
+        rows[index] = ObjectRelocationRow::of(relocations.get(skipped + index).unwrap());
     }
 }
 
@@ -160,7 +160,7 @@ fn put_section_relocations(
         Some(section) => {
             let relocations = section.relocations;
             *count = relocations.len();
-            put_relocations(rows, &relocations);
+            put_relocations(rows, &relocations, 0);
             table_status(*count, rows.len())
         }
         None => status::ABSENT,
@@ -189,4 +189,68 @@ pub extern "C" fn petool_object_relocations(
         Ok(object) => put_section_relocations(&object, section, rows, count),
         Err(first) => refuse(first, fault),
     }
+}
+
+/// Fills the rows behind those of the relocations of earlier sections, which are so many, with those of a section.
+fn put_more_relocations(
+    rows: &mut [ObjectRelocationRow],
+    earlier: usize,
+    relocations: &Relocations,
+    skipped: usize,
+)
+    ensures { (first : _) (old : _) → length first ≡ earlier → FillsRelocations (drop skipped first) old rows.old
+        → FillsRelocations (drop skipped (first ++ relocations_view relocations.now)) old rows.new }
+{
+    let start = earlier.saturating_sub(skipped).min(rows.len());
+    put_relocations(
+        &mut rows[start..],
+        relocations,
+        skipped.saturating_sub(earlier),
+    );
+}
+
+/// Fills the first rows with those of the relocations of all sections, without the first of them, and counts these.
+fn put_all_relocations(
+    alloc: Global,
+    rows: &mut [ObjectRelocationRow],
+    object: &ObjectFile,
+    skipped: usize,
+) -> usize
+    ensures rows { FillsRelocations (drop skipped (relocations_of (file_of object.now))) rows.old rows.new }
+    ensures count { result ≡ length (drop skipped (relocations_of (file_of object.now))) }
+{
+    let mut earlier: usize = 0;
+    for section in object.each_section(alloc) {
+        put_more_relocations(rows, earlier, &section.relocations, skipped);
+        earlier += section.relocations.len();
+    }
+    earlier.saturating_sub(skipped)
+}
+
+/// Reads the relocations of all sections of an object, section by section, without the first of them, into the caller's rows.
+///
+/// The status is 0; 4 where there are more relocations behind the skipped ones than rows, of which the first are then told; or 1
+/// with the first of faults 61 to 72. The count tells how many relocations there are behind the skipped ones; it and the rows are
+/// left as they were by 1. A skipped relocation is not decoded, and one that finds no row neither. Memory is taken as by
+/// `petool_object_sections`.
+#[unsafe(no_mangle)]
+pub extern "C" fn petool_object_all_relocations(
+    alloc: Global,
+    file: &[u8],
+    skipped: usize,
+    rows: &mut [ObjectRelocationRow],
+    count: &mut usize,
+    fault: &mut FaultRecord,
+) -> u32
+    ensures refused { IsRefusedBy (first_standing (object_tests file.now)) fault.old fault.new result }
+    ensures table { result ≢ 1 → TellsTable (λ row. row) relocation_row (drop skipped (relocations_of file.now)) rows.old rows.new count.new result }
+    ensures rows_kept { result ≡ 1 → rows.new ≡ rows.old }
+    ensures count_kept { result ≡ 1 → count.new ≡ count.old }
+{
+    let object = match ObjectFile::new(file) {
+        Ok(object) => object,
+        Err(first) => return refuse(first, fault),
+    };
+    *count = put_all_relocations(alloc, rows, &object, skipped);
+    table_status(*count, rows.len())
 }

@@ -545,4 +545,13 @@ extern "C" {
         count: *mut usize,
         fault: *mut Fault,
     ) -> u32;
+    pub fn petool_object_all_relocations(
+        file: *const u8,
+        len: usize,
+        skipped: usize,
+        rows: *mut ObjectRelocation,
+        room: usize,
+        count: *mut usize,
+        fault: *mut Fault,
+    ) -> u32;
 }

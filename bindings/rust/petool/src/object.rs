@@ -3,6 +3,10 @@
 use crate::rows::{read_rows, room_of, text_of};
 use crate::{Fault, OutOfMemory, Relocation};
 use petool_sys as sys;
+use std::sync::{Mutex, PoisonError};
+
+/// How many relocations at least are read at once, where there are so many.
+const WINDOW: usize = 4096;
 
 /// A COFF object in which none of faults 61 to 72 stands.
 ///
@@ -12,9 +16,20 @@ use petool_sys as sys;
 /// assert_eq!(object.sections()?[0].name, b".text$long");
 /// # Ok::<(), Box<dyn std::error::Error>>(())
 /// ```
-#[derive(Clone, Copy, Debug)]
+#[derive(Debug)]
 pub struct Object<'a> {
     file: &'a [u8],
+    window: Mutex<Window>,
+}
+
+/// Relocations that stand behind one another among those of all sections.
+#[derive(Debug, Default)]
+struct Window {
+    /// Where those of each section begin among those of all, and last where all end; empty until it is asked.
+    starts: Vec<usize>,
+    /// How many stand before the first row.
+    first: usize,
+    rows: Vec<Relocation>,
 }
 
 /// A section of an object.
@@ -103,7 +118,20 @@ impl<'a> Symbol<'a> {
     }
 }
 
+impl Clone for Object<'_> {
+    fn clone(&self) -> Self {
+        Object::judged(self.file)
+    }
+}
+
 impl<'a> Object<'a> {
+    fn judged(file: &'a [u8]) -> Object<'a> {
+        Object {
+            file,
+            window: Mutex::default(),
+        }
+    }
+
     /// Judges a file. No memory is taken. A status that the library is not to answer is shown as fault 0, which is
     /// none.
     pub fn new(file: &'a [u8]) -> Result<Object<'a>, Fault> {
@@ -111,7 +139,7 @@ impl<'a> Object<'a> {
         // SAFETY: the file is all of a slice, which nobody writes to
         let status = unsafe { sys::petool_object_check(file.as_ptr(), file.len(), &mut fault) };
         match status {
-            sys::PETOOL_OK => Ok(Object { file }),
+            sys::PETOOL_OK => Ok(Object::judged(file)),
             _ => Err(Fault::of(fault)),
         }
     }
@@ -129,19 +157,60 @@ impl<'a> Object<'a> {
     }
 
     /// The relocations of a section, counted from 0; `None` where there is no such section.
+    ///
+    /// They are read with those of the sections behind it, some thousands at once, which are kept until others are read:
+    /// so ask for section after section.
     pub fn relocations(&self, section: usize) -> Result<Option<Vec<Relocation>>, OutOfMemory> {
-        let mut fault = sys::Fault::default();
-        let (at, len) = (self.file.as_ptr(), self.file.len());
-        let read = read_rows(0, Relocation::default(), |rows, count| {
-            // SAFETY: the file is all of a slice, which nobody writes to; the rows are nobody else's
-            unsafe {
-                sys::petool_object_relocations(at, len, section, rows.as_mut_ptr(), rows.len(), count, &mut fault)
-            }
-        });
-        match read {
-            Ok(rows) => Ok(Some(rows)),
-            Err(sys::PETOOL_ABSENT) => Ok(None),
-            Err(_) => Err(OutOfMemory),
+        let mut window = self.window.lock().unwrap_or_else(PoisonError::into_inner);
+        if window.starts.is_empty() {
+            window.starts = self.starts()?;
+        }
+        let Some(&[start, end]) = window.starts.get(section..section.saturating_add(2)) else {
+            return Ok(None);
+        };
+        if start == end {
+            return Ok(Some(Vec::new()));
+        }
+        if start < window.first || window.first + window.rows.len() < end {
+            let behind = window.starts[window.starts.len() - 1] - start;
+            window.rows = self.relocations_from(start, WINDOW.max(end - start).min(behind))?;
+            window.first = start;
+        }
+        let of_section = &window.rows[start - window.first..end - window.first];
+        let mut rows = room_of(Relocation::default(), of_section.len())?;
+        rows.copy_from_slice(of_section);
+        Ok(Some(rows))
+    }
+
+    /// Where the relocations of each section begin among those of all, and where all end.
+    fn starts(&self) -> Result<Vec<usize>, OutOfMemory> {
+        let sections = self.read(sys::ObjectSection::NONE, sys::petool_object_sections)?;
+        let mut starts = room_of(0, sections.len() + 1)?;
+        for (index, section) in sections.iter().enumerate() {
+            starts[index + 1] = starts[index] + section.relocation_count as usize;
+        }
+        Ok(starts)
+    }
+
+    /// The relocations of all sections behind so many, as many as there is room for.
+    fn relocations_from(&self, skipped: usize, room: usize) -> Result<Vec<Relocation>, OutOfMemory> {
+        let mut rows = room_of(Relocation::default(), room)?;
+        let (mut count, mut fault) = (0, sys::Fault::default());
+        // SAFETY: the file is all of a slice, which nobody writes to; the rows are nobody else's
+        let status = unsafe {
+            sys::petool_object_all_relocations(
+                self.file.as_ptr(),
+                self.file.len(),
+                skipped,
+                rows.as_mut_ptr(),
+                rows.len(),
+                &mut count,
+                &mut fault,
+            )
+        };
+        match status {
+            sys::PETOOL_OK | sys::PETOOL_SMALL => Ok(rows),
+            _ => Err(OutOfMemory),
         }
     }
 

@@ -47,6 +47,66 @@ fn relocations_have_the_values_of_the_file() {
     assert_eq!(Object::new(TWO).unwrap().relocations(0), Ok(Some(vec![])));
 }
 
+/// An object of sections with so many relocations each. The address of a relocation is its index among those of all.
+fn object_with(counts: &[u16]) -> Vec<u8> {
+    let all: usize = counts.iter().map(|count| usize::from(*count)).sum();
+    let mut at = 20 + 40 * counts.len();
+    let mut file = vec![0x64, 0x86];
+    file.extend((counts.len() as u16).to_le_bytes());
+    file.extend([0; 4]);
+    file.extend(((at + 10 * all) as u32).to_le_bytes());
+    file.extend([1, 0, 0, 0, 0, 0, 0, 0]);
+    for count in counts {
+        file.extend([b'.', b'a', 0, 0, 0, 0, 0, 0]);
+        file.extend([0; 16]);
+        file.extend((at as u32).to_le_bytes());
+        file.extend([0; 4]);
+        file.extend(count.to_le_bytes());
+        file.extend([0, 0, 0x20, 0, 0, 0x60]);
+        at += 10 * usize::from(*count);
+    }
+    for address in 0..all as u32 {
+        file.extend(address.to_le_bytes());
+        file.extend([0, 0, 0, 0, 4, 0]);
+    }
+    file.extend(*b"x\0\0\0\0\0\0\0\0\0\0\0\0\0\0\0\x02\0");
+    file.extend([4, 0, 0, 0]);
+    file
+}
+
+fn addresses(object: &Object, section: usize) -> Vec<u32> {
+    let relocations = object.relocations(section).unwrap().unwrap();
+    relocations.iter().map(|it| it.address).collect()
+}
+
+#[test]
+fn relocations_are_those_of_their_section_in_any_order() {
+    let counts = [3000, 0, 1000, 2000, 5000, 0, 1, 65534, 1, 0];
+    let file = object_with(&counts);
+    let object = Object::new(&file).unwrap();
+    let mut start = 0;
+    let wanted: Vec<Vec<u32>> = counts
+        .iter()
+        .map(|count| {
+            start += u32::from(*count);
+            (start - u32::from(*count)..start).collect()
+        })
+        .collect();
+    let there_and_back = (0..counts.len()).chain((0..counts.len()).rev());
+    for section in there_and_back.chain([9, 3, 0, 8, 2, 2, 5]) {
+        assert_eq!(addresses(&object, section), wanted[section]);
+        assert_eq!(addresses(&object.clone(), section), wanted[section]);
+    }
+    assert_eq!(object.relocations(counts.len()), Ok(None));
+    assert_eq!(object.relocations(usize::MAX), Ok(None));
+}
+
+#[test]
+fn an_object_without_sections_has_no_relocations() {
+    let file = object_with(&[]);
+    assert_eq!(Object::new(&file).unwrap().relocations(0), Ok(None));
+}
+
 #[test]
 fn symbols_have_the_values_of_the_file() {
     let symbols = Object::new(O1).unwrap().symbols().unwrap();

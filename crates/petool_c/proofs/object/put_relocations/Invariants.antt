@@ -7,6 +7,6 @@ use Rattle.petool_c.proofs.object.put_relocations.Given as goal
 
 abbrev pub invariant-loop-index : goal.invariant-loop-index
 invariant-loop-index l = record {
-  told : (relocation : Relocation) (row : ObjectRelocationRow) (k : ℕ) → k < l.index → get_or l.rows k row ≡ relocation_row (get_or (relocations_view l.relocations) k relocation);
+  told : (relocation : Relocation) (row : ObjectRelocationRow) (k : ℕ) → k < l.index → get_or l.rows k row ≡ relocation_row (get_or (drop l.skipped (relocations_view l.relocations)) k relocation);
   others : drop l.index l.rows ≡ drop l.index l.initial.rows;
 }
