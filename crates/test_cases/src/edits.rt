@@ -11,8 +11,8 @@ const MOST: u64 = 0x1_0000;
 /// Writes bytes over a file, from an offset on; `None` where they do not lie in it.
 fn put(file: &mut [u8], offset: u64, bytes: &[u8]) -> Option<()> {
     let start = usize::try_from(offset).ok()?;
-    let field = file.get_mut(start..)?.get_mut(..bytes.len())?;
-    field.copy_from_slice(bytes);
+    let end = start.checked_add(bytes.len())?;
+    file.get_mut(start..end)?.copy_from_slice(bytes);
     Some(())
 }
 

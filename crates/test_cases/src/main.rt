@@ -1,9 +1,9 @@
-//! Runs the cases that the files `texts`, `sets` and `views` list, and prints what each comes to: the stored output says what that has to
-//! be.
+//! Runs the cases that the files `texts`, `sets` and `views` list, and prints what each comes to: the stored output says what that
+//! has to be.
 //!
 //! A line is a case: a word, and what it is to be run on. Those of `texts` are run over one file, a set or words, and print what an
-//! engine writes or a reader answers; so are those of `views`, pages and lines for scripts; those of `sets` are run over a set, by both spaces and by the slow checker. Empty lines and
-//! those that begin with `#` are for the reader.
+//! engine writes or a reader answers; so are those of `views`, pages and lines for scripts; those of `sets` are run over a set, by
+//! both spaces and by the slow checker. Empty lines and those that begin with `#` are for the reader.
 //!
 //! A word `len=400` cuts a file, or fills it up with zeros, to 0x400 bytes, and a word `0x3c=ffffffff` writes bytes over it. A
 //! word `10000000=a.dll=v1.dll` puts the file `v1.dll` into a set, as the module `a.dll` at a base; the changes behind it are of

@@ -10,10 +10,10 @@ pub(crate) fn number_of(word: &str) -> Option<u64> {
 
 /// Adds the byte of two hexadecimal digits, and answers the text behind them.
 fn push_digits<'a>(bytes: &mut Vec<u8>, text: &'a str) -> Option<&'a str> {
-    bytes
-        .push(u8::from_str_radix(text.get(..2)?, 16).ok()?)
-        .ok()?;
-    text.get(2..)
+    let (digits, rest) = text.split_at_checked(2)?;
+    let byte = u8::from_str_radix(digits, 16).ok()?;
+    bytes.push(byte).ok()?;
+    Some(rest)
 }
 
 /// The bytes of a text in which `\x` and two hexadecimal digits stand for a byte; `None` also where memory is wanted.
