@@ -25,14 +25,15 @@ SOURCES := crates.txt $(shell find crates/*/src crates/*/specs crates/*/proofs -
 SHELLS := bash zsh fish
 
 .DELETE_ON_ERROR:
-.PHONY: all install
+.PHONY: all install anew
 all: $(PROGRAM) $(SHELLS:%=$(O)/completions.%)
 	$(MAKE) -C bindings/c O=$(O)/c PREFIX=$(PREFIX) LIBDIR=$(LIBDIR)
 
 crates/petool/out/petool: $(SOURCES)
 	cd crates/petool && rt run -- --version
 
-$(O)/completions.%: $(PROGRAM) scripts/completions.py
+# anew each time, since another checkout may have made them
+$(O)/completions.%: $(PROGRAM) anew
 	mkdir -p $(O)
 	python3 scripts/completions.py $(PROGRAM) $* > $@
 
