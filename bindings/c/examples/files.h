@@ -62,6 +62,16 @@ static inline const char *name_in(const char *path)
     return slash == NULL ? path : slash + 1;
 }
 
+/* The path of a name in a folder, to be freed; NULL where memory is refused. */
+static inline char *path_in(const char *folder, const char *name)
+{
+    size_t room = strlen(folder) + strlen(name) + 2;
+    char *path = (char *)malloc(room);
+    if (path != NULL)
+        snprintf(path, room, "%s/%s", folder, name);
+    return path;
+}
+
 static inline void print_text(petool_text text)
 {
     fwrite(text.at, 1, text.len, stdout);

@@ -9,6 +9,7 @@
 #include <ctype.h>
 #include <dirent.h>
 #include <strings.h>
+#include <sys/stat.h>
 
 /* a search that passes more forwarders is given up */
 #define MOST_FORWARDERS 32
@@ -109,23 +110,22 @@ static void free_module(module *image)
 
 /* ---- the folder ---- */
 
-/* The path of a name in a folder, to be freed; NULL where memory is refused. */
-static char *path_in(const char *folder_path, const char *name)
+static bool is_file(const char *path)
 {
-    size_t room = strlen(folder_path) + strlen(name) + 2;
-    char *path = (char *)malloc(room);
-    if (path != NULL)
-        snprintf(path, room, "%s/%s", folder_path, name);
-    return path;
+    struct stat found;
+    return stat(path, &found) == 0 && S_ISREG(found.st_mode);
 }
 
-/* Adds a file to those of a folder, whose rows there are enough of: whether there is memory. */
+/* Adds what a folder has under a name to its files, where it is one; there are enough rows. Whether there is memory. */
 static bool add_module(folder *files, const char *folder_path, const char *name)
 {
     char *path = path_in(folder_path, name);
     if (path == NULL)
         return false;
-    set_module(&files->modules[files->count++], path);
+    if (is_file(path))
+        set_module(&files->modules[files->count++], path);
+    else
+        free(path);
     return true;
 }
 

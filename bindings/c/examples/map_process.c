@@ -36,36 +36,50 @@ static uint64_t lowest_base(const petool_entry *set, size_t images)
     return lowest;
 }
 
-/* Writes the bytes of a space from an address on, which all lie in one image: whether it could. */
-static bool write_bytes(petool_space *space, uint64_t address, uint32_t size, FILE *out)
+/* Tells that a file cannot be written, for which errno says why; the exit status. */
+static int unwritten(const char *path)
+{
+    perror(path);
+    return DEVICE_FAILED;
+}
+
+/* Writes the bytes of a space from an address on, which all lie in one image; the exit status. */
+static int write_bytes(petool_space *space, uint64_t address, uint32_t size, const char *path, FILE *out)
 {
     static uint8_t part[0x10000];
     petool_fault fault = {0, 0, 0, 0};
     while (size > 0) {
         uint32_t count = size < sizeof part ? size : (uint32_t)sizeof part;
-        if (petool_space_read(space, address, part, count, &fault) != PETOOL_OK || fwrite(part, 1, count, out) != count)
-            return false;
+        uint32_t status = petool_space_read(space, address, part, count, &fault);
+        if (status != PETOOL_OK)
+            return refused("the space", status, &fault);
+        if (fwrite(part, 1, count, out) != count)
+            return unwritten(path);
         address += count;
         size -= count;
     }
-    return true;
+    return 0;
 }
 
-/* Writes each image at its place in an open file, with a line for each: whether it could. */
-static bool write_images(petool_space *space, const petool_entry *set, size_t images, const char *path, FILE *out)
+/* Writes each image at its place in an open file, with a line for each; the exit status. */
+static int write_images(petool_space *space, const petool_entry *set, size_t images, const char *path, FILE *out)
 {
     uint64_t lowest = lowest_base(set, images);
     size_t i;
     for (i = 0; i < images; i++) {
         uint64_t base = 0, offset = set[i].base - lowest;
         uint32_t size = 0;
+        int status;
         petool_space_image(space, (uint16_t)i, &base, &size);
-        if (fseeko(out, (off_t)offset, SEEK_SET) != 0 || !write_bytes(space, base, size, out))
-            return false;
+        if (fseeko(out, (off_t)offset, SEEK_SET) != 0)
+            return unwritten(path);
+        status = write_bytes(space, base, size, path, out);
+        if (status != 0)
+            return status;
         print_text(set[i].name);
         printf(": 0x%" PRIx64 ", 0x%" PRIx32 " bytes, at 0x%" PRIx64 " of %s\n", base, size, offset, path);
     }
-    return true;
+    return 0;
 }
 
 /* Writes a space to a file; the exit status. */
@@ -74,13 +88,14 @@ static int write_space(petool_space *space, const petool_entry *set, size_t imag
     petool_binding none = {0, 0, 0, 0};
     size_t bound = 0;
     FILE *out = fopen(path, "wb");
-    bool is_written = out != NULL && write_images(space, set, images, path, out);
-    if (out != NULL && fclose(out) != 0)
-        is_written = false;
-    if (!is_written) {
-        perror(path);
-        return DEVICE_FAILED;
-    }
+    int status;
+    if (out == NULL)
+        return unwritten(path);
+    status = write_images(space, set, images, path, out);
+    if (fclose(out) != 0 && status == 0)
+        status = unwritten(path);
+    if (status != 0)
+        return status;
     petool_space_bindings(space, &none, 0, &bound);
     printf("%zu slots are bound\n", bound);
     return 0;

@@ -27,16 +27,6 @@ static int by_name(const struct dirent **one, const struct dirent **other)
     return strcmp((*one)->d_name, (*other)->d_name);
 }
 
-/* The path of a name in a folder, to be freed; NULL where memory is refused. */
-static char *path_in(const char *folder, const char *name)
-{
-    size_t room = strlen(folder) + strlen(name) + 2;
-    char *path = (char *)malloc(room);
-    if (path != NULL)
-        snprintf(path, room, "%s/%s", folder, name);
-    return path;
-}
-
 /* Writes a file: whether it could. Where not, that is told on standard error. */
 static bool write_file(const char *path, const uint8_t *bytes, size_t len)
 {
@@ -57,15 +47,17 @@ static void tell_fault(const char *name, const petool_fault *fault)
     printf("%s: fault %u: %s\n", name, (unsigned)fault->number, line);
 }
 
-/* The next base behind an image that stands at a base. */
+/* The next base behind an image that stands at a base. Where the address space ends it is the last address, where none can stand. */
 static uint64_t behind(petool_text file, uint64_t base)
 {
     petool_headers headers;
     petool_section none[1];
     petool_fault fault = {0, 0, 0, 0};
+    uint64_t size;
     if (petool_read_headers(file.at, file.len, &headers, none, 0, &fault) != PETOOL_OK)
         return base;
-    return base + (headers.size_of_image + (uint64_t)UNIT - 1) / UNIT * UNIT;
+    size = (headers.size_of_image + (uint64_t)UNIT - 1) / UNIT * UNIT;
+    return size > UINT64_MAX - base ? UINT64_MAX : base + size;
 }
 
 /* Writes the file of an image for a base, which then is the one behind it; the exit status. */
