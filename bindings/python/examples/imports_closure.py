@@ -25,29 +25,38 @@ def shown(key: Union[bytes, int]) -> str:
     return f"#{key}" if isinstance(key, int) else key.decode("utf-8", "replace")
 
 
-def opened(path: pathlib.Path) -> Optional[petool.Image]:
-    """The image of a file, or None where it is refused, which is told."""
+def told(path: pathlib.Path, error: OSError) -> int:
+    """Tells why a file or a folder cannot be read; the exit status."""
+    print(f"{path}: {error.strerror}", file=sys.stderr)
+    return 3
+
+
+def opened(path: pathlib.Path) -> Tuple[Optional[petool.Image], int]:
+    """The image of a file, or None where it is refused or cannot be read, which is told; and the exit status for it."""
     try:
-        return petool.open(path)
+        return petool.open(path), 0
     except petool.FormatFault as fault:
         print(f"{path}: {fault}", file=sys.stderr)
-        return None
+        return None, 1
+    except OSError as error:
+        return None, told(path, error)
 
 
 class Folder:
     """The images of a folder, each read when it is first asked for."""
 
     def __init__(self, folder: pathlib.Path) -> None:
-        self.paths = {path.name.lower(): path for path in folder.iterdir() if path.is_file()}
+        paths = sorted(folder.iterdir(), reverse=True)
+        # of names that differ in case alone, the first one counts
+        self.paths = {path.name.lower(): path for path in paths if path.is_file()}
         self.images: Dict[str, Optional[petool.Image]] = {}
-        self.status = 0
+        self.status = 0  # the worst exit status so far
 
     def image(self, module: str) -> Optional[petool.Image]:
         """The image of a module, or None where the folder has no such file, or its file is refused."""
         if module not in self.images and module in self.paths:
-            self.images[module] = opened(self.paths[module])
-            if self.images[module] is None:
-                self.status = 1
+            self.images[module], status = opened(self.paths[module])
+            self.status = max(self.status, status)
         return self.images.get(module)
 
     def exporter(self, module: str, key: Union[bytes, int]) -> Tuple[str, str]:
@@ -72,15 +81,9 @@ class Folder:
             yield module
 
 
-def main() -> int:
-    arguments = argparse.ArgumentParser(description=__doc__)
-    arguments.add_argument("program", type=pathlib.Path)
-    arguments.add_argument("folder", type=pathlib.Path)
-    words = arguments.parse_args()
-    program, folder = opened(words.program), Folder(words.folder)
-    if program is None:
-        return 1
-    waiting, met = [(words.program.name, program)], set()
+def close_over(folder: Folder, name: str, program: petool.Image) -> int:
+    """Follows the imports of a program; the exit status."""
+    waiting, met = [(name, program)], set()
     while waiting:
         for module in folder.follow(*waiting.pop()):
             image = folder.image(module)
@@ -88,6 +91,21 @@ def main() -> int:
                 met.add(module)
                 waiting.append((folder.paths[module].name, image))
     return folder.status
+
+
+def main() -> int:
+    arguments = argparse.ArgumentParser(description=__doc__)
+    arguments.add_argument("program", type=pathlib.Path)
+    arguments.add_argument("folder", type=pathlib.Path)
+    words = arguments.parse_args()
+    program, status = opened(words.program)
+    if program is None:
+        return status
+    try:
+        folder = Folder(words.folder)
+    except OSError as error:
+        return told(words.folder, error)
+    return close_over(folder, words.program.name, program)
 
 
 if __name__ == "__main__":

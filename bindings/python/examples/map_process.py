@@ -11,9 +11,11 @@ import petool
 
 def entry_of(word: str) -> Tuple[str, bytes, int]:
     """The module's name, the bytes and the base of a word BASE=FILE, whose base is hexadecimal."""
-    base, name = word.split("=", 1)
-    path = pathlib.Path(name)
-    return path.name, path.read_bytes(), int(base, 16)
+    digits, name = word.split("=", 1)
+    path, base = pathlib.Path(name), int(digits, 16)
+    if not 0 <= base < 1 << 64:
+        raise ValueError
+    return path.name, path.read_bytes(), base
 
 
 def write(space: petool.Space, names: List[str], out: BinaryIO) -> None:
@@ -43,4 +45,8 @@ def main() -> int:
 
 
 if __name__ == "__main__":
-    sys.exit(main())
+    try:
+        sys.exit(main())
+    except (OSError, OverflowError) as error:  # the second where no file has an offset so high
+        print(f"map_process: {error}", file=sys.stderr)
+        sys.exit(3)
