@@ -4,10 +4,12 @@
 //! A DLL that is refused is told of on standard error, and counts as no file.
 
 use petool::{Image, Key, OutOfMemory, Tables, Target};
+use std::cell::OnceCell;
 use std::collections::{BTreeMap, BTreeSet};
 use std::error::Error;
-use std::path::Path;
-use std::{env, fs, process};
+use std::fmt::Display;
+use std::path::{Path, PathBuf};
+use std::{env, fs, io, process};
 
 const USAGE: &str = "usage: imports_closure PROGRAM FOLDER
 
@@ -17,27 +19,50 @@ A DLL that is refused is told of on standard error, and counts as no file.";
 /// A search that passes more forwarders is given up.
 const MOST_FORWARDERS: usize = 32;
 
-/// A file of the folder.
+/// The program, or a file of the folder: its bytes are read when it is first asked for.
 struct File {
-    name: String,
-    bytes: Vec<u8>,
+    path: PathBuf,
+    bytes: OnceCell<Vec<u8>>,
 }
 
-/// The images of a folder, each judged when it is first asked for. They are found by their names in lower case.
+impl File {
+    fn of(path: PathBuf) -> File {
+        let bytes = OnceCell::new();
+        File { path, bytes }
+    }
+
+    fn name(&self) -> String {
+        self.path.file_name().unwrap_or_default().to_string_lossy().into_owned()
+    }
+
+    /// The image of the file; where it cannot be read or is refused, which is told, the exit status for it.
+    fn image(&self) -> Result<Image<'_>, i32> {
+        let bytes = fs::read(&self.path).map_err(|error| self.tell(3, &error))?;
+        Image::new(self.bytes.get_or_init(|| bytes)).map_err(|error| match error {
+            petool::Error::Fault(fault) => self.tell(1, &format!("fault {}: {fault}", fault.number)),
+            petool::Error::Memory => self.tell(4, &error),
+        })
+    }
+
+    /// Tells what is wrong with the file; the exit status for it.
+    fn tell(&self, status: i32, wrong: &dyn Display) -> i32 {
+        eprintln!("{}: {wrong}", self.path.display());
+        status
+    }
+}
+
+/// The images of a folder, each read when it is first asked for. They are found by their names in lower case.
 struct Folder<'a> {
     files: &'a BTreeMap<String, File>,
-    images: BTreeMap<&'a str, Option<Image<'a>>>,
+    images: BTreeMap<&'a str, Result<Image<'a>, i32>>,
 }
 
 impl<'a> Folder<'a> {
     /// The image of a module, with its key; `None` where the folder has no such file, or its file is refused.
     fn image(&mut self, module: &str) -> Option<(&'a str, Image<'a>)> {
         let (module, file) = self.files.get_key_value(module)?;
-        let judged = self
-            .images
-            .entry(module)
-            .or_insert_with(|| opened(&file.name, &file.bytes));
-        judged.clone().map(|image| (module.as_str(), image))
+        let image = self.images.entry(module).or_insert_with(|| file.image());
+        Some((module, image.clone().ok()?))
     }
 
     /// The module at which a search ends, and what it finds there.
@@ -70,20 +95,11 @@ impl<'a> Folder<'a> {
         }
         Ok(modules)
     }
-}
 
-/// The image of a file's bytes; `None` where it is refused, which is told.
-fn opened<'a>(name: &str, bytes: &'a [u8]) -> Option<Image<'a>> {
-    match Image::new(bytes) {
-        Ok(image) => Some(image),
-        Err(petool::Error::Fault(fault)) => {
-            eprintln!("{name}: fault {}: {fault}", fault.number);
-            None
-        }
-        Err(error) => {
-            eprintln!("{name}: {error}");
-            None
-        }
+    /// The worst exit status of the files that were asked for.
+    fn status(&self) -> i32 {
+        let statuses = self.images.values().filter_map(|image| image.as_ref().err());
+        statuses.max().copied().unwrap_or(0)
     }
 }
 
@@ -111,41 +127,36 @@ fn shown(key: Key<'_>) -> String {
     }
 }
 
-fn name_in(path: &Path) -> String {
-    path.file_name().unwrap_or_default().to_string_lossy().into_owned()
+/// The files of a folder, by their names in lower case. Of names that differ in case alone, the first one counts.
+fn files_of(folder: &Path) -> io::Result<BTreeMap<String, File>> {
+    let paths = fs::read_dir(folder)?.map(|entry| Ok(entry?.path()));
+    let mut paths = paths.collect::<io::Result<Vec<_>>>()?;
+    paths.retain(|path| path.is_file());
+    paths.sort();
+    let files = paths.into_iter().rev().map(File::of);
+    Ok(files.map(|file| (file.name().to_lowercase(), file)).collect())
 }
 
-/// The files of a folder, by their names in lower case.
-fn files_of(folder: &Path) -> Result<BTreeMap<String, File>, Box<dyn Error>> {
-    let mut files = BTreeMap::new();
-    for entry in fs::read_dir(folder)? {
-        let path = entry?.path();
-        if path.is_file() {
-            let (name, bytes) = (name_in(&path), fs::read(&path)?);
-            files.insert(name.to_lowercase(), File { name, bytes });
-        }
-    }
-    Ok(files)
-}
-
-/// Whether no file that was asked for was refused.
-fn run(program: &Path, folder: &Path) -> Result<bool, Box<dyn Error>> {
-    let (bytes, files) = (fs::read(program)?, files_of(folder)?);
-    let Some(image) = opened(&program.to_string_lossy(), &bytes) else {
-        return Ok(false);
+/// The exit status.
+fn run(program: &Path, folder: &Path) -> Result<i32, Box<dyn Error>> {
+    let program = File::of(program.into());
+    let image = match program.image() {
+        Ok(image) => image,
+        Err(status) => return Ok(status),
     };
+    let files = files_of(folder)?;
     let mut folder = Folder {
         files: &files,
         images: BTreeMap::new(),
     };
-    let (mut waiting, mut met) = (vec![(name_in(program), image)], BTreeSet::new());
+    let (mut waiting, mut met) = (vec![(program.name(), image)], BTreeSet::new());
     while let Some((name, image)) = waiting.pop() {
         for module in folder.follow(&name, &image.tables()?)? {
             let image = folder.image(&module).filter(|(module, _)| met.insert(*module));
-            waiting.extend(image.map(|(module, image)| (files[module].name.clone(), image)));
+            waiting.extend(image.map(|(module, image)| (files[module].name(), image)));
         }
     }
-    Ok(folder.images.values().all(Option::is_some))
+    Ok(folder.status())
 }
 
 fn main() {
@@ -158,9 +169,12 @@ fn main() {
         eprintln!("{USAGE}");
         process::exit(2);
     };
-    let is_whole = run(program.as_ref(), folder.as_ref()).unwrap_or_else(|error| {
+    process::exit(run(program.as_ref(), folder.as_ref()).unwrap_or_else(|error| {
         eprintln!("imports_closure: {error}");
-        process::exit(3);
-    });
-    process::exit(i32::from(!is_whole));
+        if error.is::<OutOfMemory>() {
+            4
+        } else {
+            3
+        }
+    }));
 }

@@ -5,8 +5,9 @@
 
 use petool::{Entry, Policy, SetError, Space};
 use std::error::Error;
+use std::fmt::Display;
 use std::io::{Seek, SeekFrom, Write};
-use std::path::{Path, PathBuf};
+use std::path::Path;
 use std::{env, fs, process};
 
 const USAGE: &str = "usage: map_process [--known] OUT BASE=FILE...
@@ -24,14 +25,13 @@ struct Module {
 }
 
 impl Module {
-    /// The module of a word `BASE=FILE`.
-    fn of(word: &str) -> Result<Module, Box<dyn Error>> {
-        let (base, path) = word.split_once('=').ok_or("a word is not BASE=FILE")?;
-        let path = PathBuf::from(path);
+    /// The module of a word `BASE=FILE`; where there is none, which is told, the exit status for it.
+    fn of(word: &str) -> Result<Module, i32> {
+        let (base, path) = parsed(word).ok_or_else(|| tell(2, &format!("{word} is not BASE=FILE")))?;
         Ok(Module {
             name: path.file_name().unwrap_or_default().to_string_lossy().into_owned(),
-            bytes: fs::read(&path)?,
-            base: u64::from_str_radix(base.trim_start_matches("0x"), 16)?,
+            bytes: fs::read(path).map_err(|error| tell(3, &format!("{}: {error}", path.display())))?,
+            base,
         })
     }
 
@@ -42,6 +42,19 @@ impl Module {
             base: self.base,
         }
     }
+}
+
+/// The base and the path of a word `BASE=FILE`.
+fn parsed(word: &str) -> Option<(u64, &Path)> {
+    let (base, path) = word.split_once('=')?;
+    let base = u64::from_str_radix(base.trim_start_matches("0x"), 16).ok()?;
+    Some((base, path.as_ref()))
+}
+
+/// Tells what is wrong; the exit status for it.
+fn tell(status: i32, wrong: &dyn Display) -> i32 {
+    eprintln!("map_process: {wrong}");
+    status
 }
 
 /// Writes each image at its place in a file, and prints a line for each.
@@ -74,19 +87,17 @@ fn refused(modules: &[Module], error: SetError) -> i32 {
             eprintln!("{name}: fault {}: {fault}", fault.number);
             1
         }
-        SetError::Memory => {
-            eprintln!("map_process: out of memory");
-            4
-        }
+        SetError::Memory => tell(4, &error),
     }
 }
 
 /// The exit status.
 fn run(policy: Policy, out: &Path, words: &[String]) -> Result<i32, Box<dyn Error>> {
-    let modules = words
-        .iter()
-        .map(|word| Module::of(word))
-        .collect::<Result<Vec<_>, _>>()?;
+    let modules = words.iter().map(|word| Module::of(word));
+    let modules = match modules.collect::<Result<Vec<_>, _>>() {
+        Ok(modules) => modules,
+        Err(status) => return Ok(status),
+    };
     let set: Vec<_> = modules.iter().map(Module::entry).collect();
     match Space::map(&set, policy) {
         Ok(mut space) => write(&mut space, &modules, out).map(|()| 0),
@@ -108,8 +119,5 @@ fn main() {
         eprintln!("{USAGE}");
         process::exit(2);
     };
-    process::exit(run(policy, out.as_ref(), &rest[1..]).unwrap_or_else(|error| {
-        eprintln!("map_process: {error}");
-        3
-    }));
+    process::exit(run(policy, out.as_ref(), &rest[1..]).unwrap_or_else(|error| tell(3, &error)));
 }

@@ -5,6 +5,7 @@
 
 use petool::Image;
 use std::error::Error;
+use std::ffi::OsStr;
 use std::path::{Path, PathBuf};
 use std::{env, fs, io, process};
 
@@ -23,12 +24,21 @@ const FIRST: u64 = 0x1000_0000;
 fn dlls_of(folder: &Path) -> io::Result<Vec<PathBuf>> {
     let paths = fs::read_dir(folder)?.map(|entry| Ok(entry?.path()));
     let mut paths = paths.collect::<io::Result<Vec<_>>>()?;
-    paths.retain(|path| {
-        path.extension()
-            .is_some_and(|extension| extension.eq_ignore_ascii_case("dll"))
-    });
+    paths.retain(|path| is_dll(path.file_name().unwrap_or_default()));
     paths.sort();
     Ok(paths)
+}
+
+fn is_dll(name: &OsStr) -> bool {
+    name.to_string_lossy().to_lowercase().ends_with(".dll")
+}
+
+/// Makes a folder, in one that stands, where it does not stand already.
+fn make_folder(path: &Path) -> io::Result<()> {
+    match fs::create_dir(path) {
+        Err(error) if error.kind() == io::ErrorKind::AlreadyExists => Ok(()),
+        made => made,
+    }
 }
 
 /// The file of an image for a base, and how many bytes it takes there.
@@ -38,16 +48,17 @@ fn rebased(file: &[u8], base: u64) -> Result<(Vec<u8>, u64), petool::Error> {
 }
 
 fn run(folder: &Path, out: &Path, first: u64) -> Result<(), Box<dyn Error>> {
-    let mut base = first;
-    fs::create_dir_all(out)?;
-    for path in dlls_of(folder)? {
+    let (mut base, paths) = (first, dlls_of(folder)?);
+    make_folder(out)?;
+    for path in paths {
         let name = path.file_name().unwrap_or_default();
         let shown = name.to_string_lossy();
         match rebased(&fs::read(&path)?, base) {
             Ok((moved, size)) => {
                 fs::write(out.join(name), moved)?;
                 println!("{shown}: {base:#x}");
-                base += size.div_ceil(UNIT) * UNIT;
+                // at the last address, where the address space ends, no image can stand
+                base = base.saturating_add(size.div_ceil(UNIT) * UNIT);
             }
             Err(petool::Error::Fault(fault)) => println!("{shown}: fault {}: {fault}", fault.number),
             Err(error) => return Err(error.into()),
