@@ -377,9 +377,9 @@ uint32_t petool_object_relocations(const uint8_t *file, size_t len, size_t secti
 
 /* Those of all sections, section by section, without the first `skipped` of them; the sections' rows tell how many each has.
  * OK; SMALL; or FAULT of 61 to 72; memory as of the sections. The count is of those behind the skipped ones, and 0 past the last.
- * Each call judges the whole object, and then takes a step for each section and one for each row that it fills. So whoever wants
- * all relocations asks here, once, and not for section after section; with fewer rows by windows: the calls skip 0, room,
- * 2 * room, .. of them, up to the first that answers OK. */
+ * Each call judges the whole object, and then takes a step for each section, whose name is searched as petool_object_sections does,
+ * and one for each row that it fills. So whoever wants all relocations asks here, once, and not for section after section; with fewer
+ * rows by windows: the calls skip 0, room, 2 * room, .. of them, up to the first that answers OK. */
 uint32_t petool_object_all_relocations(const uint8_t *file, size_t len, size_t skipped, petool_object_relocation *rows, size_t room,
                                        size_t *count, petool_fault *fault);
 
