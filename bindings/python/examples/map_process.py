@@ -47,6 +47,6 @@ def main() -> int:
 if __name__ == "__main__":
     try:
         sys.exit(main())
-    except (OSError, OverflowError) as error:  # the second where no file has an offset so high
+    except (OSError, ValueError) as error:  # the second where no file has an offset so high
         print(f"map_process: {error}", file=sys.stderr)
         sys.exit(3)
