@@ -9,6 +9,7 @@
 # All but what `rt` builds, which stands in crates/*/out, is made in $(O), outside the repository.
 
 O ?= $(or $(TMPDIR),/tmp)/petool-build
+override O := $(abspath $(O))
 PREFIX ?= /usr/local
 LIBDIR ?= $(PREFIX)/lib
 ZSHDIR ?= $(PREFIX)/share/zsh/site-functions
@@ -21,7 +22,8 @@ INCLUDE := $(AT)/include
 SHARE := $(AT)/share
 
 PROGRAM := crates/petool/out/petool
-SOURCES := crates.txt $(shell find crates/*/src crates/*/specs crates/*/proofs -type f)
+# folders too, whose times tell of a source that was removed
+SOURCES := crates.txt $(shell find crates/*/src crates/*/specs crates/*/proofs)
 SHELLS := bash zsh fish
 
 .DELETE_ON_ERROR:

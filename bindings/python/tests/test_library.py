@@ -54,9 +54,11 @@ WHEEL_MAKER = wheel_maker()
 
 
 def pip(verb, *words):
-    """Runs pip without the network."""
-    offline = ["--no-index", "--no-deps", "--quiet", "--disable-pip-version-check"]
-    subprocess.run([WHEEL_MAKER, "-m", "pip", verb, *offline, *words], check=True, capture_output=True)
+    """Runs pip without the network and the user's settings."""
+    offline = ["--isolated", "--no-index", "--no-deps", "--quiet", "--disable-pip-version-check"]
+    found = subprocess.run([WHEEL_MAKER, "-m", "pip", verb, *offline, *words], capture_output=True, text=True)
+    if found.returncode != 0:
+        raise AssertionError(f"pip {verb} fails: {found.stderr}")
 
 
 class Library(unittest.TestCase):
