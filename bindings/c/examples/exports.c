@@ -52,16 +52,11 @@ static int list(const char *path, petool_text file)
 
 int main(int argc, char **argv)
 {
+    bool helps = asks_for_help(argc, argv);
     petool_text file = PETOOL_NONE;
     int status;
-    if (argc == 2 && strcmp(argv[1], "--help") == 0) {
-        fputs(usage, stdout);
-        return 0;
-    }
-    if (argc != 2) {
-        fputs(usage, stderr);
-        return BAD_WORDS;
-    }
+    if (helps || argc != 2)
+        return tell_usage(usage, helps);
     if (!read_file(argv[1], &file))
         return DEVICE_FAILED;
     status = list(argv[1], file);

@@ -125,6 +125,19 @@ static inline const char *read_address(const char *word, uint64_t *address)
     return errno == 0 ? end : NULL;
 }
 
+/* Whether the one word asks for the usage. */
+static inline bool asks_for_help(int argc, char **argv)
+{
+    return argc == 2 && strcmp(argv[1], "--help") == 0;
+}
+
+/* Prints the usage, which was asked for, or tells it of words that are wrong; the exit status. */
+static inline int tell_usage(const char *usage, bool is_asked)
+{
+    fputs(usage, is_asked ? stdout : stderr);
+    return is_asked ? 0 : BAD_WORDS;
+}
+
 /* Whether all that was printed has been written. */
 static inline bool is_printed(void)
 {

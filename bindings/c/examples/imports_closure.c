@@ -320,15 +320,10 @@ static int run(const char *program_path, const char *folder_path)
 
 int main(int argc, char **argv)
 {
+    bool helps = asks_for_help(argc, argv);
     int status;
-    if (argc == 2 && strcmp(argv[1], "--help") == 0) {
-        fputs(usage, stdout);
-        return 0;
-    }
-    if (argc != 3) {
-        fputs(usage, stderr);
-        return BAD_WORDS;
-    }
+    if (helps || argc != 3)
+        return tell_usage(usage, helps);
     status = run(argv[1], argv[2]);
     return is_printed() ? status : DEVICE_FAILED;
 }

@@ -111,15 +111,10 @@ static int map(char **paths, size_t images)
 
 int main(int argc, char **argv)
 {
+    bool helps = asks_for_help(argc, argv);
     int status;
-    if (argc == 2 && strcmp(argv[1], "--help") == 0) {
-        fputs(usage, stdout);
-        return 0;
-    }
-    if (argc < 2) {
-        fputs(usage, stderr);
-        return BAD_WORDS;
-    }
+    if (helps || argc < 2)
+        return tell_usage(usage, helps);
     status = map(argv + 1, (size_t)argc - 1);
     return is_printed() ? status : DEVICE_FAILED;
 }

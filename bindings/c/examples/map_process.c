@@ -130,16 +130,11 @@ static int map_words(char **words, size_t count, bool known, const char *path)
 
 int main(int argc, char **argv)
 {
+    bool helps = asks_for_help(argc, argv);
     bool known = argc > 1 && strcmp(argv[1], "--known") == 0;
     int first = known ? 2 : 1, status;
-    if (argc == 2 && strcmp(argv[1], "--help") == 0) {
-        fputs(usage, stdout);
-        return 0;
-    }
-    if (argc < first + 2) {
-        fputs(usage, stderr);
-        return BAD_WORDS;
-    }
+    if (helps || argc < first + 2)
+        return tell_usage(usage, helps);
     status = map_words(argv + first + 1, (size_t)(argc - first - 1), known, argv[first]);
     return is_printed() ? status : DEVICE_FAILED;
 }

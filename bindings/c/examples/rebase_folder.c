@@ -123,18 +123,13 @@ static int rebase_folder(const char *folder, const char *out_folder, uint64_t ba
 
 int main(int argc, char **argv)
 {
+    bool helps = asks_for_help(argc, argv);
     uint64_t base = 0x10000000;
     bool has_base = argc > 1 && strcmp(argv[1], "--base") == 0;
     int first = has_base ? 3 : 1, status;
     const char *rest = has_base && argc > 2 ? read_address(argv[2], &base) : "";
-    if (argc == 2 && strcmp(argv[1], "--help") == 0) {
-        fputs(usage, stdout);
-        return 0;
-    }
-    if (argc != first + 2 || rest == NULL || *rest != 0) {
-        fputs(usage, stderr);
-        return BAD_WORDS;
-    }
+    if (helps || argc != first + 2 || rest == NULL || *rest != 0)
+        return tell_usage(usage, helps);
     status = rebase_folder(argv[first], argv[first + 1], base);
     return is_printed() ? status : DEVICE_FAILED;
 }
