@@ -15,7 +15,7 @@ use Rattle.coff_object.specs.Records.{Symbol}
 use Rattle.coff_object.specs.Strings.{record_count, strings_start}
 use Rattle.coff_object.specs.SymbolsLeft.{indexed}
 use Rattle.coff_object.specs.Written.{aux_records}
-use Rattle.coff_object.proofs.WholeTable.{aux_inside, table_stands}
+use Rattle.coff_read.proofs.WholeTable.{aux_inside, table_stands}
 use Rattle.coff_lines.specs.ObjectLines.{symbol_line, aux_line, aux_lines, symbol_lines}
 use Rattle.coff_lines.specs.ObjectPlaces.{aux_record_line, record_lines}
 

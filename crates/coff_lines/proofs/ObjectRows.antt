@@ -3,7 +3,7 @@ use Rattle.std.proofs.Common.{◌≡◌, ℕ, List, [], ◌∷◌, refl, codes}
 use Rattle.std.specs.Fmt.{digits}
 use Rattle.coff_object.specs.Auxiliary as auxiliary
 use Rattle.coff_object.specs.Records.{Bytes, Absent, Section, Symbol}
-use Rattle.coff_object.specs.declared.symbol.SymbolSection.TheVariants as belongs
+use Rattle.coff_read.specs.declared.symbol.SymbolSection.TheVariants as belongs
 use Rattle.pe_text.specs.MachineLine.{machine_line}
 use Rattle.pe_text.specs.Field.{field_line}
 use Rattle.coff_lines.specs.ObjectLines.{section_line, relocation_line, symbol_line, aux_line, object_text}

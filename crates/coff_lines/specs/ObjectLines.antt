@@ -7,9 +7,9 @@ use Rattle.coff_object.specs.Auxiliary.{AuxRecord, aux_of}
 use Rattle.coff_object.specs.Records as object
 use Rattle.coff_object.specs.Records.{Object, Raw, Section, Symbol}
 use Rattle.coff_object.specs.Written.{raw_size, aux_records}
-use Rattle.coff_object.specs.declared.relocation.Relocation.{Relocation}
-use Rattle.coff_object.specs.declared.symbol.SymbolSection.{SymbolSection}
-use Rattle.coff_object.specs.declared.symbol.SymbolSection.TheVariants as belongs
+use Rattle.coff_read.specs.declared.relocation.Relocation.{Relocation}
+use Rattle.coff_read.specs.declared.symbol.SymbolSection.{SymbolSection}
+use Rattle.coff_read.specs.declared.symbol.SymbolSection.TheVariants as belongs
 use Rattle.pe_text.specs.MachineLine.{machine_line}
 use Rattle.pe_text.specs.Field.{field_line, time_date_stamp, characteristics}
 use Rattle.pe_text.specs.Part.{joined, name_text}

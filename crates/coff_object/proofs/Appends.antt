@@ -1,7 +1,7 @@
 -- One piece after another.
 use Rattle.std.proofs.Common.{◌≡◌, ℕ, suc, ◌-◌, List, [], ◌∷◌, ◌++◌, length, ap, ◌∙◌, append_assoc, arith}
 use Rattle.std.specs.Prelude.{replicate}
-use Rattle.coff_object.specs.Names.{decimal_digits, padded}
+use Rattle.coff_read.specs.Names.{decimal_digits, padded}
 
 pub and_then : {X : Type 0} (a b c x y : List X) → b ≡ a ++ x → c ≡ b ++ y → c ≡ a ++ (x ++ y)
 and_then a b c x y first second = second ∙ ap (λ (l : List _). l ++ y) first ∙ append_assoc a x y

@@ -6,7 +6,7 @@ use Rattle.pe_numbers.specs.declared.number.Number.{Number}
 use Rattle.pe_numbers.specs.Numbers.{NumberFits, number_at, numbers_bytes, value_of, width_of}
 use Rattle.pe_numbers.specs.ReadBack.{number_read}
 use Rattle.pe_numbers.specs.StandsAt.{StandsAt, stands_num}
-use Rattle.coff_object.specs.Field.{field}
+use Rattle.coff_read.specs.Field.{field}
 
 -- a number that was written
 pub field_read : (file : List ℕ) (place : ℕ) (ns : List Number) (offset : ℕ) (x : Number) → AllByRecursion NumberFits ns → StandsAt file place (numbers_bytes ns) → number_at ns offset ≡ Some x

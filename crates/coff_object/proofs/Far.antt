@@ -4,11 +4,11 @@ use Rattle.std.specs.Prelude.{position, not, nat_lt}
 use Rattle.std.specs.List.{prefix_len}
 use Rattle.std.proofs.lemmas.Bool.{cases_Bool, ltb-false}
 use Rattle.std.proofs.lemmas.List.{length-map}
-use Rattle.coff_object.specs.Names.{is_long_section_name}
+use Rattle.coff_read.specs.Names.{is_long_section_name}
 use Rattle.coff_object.specs.NamePlaces.{place_of, section_places}
-use Rattle.coff_object.specs.Records.{Section}
+use Rattle.coff_read.specs.Records.{Section}
 use Rattle.coff_object.specs.StringTableView.{counted}
-use Rattle.coff_object.specs.Strings.{offset_of}
+use Rattle.coff_read.specs.Strings.{offset_of}
 use Rattle.coff_object.specs.WriteFaults.{is_far}
 
 far-counted : (n : ℕ) → nat_lt 9999999 (counted n) ≡ nat_lt 9999999 n

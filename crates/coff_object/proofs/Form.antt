@@ -4,8 +4,8 @@ use Rattle.std.specs.Prelude.{not, nat_lt, ◌==◌, ◌||◌}
 use Rattle.std.specs.List.{flat_map, AllByRecursion}
 use Rattle.std.proofs.lemmas.Bool.{cases_Bool, or_parts, ltb-false}
 use Rattle.pe_view.specs.Faults.{first_standing}
-use Rattle.coff_object.specs.Records.{Symbol, Object}
-use Rattle.coff_object.specs.Strings.{string_bytes}
+use Rattle.coff_read.specs.Records.{Symbol, Object}
+use Rattle.coff_read.specs.Strings.{string_bytes}
 use Rattle.coff_object.specs.Writable.{IsWritable}
 use Rattle.coff_object.specs.WriteFaults.{is_bad_number, is_bad_symbol, write_tests}
 use Rattle.coff_object.specs.Written.{strings_of, section_body, section_table, symbol_bytes, aux_records, bodies_start, has_strings, coff_header, string_table, canon}

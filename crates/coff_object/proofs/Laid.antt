@@ -3,7 +3,7 @@ use Rattle.std.proofs.Common.{◌≡◌, ℕ, ◌+◌, ◌*◌, false, List, [],
 use Rattle.std.specs.List.{flat_map, AllByRecursion}
 use Rattle.pe_numbers.specs.Numbers.{number_bytes}
 use Rattle.pe_numbers.specs.StandsAt.{StandsAt, stands_whole, stands-front, stands-back}
-use Rattle.coff_object.specs.Records.{Section, Symbol, Object}
+use Rattle.coff_read.specs.Records.{Section, Symbol, Object}
 use Rattle.coff_object.specs.WriteFaults.{is_far, is_bad_symbol}
 use Rattle.coff_object.specs.Written.{strings_of, section_body, section_table, symbol_bytes, records_of, bodies_start, symbols_start, coff_header, string_table, canon}
 use Rattle.coff_object.proofs.SectionsBack.{length-table}

@@ -1,6 +1,5 @@
 pub mod Appends
 pub mod Bytes
-pub mod Digits
 pub mod Far
 pub mod Form
 pub mod Items
@@ -11,17 +10,11 @@ pub mod NameFields
 pub mod NamePlaces
 pub mod Offsets
 pub mod ReadBack
-pub mod RecordPlaces
 pub mod RelocationsBack
 pub mod Rows
 pub mod SectionsBack
 pub mod Sizes
-pub mod StringPlaces
 pub mod StringTable
-pub mod SymbolSteps
 pub mod SymbolsBack
-pub mod TextsEnd
-pub mod Walk
-pub mod WholeTable
 pub mod Writable
 pub mod WrittenSize

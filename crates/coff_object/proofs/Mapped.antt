@@ -1,13 +1,9 @@
--- A test over the elements that a view makes of a list's.
+-- The first of the elements that a view makes of a list's.
 use Rattle.std.proofs.Common.{◌≡◌, ℕ, ◌+◌, Bool, cond, sym, List, [], ◌∷◌, Some, None, refl, ap, ◌∙◌, inl, inr}
-use Rattle.std.specs.Prelude.{map, position, not, nat_lt, length, ◌||◌}
-use Rattle.std.specs.List.{list_any, prefix_len}
+use Rattle.std.specs.Prelude.{map, position, not, nat_lt, length}
+use Rattle.std.specs.List.{prefix_len}
 use Rattle.std.proofs.lemmas.List.{length-map}
 use Rattle.std.proofs.lemmas.Bool.{cases_Bool}
-
-pub any-map : {X Y : Type 0} (view : X → Y) (test : Y → Bool) (xs : List X) → list_any (λ x. test (view x)) xs ≡ list_any test (map view xs)
-any-map view test [] = refl
-any-map view test (x ∷ xs) = ap (λ (b : Bool). test (view x) || b) (any-map view test xs)
 
 prefix-map : {X Y : Type 0} (view : X → Y) (test : Y → Bool) (xs : List X) → prefix_len (λ x. test (view x)) xs ≡ prefix_len test (map view xs)
 prefix-map view test [] = refl

@@ -7,9 +7,10 @@ use Rattle.std.specs.Int.Digits.{digits_of, number_from_digits_after, number_fro
 use Rattle.std.proofs.lemmas.Bool.{lt-ltb, le-leb, ne_eqb}
 use Rattle.std.proofs.lemmas.List.{length-replicate, length-map, drop_at, append-nil}
 use Rattle.std.proofs.lemmas.Int.Digits.{number_digits_of, all_below_base_digits_of, length-digits_of-le}
-use Rattle.coff_object.specs.Names.{up_to_zero, decimal_digits, is_digit, decimal_value, is_number_field, name_offset, padded, begins_with_slash}
+use Rattle.coff_read.specs.Names.{up_to_zero, decimal_digits, is_digit, decimal_value, is_number_field, name_offset, padded, begins_with_slash}
 use Rattle.coff_object.specs.WriteFaults.{has_zero}
-use Rattle.coff_object.proofs.StringTable.{zero_ended-behind, zero_ended-open}
+use Rattle.coff_read.proofs.StringPlaces.{zero_ended-behind}
+use Rattle.coff_object.proofs.StringTable.{zero_ended-open}
 
 -- a text without a zero byte, before any number of them
 pub up_to_zero-filled : (text : List ℕ) (n : ℕ) → has_zero text ≡ false → up_to_zero (text ++ replicate n 0) ≡ text

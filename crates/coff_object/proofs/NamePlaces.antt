@@ -7,16 +7,16 @@ use Rattle.std.proofs.lemmas.List.{drop_all, length-map}
 use Rattle.pe_numbers.specs.declared.number.Number.TheVariants.{U32}
 use Rattle.pe_numbers.specs.Numbers.{numbers_bytes}
 use Rattle.coff_object.specs.NamePlaces.{place_of, section_places, symbol_places}
-use Rattle.coff_object.specs.Strings.{is_among, with_string, with_strings, offset_from, offset_of, string_bytes}
-use Rattle.coff_object.specs.Names.{decimal_digits, padded, is_long, is_long_section_name}
-use Rattle.coff_object.specs.Records.{Section, Object}
+use Rattle.coff_read.specs.Strings.{is_among, with_string, with_strings, offset_from, offset_of, string_bytes}
+use Rattle.coff_read.specs.Names.{decimal_digits, padded, is_long, is_long_section_name}
+use Rattle.coff_read.specs.Records.{Section, Object}
 use Rattle.coff_object.specs.StringTableView.{counted}
 use Rattle.coff_object.specs.Written.{long_section_names, long_symbol_names, section_name_at, symbol_name_at, strings_of}
 use Rattle.coff_object.proofs.Listed.{items_left, get_or_map}
 use Rattle.coff_object.proofs.Offsets.{offset-ge}
 use Rattle.coff_object.proofs.Writable.{offset-le}
-use Rattle.coff_object.specs.declared.symbol.Symbol.{Symbol}
-use Rattle.coff_object.specs.declared.symbol.SymbolSection.TheVariants.{Undefined}
+use Rattle.coff_read.specs.declared.symbol.Symbol.{Symbol}
+use Rattle.coff_read.specs.declared.symbol.SymbolSection.TheVariants.{Undefined}
 use Rattle.coff_object.proofs.StringTable.{equal_bytes, in-all, in-first, in-new}
 
 offset-before : (at : ℕ) (texts more : List (List ℕ)) (text : List ℕ) → is_among text texts ≡ true → offset_from at (texts ++ more) text ≡ offset_from at texts text

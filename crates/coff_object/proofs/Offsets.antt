@@ -8,7 +8,7 @@ use Rattle.std.proofs.lemmas.Bool.{cases_Bool, or_parts}
 use Rattle.std.proofs.lemmas.List.{map-append}
 use Rattle.std.proofs.lemmas.List.Concat.{flat_map-append}
 use Rattle.indexmap.specs.IndexSet.{insert_key}
-use Rattle.coff_object.specs.Strings.{is_among, offset_from, string_bytes}
+use Rattle.coff_read.specs.Strings.{is_among, offset_from, string_bytes}
 use Rattle.coff_object.specs.declared.string_table.Text.{Text}
 use Rattle.coff_object.specs.StringTableView.{counted, texts_of, offsets_from, IsTable}
 use Rattle.coff_object.proofs.StringTable.{equal_bytes}

@@ -9,11 +9,11 @@ use Rattle.pe_numbers.specs.declared.number.Number.{Number}
 use Rattle.pe_numbers.specs.declared.number.Number.TheVariants.{U16, U32}
 use Rattle.pe_numbers.specs.Numbers.{NumberFits, number_bytes, numbers_bytes, number_at}
 use Rattle.pe_numbers.specs.StandsAt.{StandsAt, stands-front, stands-back, stands_part}
-use Rattle.coff_object.specs.Field.{field}
-use Rattle.coff_object.specs.ObjectFaults.{is_other_file, is_cut_table, header_tests, symbol_table_tests, section_tests, symbol_tests, relocation_tests, record_tests, object_tests, IsObjectOf}
-use Rattle.coff_object.specs.Reading.{section_in, section_start, section_starts, symbol_at, record_start, symbols_from, symbol_indexes}
-use Rattle.coff_object.specs.Records.{Section, Symbol, Object, Fits}
-use Rattle.coff_object.specs.Strings.{is_among, symbol_pointer, record_count, strings_start, strings_size, string_bytes}
+use Rattle.coff_read.specs.Field.{field}
+use Rattle.coff_read.specs.ObjectFaults.{is_other_file, is_cut_table, header_tests, symbol_table_tests, section_tests, symbol_tests, relocation_tests, record_tests, object_tests, IsObjectOf}
+use Rattle.coff_read.specs.Reading.{section_in, section_start, section_starts, symbol_at, record_start, symbols_from, symbol_indexes}
+use Rattle.coff_read.specs.Records.{Section, Symbol, Object, Fits}
+use Rattle.coff_read.specs.Strings.{is_among, symbol_pointer, record_count, strings_start, strings_size, string_bytes}
 use Rattle.coff_object.specs.WriteFaults.{write_tests}
 use Rattle.coff_object.specs.Written.{strings_of, section_table, symbol_bytes, records_of, bodies_start, symbols_start, has_strings, header_numbers, coff_header, string_table, canon}
 use Rattle.coff_object.proofs.Bytes.{field_read}

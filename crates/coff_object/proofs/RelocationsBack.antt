@@ -8,13 +8,13 @@ use Rattle.pe_numbers.specs.declared.number.Number.{Number}
 use Rattle.pe_numbers.specs.declared.number.Number.TheVariants.{U16, U32}
 use Rattle.pe_numbers.specs.Numbers.{NumberFits, number_bytes, number_at}
 use Rattle.pe_numbers.specs.StandsAt.{StandsAt, stands-front, stands-back}
-use Rattle.coff_object.specs.Field.{field}
-use Rattle.coff_object.specs.ObjectFaults.{relocation_test}
-use Rattle.coff_object.specs.Reading.{relocation_at}
-use Rattle.coff_object.specs.Records.{RelocationFits}
-use Rattle.coff_object.specs.Strings.{record_count}
+use Rattle.coff_read.specs.Field.{field}
+use Rattle.coff_read.specs.ObjectFaults.{relocation_test}
+use Rattle.coff_read.specs.Reading.{relocation_at}
+use Rattle.coff_read.specs.Records.{RelocationFits}
+use Rattle.coff_read.specs.Strings.{record_count}
 use Rattle.coff_object.specs.Written.{relocation_numbers, relocation_bytes}
-use Rattle.coff_object.specs.declared.relocation.Relocation.{Relocation}
+use Rattle.coff_read.specs.declared.relocation.Relocation.{Relocation}
 use Rattle.coff_object.proofs.Bytes.{field_read}
 
 same_relocation : (a b c d e f : ℕ) → a ≡ b → c ≡ d → e ≡ f

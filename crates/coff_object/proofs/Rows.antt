@@ -5,13 +5,13 @@ use Rattle.pe_view.specs.Faults.{first_standing}
 use Rattle.pe_view.specs.declared.fault.Fault.{Fault}
 use Rattle.pe_view.specs.declared.fault.Place.TheVariants.{File, Item}
 use Rattle.pe_numbers.specs.Numbers.{number_bytes}
-use Rattle.coff_object.specs.Field.{field}
-use Rattle.coff_object.specs.ObjectFaults.{record_tests, object_tests}
-use Rattle.coff_object.specs.Reading.{object_of}
-use Rattle.coff_object.specs.Records.{Section, Symbol, Object, Bytes}
+use Rattle.coff_read.specs.Field.{field}
+use Rattle.coff_read.specs.ObjectFaults.{record_tests, object_tests}
+use Rattle.coff_read.specs.Reading.{object_of}
+use Rattle.coff_read.specs.Records.{Section, Symbol, Object, Bytes}
 use Rattle.coff_object.specs.WriteFaults.{write_tests}
 use Rattle.coff_object.specs.Written.{strings_of, canon}
-use Rattle.coff_object.specs.declared.symbol.SymbolSection.TheVariants as belongs
+use Rattle.coff_read.specs.declared.symbol.SymbolSection.TheVariants as belongs
 
 abbrev pub o1 : Object
 o1 = record {

@@ -11,15 +11,15 @@ use Rattle.pe_numbers.specs.declared.number.Number.{Number}
 use Rattle.pe_numbers.specs.declared.number.Number.TheVariants.{U16, U32}
 use Rattle.pe_numbers.specs.Numbers.{NumberFits, number_bytes, number_at}
 use Rattle.pe_numbers.specs.StandsAt.{StandsAt, stands-front, stands-back, stands_part, stands_inside}
-use Rattle.coff_object.specs.Field.{field}
-use Rattle.coff_object.specs.Names.{section_name, section_text, name_offset, decimal_digits, padded, is_long, begins_with_slash, is_long_section_name}
-use Rattle.coff_object.specs.ObjectFaults.{section_tests, relocation_tests, relocation_test}
-use Rattle.coff_object.specs.Reading.{relocation_at, relocation_start, raw_at, is_absent, section_in}
-use Rattle.coff_object.specs.Records.{Raw, Bytes, Absent, RawFits, Section, SectionFits, RelocationsFit, RelocationFits}
-use Rattle.coff_object.specs.Strings.{is_among, record_count, offset_of}
+use Rattle.coff_read.specs.Field.{field}
+use Rattle.coff_read.specs.Names.{section_name, section_text, name_offset, decimal_digits, padded, is_long, begins_with_slash, is_long_section_name}
+use Rattle.coff_read.specs.ObjectFaults.{section_tests, relocation_tests, relocation_test}
+use Rattle.coff_read.specs.Reading.{relocation_at, relocation_start, raw_at, is_absent, section_in}
+use Rattle.coff_read.specs.Records.{Raw, Bytes, Absent, RawFits, Section, SectionFits, RelocationsFit, RelocationFits}
+use Rattle.coff_read.specs.Strings.{is_among, record_count, offset_of}
 use Rattle.coff_object.specs.WriteFaults.{has_zero, is_far, has_many_relocations, is_bad_raw, is_bad_section}
 use Rattle.coff_object.specs.Written.{raw_bytes, raw_size, pointer_to, section_body, section_name_field, section_numbers, section_fields, section_header, section_table, relocation_bytes}
-use Rattle.coff_object.specs.declared.relocation.Relocation.{Relocation}
+use Rattle.coff_read.specs.declared.relocation.Relocation.{Relocation}
 use Rattle.coff_object.proofs.Bytes.{field_read-behind}
 use Rattle.coff_object.proofs.NameFields.{up_to_zero-filled, length-padded, inline_offset, length-decimal, long_offset}
 use Rattle.coff_object.proofs.RelocationsBack.{relocations_read, relocations_accepted}

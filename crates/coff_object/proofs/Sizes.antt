@@ -4,15 +4,15 @@ use Rattle.std.specs.Prelude.{map, filter}
 use Rattle.std.specs.List.{flat_map}
 use Rattle.std.proofs.lemmas.Bool.{cases_Bool}
 use Rattle.std.proofs.lemmas.List.{drop_more, drop_all}
-use Rattle.coff_object.specs.ObjectView.{section_view, symbol_view}
-use Rattle.coff_object.specs.Records as format
+use Rattle.coff_read.specs.ObjectView.{section_view, symbol_view}
+use Rattle.coff_read.specs.Records as format
 use Rattle.coff_object.specs.StringTableView.{counted}
-use Rattle.coff_object.specs.Strings.{with_strings}
+use Rattle.coff_read.specs.Strings.{with_strings}
 use Rattle.coff_object.specs.Written.{relocation_bytes}
-use Rattle.coff_object.specs.declared.relocation.Relocation.{Relocation}
+use Rattle.coff_read.specs.declared.relocation.Relocation.{Relocation}
 use Rattle.coff_object.proofs.SectionsBack.{length-relocations}
-use Rattle.coff_object.specs.declared.section.ObjSection.{ObjSection}
-use Rattle.coff_object.specs.declared.symbol.Symbol.{Symbol}
+use Rattle.coff_read.specs.declared.section.ObjSection.{ObjSection}
+use Rattle.coff_read.specs.declared.symbol.Symbol.{Symbol}
 
 -- one name, and the names behind it
 pub strings_more : {X : Type 0} (test : List ℕ → Bool) (name : X → List ℕ) (texts : List (List ℕ)) (xs : List X) (i : ℕ) (x : X) → i < length xs

@@ -7,8 +7,9 @@ use Rattle.std.proofs.lemmas.List.Folds.{list_any-append}
 use Rattle.std.proofs.lemmas.Slice.Eq.{bytes_eq-Decides}
 use Rattle.pe_view.specs.Text.{zero_ended}
 use Rattle.pe_numbers.specs.StandsAt.{StandsAt, stands-back, stands_part, stands_inside}
-use Rattle.coff_object.specs.Strings.{is_among, string_at, strings_start, strings_size, with_string, with_strings, offset_from, offset_of, string_bytes}
+use Rattle.coff_read.specs.Strings.{is_among, string_at, strings_start, strings_size, with_string, with_strings, offset_from, offset_of, string_bytes}
 use Rattle.coff_object.specs.WriteFaults.{has_zero}
+use Rattle.coff_read.proofs.StringPlaces.{zero_ended-behind}
 
 pub same_bytes : (a b : List ℕ) → bytes_eq a b ≡ true → a ≡ b
 same_bytes a b e = (bytes_eq-Decides a b).0 e
@@ -79,14 +80,6 @@ is_stored at (t ∷ table) text is = elim (cases_Bool (bytes_eq text t)) [
             rw other (omega arith));
       })
 ]
-
--- a text without a zero byte ends at the zero byte behind it
-pub zero_ended-behind : (text rest : List ℕ) → has_zero text ≡ false → zero_ended (text ++ 0 ∷ rest) ≡ Some text
-zero_ended-behind [] rest none = refl
-zero_ended-behind (zero ∷ text) rest none = absurd cc
-zero_ended-behind (suc b ∷ text) rest none =
-    let later : has_zero text ≡ false = (or_parts (suc b == 0) (has_zero text) none).1 in
-    rw (zero_ended-behind text rest later) refl
 
 -- a text without a zero byte has no end
 pub zero_ended-open : (text : List ℕ) → has_zero text ≡ false → zero_ended text ≡ None

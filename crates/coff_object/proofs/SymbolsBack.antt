@@ -11,16 +11,17 @@ use Rattle.pe_numbers.specs.declared.number.Number.{Number}
 use Rattle.pe_numbers.specs.declared.number.Number.TheVariants.{U8, U16, U32}
 use Rattle.pe_numbers.specs.Numbers.{NumberFits, number_bytes, numbers_bytes, number_at}
 use Rattle.pe_numbers.specs.StandsAt.{StandsAt, stands-front, stands-back, stands_part}
-use Rattle.coff_object.specs.Field.{field}
-use Rattle.coff_object.specs.Names.{symbol_name, padded, is_long}
-use Rattle.coff_object.specs.ObjectFaults.{symbol_tests}
-use Rattle.coff_object.specs.Reading.{symbol_at, section_of_number, record_start, aux_count, symbols_from}
-use Rattle.coff_object.specs.Records.{Symbol, SymbolFits}
-use Rattle.coff_object.specs.Strings.{is_among, record_count, string_at, offset_of}
+use Rattle.coff_read.specs.Field.{field}
+use Rattle.coff_read.specs.Names.{symbol_name, padded, is_long}
+use Rattle.coff_read.specs.ObjectFaults.{symbol_tests}
+use Rattle.coff_read.specs.Reading.{symbol_at, section_of_number, record_start, aux_count, symbols_from}
+use Rattle.coff_read.specs.Records.{Symbol, SymbolFits}
+use Rattle.coff_read.specs.Strings.{is_among, record_count, string_at, offset_of}
 use Rattle.coff_object.specs.WriteFaults.{has_zero, is_bad_number, is_bad_symbol}
 use Rattle.coff_object.specs.Written.{symbol_name_field, section_number, aux_records, symbol_numbers, symbol_fields, symbol_bytes, records_of}
-use Rattle.coff_object.specs.declared.symbol.SymbolSection.{SymbolSection}
-use Rattle.coff_object.specs.declared.symbol.SymbolSection.TheVariants as belongs
+use Rattle.coff_read.specs.declared.symbol.SymbolSection.{SymbolSection}
+use Rattle.coff_read.specs.declared.symbol.SymbolSection.TheVariants as belongs
+use Rattle.coff_read.proofs.Walk.{symbols-step}
 use Rattle.coff_object.proofs.Bytes.{field_read, field_read-behind, field_in}
 use Rattle.coff_object.proofs.NameFields.{up_to_zero-filled, length-padded}
 use Rattle.coff_object.proofs.StringTable.{HasStrings, is_stored, string_read}
@@ -161,22 +162,6 @@ symbol_read file strings count at s w has table =
       aux = aux_count_is;
       number = ap (λ (n : ℕ). nat_lt count n && nat_lt n 0xfffe) number_is ∙ number_accepted count s.section parts.0;
     }
-
--- auxiliary records begin no symbol
-pub symbols-skip : (file : List ℕ) (k left skip : ℕ) → symbols_from file k (skip + left) skip ≡ symbols_from file (k + skip) left 0
-symbols-skip file k left zero =
-    let a : 0 + left ≡ left = omega arith in
-    let b : k ≡ k + 0 = omega arith in
-    ap (λ (n : ℕ). symbols_from file k n 0) a ∙ ap (λ (n : ℕ). symbols_from file n left 0) b
-symbols-skip file k left (suc skip) =
-    let a : suc skip + left ≡ suc (skip + left) = omega arith in
-    let b : k + 1 + skip ≡ k + suc skip = omega arith in
-    ap (λ (n : ℕ). symbols_from file k n (suc skip)) a ∙ symbols-skip file (k + 1) left skip ∙ ap (λ (n : ℕ). symbols_from file n left 0) b
-
-pub symbols-step : (file : List ℕ) (k left : ℕ) → symbols_from file k (1 + aux_count file k + left) 0 ≡ k ∷ symbols_from file (k + 1 + aux_count file k) left 0
-symbols-step file k left =
-    let a : 1 + aux_count file k + left ≡ suc (aux_count file k + left) = omega arith in
-    ap (λ (n : ℕ). symbols_from file k n 0) a ∙ ap (λ (ks : List ℕ). k ∷ ks) (symbols-skip file (k + 1) left (aux_count file k))
 
 -- the symbols from record k on, read back
 pub record AreSymbolsFrom (file : List ℕ) (k : ℕ) (ss : List Symbol) : Type 0 where

@@ -7,10 +7,10 @@ use Rattle.std.proofs.lemmas.Bool.{cases_Bool, or_parts, or_left, or_right, ltb-
 use Rattle.pe_view.specs.FirstStanding.{none-append}
 use Rattle.pe_view.specs.Faults.{Test, first_standing}
 use Rattle.pe_view.specs.declared.fault.Fault.{Fault}
-use Rattle.coff_object.specs.Names.{is_long, is_long_section_name}
-use Rattle.coff_object.specs.ObjectFaults.{is_other_file}
-use Rattle.coff_object.specs.Records.{Section, Symbol, Object, Fits, SectionFits, RelocationsFit, SymbolFits}
-use Rattle.coff_object.specs.Strings.{is_among, with_strings, offset_from, string_bytes}
+use Rattle.coff_read.specs.Names.{is_long, is_long_section_name}
+use Rattle.coff_read.specs.ObjectFaults.{is_other_file}
+use Rattle.coff_read.specs.Records.{Section, Symbol, Object, Fits, SectionFits, RelocationsFit, SymbolFits}
+use Rattle.coff_read.specs.Strings.{is_among, with_strings, offset_from, string_bytes}
 use Rattle.coff_object.specs.WriteFaults.{each_item, of_item, has_zero, is_far, has_many_relocations, is_bad_section, is_bad_symbol, is_bad_object, write_tests}
 use Rattle.coff_object.specs.Written.{long_section_names, long_symbol_names, strings_of, records_of, canon}
 use Rattle.coff_object.proofs.SectionsBack.{SectionWritable}

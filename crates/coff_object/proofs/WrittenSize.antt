@@ -7,12 +7,12 @@ use Rattle.pe_numbers.specs.declared.number.Number.{Number}
 use Rattle.pe_numbers.specs.declared.number.Number.TheVariants.{U16, U32}
 use Rattle.pe_numbers.specs.Numbers.{number_bytes, numbers_bytes, number_at}
 use Rattle.pe_numbers.specs.StandsAt.{StandsAt}
-use Rattle.coff_object.specs.Field.{field}
-use Rattle.coff_object.specs.ObjectFaults.{is_other_header, is_other_file}
-use Rattle.coff_object.specs.Records.{Section, Symbol, Object}
+use Rattle.coff_read.specs.Field.{field}
+use Rattle.coff_read.specs.ObjectFaults.{is_other_header, is_other_file}
+use Rattle.coff_read.specs.Records.{Section, Symbol, Object}
 use Rattle.coff_object.specs.Sizes.{symbols_size}
 use Rattle.coff_object.specs.StringTableView.{counted}
-use Rattle.coff_object.specs.Strings.{string_bytes}
+use Rattle.coff_read.specs.Strings.{string_bytes}
 use Rattle.coff_object.specs.WriteFaults.{is_far, is_bad_section, is_bad_symbol, is_bad_object}
 use Rattle.coff_object.specs.Written.{strings_of, section_body, section_table, symbol_name_field, symbol_fields, symbol_bytes, records_of, bodies_start, has_strings, coff_header, string_table, canon}
 use Rattle.coff_object.proofs.Bytes.{field_read}

@@ -1,8 +1,8 @@
 -- Where the names of an object stand in its string table.
 use Rattle.std.specs.Prelude.{◌≡◌, ℕ, Bool, List, map, if◌then◌else◌}
-use Rattle.coff_object.specs.Names.{is_long, is_long_section_name}
-use Rattle.coff_object.specs.Records.{Section, Symbol, Object}
-use Rattle.coff_object.specs.Strings.{offset_of}
+use Rattle.coff_read.specs.Names.{is_long, is_long_section_name}
+use Rattle.coff_read.specs.Records.{Section, Symbol, Object}
+use Rattle.coff_read.specs.Strings.{offset_of}
 use Rattle.coff_object.specs.StringTableView.{counted}
 use Rattle.coff_object.specs.StringTableWords.{texts_in}
 use Rattle.coff_object.specs.Written.{strings_of}

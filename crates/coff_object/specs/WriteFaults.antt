@@ -1,16 +1,14 @@
 -- What may be wrong with an object that is to be written, by number.
-use Rattle.std.specs.Prelude.{ℕ, ◌+◌, ◌%◌, ◌^◌, ◌-◌, ◌==◌, ◌&&◌, ◌||◌, Bool, false, not, nat_lt, nat_le, min, List, [], ◌∷◌, ◌++◌, length, bit_and}
+use Rattle.std.specs.Prelude.{ℕ, ◌+◌, ◌^◌, ◌-◌, ◌==◌, ◌&&◌, ◌||◌, Bool, nat_lt, min, List, [], ◌∷◌, ◌++◌, length}
 use Rattle.std.specs.List.{list_any}
 use Rattle.pe_view.specs.declared.fault.Place.TheVariants.{Item}
 use Rattle.pe_view.specs.Faults.{Test, test}
-use Rattle.coff_object.specs.Names.{is_long_section_name}
-use Rattle.coff_object.specs.ObjectFaults.{is_other_file}
-use Rattle.coff_object.specs.Records.{Raw, Bytes, Absent, Section, Symbol, Object}
-use Rattle.coff_object.specs.Strings.{offset_of}
+use Rattle.coff_read.specs.Names.{is_long_section_name}
+use Rattle.coff_read.specs.ObjectFaults.{is_other_file}
+pub use Rattle.coff_read.specs.Form.{is_bad_raw, is_bad_section, is_bad_number, is_bad_symbol}
+use Rattle.coff_read.specs.Records.{Section, Symbol, Object}
+use Rattle.coff_read.specs.Strings.{offset_of}
 use Rattle.coff_object.specs.Written.{strings_of, records_of, canon}
-use Rattle.coff_object.specs.declared.relocation.Relocation.{Relocation}
-use Rattle.coff_object.specs.declared.symbol.SymbolSection.{SymbolSection}
-use Rattle.coff_object.specs.declared.symbol.SymbolSection.TheVariants as belongs
 
 -- a row of the table: a number, an item's index, and the condition
 abbrev pub of_item : ℕ → ℕ → Bool → Test
@@ -30,23 +28,6 @@ is_far strings s = is_long_section_name s.name && nat_lt 9999999 (offset_of stri
 
 abbrev pub has_many_relocations : Section → Bool
 has_many_relocations s = nat_lt 65534 (length s.relocations)
-
--- bytes that are to stand in the file, and don't
-abbrev pub is_bad_raw : Raw → ℕ → Bool
-is_bad_raw (Bytes bytes) flags = length bytes == 0 || not (bit_and flags 0x80 == 0)
-is_bad_raw (Absent size) flags = false
-
-abbrev pub is_bad_section : ℕ → Section → Bool
-is_bad_section records s = is_bad_raw s.raw s.flags || list_any (λ (r : Relocation). nat_le records r.symbol) s.relocations
-
-abbrev pub is_bad_number : ℕ → SymbolSection → Bool
-is_bad_number count belongs.Undefined = false
-is_bad_number count belongs.Absolute = false
-is_bad_number count belongs.Debug = false
-is_bad_number count (belongs.Section k) = k == 0 || (nat_lt count k || nat_lt 0xfffd k)
-
-abbrev pub is_bad_symbol : ℕ → Symbol → Bool
-is_bad_symbol count s = is_bad_number count s.section || (not (length s.aux % 18 == 0) || nat_lt 4590 (length s.aux))
 
 -- the object has no form: what it holds doesn't fit the fields, or wouldn't be read as it is
 abbrev pub is_bad_object : Object → Bool

@@ -5,12 +5,13 @@ use Rattle.std.specs.List.{flat_map}
 use Rattle.pe_numbers.specs.declared.number.Number.{Number}
 use Rattle.pe_numbers.specs.declared.number.Number.TheVariants.{U8, U16, U32}
 use Rattle.pe_numbers.specs.Numbers.{numbers_bytes}
-use Rattle.coff_object.specs.Names.{decimal_digits, padded, is_long, is_long_section_name}
-use Rattle.coff_object.specs.Records.{Raw, Bytes, Absent, Section, Symbol, Object}
-use Rattle.coff_object.specs.Strings.{with_strings, offset_of, string_bytes}
-use Rattle.coff_object.specs.declared.relocation.Relocation.{Relocation}
-use Rattle.coff_object.specs.declared.symbol.SymbolSection.{SymbolSection}
-use Rattle.coff_object.specs.declared.symbol.SymbolSection.TheVariants as belongs
+use Rattle.coff_read.specs.Names.{decimal_digits, padded, is_long, is_long_section_name}
+use Rattle.coff_read.specs.Records.{Raw, Bytes, Absent, Section, Symbol, Object}
+pub use Rattle.coff_read.specs.Records.{aux_records, records_of}
+use Rattle.coff_read.specs.Strings.{with_strings, offset_of, string_bytes}
+use Rattle.coff_read.specs.declared.relocation.Relocation.{Relocation}
+use Rattle.coff_read.specs.declared.symbol.SymbolSection.{SymbolSection}
+use Rattle.coff_read.specs.declared.symbol.SymbolSection.TheVariants as belongs
 
 -- the texts that stand in the string table, in order of first use: of sections, then of symbols
 abbrev pub long_section_names : List Section → List (List ℕ)
@@ -82,10 +83,6 @@ section_number belongs.Absolute = 0xffff
 section_number belongs.Debug = 0xfffe
 section_number (belongs.Section k) = k
 
--- how many auxiliary records a symbol has
-abbrev pub aux_records : Symbol → ℕ
-aux_records s = length s.aux / 18
-
 -- the fields of a symbol's record behind its name
 abbrev pub symbol_numbers : Symbol → List Number
 symbol_numbers s = U32 s.value ∷ U16 (section_number s.section) ∷ U16 s.kind ∷ U8 s.class ∷ U8 (aux_records s) ∷ []
@@ -96,11 +93,6 @@ symbol_fields s = numbers_bytes (symbol_numbers s)
 -- a symbol's record and its auxiliary records
 abbrev pub symbol_bytes : List (List ℕ) → Symbol → List ℕ
 symbol_bytes strings s = symbol_name_field strings s.name ++ (symbol_fields s ++ s.aux)
-
--- how many records the symbols have
-abbrev pub records_of : List Symbol → ℕ
-records_of [] = 0
-records_of (s ∷ ss) = 1 + aux_records s + records_of ss
 
 -- where the bodies begin
 abbrev pub bodies_start : Object → ℕ

@@ -1,35 +1,17 @@
 //! What the definitions mean, as laws: each function has an empty body, and its contract is the law.
 
-ghost use Rattle.std.specs.Prelude.{◌≡◌, ◌↔◌, ◌<◌, ◌^◌, ℕ, List, None, Some};
+ghost use Rattle.std.specs.Prelude.{◌≡◌, None};
 ghost use Rattle.pe_view.specs.Faults.{first_standing};
-ghost use Rattle.coff_object.specs.Records.{Object, Fits};
-ghost use Rattle.coff_object.specs.ObjectFaults.{IsObjectOf, object_tests};
-ghost use Rattle.coff_object.specs.Reading.{object_of};
-ghost use Rattle.coff_object.specs.RecordPlaces.{SymbolsBegin};
-ghost use Rattle.coff_object.specs.StringPlaces.{IsString};
-ghost use Rattle.coff_object.specs.Strings.{record_count, string_at};
-ghost use Rattle.coff_object.specs.Written.{canon, records_of};
+ghost use Rattle.coff_read.specs.Records.{Object, Fits};
+ghost use Rattle.coff_read.specs.ObjectFaults.{IsObjectOf};
+ghost use Rattle.coff_object.specs.Written.{canon};
 ghost use Rattle.coff_object.specs.WriteFaults.{write_tests};
+
+pub use coff_read::laws::{
+    strings_stand_at_their_offsets, symbols_fill_the_table, symbols_stand_behind_auxiliary_records,
+};
 
 /// An object that is not refused is read back from its written form.
 pub fn written_is_read_back()
     ensures { (o : Object) → Fits o → first_standing (write_tests o) ≡ None → IsObjectOf (canon o) o }
-{}
-
-/// Record 0 begins a symbol, and where record k begins one with z auxiliary records, record k + 1 + z begins the next.
-pub fn symbols_stand_behind_auxiliary_records()
-    ensures { (file : List ℕ) → SymbolsBegin file }
-{}
-
-/// A text of the string table is one that stands at an offset behind the size field, with a zero byte behind it inside the
-/// table, and no zero byte in it.
-pub fn strings_stand_at_their_offsets()
-    ensures { (file : List ℕ) (offset : ℕ) (text : List ℕ) → (string_at file offset ≡ Some text) ↔ IsString file offset text }
-{}
-
-/// The symbols of a file that is not refused, with their auxiliary records, are the records of its symbol table, and fewer
-/// than 2^32.
-pub fn symbols_fill_the_table()
-    ensures whole { (file : List ℕ) → first_standing (object_tests file) ≡ None → records_of (object_of file).symbols ≡ record_count file }
-    ensures few { (file : List ℕ) → first_standing (object_tests file) ≡ None → records_of (object_of file).symbols < 2 ^ 32 }
 {}

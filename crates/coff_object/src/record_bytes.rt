@@ -1,32 +1,16 @@
 ghost use Rattle.std.specs.Prelude.{◌≡◌, ◌+◌, ◌*◌, ◌≤◌, ◌<◌, ◌^◌, ◌++◌, ◌∷◌, length, map, replicate, IsTrue, OnOk};
 ghost use Rattle.std.specs.List.{flat_map, AllByRecursion};
-ghost use Rattle.coff_object.specs.Names.{decimal_digits, padded, is_long, is_long_section_name};
-ghost use Rattle.coff_object.specs.Records.{RawFits, RelocationFits, RelocationsFit, SectionFits, SymbolFits};
+ghost use Rattle.coff_read.specs.Names.{decimal_digits, padded, is_long, is_long_section_name};
+ghost use Rattle.coff_read.specs.Records.{RawFits, RelocationFits, RelocationsFit, SectionFits, SymbolFits};
 ghost use Rattle.coff_object.specs.Written.{relocation_bytes, raw_bytes, pointer_to, raw_size, section_body, section_name_at, section_fields, symbol_name_at, section_number, aux_records, symbol_fields};
-ghost use Rattle.coff_object.specs.ObjectView.{raw_view, section_view, symbol_view};
+ghost use Rattle.coff_read.specs.ObjectView.{raw_view, section_view, symbol_view};
 
-use crate::names::NAME_LEN;
-use crate::relocation::{RELOCATION_LEN, Relocation};
-use crate::section::{ObjSection, RawData};
-use crate::symbol::{Symbol, SymbolSection};
+use coff_read::{NAME_LEN, RELOCATION_LEN, is_long, is_long_section_name};
+use coff_read::{ObjSection, RawData, Relocation, Symbol, SymbolSection};
 use itoa::Buffer;
 use pe_numbers::Number::{U8, U16, U32};
 use pe_numbers::{push_record, write_numbers};
 use std::alloc::{AllocError, Allocator};
-
-/// Whether a symbol's name stands in the string table.
-pub(crate) fn is_long(name: &[u8]) -> bool
-    ensures { result ≡ is_long name.now }
-{
-    name.len() > NAME_LEN
-}
-
-/// Whether a section's name stands in the string table.
-pub(crate) fn is_long_section_name(name: &[u8]) -> bool
-    ensures { result ≡ is_long_section_name name.now }
-{
-    is_long(name) || name.first() == Some(&b'/')
-}
 
 /// Adds zero bytes, at most eight.
 fn push_zeros<A: Allocator>(bytes: &mut Vec<u8, A>, count: usize) -> Result<(), AllocError>

@@ -1,31 +1,25 @@
 ghost use Rattle.std.specs.Prelude.{◌≡◌, ◌+◌, ◌-◌, ◌≤◌, ◌<◌, ◌^◌, ◌++◌, false, [], if◌then◌else◌, length, map, min, ⊤, None, Some, Err, ℕ, List, All, IsTrue, OnOk, IfOk};
 ghost use Rattle.std.specs.List.{flat_map, AllByRecursion};
 ghost use Rattle.pe_view.specs.Faults.{Answers, first_standing, AnswersOrWants};
-ghost use Rattle.coff_object.specs.ObjectView.{section_view, symbol_view, object_view};
-ghost use Rattle.coff_object.specs.ObjectFaults.{IsObjectOf};
-ghost use Rattle.coff_object.specs.Records as format;
-ghost use Rattle.coff_object.specs.Records.{SectionFits, RelocationsFit, SymbolFits, HeaderFits, Fits};
+ghost use Rattle.coff_read.specs.ObjectView.{section_view, symbol_view, object_view};
+ghost use Rattle.coff_read.specs.ObjectFaults.{IsObjectOf};
+ghost use Rattle.coff_read.specs.Records as format;
+ghost use Rattle.coff_read.specs.Records.{SectionFits, RelocationsFit, SymbolFits, HeaderFits, Fits};
 ghost use Rattle.pe_view.specs.declared.fault.Fault as code_fault;
 ghost use Rattle.coff_object.specs.StringTableView.{counted};
 ghost use Rattle.coff_object.specs.StringTableWords.{texts_in};
-ghost use Rattle.coff_object.specs.Strings.{string_bytes};
+ghost use Rattle.coff_read.specs.Strings.{string_bytes};
 ghost use Rattle.coff_object.specs.Written.{bodies_start, has_strings, symbols_start, coff_header, string_table, canon, strings_of, section_body, section_table, symbol_bytes, aux_records, records_of};
 ghost use Rattle.coff_object.specs.NamePlaces.{section_places, symbol_places, ArePlacesOf};
 ghost use Rattle.coff_object.specs.Writable.{IsWritable};
 ghost use Rattle.coff_object.specs.WriteFaults.{name_tests, section_tests, form_tests, write_tests, is_far, has_many_relocations, is_bad_symbol, is_bad_object};
 ghost use Rattle.pe_view.specs.declared.refusal.Refusal.{Refusal};
 
-use crate::error::ObjectError;
 use crate::layout::{NamePlaces, bodies_size, body_size, place_names, record_count, symbols_size};
-use crate::object::Object;
 use crate::record_bytes::{push_body, push_section_header, push_symbol};
-use crate::refusal::{
-    any_bad_section, any_bad_symbol, crowded_section, far_section, is_other_header,
-    zero_in_sections, zero_in_symbols,
-};
-use crate::section::ObjSection;
+use crate::refusal::{crowded_section, far_section, zero_in_sections, zero_in_symbols};
 use crate::string_table::StringTable;
-use crate::symbol::Symbol;
+use coff_read::{ObjSection, Object, ObjectError, Symbol, has_bad_part, is_other_header};
 use pe_numbers::Number::{U16, U32};
 use pe_numbers::push_numbers;
 use pe_view::{Fault, Place};
@@ -167,19 +161,15 @@ fn is_bad_object<A: Allocator + Copy>(object: &Object<A>) -> bool
     requires { length (canon (object_view object.now)) < 2 ^ 32 }
     ensures { result ≡ is_bad_object (object_view object.now) }
 {
-    let sections = object.sections.as_slice();
-    let symbols = object.symbols.as_slice();
-    if object.optional.len() > 65_535 || sections.len() > 65_535 {
+    let count = object.sections.as_slice().len();
+    if object.optional.len() > 65_535 || count > 65_535 {
         return true;
     }
     let (machine, time_stamp) = (object.machine, object.time_stamp);
-    if is_other_header(machine, sections.len() as u16, time_stamp) {
+    if is_other_header(machine, count as u16, time_stamp) {
         return true;
     }
-    if any_bad_section(sections, record_count(symbols)) {
-        return true;
-    }
-    any_bad_symbol(symbols, sections.len())
+    has_bad_part(object, record_count(object.symbols.as_slice()))
 }
 
 /// Adds the COFF header, with the symbol table at a place.

@@ -1,12 +1,12 @@
 -- All names are added, and each keeps its place.
 use Rattle.std.proofs.Common.{◌≡◌, ◌∙◌, List, ℕ, refl, sym, ap}
 use Rattle.std.specs.Prelude.{filter, map}
-use Rattle.coff_object.specs.Names.{is_long_section_name}
+use Rattle.coff_read.specs.Names.{is_long_section_name}
 use Rattle.coff_object.specs.NamePlaces.{place_of}
-use Rattle.coff_object.specs.ObjectView.{section_view}
-use Rattle.coff_object.specs.Records as format
+use Rattle.coff_read.specs.ObjectView.{section_view}
+use Rattle.coff_read.specs.Records as format
 use Rattle.coff_object.specs.StringTableWords.{texts_in}
-use Rattle.coff_object.specs.Strings.{with_strings}
+use Rattle.coff_read.specs.Strings.{with_strings}
 use Rattle.coff_object.proofs.NamePlaces.{next_texts, next_place, all_placed, as_viewed}
 use Rattle.coff_object.proofs.Sizes.{all_named, section_names}
 use Rattle.coff_object.proofs.layout.add_section_names.Goals as goal

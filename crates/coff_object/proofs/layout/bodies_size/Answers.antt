@@ -2,7 +2,7 @@
 use Rattle.std.proofs.Common.{length, refl}
 use Rattle.std.specs.Prelude.{map}
 use Rattle.std.specs.List.{flat_map}
-use Rattle.coff_object.specs.ObjectView.{section_view}
+use Rattle.coff_read.specs.ObjectView.{section_view}
 use Rattle.coff_object.specs.Written.{section_body}
 use Rattle.coff_object.proofs.Sizes.{all_counted}
 use Rattle.coff_object.proofs.layout.bodies_size.Goals as goal

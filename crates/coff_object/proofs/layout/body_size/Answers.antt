@@ -1,7 +1,7 @@
 -- A section's bytes and its relocations.
 use Rattle.std.proofs.Common.{◌∙◌, ◌+◌, ℕ, List, length, ap}
 use Rattle.std.specs.List.{flat_map}
-use Rattle.coff_object.specs.ObjectView.{raw_view}
+use Rattle.coff_read.specs.ObjectView.{raw_view}
 use Rattle.coff_object.specs.StringTableView.{counted}
 use Rattle.coff_object.specs.Written.{raw_bytes, relocation_bytes}
 use Rattle.coff_object.proofs.Sizes.{body_counted}

@@ -2,9 +2,9 @@
 use Rattle.std.proofs.Common.{◌∙◌, [], ap}
 use Rattle.std.specs.Prelude.{map}
 use Rattle.coff_object.specs.NamePlaces.{section_places, symbol_places}
-use Rattle.coff_object.specs.ObjectView.{object_view, section_view, symbol_view}
+use Rattle.coff_read.specs.ObjectView.{object_view, section_view, symbol_view}
 use Rattle.coff_object.specs.StringTableWords.{texts_in}
-use Rattle.coff_object.specs.Strings.{with_strings}
+use Rattle.coff_read.specs.Strings.{with_strings}
 use Rattle.coff_object.specs.Written.{long_section_names, long_symbol_names}
 use Rattle.coff_object.proofs.NamePlaces.{placed}
 use Rattle.coff_object.proofs.layout.place_names.Goals as goal

@@ -1,6 +1,6 @@
 use Rattle.std.proofs.Common.{◌≡◌, ◌+◌, ◌<◌, ◌^◌, drop}
 use Rattle.std.specs.Prelude.{map}
-use Rattle.coff_object.specs.ObjectView.{symbol_view}
+use Rattle.coff_read.specs.ObjectView.{symbol_view}
 use Rattle.coff_object.specs.Written.{records_of}
 use Rattle.coff_object.specs.StringTableView.{counted}
 use Rattle.coff_object.proofs.layout.record_count.Given as goal

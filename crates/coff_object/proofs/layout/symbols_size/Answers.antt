@@ -1,7 +1,7 @@
 -- All items are counted.
 use Rattle.std.proofs.Common.{refl}
 use Rattle.std.specs.Prelude.{map}
-use Rattle.coff_object.specs.ObjectView.{symbol_view}
+use Rattle.coff_read.specs.ObjectView.{symbol_view}
 use Rattle.coff_object.specs.Sizes.{symbols_size}
 use Rattle.coff_object.proofs.Sizes.{all_counted}
 use Rattle.coff_object.proofs.layout.symbols_size.Goals as goal

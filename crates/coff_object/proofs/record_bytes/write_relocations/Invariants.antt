@@ -1,7 +1,7 @@
 use Rattle.std.proofs.Common.{◌≡◌, ◌-◌, ◌*◌, ◌++◌, length, take, drop}
 use Rattle.std.specs.Prelude.{replicate}
 use Rattle.std.specs.List.{flat_map, AllByRecursion}
-use Rattle.coff_object.specs.Records.{RelocationFits}
+use Rattle.coff_read.specs.Records.{RelocationFits}
 use Rattle.coff_object.specs.Written.{relocation_bytes}
 use Rattle.coff_object.proofs.record_bytes.write_relocations.Given as goal
 

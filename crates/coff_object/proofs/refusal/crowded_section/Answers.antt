@@ -2,7 +2,7 @@ use Rattle.std.proofs.Common.{rules, ◌∙◌}
 use borrow.Author.Tests.{tests}
 use Rattle.std.proofs.lemmas.Iterator.{YieldsList-from_slice}
 use Rattle.std.proofs.lemmas.Iterator.Search.{position_from_yields_List}
-use Rattle.coff_object.specs.ObjectView.{section_view}
+use Rattle.coff_read.specs.ObjectView.{section_view}
 use Rattle.coff_object.specs.WriteFaults.{has_many_relocations}
 use Rattle.coff_object.proofs.Mapped.{position-map}
 use Rattle.coff_object.proofs.refusal.crowded_section.Goals as goal

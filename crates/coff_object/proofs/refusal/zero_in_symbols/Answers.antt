@@ -2,8 +2,8 @@ use Rattle.std.proofs.Common.{rules, ◌∙◌}
 use borrow.Author.Tests.{tests}
 use Rattle.std.proofs.lemmas.Iterator.{YieldsList-from_slice}
 use Rattle.std.proofs.lemmas.Iterator.Search.{position_from_yields_List}
-use Rattle.coff_object.specs.ObjectView.{symbol_view}
-use Rattle.coff_object.specs.Records.{Symbol}
+use Rattle.coff_read.specs.ObjectView.{symbol_view}
+use Rattle.coff_read.specs.Records.{Symbol}
 use Rattle.coff_object.specs.WriteFaults.{has_zero}
 use Rattle.coff_object.proofs.Mapped.{position-map}
 use Rattle.coff_object.proofs.refusal.zero_in_symbols.Goals as goal

@@ -3,8 +3,8 @@ use Rattle.std.proofs.Common.{◌∙◌, ◌+◌, ◌-◌, ◌^◌, ℕ, length,
 use Rattle.std.specs.Prelude.{map, min}
 use Rattle.std.proofs.lemmas.List.{length-map}
 use Rattle.pe_view.specs.FirstStanding.{first-in, first-past}
-use Rattle.coff_object.specs.ObjectView.{section_view, symbol_view}
-use Rattle.coff_object.specs.Records.{Section, Symbol}
+use Rattle.coff_read.specs.ObjectView.{section_view, symbol_view}
+use Rattle.coff_read.specs.Records.{Section, Symbol}
 use Rattle.coff_object.specs.WriteFaults.{each_item, has_zero}
 use Rattle.coff_object.proofs.Items.{item_found, no_item, first_told, later_told}
 use Rattle.coff_object.proofs.write.check_names.Goals as goal

@@ -2,7 +2,7 @@
 use Rattle.std.proofs.Common.{◌∙◌, refl, ap}
 use Rattle.std.specs.Prelude.{map, nat_lt, position}
 use Rattle.pe_view.specs.FirstStanding.{first-in, first-past}
-use Rattle.coff_object.specs.ObjectView.{section_view, object_view}
+use Rattle.coff_read.specs.ObjectView.{section_view, object_view}
 use Rattle.coff_object.specs.WriteFaults.{each_item, is_far, has_many_relocations}
 use Rattle.coff_object.specs.Written.{strings_of}
 use Rattle.coff_object.proofs.Far.{far-position}

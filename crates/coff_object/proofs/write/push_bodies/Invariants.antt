@@ -1,8 +1,8 @@
 use Rattle.std.proofs.Common.{◌≡◌, ◌++◌, drop}
 use Rattle.std.specs.Prelude.{map}
 use Rattle.std.specs.List.{flat_map, AllByRecursion}
-use Rattle.coff_object.specs.ObjectView.{section_view}
-use Rattle.coff_object.specs.Records.{RelocationsFit}
+use Rattle.coff_read.specs.ObjectView.{section_view}
+use Rattle.coff_read.specs.Records.{RelocationsFit}
 use Rattle.coff_object.specs.Written.{section_body}
 use Rattle.coff_object.proofs.write.push_bodies.Given as goal
 

@@ -1,8 +1,8 @@
 use Rattle.std.proofs.Common.{◌≡◌, ◌++◌, ◌<◌, ◌^◌, length, drop}
 use Rattle.std.specs.Prelude.{map}
 use Rattle.std.specs.List.{flat_map, AllByRecursion}
-use Rattle.coff_object.specs.ObjectView.{symbol_view}
-use Rattle.coff_object.specs.Records.{Symbol, SymbolFits}
+use Rattle.coff_read.specs.ObjectView.{symbol_view}
+use Rattle.coff_read.specs.Records.{Symbol, SymbolFits}
 use Rattle.coff_object.specs.StringTableWords.{texts_in}
 use Rattle.coff_object.specs.Written.{aux_records, symbol_bytes}
 use Rattle.coff_object.proofs.write.push_symbols.Given as goal

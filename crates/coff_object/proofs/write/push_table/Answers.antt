@@ -7,10 +7,10 @@ use Rattle.std.specs.Slice.Iter.{iter_rest}
 use Rattle.std.proofs.lemmas.Bool.{ltb-false}
 use Rattle.std.proofs.lemmas.List.{length-map}
 use Rattle.std.proofs.lemmas.Slice.Zip.{zip_turn, zip_end}
-use Rattle.coff_object.specs.Names.{is_long_section_name}
+use Rattle.coff_read.specs.Names.{is_long_section_name}
 use Rattle.coff_object.specs.NamePlaces.{place_of}
-use Rattle.coff_object.specs.ObjectView.{section_view}
-use Rattle.coff_object.specs.Records.{Section, SectionFits}
+use Rattle.coff_read.specs.ObjectView.{section_view}
+use Rattle.coff_read.specs.Records.{Section, SectionFits}
 use Rattle.coff_object.specs.StringTableWords.{texts_in}
 use Rattle.coff_object.specs.WriteFaults.{is_far, has_many_relocations}
 use Rattle.coff_object.specs.Written.{section_body, section_fields, section_header, section_table}

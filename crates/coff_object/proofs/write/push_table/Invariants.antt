@@ -1,8 +1,8 @@
 use Rattle.std.proofs.Common.{◌≡◌, ◌+◌, ◌<◌, ◌^◌, ◌++◌, drop, length, false}
 use Rattle.std.specs.Prelude.{map}
 use Rattle.std.specs.List.{flat_map, AllByRecursion}
-use Rattle.coff_object.specs.ObjectView.{section_view}
-use Rattle.coff_object.specs.Records.{Section, SectionFits}
+use Rattle.coff_read.specs.ObjectView.{section_view}
+use Rattle.coff_read.specs.Records.{Section, SectionFits}
 use Rattle.coff_object.specs.StringTableWords.{texts_in}
 use Rattle.coff_object.specs.WriteFaults.{is_far, has_many_relocations}
 use Rattle.coff_object.specs.Written.{section_body, section_table}

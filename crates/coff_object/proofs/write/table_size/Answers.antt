@@ -1,8 +1,8 @@
 -- The size of the table, its size field counted.
 use Rattle.std.proofs.Common.{◌∙◌, ◌+◌, ℕ, List, length, sym, ap}
-use Rattle.coff_object.specs.ObjectView.{object_view}
+use Rattle.coff_read.specs.ObjectView.{object_view}
 use Rattle.coff_object.specs.StringTableView.{counted}
-use Rattle.coff_object.specs.Strings.{string_bytes}
+use Rattle.coff_read.specs.Strings.{string_bytes}
 use Rattle.coff_object.proofs.WrittenSize.{table_len}
 use Rattle.coff_object.proofs.write.table_size.Goals as goal
 

@@ -3,8 +3,8 @@ use Rattle.std.proofs.Common.{◌∙◌, ◌++◌, List, ℕ, sym, subst}
 use Rattle.std.proofs.lemmas.Result.{err_from_is_err_and}
 use Rattle.pe_view.specs.FirstStanding.{first-in, first-past, none-append}
 use Rattle.pe_view.specs.Faults.{Test}
-use Rattle.coff_object.specs.ObjectFaults.{IsObjectOf}
-use Rattle.coff_object.specs.ObjectView.{object_view}
+use Rattle.coff_read.specs.ObjectFaults.{IsObjectOf}
+use Rattle.coff_read.specs.ObjectView.{object_view}
 use Rattle.coff_object.specs.WriteFaults.{each_item, is_far, has_many_relocations, name_tests, section_tests, form_tests, write_tests}
 use Rattle.coff_object.specs.Written.{strings_of}
 use Rattle.coff_object.proofs.Form.{writable}

@@ -1,5 +1,5 @@
 -- The parts, one behind the other.
-use Rattle.coff_object.specs.ObjectView.{object_view}
+use Rattle.coff_read.specs.ObjectView.{object_view}
 use Rattle.coff_object.specs.StringTableWords.{texts_in}
 use Rattle.coff_object.proofs.Form.{parts_are}
 use Rattle.coff_object.proofs.write.write_parts.Goals as goal

@@ -3,7 +3,7 @@ use Rattle.std.proofs.Common.{◌∙◌, length, sym, ap, arith}
 use Rattle.std.specs.Prelude.{map}
 use Rattle.std.specs.List.{flat_map}
 use Rattle.std.proofs.lemmas.List.{length-map}
-use Rattle.coff_object.specs.ObjectView.{object_view, section_view, symbol_view}
+use Rattle.coff_read.specs.ObjectView.{object_view, section_view, symbol_view}
 use Rattle.coff_object.specs.Sizes.{symbols_size}
 use Rattle.coff_object.specs.StringTableView.{counted}
 use Rattle.coff_object.specs.Written.{section_body}

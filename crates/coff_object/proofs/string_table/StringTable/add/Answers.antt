@@ -2,7 +2,7 @@
 use Rattle.std.proofs.Common.{◌≡◌, ◌∙◌, ◌+◌, ℕ, List, true, false, [], ◌∷◌, ◌++◌, length, get_or, refl, sym, ap, subst, arith}
 use Rattle.std.specs.Prelude.{not}
 use Rattle.std.proofs.lemmas.List.{map-append, length-map}
-use Rattle.coff_object.specs.Strings.{is_among, offset_of}
+use Rattle.coff_read.specs.Strings.{is_among, offset_of}
 use Rattle.coff_object.specs.StringTableView.{IsTable, counted, texts_of}
 use Rattle.coff_object.specs.declared.string_table.Text.{Text}
 use Rattle.coff_object.proofs.Offsets.{found-in, was_there, was_missing, kept, put_last, at-first, with_more, length-offsets, offset-new}

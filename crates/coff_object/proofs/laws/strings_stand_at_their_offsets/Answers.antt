@@ -1,5 +1,0 @@
-use Rattle.coff_object.proofs.StringPlaces.{string_is}
-use Rattle.coff_object.proofs.laws.strings_stand_at_their_offsets.Goals as goal
-
-pub returns : goal.returns
-returns c = string_is

@@ -1,8 +1,0 @@
-use Rattle.coff_object.proofs.WholeTable.{fills_table}
-use Rattle.coff_object.proofs.laws.symbols_fill_the_table.Goals as goal
-
-pub returns-clause-whole : goal.returns-clause-whole
-returns-clause-whole c file none = (fills_table file none).records
-
-pub returns-clause-few : goal.returns-clause-few
-returns-clause-few c file none = (fills_table file none).few

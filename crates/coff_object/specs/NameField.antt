@@ -1,9 +1,0 @@
--- A name field of the code, as the name that it gives.
-use Rattle.std.specs.Prelude.{ℕ, List, Option, Some}
-use Rattle.coff_object.specs.Strings.{string_at}
-use Rattle.coff_object.specs.declared.names.NameField.{NameField}
-use Rattle.coff_object.specs.declared.names.NameField.TheVariants as fields
-
-abbrev pub name_in : List ℕ → NameField → Option (List ℕ)
-name_in file (fields.Inline name) = Some name.now
-name_in file (fields.Offset offset) = string_at file offset

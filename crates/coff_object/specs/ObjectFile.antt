@@ -1,7 +1,0 @@
--- The file of which the reader without memory tells.
-use Rattle.std.specs.Prelude.{ℕ, List}
-use Rattle.pe_view.specs.View.{bytes_of}
-use Rattle.coff_object.specs.declared.file.ObjectFile.{ObjectFile}
-
-abbrev pub file_of : ObjectFile → List ℕ
-file_of o = bytes_of o.view

@@ -1,0 +1,20 @@
+use Rattle.std.proofs.Common.{◌≡◌, ◌+◌, ◌-◌, ◌≤◌, length}
+use Rattle.std.specs.List.{flat_map}
+use Rattle.pe_view.specs.Faults.{first_standing}
+use Rattle.pe_view.specs.View.{bytes_of}
+use Rattle.coff_read.specs.ObjectFaults.{symbol_tests}
+use Rattle.coff_read.specs.Reading.{symbols_from, symbol_indexes}
+use Rattle.coff_read.proofs.symbol.check_symbols.Given as goal
+
+abbrev pub invariant-loop-k : goal.invariant-loop-k
+invariant-loop-k l = record {
+  within : l.k ≤ l.tables.records;
+  few : l.count ≤ l.k;
+  first :
+      first_standing (flat_map (symbol_tests (bytes_of l.view)) (symbols_from (bytes_of l.view) l.k (l.tables.records - l.k) 0))
+      ≡ first_standing (flat_map (symbol_tests (bytes_of l.view)) (symbol_indexes (bytes_of l.view)));
+  counted : l.count + length (symbols_from (bytes_of l.view) l.k (l.tables.records - l.k) 0) ≡ length (symbol_indexes (bytes_of l.view));
+}
+
+abbrev pub decreases-loop-k : goal.decreases-loop-k
+decreases-loop-k l = l.tables.records - l.k

@@ -1,0 +1,7 @@
+-- The file of which the reader without memory tells.
+use Rattle.std.specs.Prelude.{ℕ, List}
+use Rattle.pe_view.specs.View.{bytes_of}
+use Rattle.coff_read.specs.declared.file.ObjectFile.{ObjectFile}
+
+abbrev pub file_of : ObjectFile → List ℕ
+file_of o = bytes_of o.view

@@ -1,0 +1,167 @@
+ghost use Rattle.std.specs.Prelude.{◌≡◌, ◌≤◌, ◌&&◌, ◌==◌, length, option_map};
+ghost use Rattle.pe_view.specs.View.{bytes_of, size_of};
+ghost use Rattle.coff_read.specs.Auxiliary.{aux_in, aux_of, aux_record, defines_function, function_of, section_of};
+ghost use Rattle.coff_read.specs.AuxiliaryView.{aux_view};
+ghost use Rattle.coff_read.specs.ObjectView.{object_view, symbol_view};
+ghost use Rattle.coff_read.specs.Records.{aux_records};
+
+use crate::fields::{u8_in, u16_in, u32_in};
+use crate::names::up_to_zero;
+use crate::object::Object;
+use crate::symbol::{Symbol, SymbolSection};
+use pe_view::View;
+use std::alloc::Allocator;
+
+/// How many bytes an auxiliary record has.
+const AUX_LEN: usize = 18;
+
+/// The type of a function.
+const FUNCTION_TYPE: u16 = 0x20;
+
+/// An auxiliary record ("PE Format", Auxiliary Symbol Records), in the shape of its symbol's class.
+#[derive(Clone, Copy, Debug, PartialEq, Eq)]
+pub enum Aux<'a> {
+    /// Behind a function's definition: class 2 EXTERNAL, type 0x20, a section's number.
+    Function {
+        /// The index of the record of the function's `.bf`.
+        tag_index: u32,
+        /// How many bytes the function has.
+        total_size: u32,
+        /// Where in the file its line numbers begin.
+        pointer_to_linenumber: u32,
+        /// The index of the record of the next function.
+        pointer_to_next_function: u32,
+    },
+    /// Behind `.bf` and `.ef`: class 101 FUNCTION.
+    Lines {
+        /// The line in the source.
+        line: u16,
+        /// The index of the record of the next function's `.bf`.
+        next: u32,
+    },
+    /// Behind a weak external: class 105 WEAK_EXTERNAL.
+    Weak {
+        /// The index of the record of the symbol that stands in.
+        tag_index: u32,
+        /// When it does: 1 no search of libraries, 2 a search, 3 an alias.
+        search: u32,
+    },
+    /// Behind `.file`: class 103 FILE.
+    File {
+        /// The record's bytes up to its first zero byte.
+        name: &'a [u8],
+    },
+    /// Behind a section's symbol: class 3 STATIC.
+    Section {
+        /// How many bytes the section has.
+        length: u32,
+        /// How many relocations it has.
+        relocations: u16,
+        /// How many line numbers it has.
+        line_numbers: u16,
+        /// The checksum of its bytes, for COMDAT sections.
+        checksum: u32,
+        /// The number of the section that it goes with, for COMDAT sections.
+        number: u16,
+        /// How a COMDAT section is selected.
+        selection: u8,
+    },
+    /// Behind every other symbol.
+    Raw {
+        /// The record's 18 bytes.
+        bytes: &'a [u8],
+    },
+}
+
+/// Whether a symbol defines a function.
+fn defines_function(symbol: &Symbol) -> bool
+    ensures { result ≡ defines_function (symbol_view symbol.now) }
+{
+    symbol.class == 2
+        && symbol.kind == FUNCTION_TYPE
+        && matches!(symbol.section, SymbolSection::Section(_))
+}
+
+/// The record of a function's definition.
+fn function_of<'a>(fields: View<'a>) -> Aux<'a>
+    requires { 18 ≤ size_of fields }
+    ensures { aux_view result ≡ function_of (bytes_of fields.entry) }
+{
+    Aux::Function {
+        tag_index: u32_in(fields, 0, 0),
+        total_size: u32_in(fields, 0, 4),
+        pointer_to_linenumber: u32_in(fields, 0, 8),
+        pointer_to_next_function: u32_in(fields, 0, 12),
+    }
+}
+
+/// The record of a section's symbol.
+fn section_of<'a>(fields: View<'a>) -> Aux<'a>
+    requires { 18 ≤ size_of fields }
+    ensures { aux_view result ≡ section_of (bytes_of fields.entry) }
+{
+    Aux::Section {
+        length: u32_in(fields, 0, 0),
+        relocations: u16_in(fields, 0, 4),
+        line_numbers: u16_in(fields, 0, 6),
+        checksum: u32_in(fields, 0, 8),
+        number: u16_in(fields, 0, 12),
+        selection: u8_in(fields, 0, 14),
+    }
+}
+
+/// The record of these bytes, behind a symbol.
+fn aux_of<'a>(symbol: &Symbol, bytes: &'a [u8]) -> Aux<'a>
+    requires { length bytes.now ≡ 18 }
+    ensures { aux_view result ≡ aux_of (symbol_view symbol.now) bytes.now }
+{
+    let fields = View::new(bytes);
+    match symbol.class {
+        103 => Aux::File {
+            name: up_to_zero(bytes),
+        },
+        105 => Aux::Weak {
+            tag_index: u32_in(fields, 0, 0),
+            search: u32_in(fields, 0, 4),
+        },
+        3 => section_of(fields),
+        101 => Aux::Lines {
+            line: u16_in(fields, 0, 4),
+            next: u32_in(fields, 0, 12),
+        },
+        _ if defines_function(symbol) => function_of(fields),
+        _ => Aux::Raw { bytes },
+    }
+}
+
+impl<'a> Symbol<'a> {
+    /// How many auxiliary records the symbol has.
+    pub fn aux_count(&self) -> usize
+        ensures { result ≡ aux_records (symbol_view self.now) }
+    {
+        self.aux.len() / AUX_LEN
+    }
+
+    /// Auxiliary record `k` of the symbol, counted from 0; `None` exactly where there is no such record. Takes no memory.
+    /// ("PE Format", Auxiliary Symbol Records.)
+    pub fn aux_record(&self, k: usize) -> Option<Aux<'a>>
+        ensures { option_map aux_view result ≡ aux_record (symbol_view self.now) k }
+    {
+        if k >= self.aux_count() {
+            return None;
+        }
+        let records = self.aux;
+        let start = AUX_LEN * k;
+        Some(aux_of(self, &records[start..start + AUX_LEN]))
+    }
+}
+
+impl<'a, A: Allocator> Object<'a, A> {
+    /// Auxiliary record `k` of a symbol, the symbol counted among [`Object::symbols`] and the record among the symbol's own,
+    /// both from 0; `None` exactly where there is no such record. Takes no memory. ("PE Format", Auxiliary Symbol Records.)
+    pub fn aux_view(&self, symbol: usize, k: usize) -> Option<Aux<'a>>
+        ensures { option_map aux_view result ≡ aux_in (object_view self.now) symbol k }
+    {
+        self.symbols.as_slice().get(symbol)?.aux_record(k)
+    }
+}

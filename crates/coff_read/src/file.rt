@@ -1,0 +1,195 @@
+ghost use Rattle.std.specs.Prelude.{◌≡◌, None, length, ⊤};
+ghost use Rattle.std.specs.List.{flat_map};
+ghost use Rattle.pe_view.specs.Faults.{Answers, first_standing};
+ghost use Rattle.pe_view.specs.View.{bytes_of};
+ghost use Rattle.coff_read.specs.ObjectFaults.{section_tests, relocation_tests, object_tests};
+ghost use Rattle.coff_read.specs.Reading.{section_starts, symbol_indexes};
+ghost use Rattle.coff_read.specs.TablesPlace.{AreTables};
+
+use crate::fields::{u16_in, u32_in};
+use crate::names::{name_of, section_name_field};
+use crate::object::Object;
+use crate::relocation::check_relocations;
+use crate::section::{FileSection, check_sections, read_sections, section_at};
+use crate::sections::EachSection;
+use crate::symbol::{check_symbols, read_symbols};
+use crate::symbols::{EachSymbol, Symbols};
+use crate::tables::{HEADER_LEN, SECTION_LEN, Tables, check_header, read_tables};
+use pe_view::{Fault, TextEnds, View};
+use std::alloc::{AllocError, Allocator};
+
+/// An object's file of which none of faults 61 to 72 stands. It keeps nothing but where the tables stand: sections, relocations
+/// and symbols are decoded where they are asked, and their texts and bytes are parts of the file.
+///
+/// Only [`ObjectFile::read`] takes memory, and, to remember where texts end, [`ObjectFile::each_section`] and
+/// [`ObjectFile::each_symbol`].
+#[derive(Clone, Copy)]
+pub struct ObjectFile<'a> {
+    pub(crate) view: View<'a>,
+    pub(crate) tables: Tables,
+    pub(crate) symbols: u64,
+    ghost stand: { AreTables (bytes_of view) tables },
+    ghost counted: { symbols ≡ length (symbol_indexes (bytes_of view)) },
+    ghost accepted: { first_standing (object_tests (bytes_of view)) ≡ None },
+}
+
+/// That fault 72 stands of no relocation, where none of faults 64 to 69 stands of a section.
+fn check_all_relocations(view: View, tables: Tables) -> Result<(), Fault>
+    requires tables { AreTables (bytes_of view) tables }
+    requires sections { first_standing (flat_map (section_tests (bytes_of view)) (section_starts (bytes_of view))) ≡ None }
+    ensures { Answers (flat_map (relocation_tests (bytes_of view.entry)) (section_starts (bytes_of view.entry))) (λ _. ⊤) result }
+{
+    for i in 0..tables.sections {
+        check_relocations(view, tables.headers + SECTION_LEN * i, tables.records)?;
+    }
+    Ok(())
+}
+
+impl<'a> ObjectFile<'a> {
+    ghost use Rattle.std.specs.Prelude.{option_map, slice_get, IfOk};
+    ghost use Rattle.coff_read.specs.FileView.{file_section_view};
+    ghost use Rattle.coff_read.specs.ObjectFile.{file_of};
+    ghost use Rattle.coff_read.specs.ObjectView.{object_view};
+    ghost use Rattle.coff_read.specs.Reading.{object_of};
+    ghost use Rattle.coff_read.specs.SectionsLeft.{each_section_left};
+    ghost use Rattle.coff_read.specs.SymbolsLeft.{indexed, each_symbol_left, symbols_left};
+
+    /// The object's file with these bytes, which are all of it, or the first fault that stands.
+    ///
+    /// Faults are asked in this order: of the header 61, 62, 63; of the symbol table 67, 68; of each section in table order 64,
+    /// 65, 66, 69; of each symbol 69, 70, 71; of each relocation, section by section, 72. No memory is taken. The time is that
+    /// of the tables, in which relocations that several sections share count for each of them; no text is searched for its end.
+    /// ("PE Format": COFF File Header, Section Table, COFF Relocations, COFF Symbol Table, COFF String Table.)
+    pub fn new(file: &'a [u8]) -> Result<ObjectFile<'a>, Fault>
+        ensures { Answers (object_tests file.entry.now) (λ object. file_of object ≡ file.entry.now) result }
+    {
+        let view = View::new(file);
+        check_header(view)?;
+        let tables = read_tables(view)?;
+        check_sections(view, tables)?;
+        let symbols = check_symbols(view, tables)?;
+        check_all_relocations(view, tables)?;
+        Ok(ObjectFile {
+            view,
+            tables,
+            symbols,
+        })
+    }
+
+    /// The processor that the object is for.
+    pub fn machine(&self) -> u16
+        ensures { result ≡ (object_of (file_of self.now)).machine }
+    {
+        u16_in(self.view, 0, 0)
+    }
+
+    /// When the object was made, as its maker wrote it.
+    pub fn time_stamp(&self) -> u32
+        ensures { result ≡ (object_of (file_of self.now)).time_stamp }
+    {
+        u32_in(self.view, 0, 4)
+    }
+
+    /// Flags of the object.
+    pub fn characteristics(&self) -> u16
+        ensures { result ≡ (object_of (file_of self.now)).characteristics }
+    {
+        u16_in(self.view, 0, 18)
+    }
+
+    /// The bytes of the optional header, which objects mostly lack.
+    pub fn optional(&self) -> &'a [u8]
+        ensures { result.now ≡ (object_of (file_of self.now)).optional }
+    {
+        let optional = u64::from(u16_in(self.view, 0, 16));
+        self.view.slice(HEADER_LEN, optional).unwrap()
+    }
+
+    /// How many sections the object has.
+    pub fn section_count(&self) -> usize
+        ensures { result ≡ length (object_of (file_of self.now)).sections }
+    {
+        self.tables.sections as usize
+    }
+
+    /// Section `index` in table order, counted from 0; `None` exactly where there is no such one. A name in the string table is
+    /// searched for its end.
+    pub fn section(&self, index: usize) -> Option<FileSection<'a>>
+        ensures { option_map file_section_view result ≡ slice_get (object_of (file_of self.now)).sections index }
+    {
+        if index as u64 >= self.tables.sections {
+            return None;
+        }
+        let h = self.tables.headers + SECTION_LEN * index as u64;
+        let name = name_of(self.view, self.tables, section_name_field(self.view, h));
+        Some(section_at(self.view, h, name))
+    }
+
+    /// The sections in table order, in the time of the section table and of the string table, of which each byte is searched at
+    /// most once, and 256 bytes for each name besides.
+    pub fn each_section<A: Allocator + Copy>(&self, alloc: A) -> EachSection<'a, A>
+        ensures { each_section_left result ≡ (object_of (file_of self.now)).sections }
+    {
+        EachSection {
+            view: self.view,
+            tables: self.tables,
+            next: 0,
+            ends: TextEnds::new(alloc),
+        }
+    }
+
+    /// How many symbols the object has.
+    pub fn symbol_count(&self) -> usize
+        ensures { result ≡ length (object_of (file_of self.now)).symbols }
+    {
+        self.symbols as usize
+    }
+
+    /// The symbols in table order, each with the index of its record.
+    pub fn symbols(&self) -> Symbols<'a>
+        ensures { symbols_left result ≡ indexed (file_of self.now) (symbol_indexes (file_of self.now)) }
+    {
+        Symbols {
+            view: self.view,
+            tables: self.tables,
+            next: 0,
+        }
+    }
+
+    /// The symbols as [`ObjectFile::symbols`] gives them, in the time of the symbol table and of the string table, of which each
+    /// byte is searched at most once, and 256 bytes for each name besides.
+    pub fn each_symbol<A: Allocator + Copy>(&self, alloc: A) -> EachSymbol<'a, A>
+        ensures { each_symbol_left result ≡ indexed (file_of self.now) (symbol_indexes (file_of self.now)) }
+    {
+        EachSymbol {
+            view: self.view,
+            tables: self.tables,
+            next: 0,
+            ends: TextEnds::new(alloc),
+        }
+    }
+
+    /// The object, with lists of its sections, relocations and symbols, or want of memory, which leaves nothing.
+    ///
+    /// Each list has its room from the start. The time is that of the tables and of the string table, of which each byte is
+    /// searched at most once, and 256 bytes for each name besides.
+    pub fn read<A: Allocator + Copy>(&self, alloc: A) -> Result<Object<'a, A>, AllocError>
+        ensures { IfOk result (λ object. object_view object ≡ object_of (file_of self.now)) }
+    {
+        let mut ends = TextEnds::new(alloc);
+        Ok(Object {
+            machine: self.machine(),
+            time_stamp: self.time_stamp(),
+            characteristics: self.characteristics(),
+            optional: self.optional(),
+            sections: read_sections(alloc, &mut ends, self.view, self.tables)?,
+            symbols: read_symbols(
+                alloc,
+                &mut ends,
+                self.view,
+                self.tables,
+                self.symbol_count(),
+            )?,
+        })
+    }
+}

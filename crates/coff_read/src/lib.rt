@@ -1,0 +1,46 @@
+//! COFF object files, judged and read.
+//!
+//! [`ObjectFile::new`] judges an object's file, or answers the first of faults 61 to 72 that stands, and then decodes sections,
+//! relocations and symbols where they are asked. It takes no memory, but for two walks, [`ObjectFile::each_section`] and
+//! [`ObjectFile::each_symbol`], which remember where texts end. [`read_object`] makes lists of all:
+//!
+//! ```text
+//! for (index, symbol) in ObjectFile::new(file)?.symbols() { .. }
+//! let object = read_object(alloc, file)?;
+//! ```
+//!
+//! The writer of objects, `coff_object`, hands this crate's names on. Of what it asks of an object, [`has_bad_part`] and
+//! [`is_other_header`] stand here, as they ask what the reader does.
+#![tactic(auto)]
+
+mod auxiliary;
+mod error;
+mod fields;
+mod file;
+mod form;
+pub mod laws;
+mod names;
+mod object;
+mod read;
+mod relocation;
+mod relocations;
+mod section;
+mod sections;
+mod symbol;
+mod symbols;
+mod tables;
+
+pub use auxiliary::Aux;
+pub use error::ObjectError;
+pub use file::ObjectFile;
+pub use form::has_bad_part;
+pub use names::{NAME_LEN, is_long, is_long_section_name};
+pub use object::Object;
+pub use read::read_object;
+pub use relocation::{RELOCATION_LEN, Relocation};
+pub use relocations::Relocations;
+pub use section::{FileSection, ObjSection, RawData};
+pub use sections::EachSection;
+pub use symbol::{Symbol, SymbolSection};
+pub use symbols::{EachSymbol, Symbols};
+pub use tables::is_other_header;

@@ -1,0 +1,57 @@
+ghost use Rattle.std.specs.Prelude.{◌≡◌, ◌+◌, ◌*◌, ◌≤◌, ◌<◌, map, ⊤};
+ghost use Rattle.std.specs.List.{range_with_len};
+ghost use Rattle.pe_view.specs.View.{bytes_of, size_of};
+ghost use Rattle.pe_view.specs.Faults.{Answers};
+ghost use Rattle.coff_read.specs.Field.{field};
+ghost use Rattle.coff_read.specs.ObjectFaults.{relocation_tests};
+ghost use Rattle.coff_read.specs.Reading.{relocation_at, relocation_start};
+ghost use Rattle.coff_read.specs.Strings.{record_count};
+
+use crate::error::file_fault;
+use crate::fields::{u16_in, u32_in};
+use pe_view::{Fault, View};
+
+/// How many bytes a relocation has.
+pub const RELOCATION_LEN: u64 = 10;
+
+/// A relocation of a section ("PE Format", COFF Relocations).
+#[derive(Clone, Copy, Debug, PartialEq, Eq)]
+pub struct Relocation {
+    /// Where the reference stands: its offset in the section's bytes, as VirtualAddress of the section is mostly 0.
+    pub address: u32,
+    /// The index of the symbol's record in the symbol table, auxiliary records counted.
+    pub symbol: u32,
+    /// How the reference is computed, by the machine's own table of types.
+    pub kind: u16,
+}
+
+/// The relocation whose record stands at an offset of the file.
+pub(crate) fn relocation_at(view: View, at: u64) -> Relocation
+    requires { at + 10 ≤ size_of view }
+    ensures { result ≡ relocation_at (bytes_of view.entry) at }
+{
+    Relocation {
+        address: u32_in(view, at, 0),
+        symbol: u32_in(view, at, 4),
+        kind: u16_in(view, at, 8),
+    }
+}
+
+/// That fault 72 stands of no relocation of the section whose header stands at an offset of the file, where the symbol table
+/// has so many records.
+pub(crate) fn check_relocations(view: View, h: u64, records: u64) -> Result<(), Fault>
+    requires inside { h + 40 ≤ size_of view }
+    requires records { records ≡ record_count (bytes_of view) }
+    requires fits { 0 < field (bytes_of view) h 32 2 → relocation_start (bytes_of view) h (field (bytes_of view) h 32 2) ≤ size_of view }
+    ensures { Answers (relocation_tests (bytes_of view.entry) h) (λ _. ⊤) result }
+{
+    let start = u64::from(u32_in(view, h, 24));
+    let count = u64::from(u16_in(view, h, 32));
+    for k in 0..count {
+        let at = start + RELOCATION_LEN * k;
+        if u64::from(u32_in(view, at, 4)) >= records {
+            return Err(file_fault(72, at));
+        }
+    }
+    Ok(())
+}

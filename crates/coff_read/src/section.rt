@@ -1,0 +1,184 @@
+ghost use Rattle.std.specs.Prelude.{◌≡◌, ◌+◌, ◌≤◌, ◌<◌, ◌^◌, ◌&&◌, [], map, not, nat_lt, is_none, None, IfOk, IfSome, ⊤};
+ghost use Rattle.std.specs.List.{flat_map};
+ghost use Rattle.std.specs.Option.{unwrap_or};
+ghost use Rattle.pe_view.specs.View.{bytes_of, size_of};
+ghost use Rattle.pe_view.specs.Faults.{Answers, first_standing};
+ghost use Rattle.pe_view.specs.TextEnds.{AreEndsOf};
+ghost use Rattle.coff_read.specs.FileView.{file_section_view, relocations_view};
+ghost use Rattle.coff_read.specs.Names.{section_name};
+ghost use Rattle.coff_read.specs.ObjectFaults.{section_tests};
+ghost use Rattle.coff_read.specs.ObjectView.{raw_view, section_view};
+ghost use Rattle.coff_read.specs.Reading.{raw_at, is_absent, section_in, section_starts};
+ghost use Rattle.coff_read.specs.TablesPlace.{AreTables};
+
+use crate::error::file_fault;
+use crate::fields::{u16_in, u32_in};
+use crate::names::{has_no_text, name_kept, section_name_field};
+use crate::relocation::{RELOCATION_LEN, Relocation};
+use crate::relocations::Relocations;
+use crate::tables::{SECTION_LEN, Tables};
+use pe_view::{Fault, TextEnds, View};
+use std::alloc::{AllocError, Allocator};
+
+/// The flag of a section whose bytes do not stand in the file.
+pub(crate) const UNINITIALIZED_DATA: u32 = 0x80;
+
+/// The flag LNK_NRELOC_OVFL, of a section with more relocations than its header's field counts.
+const EXTENDED_RELOCATIONS: u32 = 0x0100_0000;
+
+/// The bytes of a section.
+#[derive(Clone, Copy, Debug, PartialEq, Eq)]
+pub enum RawData<'a> {
+    /// They stand in the file; there is at least one.
+    Bytes(&'a [u8]),
+    /// None stand in the file; SizeOfRawData as it is written.
+    Absent(u32),
+}
+
+/// A section of an object ("PE Format", Section Table).
+#[derive(Drop)]
+pub struct ObjSection<'a, A: Allocator> {
+    /// The section's name, also where it stands in the string table.
+    pub name: &'a [u8],
+    /// VirtualSize, as it is written.
+    pub virtual_size: u32,
+    /// VirtualAddress, as it is written.
+    pub virtual_address: u32,
+    /// The bytes.
+    pub raw: RawData<'a>,
+    /// The section's flags.
+    pub flags: u32,
+    /// The relocations, in table order.
+    pub relocations: Vec<Relocation, A>,
+}
+
+/// A section of an object as it stands in the file ("PE Format", Section Table).
+#[derive(Clone, Copy)]
+pub struct FileSection<'a> {
+    /// The section's name, also where it stands in the string table.
+    pub name: &'a [u8],
+    /// VirtualSize, as it is written.
+    pub virtual_size: u32,
+    /// VirtualAddress, as it is written.
+    pub virtual_address: u32,
+    /// The bytes.
+    pub raw: RawData<'a>,
+    /// The section's flags.
+    pub flags: u32,
+    /// The relocations, in table order.
+    pub relocations: Relocations<'a>,
+}
+
+/// The bytes of a section at an offset of the file, so many; `None` where they pass its end.
+fn raw_at<'a>(view: View<'a>, pointer: u32, size: u32, flags: u32) -> Option<RawData<'a>>
+    ensures none { is_none result ≡ (not (is_absent pointer size flags) && nat_lt (size_of view.entry) (pointer + size)) }
+    ensures value { IfSome result (λ raw. raw_view raw ≡ raw_at (bytes_of view.entry) pointer size flags) }
+{
+    if pointer == 0 || size == 0 || flags & UNINITIALIZED_DATA != 0 {
+        return Some(RawData::Absent(size));
+    }
+    match view.slice(u64::from(pointer), u64::from(size)) {
+        Some(bytes) => Some(RawData::Bytes(bytes)),
+        None => None,
+    }
+}
+
+/// That none of faults 64, 65, 66 and 69 stands of the section whose header stands at an offset of the file.
+fn check_section(view: View, tables: Tables, h: u64) -> Result<(), Fault>
+    requires tables { AreTables (bytes_of view) tables }
+    requires inside { h + 40 ≤ size_of view }
+    ensures { Answers (section_tests (bytes_of view.entry) h) (λ _. ⊤) result }
+{
+    let (pointer, size, flags) = (
+        u32_in(view, h, 20),
+        u32_in(view, h, 16),
+        u32_in(view, h, 36),
+    );
+    if raw_at(view, pointer, size, flags).is_none() {
+        return Err(file_fault(64, h));
+    }
+    let start = u64::from(u32_in(view, h, 24));
+    let count = u64::from(u16_in(view, h, 32));
+    if flags & EXTENDED_RELOCATIONS != 0 && count == 0xffff {
+        return Err(file_fault(65, h));
+    }
+    if count != 0 && start + RELOCATION_LEN * count > view.len() {
+        return Err(file_fault(66, h));
+    }
+    if has_no_text(tables, section_name_field(view, h)) {
+        return Err(file_fault(69, h));
+    }
+    Ok(())
+}
+
+/// That none of faults 64, 65, 66 and 69 stands of a section.
+pub(crate) fn check_sections(view: View, tables: Tables) -> Result<(), Fault>
+    requires { AreTables (bytes_of view) tables }
+    ensures { Answers (flat_map (section_tests (bytes_of view.entry)) (section_starts (bytes_of view.entry))) (λ _. ⊤) result }
+{
+    for i in 0..tables.sections {
+        check_section(view, tables, tables.headers + SECTION_LEN * i)?;
+    }
+    Ok(())
+}
+
+/// The section of a name whose header stands at an offset of the file.
+pub(crate) fn section_at<'a>(view: View<'a>, h: u64, name: &'a [u8]) -> FileSection<'a>
+    requires inside { h + 40 ≤ size_of view }
+    requires none { first_standing (section_tests (bytes_of view) h) ≡ None }
+    requires name { name.now ≡ unwrap_or (section_name (bytes_of view) h) [] }
+    ensures { file_section_view result ≡ section_in (bytes_of view.entry) h }
+{
+    let (pointer, size, flags) = (
+        u32_in(view, h, 20),
+        u32_in(view, h, 16),
+        u32_in(view, h, 36),
+    );
+    FileSection {
+        name,
+        virtual_size: u32_in(view, h, 8),
+        virtual_address: u32_in(view, h, 12),
+        raw: raw_at(view, pointer, size, flags).unwrap(),
+        flags,
+        relocations: Relocations::of_section(view, h),
+    }
+}
+
+/// A section with a list of its relocations.
+fn read_section<'a, A: Allocator>(
+    alloc: A,
+    section: FileSection<'a>,
+) -> Result<ObjSection<'a, A>, AllocError>
+    ensures { IfOk result (λ read. section_view read ≡ file_section_view section.entry) }
+{
+    Ok(ObjSection {
+        name: section.name,
+        virtual_size: section.virtual_size,
+        virtual_address: section.virtual_address,
+        raw: section.raw,
+        flags: section.flags,
+        relocations: section.relocations.read(alloc)?,
+    })
+}
+
+/// A list of the sections, in table order, where none of faults 64, 65, 66 and 69 stands of one.
+pub(crate) fn read_sections<'a, A: Allocator + Copy>(
+    alloc: A,
+    ends: &mut TextEnds<A>,
+    view: View<'a>,
+    tables: Tables,
+) -> Result<Vec<ObjSection<'a, A>, A>, AllocError>
+    requires tables { AreTables (bytes_of view) tables }
+    requires none { first_standing (flat_map (section_tests (bytes_of view)) (section_starts (bytes_of view))) ≡ None }
+    requires known { AreEndsOf (bytes_of view) ends.old }
+    ensures sections { IfOk result (λ sections. map section_view sections.items ≡ map (section_in (bytes_of view.entry)) (section_starts (bytes_of view.entry))) }
+    ensures known { AreEndsOf (bytes_of view.entry) ends.new }
+{
+    let mut sections = Vec::with_capacity(alloc, tables.sections as usize)?;
+    for i in 0..tables.sections {
+        let h = tables.headers + SECTION_LEN * i;
+        let name = name_kept(ends, view, tables, section_name_field(view, h));
+        sections.push(read_section(alloc, section_at(view, h, name))?)?;
+    }
+    Ok(sections)
+}

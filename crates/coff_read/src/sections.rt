@@ -1,0 +1,52 @@
+ghost use Rattle.std.specs.Prelude.{◌≡◌, ◌≤◌, None};
+ghost use Rattle.std.specs.List.{flat_map};
+ghost use Rattle.pe_view.specs.Faults.{first_standing};
+ghost use Rattle.pe_view.specs.TextEnds.{AreEndsOf};
+ghost use Rattle.pe_view.specs.View.{bytes_of};
+ghost use Rattle.coff_read.specs.ObjectFaults.{section_tests};
+ghost use Rattle.coff_read.specs.Reading.{section_starts};
+ghost use Rattle.coff_read.specs.TablesPlace.{AreTables};
+
+use crate::names::{name_kept, section_name_field};
+use crate::section::{FileSection, section_at};
+use crate::tables::{SECTION_LEN, Tables};
+use pe_view::{TextEnds, View};
+use std::alloc::Allocator;
+
+/// The sections of an object's file, in table order. Where texts of the string table end is remembered, so each byte of it is
+/// searched at most once, and 256 bytes for each name besides, however many sections share a name. Where memory for that is
+/// refused, a text is searched again.
+#[derive(Drop)]
+pub struct EachSection<'a, A: Allocator> {
+    pub(crate) view: View<'a>,
+    pub(crate) tables: Tables,
+    pub(crate) next: u64,
+    pub(crate) ends: TextEnds<A>,
+    ghost stand: { AreTables (bytes_of view) tables },
+    ghost within: { next ≤ tables.sections },
+    ghost sound: { first_standing (flat_map (section_tests (bytes_of view)) (section_starts (bytes_of view))) ≡ None },
+    ghost known: { AreEndsOf (bytes_of view) ends },
+}
+
+impl<'a, A: Allocator + Copy> Iterator for EachSection<'a, A> {
+    ghost use Rattle.std.specs.Iterator.{YieldsFirstBy, item_count};
+    ghost use Rattle.coff_read.specs.FileView.{file_section_view};
+    ghost use Rattle.coff_read.specs.SectionsLeft.{each_section_left};
+
+    type Item = FileSection<'a>;
+
+    ghost next_gives = { YieldsFirstBy file_section_view each_section_left };
+
+    ghost remaining = { item_count each_section_left };
+
+    fn next(&mut self) -> Option<FileSection<'a>> {
+        if self.next >= self.tables.sections {
+            return None;
+        }
+        let h = self.tables.headers + SECTION_LEN * self.next;
+        let field = section_name_field(self.view, h);
+        let name = name_kept(&mut self.ends, self.view, self.tables, field);
+        self.next += 1;
+        Some(section_at(self.view, h, name))
+    }
+}

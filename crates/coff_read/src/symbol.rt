@@ -1,0 +1,142 @@
+ghost use Rattle.std.specs.Prelude.{◌≡◌, ◌+◌, ◌*◌, ◌≤◌, ◌<◌, ◌^◌, [], map, length, None, IfOk};
+ghost use Rattle.std.specs.List.{flat_map};
+ghost use Rattle.std.specs.Option.{unwrap_or};
+ghost use Rattle.pe_view.specs.Faults.{Answers, first_standing};
+ghost use Rattle.pe_view.specs.TextEnds.{AreEndsOf};
+ghost use Rattle.pe_view.specs.View.{bytes_of, size_of};
+ghost use Rattle.coff_read.specs.Field.{field};
+ghost use Rattle.coff_read.specs.Names.{symbol_name};
+ghost use Rattle.coff_read.specs.ObjectFaults.{symbol_tests};
+ghost use Rattle.coff_read.specs.ObjectView.{symbol_view};
+ghost use Rattle.coff_read.specs.Reading.{section_of_number, symbol_at, record_start, aux_count, symbol_indexes};
+ghost use Rattle.coff_read.specs.TablesPlace.{AreTables};
+
+use crate::error::file_fault;
+use crate::fields::{u8_in, u16_in, u32_in};
+use crate::names::{has_no_text, name_kept, symbol_name_field};
+use crate::tables::{SYMBOL_LEN, Tables};
+use pe_view::{Fault, TextEnds, View};
+use std::alloc::{AllocError, Allocator};
+
+/// To which section a symbol belongs.
+#[derive(Clone, Copy, Debug, PartialEq, Eq)]
+pub enum SymbolSection {
+    /// To none here: another object defines it.
+    Undefined,
+    /// To none: its value is a number and no address.
+    Absolute,
+    /// To none: it tells about the source.
+    Debug,
+    /// To the section of this number, counted from 1.
+    Section(u16),
+}
+
+/// A symbol with its auxiliary records ("PE Format", COFF Symbol Table).
+#[derive(Clone, Copy, Debug, PartialEq, Eq)]
+pub struct Symbol<'a> {
+    /// The symbol's name, also where it stands in the string table.
+    pub name: &'a [u8],
+    /// The value, by the section and the class.
+    pub value: u32,
+    /// To which section it belongs.
+    pub section: SymbolSection,
+    /// The type.
+    pub kind: u16,
+    /// The storage class.
+    pub class: u8,
+    /// The auxiliary records, 18 bytes each.
+    pub aux: &'a [u8],
+}
+
+/// To which section a SectionNumber assigns a symbol.
+fn section_of_number(number: u16) -> SymbolSection
+    ensures { result ≡ section_of_number number }
+{
+    match number {
+        0 => SymbolSection::Undefined,
+        0xffff => SymbolSection::Absolute,
+        0xfffe => SymbolSection::Debug,
+        number => SymbolSection::Section(number),
+    }
+}
+
+/// The index of the record behind the symbol of a record, unless one of faults 69 to 71 stands of it.
+fn check_symbol(view: View, tables: Tables, k: u64) -> Result<u64, Fault>
+    requires tables { AreTables (bytes_of view) tables }
+    requires inside { k < tables.records }
+    ensures within { IfOk result (λ next. next ≤ tables.records) }
+    ensures exact { Answers (symbol_tests (bytes_of view.entry) k) (λ next. next ≡ k + 1 + aux_count (bytes_of view.entry) k) result }
+{
+    let at = tables.symbols + SYMBOL_LEN * k;
+    if has_no_text(tables, symbol_name_field(view, at)) {
+        return Err(file_fault(69, at));
+    }
+    let next = k + 1 + u64::from(u8_in(view, at, 17));
+    if next > tables.records {
+        return Err(file_fault(70, at));
+    }
+    let number = u16_in(view, at, 12);
+    if u64::from(number) > tables.sections && number < 0xfffe {
+        return Err(file_fault(71, at));
+    }
+    Ok(next)
+}
+
+/// How many symbols there are, unless one of faults 69 to 71 stands of one. Each stands behind the auxiliary records of the one
+/// before.
+pub(crate) fn check_symbols(view: View, tables: Tables) -> Result<u64, Fault>
+    requires { AreTables (bytes_of view) tables }
+    ensures { Answers (flat_map (symbol_tests (bytes_of view.entry)) (symbol_indexes (bytes_of view.entry))) (λ count. count ≡ length (symbol_indexes (bytes_of view.entry))) result }
+{
+    let mut count = 0;
+    let mut k = 0;
+    while k < tables.records {
+        k = check_symbol(view, tables, k)?;
+        count += 1;
+    }
+    Ok(count)
+}
+
+/// The symbol of a name whose record stands at an offset of the file.
+pub(crate) fn symbol_at<'a>(view: View<'a>, at: u64, name: &'a [u8]) -> Symbol<'a>
+    requires inside { at + 18 + 18 * field (bytes_of view) at 17 1 ≤ size_of view }
+    requires small { size_of view ≤ 2 ^ 32 }
+    requires name { name.now ≡ unwrap_or (symbol_name (bytes_of view) at) [] }
+    ensures symbol { symbol_view result ≡ symbol_at (bytes_of view.entry) at }
+    ensures aux { length result.aux.now ≡ 18 * field (bytes_of view.entry) at 17 1 }
+{
+    let aux = u64::from(u8_in(view, at, 17));
+    Symbol {
+        name,
+        value: u32_in(view, at, 8),
+        section: section_of_number(u16_in(view, at, 12)),
+        kind: u16_in(view, at, 14),
+        class: u8_in(view, at, 16),
+        aux: view.slice(at + SYMBOL_LEN, SYMBOL_LEN * aux).unwrap(),
+    }
+}
+
+/// A list of the symbols, so many, in table order, where none of faults 69 to 71 stands of one.
+pub(crate) fn read_symbols<'a, A: Allocator + Copy>(
+    alloc: A,
+    ends: &mut TextEnds<A>,
+    view: View<'a>,
+    tables: Tables,
+    count: usize,
+) -> Result<Vec<Symbol<'a>, A>, AllocError>
+    requires tables { AreTables (bytes_of view) tables }
+    requires none { first_standing (flat_map (symbol_tests (bytes_of view)) (symbol_indexes (bytes_of view))) ≡ None }
+    requires known { AreEndsOf (bytes_of view) ends.old }
+    ensures { IfOk result (λ symbols. map symbol_view symbols.items ≡ map (λ k. symbol_at (bytes_of view.entry) (record_start (bytes_of view.entry) k)) (symbol_indexes (bytes_of view.entry))) }
+{
+    let mut symbols = Vec::with_capacity(alloc, count)?;
+    let mut k = 0;
+    while k < tables.records {
+        let at = tables.symbols + SYMBOL_LEN * k;
+        let name = name_kept(ends, view, tables, symbol_name_field(view, at));
+        let symbol = symbol_at(view, at, name);
+        k += 1 + symbol.aux.len() as u64 / SYMBOL_LEN;
+        symbols.push(symbol)?;
+    }
+    Ok(symbols)
+}
