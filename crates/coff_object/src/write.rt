@@ -1,4 +1,4 @@
-ghost use Rattle.std.specs.Prelude.{◌≡◌, ◌+◌, ◌-◌, ◌≤◌, ◌<◌, ◌^◌, ◌++◌, false, [], if◌then◌else◌, length, map, min, ⊤, None, Some, Err, ℕ, List, All, IsTrue, OnOk, IfOk};
+ghost use Rattle.std.specs.Prelude.{◌≡◌, ◌+◌, ◌-◌, ◌<◌, ◌^◌, ◌++◌, false, if◌then◌else◌, length, map, min, ⊤, Some, Err, OnOk, IfOk};
 ghost use Rattle.std.specs.List.{flat_map, AllByRecursion};
 ghost use Rattle.pe_view.specs.Faults.{Answers, first_standing, AnswersOrWants};
 ghost use Rattle.coff_read.specs.ObjectView.{section_view, symbol_view, object_view};
@@ -9,10 +9,10 @@ ghost use Rattle.pe_view.specs.declared.fault.Fault as code_fault;
 ghost use Rattle.coff_object.specs.StringTableView.{counted};
 ghost use Rattle.coff_object.specs.StringTableWords.{texts_in};
 ghost use Rattle.coff_read.specs.Strings.{string_bytes};
-ghost use Rattle.coff_object.specs.Written.{bodies_start, has_strings, symbols_start, coff_header, string_table, canon, strings_of, section_body, section_table, symbol_bytes, aux_records, records_of};
+ghost use Rattle.coff_object.specs.Written.{bodies_start, has_strings, symbols_start, coff_header, string_table, canon, strings_of, section_body, section_table, symbol_bytes, aux_records};
 ghost use Rattle.coff_object.specs.NamePlaces.{section_places, symbol_places, ArePlacesOf};
 ghost use Rattle.coff_object.specs.Writable.{IsWritable};
-ghost use Rattle.coff_object.specs.WriteFaults.{name_tests, section_tests, form_tests, write_tests, is_far, has_many_relocations, is_bad_symbol, is_bad_object};
+ghost use Rattle.coff_object.specs.WriteFaults.{name_tests, section_tests, form_tests, write_tests, is_far, has_many_relocations, is_bad_object};
 ghost use Rattle.pe_view.specs.declared.refusal.Refusal.{Refusal};
 
 use crate::layout::{NamePlaces, bodies_size, body_size, place_names, record_count, symbols_size};

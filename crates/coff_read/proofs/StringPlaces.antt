@@ -1,6 +1,6 @@
 -- A text of a string table stands at its offset, with a zero byte behind it.
 use Rattle.std.proofs.Common.{◌≡◌, ◌∙◌, ℕ, zero, suc, ◌+◌, ◌-◌, Bool, false, cond, List, [], ◌∷◌, ◌++◌, length, take, drop, Option, Some, None, refl, sym, ap, length-append, append_assoc, arith, inl, inr}
-use Rattle.std.specs.Prelude.{◌↔◌, nat_lt, nat_le, option_map, slice_range, ◌==◌, ◌||◌}
+use Rattle.std.specs.Prelude.{◌↔◌, nat_lt, nat_le, option_map, slice_range, ◌==◌}
 use Rattle.std.specs.List.{list_any}
 use Rattle.std.proofs.lemmas.Bool.{cases_Bool, or_parts, ltb-false, leb-true, le-leb, le-ltb, or_from, ne_eqb}
 use Rattle.std.proofs.lemmas.List.{take_at, take-append-drop, length-take}

@@ -1,5 +1,4 @@
-ghost use Rattle.std.specs.Prelude.{◌≡◌, ◌+◌, ◌*◌, ◌≤◌, ◌<◌, map, ⊤};
-ghost use Rattle.std.specs.List.{range_with_len};
+ghost use Rattle.std.specs.Prelude.{◌≡◌, ◌+◌, ◌*◌, ◌≤◌, ◌<◌, ⊤};
 ghost use Rattle.pe_view.specs.View.{bytes_of, size_of};
 ghost use Rattle.pe_view.specs.Faults.{Answers};
 ghost use Rattle.coff_read.specs.Field.{field};

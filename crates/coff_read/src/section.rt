@@ -1,10 +1,10 @@
-ghost use Rattle.std.specs.Prelude.{◌≡◌, ◌+◌, ◌≤◌, ◌<◌, ◌^◌, ◌&&◌, [], map, not, nat_lt, is_none, None, IfOk, IfSome, ⊤};
+ghost use Rattle.std.specs.Prelude.{◌≡◌, ◌+◌, ◌≤◌, ◌<◌, ◌&&◌, [], map, not, nat_lt, is_none, None, IfOk, IfSome, ⊤};
 ghost use Rattle.std.specs.List.{flat_map};
 ghost use Rattle.std.specs.Option.{unwrap_or};
 ghost use Rattle.pe_view.specs.View.{bytes_of, size_of};
 ghost use Rattle.pe_view.specs.Faults.{Answers, first_standing};
 ghost use Rattle.pe_view.specs.TextEnds.{AreEndsOf};
-ghost use Rattle.coff_read.specs.FileView.{file_section_view, relocations_view};
+ghost use Rattle.coff_read.specs.FileView.{file_section_view};
 ghost use Rattle.coff_read.specs.Names.{section_name};
 ghost use Rattle.coff_read.specs.ObjectFaults.{section_tests};
 ghost use Rattle.coff_read.specs.ObjectView.{raw_view, section_view};
