@@ -5,8 +5,10 @@ ghost use Rattle.coff_read.specs.Records.{RawFits, RelocationFits, RelocationsFi
 ghost use Rattle.coff_object.specs.Written.{relocation_bytes, raw_bytes, pointer_to, raw_size, section_body, section_name_at, section_fields, symbol_name_at, section_number, aux_records, symbol_fields};
 ghost use Rattle.coff_read.specs.ObjectView.{raw_view, section_view, symbol_view};
 
-use coff_read::{NAME_LEN, RELOCATION_LEN, is_long, is_long_section_name};
-use coff_read::{ObjSection, RawData, Relocation, Symbol, SymbolSection};
+use coff_read::{
+    NAME_LEN, ObjSection, RELOCATION_LEN, RawData, Relocation, Symbol, SymbolSection, is_long,
+    is_long_section_name,
+};
 use itoa::Buffer;
 use pe_numbers::Number::{U8, U16, U32};
 use pe_numbers::{push_record, write_numbers};

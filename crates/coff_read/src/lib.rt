@@ -9,8 +9,8 @@
 //! let object = read_object(alloc, file)?;
 //! ```
 //!
-//! The writer of objects, `coff_object`, hands this crate's names on. Of what it asks of an object, [`has_bad_part`] and
-//! [`is_other_header`] stand here, as they ask what the reader does.
+//! `coff_object`, which writes objects, hands this crate's names on. What its writer asks of an object's parts stands here too:
+//! [`has_bad_part`], [`is_other_header`], [`is_long`] and [`is_long_section_name`].
 #![tactic(auto)]
 
 mod auxiliary;

@@ -11,5 +11,5 @@ returns-else-offset-lt4 c =
     let offset = c.in-Offset.offset in
     let texts = c.args.tables.texts in
     λ file stand. (
-      let led = stand.texts offset ∙ ap (λ (b : Bool). b || nat_le texts offset) (le-ltb offset 4 c.if-offset-lt4.false) in
-      ap (nat_le texts) c.from.ensures ∙ sym led ∙ ap (λ (f : NameField). is_none (name_in file f)) (sym c.in-Offset.is))
+    let led = stand.texts offset ∙ ap (λ (b : Bool). b || nat_le texts offset) (le-ltb offset 4 c.if-offset-lt4.false) in
+    ap (nat_le texts) c.from.ensures ∙ sym led ∙ ap (λ (f : NameField). is_none (name_in file f)) (sym c.in-Offset.is))
