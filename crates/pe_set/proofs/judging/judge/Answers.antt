@@ -3,7 +3,7 @@ use Rattle.std.proofs.Common.{◌≡◌, ◌∙◌, ◌≤◌, ◌^◌, List, le
 use Rattle.std.proofs.lemmas.Result.{err_from_is_err_and}
 use Rattle.pe_view.specs.Faults.{first_standing}
 use Rattle.pe_set.specs.Bindings.{bindings_of}
-use Rattle.pe_set.specs.NamesView.{AreDistinct}
+use Rattle.pe_set.specs.NamesView.{AreDistinct, lowered}
 use Rattle.pe_set.specs.Search.{pairs_of}
 use Rattle.pe_set.specs.Set.{Module, modules_of}
 use Rattle.pe_set.specs.SetFaults.{RefusesClass, names_tests, files_tests, places_tests}
@@ -117,3 +117,40 @@ returns-in_err-bindings-clause-no_memory g c = λ e refused.
     let few = few_images c.args.set.now (few_entries (entries_of c.args.set.now) c.in_ok-check_names.ensures.exact.0) in
     let count = count_modules c.args.set.now c.in_ok-modules.modules.items c.in_ok-modules.ensures.exact.1 in
     elim e [ inl none ↦ (let h = c.in_err-bindings.ensures.empty (ap length c.deref-3.ensures.value ∙ count ∙ none) in absurd cc) | inr many ↦ absurd (omega arith) ]
+
+pub returns-in_err-check_names-clause-no_memory : goal.returns-in_err-check_names-clause-no_memory
+returns-in_err-check_names-clause-no_memory g c = λ e refused.
+    let p = err_from_is_err_and c.from_residual.result c.from_residual.ensures.1 in
+    let kept = c.in_err-check_names.ensures.no_memory in
+    absurd (kept (cc))
+
+pub returns-in_err-check_names-clause-named : goal.returns-in_err-check_names-clause-named
+returns-in_err-check_names-clause-named g c = λ refused.
+    let p = err_from_is_err_and c.from_residual.result c.from_residual.ensures.1 in
+    let kept = c.in_err-check_names.ensures.no_memory in
+    let is = rw (p.1, p.2) at refused in
+    absurd (kept (cc))
+
+pub returns-in_err-modules-clause-named : goal.returns-in_err-modules-clause-named
+returns-in_err-modules-clause-named g c = λ refused. c.in_ok-check_names.ensures.exact.0
+
+pub returns-in_err-check_places-clause-named : goal.returns-in_err-check_places-clause-named
+returns-in_err-check_places-clause-named g c = λ refused. c.in_ok-check_names.ensures.exact.0
+
+pub returns-in_err-names-clause-exact : goal.returns-in_err-names-clause-exact
+returns-in_err-names-clause-exact g c = let p = err_from_is_err_and c.from_residual-in_err-names.result c.from_residual-in_err-names.ensures.1 in rw (p.1, p.2) tt
+
+pub returns-in_err-names-clause-named : goal.returns-in_err-names-clause-named
+returns-in_err-names-clause-named g c = λ refused. c.in_ok-check_names.ensures.exact.0
+
+pub bind-requires-clause-named : goal.bind-requires-clause-named
+bind-requires-clause-named g c = c.in_ok-names.ensures.names ∙ ap (λ xs. lowered (modules_view xs)) (c.deref-2.ensures.value ∙ sym c.deref-3.ensures.value)
+
+pub returns-in_err-bindings-clause-named : goal.returns-in_err-bindings-clause-named
+returns-in_err-bindings-clause-named g c = λ refused. c.in_ok-check_names.ensures.exact.0
+
+pub returns-clause-no_memory : goal.returns-clause-no_memory
+returns-clause-no_memory g c = λ e refused. absurd cc
+
+pub returns-clause-named : goal.returns-clause-named
+returns-clause-named g c = λ refused. c.in_ok-check_names.ensures.exact.0

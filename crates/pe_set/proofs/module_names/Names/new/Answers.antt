@@ -1,8 +1,9 @@
-use Rattle.std.proofs.Common.{◌≡◌, ◌∙◌, ◌++◌, ◌∷◌, [], ℕ, List, Bool, false, sym, ap, subst, map, take, cond, length, refl}
+use Rattle.std.proofs.Common.{arith, ◌≡◌, ◌∙◌, ◌++◌, ◌∷◌, [], ℕ, List, Bool, false, sym, ap, subst, map, take, cond, length, refl}
 use Rattle.std.specs.List.{list_any}
 use Rattle.std.specs.Char.{to_ascii_lowercase}
 use Rattle.std.specs.Str.{bytes_eq, str_to_ascii_lowercase}
-use Rattle.std.proofs.lemmas.List.{take_more, take-map, map-append, length-map}
+use Rattle.std.proofs.lemmas.Result.{err_from_is_err_and}
+use Rattle.std.proofs.lemmas.List.{take_all, take_more, take-map, map-append, length-map}
 use Rattle.std.proofs.lemmas.Option.{slice_get-map, slice_get_read}
 use Rattle.std.specs.Prelude.{max, option_map}
 use Rattle.pe_set.specs.Set.{Module, same_name}
@@ -48,3 +49,24 @@ loop-module-preserved g c =
           (ap (λ (bytes : List ℕ). length bytes) c.in_ok-lower_into.ensures ∙ length-map name to_ascii_lowercase)
           (within_more c.loop-module.longest (map (λ y. y.items) keys) buffer.items c.loop-module.invariant.within)));
     }
+
+pub returns-in_err-names-clause-names : goal.returns-in_err-names-clause-names
+returns-in_err-names-clause-names g c = let p = err_from_is_err_and c.from_residual.result c.from_residual.ensures.1 in rw p.1 tt
+
+pub returns-in_err-names-clause-empty : goal.returns-in_err-names-clause-empty
+returns-in_err-names-clause-empty g c = λ none. let made = c.in_err-names.ensures.succeeds none in absurd cc
+
+pub returns-in_err-lower_into-clause-names : goal.returns-in_err-lower_into-clause-names
+returns-in_err-lower_into-clause-names g c = let p = err_from_is_err_and c.from_residual-in_err-lower_into.result c.from_residual-in_err-lower_into.ensures.1 in rw p.1 tt
+
+pub returns-in_err-lower_into-clause-empty : goal.returns-in_err-lower_into-clause-empty
+returns-in_err-lower_into-clause-empty g c = λ none. absurd (omega (arith, c.loop-module-test.true))
+
+pub returns-in_err-insert-clause-names : goal.returns-in_err-insert-clause-names
+returns-in_err-insert-clause-names g c = let p = err_from_is_err_and c.from_residual-in_err-insert.result c.from_residual-in_err-insert.ensures.1 in rw p.1 tt
+
+pub returns-in_err-insert-clause-empty : goal.returns-in_err-insert-clause-empty
+returns-in_err-insert-clause-empty g c = λ none. absurd (omega (arith, c.loop-module-test.true))
+
+pub returns-clause-names : goal.returns-clause-names
+returns-clause-names g c = c.loop-module.invariant.names ∙ ap (λ xs. lowered (modules_view xs)) (take_all c.loop-module.module-index c.args.modules.now c.loop-module-test.false)
