@@ -353,6 +353,11 @@ static EXPLAINED: [Explained; 69] = [
     ),
 ];
 
+/// The rows of all faults. Each function that names the table has it proved anew, so this one alone does.
+fn explained() -> &'static [Explained] {
+    &EXPLAINED
+}
+
 /// Prints what a fault means.
 fn print_fault(rt: &impl Print, row: &Explained) -> io::Result<()> {
     let (number, stands, met) = *row;
@@ -362,12 +367,18 @@ fn print_fault(rt: &impl Print, row: &Explained) -> io::Result<()> {
     println!(rt; "fault {number}: {subject}: {rule}\n  It stands where {stands}.\n  Met by: {met}.")
 }
 
+/// Prints the words of a fault, in one line.
+fn print_words(rt: &impl Print, number: u16) -> io::Result<()> {
+    let Some(FaultWords { subject, rule }) = fault_words(number) else {
+        return Ok(());
+    };
+    println!(rt; "{number:>3}  {subject}: {rule}")
+}
+
 /// Prints the words of all faults, a line each.
 fn print_list(rt: &impl Print) -> io::Result<()> {
-    for (number, _, _) in &EXPLAINED {
-        if let Some(FaultWords { subject, rule }) = fault_words(*number) {
-            println!(rt; "{number:>3}  {subject}: {rule}")?;
-        }
+    for (number, _, _) in explained() {
+        print_words(rt, *number)?;
     }
     Ok(())
 }
@@ -376,7 +387,7 @@ fn print_list(rt: &impl Print) -> io::Result<()> {
 pub(crate) fn run_explain(rt: &(impl Print + Eprint), number: Option<u16>) -> u8 {
     let printed = match number {
         None => print_list(rt),
-        Some(number) => match EXPLAINED.iter().find(|row| row.0 == number) {
+        Some(number) => match explained().iter().find(|row| row.0 == number) {
             Some(row) => print_fault(rt, row),
             None => {
                 let _ = eprintln!(rt; "petool: no fault has the number {number}");

@@ -23,3 +23,9 @@ loop-index-preserved g c =
     let base : c.base.result ≡ (placement_at ps k).base = c.base.ensures ∙ ap (λ (p : Placement). p.base) (sym (own_at place c.args.images.now c.index-images-index.result k c.loop-index-test.true c.index-images-index.is)) in
     subst (AreFirst ps (k + 1)) (sym c.in_ok-push.ensures.items)
     (first_more ps k c.loop-index.order.items (record { base = c.base.result; number = k }) c.loop-index.invariant (ap (λ n. record { base = n; number = k }) base))
+
+pub returns-in_err-order-clause-empty : goal.returns-in_err-order-clause-empty
+returns-in_err-order-clause-empty g c = λ none. let made = c.in_err-order.ensures.succeeds none in absurd cc
+
+pub returns-in_err-push-clause-empty : goal.returns-in_err-push-clause-empty
+returns-in_err-push-clause-empty g c = λ none. absurd (omega (arith, c.loop-index-test.true))

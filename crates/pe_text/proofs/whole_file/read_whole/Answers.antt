@@ -1,5 +1,6 @@
 use Rattle.std.proofs.Common.{rules, arith, ◌≡◌, ◌+◌, ◌++◌, ℕ, List, length, take, sym, ap, ◌∙◌, inl, inr, append_assoc, length-take, length-take-le, length-append}
 use Rattle.std.proofs.lemmas.List.{take_all}
+use Rattle.std.proofs.lemmas.Result.{err_from_is_err_and}
 use Rattle.pe_text.proofs.whole_file.read_whole.Goals as goal
 
 pub loop-filled-preserved : goal.loop-filled-preserved
@@ -35,5 +36,16 @@ returns-then-count-eq0 g c =
       front ++ read.0,
       read.1 ∙ ap (λ (given : List ℕ). given ++ read.0) c.loop-filled.invariant.reads ∙ append_assoc _ front read.0,
       (c.truncate.ensures.items ∙ ap (λ (n : ℕ). take n c.read_piece.new.bytes.items) (sym long) ∙ read.3.1, inl ended, read.3.3 ∙ c.loop-filled.invariant.count),
+      read.2,
+    )
+
+pub returns-in_err-count : goal.returns-in_err-count
+returns-in_err-count g c =
+    let read = c.in_err-count.ensures.piece in
+    let front = take c.loop-filled.filled c.loop-filled.bytes.items in
+    let p = err_from_is_err_and c.from_residual.result c.from_residual.ensures.1 in (
+      front ++ read.0,
+      read.1 ∙ ap (λ (given : List ℕ). given ++ read.0) c.loop-filled.invariant.reads ∙ append_assoc _ front read.0,
+      rw (p.1, p.2) (rw c.loop-filled.invariant.count at read.3),
       read.2,
     )

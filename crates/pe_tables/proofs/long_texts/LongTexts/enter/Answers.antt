@@ -3,6 +3,7 @@ use Rattle.std.proofs.Common.{◌≡◌, ◌∙◌, ◌/◌, ◌≤◌, ◌++◌
 use Rattle.std.specs.Prelude.{slice_index_or, max}
 use Rattle.std.proofs.Math.Nat.{div-add-mod}
 use Rattle.std.proofs.lemmas.List.{length-take-le, take-append-drop}
+use Rattle.std.proofs.lemmas.Result.{err_from_is_err_and}
 use Rattle.pe_layout.specs.Layout.{file_of}
 use Rattle.pe_tables.specs.LongTexts.{Leads, IsPath}
 use Rattle.pe_tables.proofs.LongTexts.{entry_before, node_below}
@@ -65,3 +66,39 @@ returns-clause-inside g c =
     let nodes = ap (λ ns. length ns.items) c.take_path-path.ensures.nodes in
     let count = f.grows.count in
     node_below c.follow.new.self.nodes.items f.trie (omega (arith, some, nodes, count)) text (length text / 256) c.last_node-node.result (returns-clause-node g c)
+
+pub returns-in_err-make_root-clause-known : goal.returns-in_err-make_root-clause-known
+returns-in_err-make_root-clause-known g c = let p = err_from_is_err_and c.from_residual.result c.from_residual.ensures.1 in rw p.1 tt
+
+pub returns-in_err-make_root-clause-grows : goal.returns-in_err-make_root-clause-grows
+returns-in_err-make_root-clause-grows g c = let p = err_from_is_err_and c.from_residual.result c.from_residual.ensures.1 in rw p.1 tt
+
+pub returns-in_err-make_root-clause-node : goal.returns-in_err-make_root-clause-node
+returns-in_err-make_root-clause-node g c = let p = err_from_is_err_and c.from_residual.result c.from_residual.ensures.1 in rw p.1 tt
+
+pub returns-in_err-make_root-clause-inside : goal.returns-in_err-make_root-clause-inside
+returns-in_err-make_root-clause-inside g c = let p = err_from_is_err_and c.from_residual.result c.from_residual.ensures.1 in rw p.1 tt
+
+pub returns-in_err-follow-clause-known : goal.returns-in_err-follow-clause-known
+returns-in_err-follow-clause-known g c = let p = err_from_is_err_and c.from_residual-in_err-follow.result c.from_residual-in_err-follow.ensures.1 in rw p.1 tt
+
+pub returns-in_err-follow-clause-grows : goal.returns-in_err-follow-clause-grows
+returns-in_err-follow-clause-grows g c = let p = err_from_is_err_and c.from_residual-in_err-follow.result c.from_residual-in_err-follow.ensures.1 in rw p.1 tt
+
+pub returns-in_err-follow-clause-node : goal.returns-in_err-follow-clause-node
+returns-in_err-follow-clause-node g c = let p = err_from_is_err_and c.from_residual-in_err-follow.result c.from_residual-in_err-follow.ensures.1 in rw p.1 tt
+
+pub returns-in_err-follow-clause-inside : goal.returns-in_err-follow-clause-inside
+returns-in_err-follow-clause-inside g c = let p = err_from_is_err_and c.from_residual-in_err-follow.result c.from_residual-in_err-follow.ensures.1 in rw p.1 tt
+
+pub returns-in_err-insert-clause-known : goal.returns-in_err-insert-clause-known
+returns-in_err-insert-clause-known g c = let p = err_from_is_err_and c.from_residual-in_err-insert.result c.from_residual-in_err-insert.ensures.1 in rw p.1 tt
+
+pub returns-in_err-insert-clause-grows : goal.returns-in_err-insert-clause-grows
+returns-in_err-insert-clause-grows g c = let p = err_from_is_err_and c.from_residual-in_err-insert.result c.from_residual-in_err-insert.ensures.1 in rw p.1 tt
+
+pub returns-in_err-insert-clause-node : goal.returns-in_err-insert-clause-node
+returns-in_err-insert-clause-node g c = let p = err_from_is_err_and c.from_residual-in_err-insert.result c.from_residual-in_err-insert.ensures.1 in rw p.1 tt
+
+pub returns-in_err-insert-clause-inside : goal.returns-in_err-insert-clause-inside
+returns-in_err-insert-clause-inside g c = let p = err_from_is_err_and c.from_residual-in_err-insert.result c.from_residual-in_err-insert.ensures.1 in rw p.1 tt
