@@ -1,4 +1,3 @@
 mod asserts;
 mod files;
-mod images;
 mod program;

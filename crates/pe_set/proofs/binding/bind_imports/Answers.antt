@@ -76,3 +76,18 @@ returns-clause-exact g c =
           ∙ ap (λ ys. c.loop-import.bindings.items ++ filter_map (binding_of s c.args.number) (map import_view ys)) (sym none)
           ∙ c.loop-import.invariant.bound,
     )
+
+pub returns-in_err-image-clause-known : goal.returns-in_err-image-clause-known
+returns-in_err-image-clause-known g c = let p = err_from_is_err_and c.from_residual.result c.from_residual.ensures.1 in rw p.1 tt
+
+pub returns-in_err-image-2-clause-known : goal.returns-in_err-image-2-clause-known
+returns-in_err-image-2-clause-known g c = let p = err_from_is_err_and c.from_residual-in_err-image-2.result c.from_residual-in_err-image-2.ensures.1 in rw p.1 tt
+
+pub returns-in_err-resolution-clause-known : goal.returns-in_err-resolution-clause-known
+returns-in_err-resolution-clause-known g c = let p = err_from_is_err_and c.from_residual-in_err-resolution.result c.from_residual-in_err-resolution.ensures.1 in rw p.1 tt
+
+pub returns-in_err-binding-clause-known : goal.returns-in_err-binding-clause-known
+returns-in_err-binding-clause-known g c = let p = err_from_is_err_and c.from_residual-in_err-binding.result c.from_residual-in_err-binding.ensures.1 in rw p.1 tt
+
+pub returns-in_err-push-clause-known : goal.returns-in_err-push-clause-known
+returns-in_err-push-clause-known g c = let p = err_from_is_err_and c.from_residual-in_err-push.result c.from_residual-in_err-push.ensures.1 in rw p.1 tt

@@ -1,5 +1,4 @@
-//! The tests of one image.
-
+mod asserts;
 mod cases;
 mod chains;
 mod exports;
