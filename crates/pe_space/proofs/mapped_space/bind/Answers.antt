@@ -58,7 +58,7 @@ loop-slot-preserved g c =
     let own = slot_at first hs c.args.slots.now i c.loop-slot.invariant.images c.requires.slots c.loop-slot-test.true in
     let at = stands first hs c.index-images-slot.result b _ _ c.loop-slot.invariant.images own c.index-images-slot.is c.base.ensures c.from.ensures in
     let step = bind_step (images_of first) hs c.put_address.new.images i c.args.slots.now no_slot _ (bound (images_of first) c.args.slots.now (memories_of first))
-        c.loop-slot-test.true c.loop-slot.invariant.images at c.put_address.ensures.images c.put_address.ensures.memories c.loop-slot.invariant.rest in
+    c.loop-slot-test.true c.loop-slot.invariant.images at c.put_address.ensures.images c.put_address.ensures.memories c.loop-slot.invariant.rest in
     record { images = step.0; rest = step.1 }
 
 pub offset_bounds-images-slot : goal.offset_bounds-images-slot

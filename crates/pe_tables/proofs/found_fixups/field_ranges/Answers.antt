@@ -3,6 +3,7 @@ use Rattle.std.proofs.Common.{◌∙◌, ℕ, List, get_or, take, sym, ap, arith
 use Rattle.std.specs.Prelude.{map}
 use Rattle.std.specs.List.{list_any}
 use Rattle.std.proofs.lemmas.List.{take_all}
+use Rattle.std.proofs.lemmas.Result.{err_from_is_err_and}
 use Rattle.pe_tables.specs.RangesView.{ranges_in}
 use Rattle.pe_tables.specs.Fixups.{width_of, range_of}
 use Rattle.pe_tables.specs.declared.fixups.Fixup.{Fixup}
@@ -31,3 +32,6 @@ returns g c = λ test.
     c.loop-fixup.invariant test
     ∙ ap (list_any (λ (f : Fixup). test (range_of f))) (take_all c.loop-fixup.fixup-index c.args.fixups.now (omega arith))
     ∙ sym (list_any-map test range_of c.args.fixups.now)
+
+pub returns-in_err-add : goal.returns-in_err-add
+returns-in_err-add g c = let p = err_from_is_err_and c.from_residual.result c.from_residual.ensures.1 in rw p.1 tt
