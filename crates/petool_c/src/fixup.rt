@@ -1,53 +1,15 @@
-ghost use Rattle.std.specs.Prelude.{◌≡◌};
 ghost use Rattle.pe_layout.specs.Image.{image_of_file};
-ghost use Rattle.pe_tables.specs.Encoded.{type_of};
 ghost use Rattle.pe_tables.specs.Fixups.{fixups_of};
-ghost use Rattle.petool_c.specs.FixupRows.{fixup_row};
-ghost use Rattle.petool_c.specs.Rows.{ReadsTable};
-ghost use Rattle.petool_c.specs.TableTests.{file_relocation_tests};
-ghost use Rattle.petool_c.specs.Wants.{FixupsTakeMemory, IsLaidOutAnd};
+ghost use Rattle.pe_rows.specs.FixupRows.{fixup_row};
+ghost use Rattle.pe_rows.specs.Rows.{ReadsTable};
+ghost use Rattle.pe_rows.specs.TableTests.{file_relocation_tests};
+ghost use Rattle.pe_rows.specs.Wants.{FixupsTakeMemory, IsLaidOutAnd};
 
-use crate::fault::{FaultRecord, refuse_for};
-use crate::reading::fixups_in;
-use crate::row::{Row, put_table};
-use pe_tables::{Fixup, FixupKind};
+use pe_rows::fault::{FaultRecord, refuse_for};
+use pe_rows::fixup::FixupRow;
+use pe_rows::reading::fixups_in;
+use pe_rows::row::put_table;
 use std::alloc::Global;
-
-/// A base relocation of an image.
-#[repr(C)]
-#[derive(Clone, Copy, Debug)]
-pub struct FixupRow {
-    /// The RVA of the table's entry.
-    pub entry: u32,
-    /// The RVA of the field.
-    pub field: u32,
-    /// The entry's type: 1 HIGH, 2 LOW, 3 HIGHLOW, 10 DIR64.
-    pub kind: u32,
-}
-
-/// The type that stands for a kind of field.
-fn type_of(kind: FixupKind) -> u32
-    ensures { result ≡ type_of kind }
-{
-    match kind {
-        FixupKind::High => 1,
-        FixupKind::Low => 2,
-        FixupKind::Bits32 => 3,
-        FixupKind::Bits64 => 10,
-    }
-}
-
-impl Row<Fixup> for FixupRow {
-    ghost tells = { λ item row. row ≡ fixup_row item };
-
-    fn of(item: &Fixup) -> Self {
-        FixupRow {
-            entry: item.entry,
-            field: item.field,
-            kind: type_of(item.kind),
-        }
-    }
-}
 
 /// Reads the base relocations of an image, in the order of its base relocation table, into the caller's rows.
 ///

@@ -1,28 +1,20 @@
 ghost use Rattle.std.specs.Prelude.{◌≡◌, ◌≢◌, ◌+◌, ◌<◌, ◌≤◌, ◌⊎◌, None, Some, length};
-ghost use Rattle.pe_view.specs.Faults.{first_standing, Answers};
+ghost use Rattle.pe_view.specs.Faults.{first_standing};
 ghost use Rattle.pe_head.specs.Head.{head_of};
 ghost use Rattle.pe_layout.specs.Image.{image_of_file, bytes_at};
-ghost use Rattle.pe_layout.specs.Layout.{IsLayoutOf};
 ghost use Rattle.pe_layout.specs.Locating.{located, file_offset};
 ghost use Rattle.pe_layout.specs.SectionFaults.{layout_tests};
 ghost use Rattle.pe_image.specs.ImageTests.{image_tests};
-ghost use Rattle.petool_c.specs.Faults.{IsAccepted, IsAnswered, IsRefusedBy};
-ghost use Rattle.petool_c.specs.Wants.{IsLaidOut};
+ghost use Rattle.pe_rows.specs.Faults.{IsAccepted, IsAnswered, IsRefusedBy};
+ghost use Rattle.pe_rows.specs.Wants.{IsLaidOut};
 
-use crate::fault::{FaultRecord, refuse, refuse_for};
-use crate::status;
-use crate::text::TextRecord;
 use pe_image::read_image;
-use pe_layout::{Layout, Located};
-use pe_view::{Fault, View};
+use pe_layout::Located;
+use pe_rows::fault::{FaultRecord, refuse, refuse_for};
+use pe_rows::reading::lay_out;
+use pe_rows::status;
+use pe_rows::text::TextRecord;
 use std::alloc::Global;
-
-/// The layout of an image's file, or the first of faults 1 to 15.
-pub(crate) fn lay_out(file: &[u8]) -> Result<Layout<'_>, Fault>
-    ensures { Answers (layout_tests 0 file.now) (IsLayoutOf file.now 0) result }
-{
-    Layout::new(View::new(file), 0)
-}
 
 /// Judges an image's file: headers and sections, exports, imports and base relocations.
 ///

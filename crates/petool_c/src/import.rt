@@ -1,56 +1,15 @@
-ghost use Rattle.std.specs.Prelude.{◌≡◌};
 ghost use Rattle.pe_layout.specs.Image.{image_of_file};
 ghost use Rattle.pe_tables.specs.Imports.{imports_of};
-ghost use Rattle.pe_tables.specs.ImportView.{import_view};
-ghost use Rattle.petool_c.specs.ImportRows.{import_text, import_row};
-ghost use Rattle.petool_c.specs.Rows.{ReadsTable};
-ghost use Rattle.petool_c.specs.TableTests.{file_import_tests};
-ghost use Rattle.petool_c.specs.Wants.{ImportsTakeMemory, IsLaidOutAnd};
+ghost use Rattle.pe_rows.specs.ImportRows.{import_text, import_row};
+ghost use Rattle.pe_rows.specs.Rows.{ReadsTable};
+ghost use Rattle.pe_rows.specs.TableTests.{file_import_tests};
+ghost use Rattle.pe_rows.specs.Wants.{ImportsTakeMemory, IsLaidOutAnd};
 
-use crate::fault::{FaultRecord, refuse_for};
-use crate::reading::imports_in;
-use crate::row::{Row, put_table};
-use pe_tables::{Import, Key};
+use pe_rows::fault::{FaultRecord, refuse_for};
+use pe_rows::import::ImportRow;
+use pe_rows::reading::imports_in;
+use pe_rows::row::put_table;
 use std::alloc::Global;
-
-/// An import of an image.
-#[repr(C)]
-#[derive(Clone, Copy, Debug)]
-pub struct ImportRow<'a> {
-    /// The name of the module that exports it, as it stands in the image.
-    pub module: &'a [u8],
-    /// Of an import by name its name; else empty.
-    pub name: &'a [u8],
-    /// The RVA of the import's slot in the import address table: 4 bytes in PE32, 8 bytes in PE32+.
-    pub slot: u32,
-    /// Of an import by ordinal its ordinal; else 0.
-    pub ordinal: u16,
-    /// Whether it is one by ordinal.
-    pub by_ordinal: bool,
-}
-
-impl<'a> Row<Import<'a>> for ImportRow<'a> {
-    ghost tells = { λ item row. import_text row ≡ import_row (import_view item) };
-
-    fn of(item: &Import<'a>) -> Self {
-        match item.key {
-            Key::Ordinal(ordinal) => ImportRow {
-                module: item.module,
-                name: &[],
-                slot: item.slot,
-                ordinal,
-                by_ordinal: true,
-            },
-            Key::Name(name) => ImportRow {
-                module: item.module,
-                name,
-                slot: item.slot,
-                ordinal: 0,
-                by_ordinal: false,
-            },
-        }
-    }
-}
 
 /// Reads the imports of an image, in the order of its import table, into the caller's rows.
 ///

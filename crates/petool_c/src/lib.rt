@@ -11,22 +11,16 @@
 #![tactic(auto)]
 
 mod export;
-mod fault;
 mod fixup;
 mod headers;
 mod image;
 mod import;
-mod mapping;
 mod object;
-mod reading;
 mod rebase;
-mod row;
 mod set;
 mod space;
-mod status;
 mod symbol;
 mod tables;
 #[cfg(test)]
 mod tests;
-mod text;
 mod words;

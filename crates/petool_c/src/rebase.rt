@@ -1,36 +1,13 @@
 ghost use Rattle.std.specs.Prelude.{◌≡◌, ◌≢◌, length};
 ghost use Rattle.pe_write.specs.Rebase.{rebased};
 ghost use Rattle.pe_write.specs.RebaseFaults.{rebase_tests};
-ghost use Rattle.petool_c.specs.Faults.{IsAccepted, IsAnswered};
-ghost use Rattle.petool_c.specs.Wants.{IsLaidOut};
+ghost use Rattle.pe_rows.specs.Faults.{IsAccepted, IsAnswered};
+ghost use Rattle.pe_rows.specs.Wants.{IsLaidOut};
 
-use crate::fault::{FaultRecord, refuse_for};
-use crate::status;
-use pe_write::rebase_file;
+use pe_rows::fault::FaultRecord;
+use pe_rows::rebase::rebase_into;
+use pe_rows::status;
 use std::alloc::Global;
-
-/// Fills a buffer of the file's length with the file of an image that is to stand at a base.
-fn rebase_into(
-    alloc: Global,
-    file: &[u8],
-    base: u64,
-    buffer: &mut [u8],
-    fault: &mut FaultRecord,
-) -> u32
-    requires { length buffer.old ≡ length file.now }
-    ensures faults { IsAnswered (IsLaidOut file.now) (rebase_tests file.now base) fault.old fault.new result }
-    ensures accepted { IsAccepted result → result ≡ 0 }
-    ensures done { result ≡ 0 → buffer.new ≡ rebased file.now base }
-    ensures kept { result ≢ 0 → buffer.new ≡ buffer.old }
-{
-    match rebase_file(alloc, file, base) {
-        Ok(bytes) => {
-            buffer.copy_from_slice(bytes.as_slice());
-            status::DONE
-        }
-        Err(refusal) => refuse_for(refusal, fault),
-    }
-}
 
 /// Writes the file of an image that is to stand at another base into a buffer of the file's length: each field of a base
 /// relocation is moved on by as much as the base lies above ImageBase, ImageBase is the base and CheckSum is 0; every other byte

@@ -3,29 +3,16 @@ ghost use Rattle.pe_view.specs.Faults.{first_standing};
 ghost use Rattle.pe_set.specs.SetErrors.{set_error};
 ghost use Rattle.pe_set.specs.SetFaults.{names_tests};
 ghost use Rattle.pe_space.specs.SpaceOf.{IsSpaceOf};
-ghost use Rattle.petool_c.specs.Rows.{TellsTable};
-ghost use Rattle.petool_c.specs.SetRows.{entry_text, binding_row, policy_of, IsJudged};
-ghost use Rattle.petool_c.specs.Spaces.{IsReadOf, IsMoveOf, base_of, size_of, bindings_of};
+ghost use Rattle.pe_rows.specs.Rows.{TellsTable};
+ghost use Rattle.pe_rows.specs.SetRows.{entry_text, binding_row, policy_of, IsJudged};
+ghost use Rattle.pe_rows.specs.Spaces.{IsReadOf, IsMoveOf, base_of, size_of, bindings_of};
 
-use crate::fault::{FaultRecord, refuse};
-use crate::mapping::map_entries;
-use crate::row::put_table;
-use crate::set::{BindingRow, EntryRecord, policy_of};
-use crate::status;
 use pe_handle::Handle;
-use pe_set::{Binding, MapError};
-use pe_space::Space;
+use pe_rows::fault::FaultRecord;
+use pe_rows::set::{BindingRow, EntryRecord, refuse_set};
+use pe_rows::space::{MovedRecord, close, map_into, move_image, read_window, tell_bindings, tell_place};
+use pe_rows::status;
 use std::alloc::Global;
-
-/// What a move rewrote.
-#[repr(C)]
-#[derive(Clone, Copy, Debug)]
-pub struct MovedRecord {
-    /// How many fields of the image: as many as it has fixups.
-    pub fields: u32,
-    /// How many bound slots, of all images, that end in it.
-    pub slots: u32,
-}
 
 /// Maps a set of images into a space: each at its base, with its fields relocated and its imports bound. A space that is open is
 /// closed first. With `known`, an import that leads to a module that is not in the set is no fault, and its slot is left as it
@@ -52,23 +39,9 @@ pub extern "C" fn petool_space_map(
     ensures closed { result ≢ 0 → space.new.is_open ≡ false }
     ensures memory { result ≡ 2 → first_standing (names_tests (map entry_text set.now)) ≡ None }
 {
-    petool_space_close(alloc, space);
-    match map_entries(alloc, set, policy_of(known)) {
-        Ok(mapped) => {
-            *space = Handle::of(mapped);
-            status::DONE
-        }
-        Err(MapError::Fault(first)) => refuse(first, fault),
-        Err(
-            MapError::Cycle {
-                fault: first,
-                length,
-            },
-        ) => {
-            *cycle = length;
-            refuse(first, fault)
-        }
-        Err(MapError::Memory) => status::MEMORY,
+    match map_into(alloc, space, set, known) {
+        Ok(()) => status::DONE,
+        Err(error) => refuse_set(error, fault, cycle),
     }
 }
 
@@ -78,7 +51,7 @@ pub extern "C" fn petool_space_close(alloc: Global, space: &mut Handle)
     ensures none { space.new.space ≡ None }
     ensures closed { space.new.is_open ≡ false }
 {
-    *space = Handle::closed(alloc);
+    close(alloc, space);
 }
 
 /// Fills a buffer with the bytes from an address on, which lie in one image; an empty buffer lies anywhere.
@@ -100,12 +73,9 @@ pub extern "C" fn petool_space_read(
 {
     match std::mem::replace(space, Handle::closed(alloc)).take() {
         Some(mapped) => {
-            let answer = mapped.window(address, buffer);
+            let answer = read_window(&mapped, address, buffer, fault);
             *space = Handle::of(mapped);
-            match answer {
-                Ok(()) => status::DONE,
-                Err(first) => refuse(first, fault),
-            }
+            answer
         }
         None => status::CLOSED,
     }
@@ -131,18 +101,9 @@ pub extern "C" fn petool_space_move(
 {
     match std::mem::replace(space, Handle::closed(alloc)).take() {
         Some(mut mapped) => {
-            let answer = mapped.move_image(image, base);
+            let answer = move_image(&mut mapped, image, base, moved, fault);
             *space = Handle::of(mapped);
-            match answer {
-                Ok(counts) => {
-                    *moved = MovedRecord {
-                        fields: counts.fields,
-                        slots: counts.slots,
-                    };
-                    status::DONE
-                }
-                Err(first) => refuse(first, fault),
-            }
+            answer
         }
         None => status::CLOSED,
     }
@@ -171,27 +132,12 @@ pub extern "C" fn petool_space_image(
 {
     match std::mem::replace(space, Handle::closed(alloc)).take() {
         Some(mapped) => {
-            let found = (mapped.base_of(image), mapped.size_of(image));
+            let answer = tell_place(&mapped, image, base, size);
             *space = Handle::of(mapped);
-            match found {
-                (Some(first), Some(length)) => {
-                    *base = first;
-                    *size = length;
-                    status::DONE
-                }
-                _ => status::ABSENT,
-            }
+            answer
         }
         None => status::CLOSED,
     }
-}
-
-/// Tells bindings: fills the rows, counts the bindings, and answers the status, 0 or 4.
-fn put_bindings(rows: &mut [BindingRow], bindings: &[Binding], count: &mut usize) -> u32
-    ensures table { TellsTable (λ row. row) binding_row bindings.now rows.old rows.new count.new result }
-    ensures open { result ≢ 6 }
-{
-    put_table(rows, bindings, count)
 }
 
 /// Tells the slots that are bound: by image, and then in the order of its imports.
@@ -214,7 +160,7 @@ pub extern "C" fn petool_space_bindings(
 {
     match std::mem::replace(space, Handle::closed(alloc)).take() {
         Some(mapped) => {
-            let answer = put_bindings(rows, mapped.bindings(), count);
+            let answer = tell_bindings(&mapped, rows, count);
             *space = Handle::of(mapped);
             answer
         }

@@ -7,7 +7,7 @@ mod images;
 mod objects;
 mod spaces;
 
-use crate::fault::FaultRecord;
+use pe_rows::fault::FaultRecord;
 use std::process::Abort;
 
 /// A fault that no call tells.

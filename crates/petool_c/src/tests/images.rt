@@ -2,18 +2,22 @@
 
 use super::{UNTOLD, assert_fault, assert_holds, assert_status, is, told};
 use crate::export::{
-    ExportRow, TargetRecord, petool_export_by_name, petool_export_by_ordinal, petool_export_names,
-    petool_exports,
+    petool_export_by_name, petool_export_by_ordinal, petool_export_names, petool_exports,
 };
-use crate::fixup::{FixupRow, petool_fixups};
-use crate::headers::{HeadersRecord, SectionRow, headers_record, petool_read_headers};
+use crate::fixup::petool_fixups;
+use crate::headers::petool_read_headers;
 use crate::image::{petool_check, petool_locate, petool_read, petool_read_text};
-use crate::import::{ImportRow, petool_imports};
+use crate::import::petool_imports;
 use crate::rebase::petool_rebase;
-use crate::tables::{CountsRecord, petool_tables};
-use crate::text::TextRecord;
+use crate::tables::petool_tables;
 use crate::words::{petool_fault_words, petool_version};
 use pe_layout::Layout;
+use pe_rows::export::{ExportRow, TargetRecord};
+use pe_rows::fixup::FixupRow;
+use pe_rows::headers::{HeadersRecord, SectionRow, headers_record};
+use pe_rows::import::ImportRow;
+use pe_rows::tables::CountsRecord;
+use pe_rows::text::TextRecord;
 use pe_vectors::files::{Vector, file_of};
 use pe_view::View;
 use std::alloc::Global;

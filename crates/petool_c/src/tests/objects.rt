@@ -2,10 +2,12 @@
 
 use super::{UNTOLD, assert_fault, assert_holds, assert_status, is};
 use crate::object::{
-    ObjectRelocationRow, ObjectSectionRow, petool_object_all_relocations, petool_object_check,
-    petool_object_relocations, petool_object_sections,
+    petool_object_all_relocations, petool_object_check, petool_object_relocations,
+    petool_object_sections,
 };
-use crate::symbol::{ObjectSymbolRow, petool_object_symbols};
+use crate::symbol::petool_object_symbols;
+use pe_rows::object::{ObjectRelocationRow, ObjectSectionRow};
+use pe_rows::symbol::ObjectSymbolRow;
 use pe_vectors::objects::O1;
 use std::alloc::Global;
 use std::process::Abort;

@@ -1,12 +1,14 @@
 //! Sets and spaces.
 
 use super::{UNTOLD, assert_holds, assert_status, told};
-use crate::set::{BindingRow, EntryRecord, petool_judge};
+use crate::set::petool_judge;
 use crate::space::{
-    MovedRecord, petool_space_bindings, petool_space_close, petool_space_image, petool_space_map,
+    petool_space_bindings, petool_space_close, petool_space_image, petool_space_map,
     petool_space_move, petool_space_read,
 };
 use pe_handle::Handle;
+use pe_rows::set::{BindingRow, EntryRecord};
+use pe_rows::space::MovedRecord;
 use pe_vectors::members::{A, B, C, Member, files_of};
 use std::alloc::Global;
 use std::process::Abort;

@@ -1,12 +1,22 @@
--- The rows tell of the relocations that the object's sections have, behind the skipped ones.
+-- The rows tell of the relocations of the file's object, behind the skipped ones.
 use Rattle.std.proofs.Common.{List, ℕ, drop, subst}
-use Rattle.coff_object.specs.ObjectFile.{file_of}
-use Rattle.petool_c.specs.ObjectRows.{relocation_row, relocations_of}
-use Rattle.petool_c.specs.Rows.{TellsTable}
-use Rattle.petool_c.proofs.Rows.{table_of}
+use Rattle.pe_rows.specs.ObjectRows.{relocation_row, relocations_of}
+use Rattle.pe_rows.specs.Rows.{TellsTable}
+use Rattle.pe_rows.proofs.Telling.{fault_told, none_refused, table_no_fault}
 use Rattle.petool_c.proofs.object.petool_object_all_relocations.Goals as goal
 
-pub returns-clause-table : goal.returns-clause-table
-returns-clause-table c = λ _.
-    subst (λ (file : List ℕ). TellsTable (λ row. row) relocation_row (drop c.args.skipped (relocations_of file)) c.args.rows.now c.put_all_relocations.new.rows c.put_all_relocations.result c.table_status.result) c.in-Ok.ensures.1
-    (table_of (λ row. row) relocation_row (drop c.args.skipped (relocations_of (file_of c.in-Ok.object))) _ _ _ _ c.put_all_relocations.ensures.rows c.put_all_relocations.ensures.count c.table_status.ensures)
+pub returns-in-Ok-clause-refused : goal.returns-in-Ok-clause-refused
+returns-in-Ok-clause-refused c = none_refused _ _ _ c.in-Ok.ensures.0 (table_no_fault _ _ _ _ _ _ _ c.tell_all_relocations.ensures)
+
+pub returns-in-Ok-clause-table : goal.returns-in-Ok-clause-table
+returns-in-Ok-clause-table c = λ _.
+    subst (λ (file : List ℕ). TellsTable (λ row. row) relocation_row (drop c.args.skipped (relocations_of file)) c.args.rows.now c.tell_all_relocations.new.rows c.tell_all_relocations.new.count c.tell_all_relocations.result) c.in-Ok.ensures.1 c.tell_all_relocations.ensures
+
+pub returns-in-Ok-clause-rows_kept : goal.returns-in-Ok-clause-rows_kept
+returns-in-Ok-clause-rows_kept c = λ one. absurd (table_no_fault _ _ _ _ _ _ _ c.tell_all_relocations.ensures one)
+
+pub returns-in-Ok-clause-count_kept : goal.returns-in-Ok-clause-count_kept
+returns-in-Ok-clause-count_kept c = λ one. absurd (table_no_fault _ _ _ _ _ _ _ c.tell_all_relocations.ensures one)
+
+pub returns-in-Err-clause-refused : goal.returns-in-Err-clause-refused
+returns-in-Err-clause-refused c = fault_told _ c.in-Err.first _ _ _ c.in-Err.ensures c.refuse.ensures.status c.refuse.ensures.told

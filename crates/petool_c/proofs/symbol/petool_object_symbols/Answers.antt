@@ -1,12 +1,22 @@
--- The rows tell of the symbols that the object has.
+-- The rows tell of the symbols of the file's object.
 use Rattle.std.proofs.Common.{List, ℕ, subst}
-use Rattle.coff_object.specs.ObjectFile.{file_of}
-use Rattle.petool_c.specs.Rows.{TellsTable}
-use Rattle.petool_c.specs.SymbolRows.{symbol_row, symbol_text, symbols_of}
-use Rattle.petool_c.proofs.Rows.{table_of}
+use Rattle.pe_rows.specs.SymbolRows.{symbol_row, symbol_text, symbols_of}
+use Rattle.pe_rows.specs.Rows.{TellsTable}
+use Rattle.pe_rows.proofs.Telling.{fault_told, none_refused, table_no_fault}
 use Rattle.petool_c.proofs.symbol.petool_object_symbols.Goals as goal
 
-pub returns-clause-table : goal.returns-clause-table
-returns-clause-table c = λ _.
-    subst (λ (file : List ℕ). TellsTable symbol_text symbol_row (symbols_of file) c.args.rows.now c.put_symbols.new.rows c.symbol_count.result c.table_status.result) c.in-Ok.ensures.1
-    (table_of symbol_text symbol_row (symbols_of (file_of c.in-Ok.object)) _ _ _ _ c.put_symbols.ensures c.symbol_count.ensures c.table_status.ensures)
+pub returns-in-Ok-clause-refused : goal.returns-in-Ok-clause-refused
+returns-in-Ok-clause-refused c = none_refused _ _ _ c.in-Ok.ensures.0 (table_no_fault _ _ _ _ _ _ _ c.tell_symbols.ensures)
+
+pub returns-in-Ok-clause-table : goal.returns-in-Ok-clause-table
+returns-in-Ok-clause-table c = λ _.
+    subst (λ (file : List ℕ). TellsTable symbol_text symbol_row (symbols_of file) c.args.rows.now c.tell_symbols.new.rows c.tell_symbols.new.count c.tell_symbols.result) c.in-Ok.ensures.1 c.tell_symbols.ensures
+
+pub returns-in-Ok-clause-rows_kept : goal.returns-in-Ok-clause-rows_kept
+returns-in-Ok-clause-rows_kept c = λ one. absurd (table_no_fault _ _ _ _ _ _ _ c.tell_symbols.ensures one)
+
+pub returns-in-Ok-clause-count_kept : goal.returns-in-Ok-clause-count_kept
+returns-in-Ok-clause-count_kept c = λ one. absurd (table_no_fault _ _ _ _ _ _ _ c.tell_symbols.ensures one)
+
+pub returns-in-Err-clause-refused : goal.returns-in-Err-clause-refused
+returns-in-Err-clause-refused c = fault_told _ c.in-Err.first _ _ _ c.in-Err.ensures c.refuse.ensures.status c.refuse.ensures.told

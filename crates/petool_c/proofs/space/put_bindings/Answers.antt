@@ -1,7 +1,0 @@
-use Rattle.std.proofs.lemmas.List.{map-id}
-use Rattle.petool_c.specs.SetRows.{binding_row}
-use Rattle.petool_c.proofs.Rows.{table_told}
-use Rattle.petool_c.proofs.space.put_bindings.Goals as goal
-
-pub returns-clause-table : goal.returns-clause-table
-returns-clause-table c = table_told (λ row. row) (λ binding. binding) binding_row _ _ _ _ _ _ (map-id _) c.put_table.ensures.rows c.put_table.ensures.count c.put_table.ensures.status

@@ -1,6 +1,0 @@
-use Rattle.petool_c.specs.FixupRows.{fixup_row}
-use Rattle.petool_c.proofs.Rows.{rows_made}
-use Rattle.petool_c.proofs.tables.put_fixups.Goals as goal
-
-pub returns : goal.returns
-returns c = rows_made fixup_row _ _ _ c.fill_rows.ensures
