@@ -9,7 +9,8 @@ use crate::status;
 use pe_write::rebase_file;
 use std::alloc::Global;
 
-/// Fills a buffer of the file's length with the file of an image that is to stand at a base.
+/// Fills a buffer of the file's length with the file of an image that is to stand at a base, and answers the status: 0, or 1 with
+/// the fault, or 2 for want of memory. The buffer is left as it was by all but 0.
 pub fn rebase_into(
     alloc: Global,
     file: &[u8],

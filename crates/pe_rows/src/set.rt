@@ -92,7 +92,8 @@ pub fn policy_of(known: bool) -> Policy
     if known { Policy::Known } else { Policy::Strict }
 }
 
-/// Reads and judges a set.
+/// Reads and judges a set, or answers its first error. With `known`, an import that leads to a module that is not in the set is
+/// no fault. What names are refused for takes no memory, nor does a set of no entries.
 pub fn judged<'a>(
     alloc: Global,
     set: &[EntryRecord<'a>],
@@ -108,7 +109,7 @@ pub fn judged<'a>(
     judge(alloc, put_entries(&mut entries, set), policy_of(known))
 }
 
-/// Tells why a set is refused, and answers the status.
+/// Tells why a set is refused, and of a cycle of forwarders how long it is, and answers the status, 1 or 2.
 pub fn refuse_set(error: MapError, fault: &mut FaultRecord, cycle: &mut u32) -> u32
     ensures { IsSetTold error fault.old fault.new cycle.old cycle.new result }
 {

@@ -47,8 +47,8 @@ pub fn close(alloc: Global, space: &mut Handle)
     *space = Handle::closed(alloc);
 }
 
-/// Maps the images of a set into a space, which is closed first, and is open exactly where no error is answered. What names are
-/// refused for takes no memory.
+/// Maps the images of a set into a space, which is closed first, and is open exactly where no error is answered. With `known`, an
+/// import that leads to a module that is not in the set is no fault. What names are refused for takes no memory.
 pub fn map_into(
     alloc: Global,
     space: &mut Handle,
@@ -66,7 +66,8 @@ pub fn map_into(
     Ok(())
 }
 
-/// Fills a buffer with the bytes from an address on, and answers the status, 0 or 1.
+/// Fills a buffer with the bytes from an address on, which lie in one image, and answers the status: 0, or 1 with fault 54. The
+/// buffer is left as it was by 1.
 pub fn read_window(
     space: &MappedSpace<Global>,
     address: u64,
@@ -82,7 +83,8 @@ pub fn read_window(
     }
 }
 
-/// Moves an image to another base, tells what that rewrote, and answers the status, 0 or 1.
+/// Moves an image to another base, tells what that rewrote, and answers the status: 0, or 1 with the first of faults 55 and 44 to
+/// 47, which changes nothing.
 pub fn move_image(
     space: &mut MappedSpace<Global>,
     image: u16,
@@ -102,13 +104,9 @@ pub fn move_image(
     }
 }
 
-/// Tells where an image stands, and how many bytes it has, and answers the status, 0 or 3.
-pub fn tell_place(
-    space: &MappedSpace<Global>,
-    image: u16,
-    base: &mut u64,
-    size: &mut u32,
-) -> u32
+/// Tells where an image stands, and how many bytes it has, and answers the status: 0, or 3 past the last image, which leaves both
+/// as they were.
+pub fn tell_place(space: &MappedSpace<Global>, image: u16, base: &mut u64, size: &mut u32) -> u32
     ensures status { (result ≡ 0) ⊎ (result ≡ 3) }
     ensures base { result ≡ 0 → base_at space.now image ≡ Some base.new }
     ensures size { result ≡ 0 → size_at space.now image ≡ Some size.new }
@@ -127,11 +125,7 @@ pub fn tell_place(
 }
 
 /// Tells the slots that are bound: fills the rows, counts the bindings, and answers the status, 0 or 4.
-pub fn tell_bindings(
-    space: &MappedSpace<Global>,
-    rows: &mut [BindingRow],
-    count: &mut usize,
-) -> u32
+pub fn tell_bindings(space: &MappedSpace<Global>, rows: &mut [BindingRow], count: &mut usize) -> u32
     ensures table { TellsTable (λ row. row) binding_row space.now.bindings rows.old rows.new count.new result }
     ensures open { result ≢ 6 }
 {

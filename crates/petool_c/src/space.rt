@@ -10,7 +10,9 @@ ghost use Rattle.pe_rows.specs.Spaces.{IsReadOf, IsMoveOf, base_of, size_of, bin
 use pe_handle::Handle;
 use pe_rows::fault::FaultRecord;
 use pe_rows::set::{BindingRow, EntryRecord, refuse_set};
-use pe_rows::space::{MovedRecord, close, map_into, move_image, read_window, tell_bindings, tell_place};
+use pe_rows::space::{
+    MovedRecord, close, map_into, move_image, read_window, tell_bindings, tell_place,
+};
 use pe_rows::status;
 use std::alloc::Global;
 
