@@ -1,5 +1,5 @@
 -- What `petool_read` leaves: the filled bytes are those of the file's image.
-use Rattle.std.proofs.Common.{◌≡◌, length, subst}
+use Rattle.std.proofs.Common.{◌≡◌, ◌+◌, ◌≤◌, length, subst}
 use Rattle.pe_layout.specs.Image.{LaidOut, bytes_at}
 use Rattle.pe_rows.proofs.Telling.{fault_told, none_refused}
 use Rattle.petool_c.proofs.image.petool_read.Goals as goal
@@ -15,3 +15,6 @@ returns-then-fill-clause-refused c = none_refused _ _ _ c.in-Ok.ensures.0 (λ on
 
 pub returns-else-fill-clause-refused : goal.returns-else-fill-clause-refused
 returns-else-fill-clause-refused c = none_refused _ _ _ c.in-Ok.ensures.0 (λ one. absurd cc one)
+
+pub returns-then-fill-clause-inside : goal.returns-then-fill-clause-inside
+returns-then-fill-clause-inside c = λ _. subst (λ (i : LaidOut). c.args.rva + length c.args.buffer.now ≤ i.size) c.in-Ok.ensures.1.shows (c.if-fill.ensures.fits.0 cc)
