@@ -6,7 +6,7 @@ use Rattle.coff_object.specs.Field.{field}
 use Rattle.coff_object.specs.ObjectFile.{file_of}
 use Rattle.coff_object.specs.Reading.{object_of, section_in, section_start, section_starts}
 use Rattle.coff_object.specs.Records.{Section}
-use Rattle.coff_object.specs.declared.file.ObjectFile.{ObjectFile}
+use Rattle.coff_read.specs.declared.file.ObjectFile.{ObjectFile}
 use Rattle.pe_rows.specs.ObjectRows.{TellsRelocations}
 use Rattle.pe_rows.specs.declared.object.ObjectRelocationRow.{ObjectRelocationRow}
 use Rattle.pe_rows.proofs.Telling.{no_refusal}

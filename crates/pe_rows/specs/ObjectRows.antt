@@ -3,7 +3,7 @@ use Rattle.std.specs.Prelude.{◌≡◌, ℕ, List, [], length, Option, None, So
 use Rattle.std.specs.List.{flat_map}
 use Rattle.coff_object.specs.Reading.{object_of}
 use Rattle.coff_object.specs.Records.{Raw, Bytes, Absent, Section}
-use Rattle.coff_object.specs.declared.relocation.Relocation.{Relocation}
+use Rattle.coff_read.specs.declared.relocation.Relocation.{Relocation}
 use Rattle.pe_rows.specs.declared.object.ObjectRelocationRow.{ObjectRelocationRow}
 use Rattle.pe_rows.specs.declared.object.ObjectSectionRow.{ObjectSectionRow}
 use Rattle.pe_rows.specs.Rows.{Fills, TellsTable}

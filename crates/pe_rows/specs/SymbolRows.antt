@@ -3,8 +3,8 @@ use Rattle.std.specs.Prelude.{ℕ, List}
 use Rattle.coff_object.specs.Reading.{symbol_indexes}
 use Rattle.coff_object.specs.Records.{Symbol}
 use Rattle.coff_object.specs.SymbolsLeft.{indexed}
-use Rattle.coff_object.specs.declared.symbol.SymbolSection.{SymbolSection}
-use Rattle.coff_object.specs.declared.symbol.SymbolSection.TheVariants.{Undefined, Absolute, Debug, Section}
+use Rattle.coff_read.specs.declared.symbol.SymbolSection.{SymbolSection}
+use Rattle.coff_read.specs.declared.symbol.SymbolSection.TheVariants.{Undefined, Absolute, Debug, Section}
 use Rattle.pe_rows.specs.declared.symbol.ObjectSymbolRow.{ObjectSymbolRow}
 
 -- the symbols of an object's file, each with the index of its record

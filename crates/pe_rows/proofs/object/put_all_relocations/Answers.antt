@@ -7,7 +7,7 @@ use Rattle.coff_object.specs.ObjectFile.{file_of}
 use Rattle.coff_object.specs.Reading.{object_of}
 use Rattle.coff_object.specs.Records.{Section}
 use Rattle.coff_object.specs.SectionsLeft.{each_section_left}
-use Rattle.coff_object.specs.declared.relocation.Relocation.{Relocation}
+use Rattle.coff_read.specs.declared.relocation.Relocation.{Relocation}
 use Rattle.pe_rows.specs.ObjectRows.{relocation_row, relocations_of, FillsRelocations}
 use Rattle.pe_rows.specs.declared.object.ObjectRelocationRow.{ObjectRelocationRow}
 use Rattle.pe_rows.proofs.Left.{none_left}

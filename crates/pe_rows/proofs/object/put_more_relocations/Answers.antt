@@ -2,7 +2,7 @@
 use Rattle.std.proofs.Common.{◌≡◌, ℕ, ◌-◌, length, arith, min, drop, subst}
 use borrow.Rule.Slice.PartMut.{mid_of}
 use Rattle.coff_object.specs.FileView.{relocations_view}
-use Rattle.coff_object.specs.declared.relocation.Relocation.{Relocation}
+use Rattle.coff_read.specs.declared.relocation.Relocation.{Relocation}
 use Rattle.pe_rows.specs.ObjectRows.{relocation_row, FillsRelocations}
 use Rattle.pe_rows.specs.declared.object.ObjectRelocationRow.{ObjectRelocationRow}
 use Rattle.pe_rows.proofs.Parts.{part_filled}

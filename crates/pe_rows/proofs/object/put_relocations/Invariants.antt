@@ -1,6 +1,6 @@
 use Rattle.std.proofs.Common.{◌≡◌, ℕ, ◌<◌, drop, get_or}
 use Rattle.coff_object.specs.FileView.{relocations_view}
-use Rattle.coff_object.specs.declared.relocation.Relocation.{Relocation}
+use Rattle.coff_read.specs.declared.relocation.Relocation.{Relocation}
 use Rattle.pe_rows.specs.ObjectRows.{relocation_row}
 use Rattle.pe_rows.specs.declared.object.ObjectRelocationRow.{ObjectRelocationRow}
 use Rattle.pe_rows.proofs.object.put_relocations.Given as goal
