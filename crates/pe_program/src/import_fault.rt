@@ -9,24 +9,28 @@ use std::alloc::Allocator;
 /// The fault of an import that leads to a module that is not in the set.
 const NO_MODULE: u16 = 48;
 
+/// The slot of the import that a fault names, where it names one.
+fn slot_of(fault: &Fault) -> Option<u32> {
+    match (fault.number, fault.place) {
+        (48..=50, Place::Rva(slot)) => Some(slot),
+        _ => None,
+    }
+}
+
+/// The import with a slot.
+fn with_slot<'a>(imports: &[Import<'a>], slot: u32) -> Option<Import<'a>> {
+    imports.iter().find(|import| import.slot == slot).copied()
+}
+
 /// The import of an image whose slot a fault names, where it names one, and where there is memory to look it up.
 pub(crate) fn import_of<'a, A: Allocator + Copy>(
     alloc: A,
     file: &'a [u8],
     fault: &Fault,
 ) -> Option<Import<'a>> {
-    let Place::Rva(slot) = fault.place else {
-        return None;
-    };
-    if !matches!(fault.number, 48..=50) {
-        return None;
-    }
+    let slot = slot_of(fault)?;
     let image = read_image(alloc, file, fault.image).ok()?;
-    image
-        .imports
-        .iter()
-        .find(|import| import.slot == slot)
-        .copied()
+    with_slot(image.imports.as_slice(), slot)
 }
 
 /// Tells a fault of what an import is bound to, with the import's module and its name there, or its ordinal behind `#`.
