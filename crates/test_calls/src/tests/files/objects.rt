@@ -176,10 +176,16 @@ fn with_aux(
 /// A symbol, a record of it, and the shape that the record has, if there is one.
 type View = (usize, usize, Option<Aux<'static>>);
 
+/// Whether a record of an object is seen as it is to be.
+fn has_view(object: &Object<'_, Global>, view: &View) -> bool {
+    let (symbol, record, expected) = view;
+    object.aux_view(*symbol, *record) == *expected
+}
+
 /// Asserts what is seen of the auxiliary records of an object.
 fn assert_views(rt: &impl Abort, case: usize, object: &Object<'_, Global>, views: &[View]) {
-    for (symbol, record, expected) in views {
-        assert_holds(rt, case, object.aux_view(*symbol, *record) == *expected);
+    for view in views {
+        assert_holds(rt, case, has_view(object, view));
     }
 }
 
