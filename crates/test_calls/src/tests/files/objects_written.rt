@@ -121,13 +121,18 @@ fn sections_of<'a>(
     sections
 }
 
+/// Adds a symbol of a name, which no section defines.
+fn push_symbol<'a>(rt: &impl Abort, symbols: &mut Vec<Symbol<'a>>, name: &'a [u8]) {
+    symbols
+        .push(named(name, SymbolSection::Undefined))
+        .expect(rt, "memory");
+}
+
 /// Symbols of these names, which no section defines.
 fn symbols_of<'a>(rt: &impl Abort, alloc: Global, names: &[&'a [u8]]) -> Vec<Symbol<'a>> {
     let mut symbols = Vec::new(alloc);
     for name in names {
-        symbols
-            .push(named(name, SymbolSection::Undefined))
-            .expect(rt, "memory");
+        push_symbol(rt, &mut symbols, name);
     }
     symbols
 }
