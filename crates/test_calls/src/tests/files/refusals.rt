@@ -78,6 +78,14 @@ const ORDINALS: &[(u64, Target)] = &[(5, Target::Rva(0x1004)), (7, Target::Rva(0
 
 const NAMES: &[(&[u8], Target)] = &[(b"g", Target::Rva(0x1010))];
 
+/// What a call answered that was refused by an error of tables.
+fn of_tables(error: TableError) -> Answer {
+    match error {
+        TableError::Memory => Answer::Memory,
+        _ => Answer::Wrong,
+    }
+}
+
 fn exports(layout: &Layout, arena: &Bump) -> Answer {
     match read_exports(arena, layout) {
         Ok(found) => {
@@ -98,8 +106,7 @@ const IMPORTS: &[Import] = &[Import {
 fn imports(layout: &Layout, arena: &Bump) -> Answer {
     match read_imports(arena, layout) {
         Ok(found) => right_if(same_imports(&found, IMPORTS)),
-        Err(TableError::Memory) => Answer::Memory,
-        Err(_) => Answer::Wrong,
+        Err(error) => of_tables(error),
     }
 }
 
