@@ -748,6 +748,16 @@ fn a_set_of_no_entry_needs_no_memory(rt: HostRuntime) {
     assert_holds(&rt, 1, space.image_count() == 0);
 }
 
+/// What the space in memory of a set is refused for.
+fn mapping_error(arena: &Bump, set: &[SetEntry]) -> Option<MapError> {
+    map(arena, set, Policy::Strict).err()
+}
+
+/// What the space over files of a set is refused for.
+fn opening_error<'a>(arena: &Bump, set: &'a [SetEntry<'a>]) -> Option<MapError> {
+    open_space(arena, set, Policy::Strict).err()
+}
+
 /// Asserts that a set is refused by a fault of an entry, whatever room there is.
 fn assert_names(rt: &impl Abort, arena: &Bump, set: &[SetEntry], number: u16, image: u16) {
     let fault = Fault {
@@ -756,8 +766,8 @@ fn assert_names(rt: &impl Abort, arena: &Bump, set: &[SetEntry], number: u16, im
         place: Place::Item(u32::from(image)),
     };
     let error = Some(MapError::Fault(fault));
-    assert_holds(rt, 0, map(arena, set, Policy::Strict).err() == error);
-    assert_holds(rt, 1, open_space(arena, set, Policy::Strict).err() == error);
+    assert_holds(rt, 0, mapping_error(arena, set) == error);
+    assert_holds(rt, 1, opening_error(arena, set) == error);
 }
 
 #[test]
