@@ -175,8 +175,11 @@ fn image(rt: &impl Abort, alloc: Global, arena: &Bump) -> Answer {
     }
 }
 
-/// Where the images of A, B and C stand, what they export by name, and import.
-const MODULES: &[(u64, &[(&[u8], Target)], &[Import])] = &[
+/// Where an image stands, what it exports by name, and imports.
+type Seen<'a> = (u64, &'a [(&'a [u8], Target<'a>)], &'a [Import<'a>]);
+
+/// The images of A, B and C.
+const MODULES: &[Seen] = &[
     (
         A.base,
         &[(
@@ -193,25 +196,20 @@ const MODULES: &[(u64, &[(&[u8], Target)], &[Import])] = &[
 ];
 
 /// Whether a module stands at a base and exports and imports so much.
-fn is_module(
-    found: &Module<'_, &Bump>,
-    base: u64,
-    names: &[(&[u8], Target)],
-    imports: &[Import],
-) -> bool {
-    found.base == base
+fn is_module(found: &Module<'_, &Bump>, expected: &Seen) -> bool {
+    let (base, names, imports) = expected;
+    found.base == *base
         && same_names(found.image.exports.names(), names)
         && same_imports(&found.image.imports, imports)
 }
 
-/// Whether modules are those of A, B and C at their bases.
-fn are_modules(found: &[Module<'_, &Bump>]) -> bool {
-    if found.len() != MODULES.len() {
+/// Whether modules are these.
+fn are_modules(found: &[Module<'_, &Bump>], expected: &[Seen]) -> bool {
+    if found.len() != expected.len() {
         return false;
     }
     for index in 0..found.len() {
-        let (base, names, imports) = MODULES[index];
-        if !is_module(&found[index], base, names, imports) {
+        if !is_module(&found[index], &expected[index]) {
             return false;
         }
     }
@@ -252,7 +250,7 @@ fn is_space_of<S: Space>(rt: &impl Abort, alloc: Global, set: &[SetEntry], space
 fn judging(arena: &Bump, set: &[SetEntry]) -> Answer {
     match judge(arena, set, Policy::Strict) {
         Ok(found) => {
-            right_if(*found.bindings.as_slice() == *BINDINGS && are_modules(&found.modules))
+            right_if(*found.bindings.as_slice() == *BINDINGS && are_modules(&found.modules, MODULES))
         }
         Err(MapError::Memory) => Answer::Memory,
         Err(_) => Answer::Wrong,
