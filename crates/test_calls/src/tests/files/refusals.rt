@@ -204,7 +204,7 @@ fn is_module(found: &Module<'_, &Bump>, expected: &Seen) -> bool {
 }
 
 /// Whether modules are these.
-fn are_modules(found: &[Module<'_, &Bump>], expected: &[Seen]) -> bool {
+fn are_seen(found: &[Module<'_, &Bump>], expected: &[Seen]) -> bool {
     if found.len() != expected.len() {
         return false;
     }
@@ -214,6 +214,11 @@ fn are_modules(found: &[Module<'_, &Bump>], expected: &[Seen]) -> bool {
         }
     }
     true
+}
+
+/// Whether modules are those of A, B and C at their bases.
+fn are_modules(found: &[Module<'_, &Bump>]) -> bool {
+    are_seen(found, MODULES)
 }
 
 /// The binding of the slot of C to ordinal 7 of B.
@@ -250,7 +255,7 @@ fn is_space_of<S: Space>(rt: &impl Abort, alloc: Global, set: &[SetEntry], space
 fn judging(arena: &Bump, set: &[SetEntry]) -> Answer {
     match judge(arena, set, Policy::Strict) {
         Ok(found) => {
-            right_if(*found.bindings.as_slice() == *BINDINGS && are_modules(&found.modules, MODULES))
+            right_if(*found.bindings.as_slice() == *BINDINGS && are_modules(&found.modules))
         }
         Err(MapError::Memory) => Answer::Memory,
         Err(_) => Answer::Wrong,
