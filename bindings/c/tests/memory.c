@@ -120,6 +120,18 @@ static uint32_t map_set(void)
     return status;
 }
 
+/* Maps a set over the open space of another, which is closed first. */
+static uint32_t map_over(void)
+{
+    uint32_t cycle = 0;
+    uint32_t status = petool_space_map(&space, abc, 3, false, &cycle, &fault);
+    if (status == PETOOL_OK)
+        status = petool_space_map(&space, abc, 3, false, &cycle, &fault);
+    CHECK(space.is_open == (status == PETOOL_OK));
+    petool_space_close(&space);
+    return status;
+}
+
 /* Runs a call with room for ever more growths, until it wants no more. */
 static void refuse_each(const char *name, uint32_t (*call)(void))
 {
@@ -160,6 +172,7 @@ int main(int argc, char **argv)
     refuse_each("petool_rebase", move_file);
     refuse_each("petool_judge", judge_set);
     refuse_each("petool_space_map", map_set);
+    refuse_each("petool_space_map over an open space", map_over);
     free(va.at), free(vb.at), free(vc.at), free(vr.at), free(v2.at);
     return told();
 }
