@@ -1,0 +1,91 @@
+//! Runs a workload of the benchmark and prints what all its answers come to, as one number.
+//!
+//! The words of its command line are the workload's name, how many rounds it has, and the seed of its inputs; without words each
+//! workload has one round. `bench/run` compares two builds of it.
+#![tactic(auto)]
+
+mod awkward;
+mod chance;
+mod digest;
+mod export_table;
+mod import_table;
+mod library;
+mod module_names;
+mod numbers;
+mod object;
+mod sets;
+mod shape;
+mod spaces;
+mod texts;
+mod workloads;
+
+use crate::digest::Digest;
+use crate::workloads::{run_awkward, run_map, run_objects, run_open, run_rebase, run_texts};
+use std::alloc::Global;
+use std::process::ExitCode;
+use std::rt::Env;
+use std::{env, io};
+
+/// The names of the workloads.
+const WORKLOADS: [&str; 6] = ["map", "open", "texts", "objects", "rebase", "awkward"];
+
+/// Runs a workload, or answers `None` where there is none of this name or something was refused.
+fn run_workload(
+    alloc: Global,
+    digest: &mut Digest,
+    name: &str,
+    rounds: u32,
+    seed: u64,
+) -> Option<()> {
+    match name {
+        "map" => run_map(alloc, digest, seed, rounds),
+        "open" => run_open(alloc, digest, seed, rounds),
+        "texts" => run_texts(alloc, digest, seed, rounds),
+        "objects" => run_objects(alloc, digest, seed, rounds),
+        "rebase" => run_rebase(alloc, digest, seed, rounds),
+        "awkward" => run_awkward(alloc, digest, seed, rounds),
+        _ => None,
+    }
+}
+
+/// Runs a workload and prints its name and its number.
+fn print_workload<R: Print + AllocGlobal>(
+    rt: &R,
+    name: &str,
+    rounds: u32,
+    seed: u64,
+) -> io::Result<()> {
+    let mut digest = Digest::new();
+    match run_workload(rt.alloc(), &mut digest, name, rounds, seed) {
+        Some(()) => println!(rt; "{name} {:016x}", digest.value()),
+        None => println!(rt; "{name} was not run"),
+    }
+}
+
+/// The number that a word of the command line writes.
+fn number_of(word: Option<&String>) -> Option<u32> {
+    word?.parse().ok()
+}
+
+/// Runs what the words name.
+fn run<R: Print + Env + AllocGlobal>(rt: &R) -> io::Result<()> {
+    let words: Vec<String> = env::args(rt)?.skip(1).collect(rt.alloc())?;
+    let seed = u64::from(number_of(words.get(2)).unwrap_or(1));
+    let rounds = number_of(words.get(1)).unwrap_or(1);
+    match words.first() {
+        Some(name) => print_workload(rt, name, rounds, seed),
+        None => {
+            for name in WORKLOADS {
+                print_workload(rt, name, 1, seed)?;
+            }
+            Ok(())
+        }
+    }
+}
+
+fn main(rt: HostRuntime) -> ExitCode {
+    match run(&rt) {
+        Ok(()) => ExitCode::SUCCESS,
+        Err(_) => ExitCode::FAILURE,
+    }
+}

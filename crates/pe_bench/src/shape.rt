@@ -1,0 +1,62 @@
+//! How large a module that is made up is, and which of a set it is.
+
+/// The seed of a round: no other round has files of the same names and bytes.
+pub(crate) fn round_seed(seed: u64, round: u32) -> u64 {
+    seed ^ u64::from(round).wrapping_mul(0xd134_2543_de82_ef95)
+}
+
+/// A module of a set.
+#[derive(Clone, Copy)]
+pub(crate) struct Module {
+    /// The seed of its set.
+    pub(crate) seed: u64,
+    /// Its number in the set.
+    pub(crate) number: u32,
+    /// How many modules the set has.
+    pub(crate) count: u32,
+}
+
+impl Module {
+    /// The module so many behind it, where the first stands behind the last.
+    pub(crate) fn next(self, steps: u32) -> u32 {
+        let sum = u64::from(self.number) + u64::from(steps);
+        sum.checked_rem(u64::from(self.count))
+            .map_or(0, |number| number as u32)
+    }
+
+    /// A seed that no other module of the set has.
+    pub(crate) fn own_seed(self) -> u64 {
+        self.seed ^ (u64::from(self.number) << 40) ^ 0x5eed
+    }
+}
+
+/// How large the parts of a module are.
+#[derive(Clone, Copy)]
+pub(crate) struct Shape {
+    /// Whether it is PE32+.
+    pub(crate) is_wide: bool,
+    /// The RVA of its code.
+    pub(crate) code_rva: u32,
+    /// The bytes of its code, and of its data.
+    pub(crate) code: u32,
+    /// How many exports it has.
+    pub(crate) exports: u32,
+    /// One export in so many is a forwarder to the next module; 0 stands for none.
+    pub(crate) forwarders: u32,
+    /// From how many of the modules behind it it imports.
+    pub(crate) imported: u32,
+    /// How many exports of each of these it imports.
+    pub(crate) imports: u32,
+    /// Whether its names are ends of one text, its exports forwarders one to the next, and its base relocations a block each,
+    /// the last page first.
+    pub(crate) is_awkward: bool,
+    /// How many base relocations it has: fewer than a sixteenth of the bytes of its code.
+    pub(crate) fixups: u32,
+}
+
+impl Shape {
+    /// Whether the export of a number is a forwarder. One module in four has none, so that no search goes on for ever.
+    pub(crate) fn is_forwarder(self, module: Module, number: u32) -> bool {
+        self.forwarders != 0 && module.number % 4 != 3 && number % self.forwarders == 1
+    }
+}

@@ -1,0 +1,58 @@
+//! What the engines write of a file.
+
+use crate::digest::Digest;
+use pe_tool::{
+    Counted, Outcome, ShowOptions, ToolError, check, dump, dump_object, json, show, status,
+};
+use std::alloc::Global;
+
+/// A page with all rows of tables.
+const WHOLE_PAGE: ShowOptions = ShowOptions {
+    exports: true,
+    imports: true,
+    relocations: true,
+    symbols: true,
+    is_coloured: false,
+};
+
+/// An engine.
+#[derive(Clone, Copy)]
+pub(crate) enum Engine {
+    Check,
+    Dump,
+    Object,
+    Page,
+    Json,
+}
+
+/// Runs an engine over a file.
+fn write_text(
+    alloc: Global,
+    engine: Engine,
+    file: &[u8],
+    text: &mut Vec<u8>,
+) -> Result<Outcome, ToolError> {
+    let mut reader = Counted::new(file);
+    let mut writer = Counted::new(text);
+    match engine {
+        Engine::Check => check(alloc, &mut reader, &mut writer),
+        Engine::Dump => dump(alloc, &mut reader, &mut writer),
+        Engine::Object => dump_object(alloc, &mut reader, &mut writer),
+        Engine::Page => show(alloc, b"made-up", &WHOLE_PAGE, &mut reader, &mut writer),
+        Engine::Json => json(alloc, b"made-up", &mut reader, &mut writer),
+    }
+}
+
+/// Adds what an engine writes of a file, and the status of its answer.
+pub(crate) fn read_text(
+    alloc: Global,
+    digest: &mut Digest,
+    engine: Engine,
+    file: &[u8],
+) -> Option<()> {
+    let mut text = Vec::with_capacity(alloc, 1 << 20).ok()?;
+    let answer = write_text(alloc, engine, file, &mut text);
+    digest.number(u64::from(status(&answer)));
+    digest.bytes(&text);
+    Some(())
+}

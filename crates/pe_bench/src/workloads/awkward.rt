@@ -1,0 +1,47 @@
+use crate::digest::Digest;
+use crate::sets::files_of;
+use crate::shape::{Shape, round_seed};
+use crate::spaces::{move_images, read_bindings, read_images};
+use crate::texts::{Engine, read_text};
+use pe_space::{Policy, map};
+use std::alloc::Global;
+
+/// Libraries of many names that are ends of one text.
+const SHAPE: Shape = Shape {
+    is_wide: true,
+    code_rva: 0x1000,
+    code: 0x80000,
+    exports: 12_000,
+    forwarders: 0,
+    imported: 1,
+    imports: 6_000,
+    is_awkward: true,
+    fixups: 20_000,
+};
+
+/// Maps a set of four libraries, moves each image, and adds what `check` says of each.
+fn map_set(alloc: Global, digest: &mut Digest, seed: u64) -> Option<()> {
+    let files = files_of(alloc, SHAPE, seed, 4)?;
+    let set = files.set(alloc, 0)?;
+    let mut space = map(alloc, &set, Policy::Strict).ok()?;
+    read_bindings(digest, &space);
+    move_images(digest, &mut space, 0x80_0000)?;
+    read_images(digest, &space)?;
+    for file in files.each() {
+        read_text(alloc, digest, Engine::Check, file)?;
+    }
+    Some(())
+}
+
+/// Maps so many sets.
+pub(crate) fn run_awkward(
+    alloc: Global,
+    digest: &mut Digest,
+    seed: u64,
+    rounds: u32,
+) -> Option<()> {
+    for round in 0..rounds {
+        map_set(alloc, digest, round_seed(seed, round))?;
+    }
+    Some(())
+}
