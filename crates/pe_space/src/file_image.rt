@@ -8,6 +8,7 @@ ghost use Rattle.pe_space.specs.SetContent.{image_content};
 ghost use Rattle.pe_space.specs.FieldsAndSlots.{IsImage};
 ghost use Rattle.pe_space.specs.Windows.{fixed_bytes};
 
+use crate::hints::Hints;
 use crate::ordered::{ByField, between, put_in_order};
 use crate::window::{REACH, lay_on};
 use pe_head::Magic;
@@ -18,13 +19,14 @@ use std::alloc::Allocator;
 use std::marker::Model;
 use std::snapshot::Snapshot;
 
-/// An image whose bytes stay in its file. `fixups` are in the order of their fields; `listed`, of which proofs alone speak, are
-/// the same in the order of their table.
+/// An image whose bytes stay in its file. `fixups` are in the order of their fields, and `hints` guess where among them an RVA
+/// stands; `listed`, of which proofs alone speak, are the same in the order of their table.
 #[derive(Drop)]
 pub(crate) struct FileImage<'a, A: Allocator> {
     base: u64,
     layout: Layout<'a>,
     fixups: Vec<Fixup, A>,
+    hints: Hints<A>,
     listed: Snapshot<Vec<Fixup, A>>,
 }
 
@@ -80,7 +82,7 @@ impl<'a, A: Allocator + Copy> Placed for FileImage<'a, A> {
 impl<'a, A: Allocator + Copy> FileImage<'a, A> {
     /// An image that was read, at its base.
     #[tactic(auto, unfolding(pe_set::specs::SetView::module_view))]
-    pub(crate) fn new(own: Module<'a, A>) -> FileImage<'a, A>
+    pub(crate) fn new(alloc: A, own: Module<'a, A>) -> FileImage<'a, A>
         requires { FieldsFit (module_view own) }
         ensures { result ≡ image_content (module_view own.entry) }
     {
@@ -88,10 +90,12 @@ impl<'a, A: Allocator + Copy> FileImage<'a, A> {
         let mut fixups = own.image.fixups;
         let listed = Snapshot::of(&fixups);
         put_in_order::<ByField, _>(fixups.as_mut_slice());
+        let hints = Hints::of::<ByField, _>(alloc, fixups.as_slice(), 0);
         FileImage {
             base,
             layout,
             fixups,
+            hints,
             listed,
         }
     }
@@ -102,8 +106,8 @@ impl<'a, A: Allocator + Copy> FileImage<'a, A> {
         ensures held { (fixup : Fixup) → Contains result.now fixup → Contains self.now.fixups fixup }
         ensures all { (fixup : Fixup) → Contains self.now.fixups fixup → start < fixup.field + 8 → fixup.field < end → Contains result.now fixup }
     {
-        let low = start.saturating_sub(REACH);
-        between::<ByField, _>(self.fixups.as_slice(), u64::from(low), end)
+        let low = u64::from(start.saturating_sub(REACH));
+        between::<ByField, _>(self.fixups.as_slice(), self.hints.get(low), low, end)
     }
 
     /// The number in a field: that of the file, moved on from ImageBase to the base.

@@ -10,6 +10,7 @@ ghost use Rattle.pe_space.specs.Windows.{bytes_in};
 use crate::by_base::{NumberAt, by_base, rebase};
 use crate::bytes::slot_width;
 use crate::file_image::FileImage;
+use crate::hints::Hints;
 use crate::ordered::{BySlot, IMAGE_STEP, between, ordered_copy};
 use crate::placed::{base_of, holder, move_fault, size_of, window_image};
 use crate::space::{Moved, Space};
@@ -49,14 +50,44 @@ fn count_slots<A: Allocator + Copy>(
     Ok(counts)
 }
 
+/// No guesses, for as many images.
+fn no_hints<A: Allocator + Copy>(alloc: A, images: usize) -> Result<Vec<Hints<A>, A>, AllocError>
+    ensures { images ≡ 0 → IsOk result }
+{
+    let mut hints = Vec::with_capacity(alloc, images)?;
+    for _ in 0..images {
+        hints.push(Hints::none(alloc))?;
+    }
+    Ok(hints)
+}
+
+/// Whether two slots are of one image.
+fn same_image(slot: &Binding, other: &Binding) -> bool {
+    slot.image == other.image
+}
+
+/// Guesses where the slots of each image stand among all slots, which are in the order of their images.
+fn hint_slots<A: Allocator + Copy>(alloc: A, hints: &mut [Hints<A>], slots: &[Binding]) {
+    let mut start: u32 = 0;
+    for own in slots.chunk_by(same_image) {
+        let image = own.first().map_or(0, |slot| slot.image as usize);
+        if let Some(hint) = hints.get_mut(image) {
+            *hint = Hints::of::<BySlot, _>(alloc, own, start);
+        }
+        start = start.saturating_add(u32::try_from(own.len()).unwrap_or(u32::MAX));
+    }
+}
+
 /// Images whose bytes stay in their files, which it borrows. `order` has the images by their bases, `slots` the bindings by image,
-/// and those of an image by slot; `counts` tells how many end in each image.
+/// and those of an image by slot; `hints` guess by image where among these a slot stands; `counts` tells how many end in each
+/// image.
 #[derive(Drop)]
 pub struct FileSpace<'a, A: Allocator> {
     images: Vec<FileImage<'a, A>, A>,
     order: Vec<NumberAt, A>,
     bindings: Vec<Binding, A>,
     slots: Vec<Binding, A>,
+    hints: Vec<Hints<A>, A>,
     counts: Vec<u32, A>,
 }
 
@@ -90,11 +121,14 @@ impl<'a, A: Allocator + Copy> FileSpace<'a, A> {
         let order = by_base(alloc, images.as_slice())?;
         let slots = ordered_copy::<BySlot, _, _>(alloc, bindings.as_slice())?;
         let counts = count_slots(alloc, images.len(), bindings.as_slice())?;
+        let mut hints = no_hints(alloc, images.len())?;
+        hint_slots(alloc, hints.as_mut_slice(), slots.as_slice());
         Ok(FileSpace {
             images,
             order,
             bindings,
             slots,
+            hints,
             counts,
         })
     }
@@ -108,7 +142,11 @@ impl<'a, A: Allocator + Copy> FileSpace<'a, A> {
     {
         let image_start = u64::from(number) * IMAGE_STEP;
         let low = image_start + u64::from(start.saturating_sub(REACH));
-        between::<BySlot, _>(self.slots.as_slice(), low, image_start + end)
+        let hint = match self.hints.get(number as usize) {
+            Some(hints) => hints.get(low),
+            None => 0,
+        };
+        between::<BySlot, _>(self.slots.as_slice(), hint, low, image_start + end)
     }
 
     /// Fills a window with the bytes of an image from RVA `start` on: the slots that meet the window are laid on those that

@@ -18,6 +18,7 @@ mod bytes;
 mod commands;
 mod file_image;
 mod file_space;
+mod hints;
 pub mod laws;
 mod mapped_image;
 mod mapped_space;

@@ -14,8 +14,8 @@ use std::alloc::Allocator;
 /// fields relocated and its imports bound.
 ///
 /// The files are judged like those of [`map`], and the answer is a space of the same content, the same first fault or cycle, or
-/// [`MapError::Memory`] in the same cases. What takes memory is a record of each fixup and two of each bound slot, beside what
-/// judging takes for a while.
+/// [`MapError::Memory`] in the same cases. What takes memory is a record of each fixup and two of each bound slot, with 4 to 8
+/// bytes for each by which they are found, beside what judging takes for a while.
 pub fn open_space<'a, A: Allocator + Copy>(
     alloc: A,
     set: &'a [SetEntry<'a>],
@@ -31,7 +31,7 @@ pub fn open_space<'a, A: Allocator + Copy>(
     let Accepted { modules, bindings } = judge(alloc, set, policy)?;
     let mut images = Vec::with_capacity(alloc, modules.len())?;
     for own in modules {
-        images.push(FileImage::new(own))?;
+        images.push(FileImage::new(alloc, own))?;
     }
     Ok(FileSpace::new(alloc, images, bindings)?)
 }

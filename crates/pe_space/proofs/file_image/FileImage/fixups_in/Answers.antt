@@ -19,4 +19,4 @@ pub returns-clause-all : goal.returns-clause-all
 returns-clause-all g c = λ f listed low high.
     let own : Contains c.self.inside.listed.value.items f = subst (λ (m : SpaceImage). Contains m.fixups f) (sym c.self.view_is) listed in
     let sorted : Contains c.as_slice.result.now f = subst (λ (l : List Fixup). Contains l f) (sym c.as_slice.ensures.value) (Contains-permutation _ _ f c.self.invariant.0.same own) in
-    c.between.ensures.all f sorted (omega (arith, c.from.ensures, c.saturating_sub-low.ensures, low)) high
+    c.between.ensures.all f sorted (omega (arith, c.from-low.ensures, c.saturating_sub.ensures, low)) high
