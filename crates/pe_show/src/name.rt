@@ -18,34 +18,59 @@ fn is_safe(character: char) -> bool {
         '\0'..='\x1f' | '\x7f'..='\u{9f}' | '\u{61c}' | '\u{200e}' | '\u{200f}' | '\u{2028}'..='\u{202e}' | '\u{2066}'..='\u{2069}' | '\u{feff}')
 }
 
-/// Whether all bytes are printable ASCII, as those of nearly all names are.
-fn is_printable(name: &[u8]) -> bool {
-    name.iter().all(|byte| matches!(byte, b' '..=b'~'))
+/// Whether a byte is printable ASCII.
+fn is_graphic(byte: u8) -> bool {
+    matches!(byte, b' '..=b'~')
 }
 
-/// The text of a name that stands as it is: UTF-8, of characters that may stand on a terminal, not empty, and not begun by a
-/// quote.
-fn plain_text(name: &[u8]) -> Option<&str> {
-    let text = str::from_utf8(name).ok()?;
-    let is_quoted = name.is_empty() || name.starts_with(b"\"");
-    (!is_quoted && (is_printable(name) || text.chars().all(is_safe))).then_some(text)
+/// Whether all bytes of a piece are printable ASCII: all are looked at, which goes by vectors.
+fn is_printable_piece(piece: &[u8; 16]) -> bool {
+    piece.iter().fold(true, |all, byte| all & is_graphic(*byte))
+}
+
+/// Whether all bytes are printable ASCII, as those of nearly all names are.
+fn is_printable(name: &[u8]) -> bool {
+    let (pieces, rest) = name.as_chunks::<16>();
+    pieces.iter().all(is_printable_piece) && rest.iter().all(|byte| is_graphic(*byte))
+}
+
+/// Whether a name is UTF-8 of characters that may stand on a terminal.
+fn is_safe_text(name: &[u8]) -> bool {
+    match str::from_utf8(name) {
+        Ok(text) => text.chars().all(is_safe),
+        Err(_) => false,
+    }
+}
+
+/// Whether a name stands as it is: it is UTF-8, of characters that may stand on a terminal, not empty, and not begun by a quote.
+fn is_plain(name: &[u8]) -> bool {
+    !name.is_empty() && !name.starts_with(b"\"") && (is_printable(name) || is_safe_text(name))
 }
 
 /// A name as a part of a line: as it stands where it is plain, else in quotes, with `\x` and two digits for a byte that is not
 /// printable.
 pub(crate) fn name_part(name: &[u8]) -> Part<'_> {
     let name = cut(name);
-    match plain_text(name) {
-        Some(text) => Text(text.as_bytes()),
-        None => Quoted(name),
+    if is_plain(name) {
+        Text(name)
+    } else {
+        Quoted(name)
+    }
+}
+
+/// How many characters a text has, or bytes where it is not UTF-8.
+fn characters(text: &[u8]) -> usize {
+    match str::from_utf8(text) {
+        Ok(text) => text.chars().count(),
+        Err(_) => text.len(),
     }
 }
 
 /// How many columns a name takes.
 pub(crate) fn name_width(name: &[u8]) -> usize {
     let name = cut(name);
-    if let Some(text) = plain_text(name) {
-        return text.chars().count();
+    if is_plain(name) {
+        return characters(name);
     }
     let mut width: usize = 2;
     for byte in name {

@@ -118,7 +118,10 @@ impl<'w, W: Sink> TextWriter<'w, W> {
         }
     }
 
-    /// Adds these bytes, as many at once as there is room for.
+    /// Adds these bytes, as many at once as there is room for. It stands apart so that callers of [`TextWriter::text`] hold what
+    /// fits in line.
+    #[cold]
+    #[inline(never)]
     fn text_in_parts(&mut self, bytes: &[u8])
         requires { IsReady W.failures self.old }
         ensures { Adds W.taken W.failures self.old self.new bytes.now }
