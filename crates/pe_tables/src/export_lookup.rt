@@ -1,4 +1,4 @@
-ghost use Rattle.std.specs.Prelude.{◌≡◌, ◌<◌, ◌≤◌, ◌==◌, ℕ, [], length, slice_index_or, option_map, map, AllPairs};
+ghost use Rattle.std.specs.Prelude.{◌≡◌, ◌<◌, ◌≤◌, ◌==◌, ℕ, [], length, slice_index_or, IsTrue, option_map, map, AllPairs};
 ghost use Rattle.std.specs.List.{find};
 ghost use Rattle.pe_tables.specs.NameIndex.{IsSearchable};
 ghost use Rattle.pe_tables.specs.declared.key.Target.{Target};
@@ -16,13 +16,34 @@ pub struct Exports<'a, A: Allocator> {
     ghost searchable: { IsSearchable names },
 }
 
-/// The index of the first export of this ordinal or a greater one, by a binary search, or the number of exports.
+/// Where the export of an ordinal stands if none before it lacks one: as far behind the first as the ordinals are apart.
+fn guess_of(exports: &[(u64, Target)], ordinal: u64) -> usize {
+    match exports.first() {
+        Some(first) => ordinal.saturating_sub(first.0) as usize,
+        None => 0,
+    }
+}
+
+/// Whether the export at an index has this ordinal.
+fn has_ordinal(exports: &[(u64, Target)], index: usize, ordinal: u64) -> bool
+    ensures within { IsTrue result → index < length exports.now }
+    ensures same { IsTrue result → (export : ℕ × Target) → (slice_index_or exports.now index export).0 ≡ ordinal }
+{
+    index < exports.len() && exports[index].0 == ordinal
+}
+
+/// The index of the first export of this ordinal or a greater one, or the number of exports. Most tables have no gap, so it is looked
+/// for first where it then stands, and else by a binary search.
 fn first_from(exports: &[(u64, Target)], ordinal: u64) -> usize
     requires { AllPairs (λ export later. export.0 < later.0) exports.now }
     ensures bound { result ≤ length exports.now }
     ensures before { (k : ℕ) (export : ℕ × Target) → k < result → (slice_index_or exports.now k export).0 < ordinal }
     ensures after { (k : ℕ) (export : ℕ × Target) → result ≤ k → k < length exports.now → ordinal ≤ (slice_index_or exports.now k export).0 }
 {
+    let guess = guess_of(exports, ordinal);
+    if has_ordinal(exports, guess, ordinal) {
+        return guess;
+    }
     exports.partition_point(|export| export.0 < ordinal)
 }
 

@@ -75,11 +75,7 @@ impl<'a, A: Allocator + Copy> NameIndex<'a, A> {
         ensures ordinals { self.new.ordinals ≡ self.old.ordinals }
         ensures long { self.new.long ≡ self.old.long }
     {
-        if self.short.get(text).is_some() {
-            return Ok(false);
-        }
-        self.short.insert(text, target)?;
-        Ok(true)
+        self.short.add(text, target)
     }
 
     /// Holds what a text of this layout's file exports, unless it is there, and tells whether it is new.

@@ -1,4 +1,4 @@
-ghost use Rattle.std.specs.Prelude.{◌≡◌, ◌↔◌, ℕ, List, [], None, Some, All, IsTrue, OnOk, IfOk, if◌then◌else◌};
+ghost use Rattle.std.specs.Prelude.{◌≡◌, ◌↔◌, ◌&&◌, ℕ, List, [], None, Some, All, IsTrue, OnOk, IfOk, is_none, if◌then◌else◌};
 ghost use Rattle.std.specs.Str.{bytes_eq};
 ghost use Rattle.pe_tables.specs.TextMap.{IsBefore, TextsAscend, found};
 
@@ -34,9 +34,6 @@ fn find<'a>(run: &[(&[u8], Option<Target<'a>>)], text: &[u8]) -> Option<Option<T
     requires { TextsAscend run.now }
     ensures { result ≡ found text.now run.now }
 {
-    if all_before(run, text) {
-        return None;
-    }
     let Ok(index) = run.binary_search_by_key(&text, |entry| entry.0) else {
         return None;
     };
@@ -87,5 +84,22 @@ impl<'a, A: Allocator + Copy> TextMap<'a, A> {
             self.others.insert(text, target)?;
         }
         Ok(())
+    }
+
+    /// Adds a text unless it is there, and tells whether it is new. A text behind all others, as those of most tables are, is
+    /// compared once.
+    pub fn add(&mut self, text: &'a [u8], target: Option<Target<'a>>) -> Result<bool, AllocError>
+        ensures { IfOk result (λ is_new. (is_new ≡ is_none (found text.entry.now (entries_in self.old)))
+            × ((other : List ℕ) → found other (entries_in self.new) ≡ (if is_new && bytes_eq other text.entry.now then Some target.entry else found other (entries_in self.old)))) }
+    {
+        if self.others.is_empty() && all_before(self.run.as_slice(), text) {
+            self.run.push((text, target))?;
+            return Ok(true);
+        }
+        if self.get(text).is_some() {
+            return Ok(false);
+        }
+        self.insert(text, target)?;
+        Ok(true)
     }
 }

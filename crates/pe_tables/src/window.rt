@@ -35,6 +35,8 @@ impl Window {
     }
 
     /// Reads the bytes from an RVA on.
+    #[cold]
+    #[inline(never)]
     fn read(&mut self, layout: &Layout, rva: u32)
         requires { rva ≤ (image_of layout.now).size }
         ensures start { self.new.start ≡ rva }
@@ -55,6 +57,7 @@ impl Window {
     }
 
     /// Makes it hold these bytes of the image.
+    #[inline(always)]
     fn hold(&mut self, layout: &Layout, rva: u32, width: u32)
         requires window { IsWindowOf (image_of layout.now) self.old }
         requires inside { rva + width ≤ (image_of layout.now).size }

@@ -1,5 +1,5 @@
 -- The exports of lesser ordinals stand before all others.
-use Rattle.std.proofs.Common.{◌≡◌, ℕ, arith, rules, inl, inr}
+use Rattle.std.proofs.Common.{◌≡◌, ℕ, refl, arith, rules, inl, inr}
 use Rattle.std.specs.Prelude.{nat_lt}
 use Rattle.std.specs.List.Sorted.{IsPartitionedBy}
 use Rattle.std.proofs.lemmas.Bool.{cases_lt, ltb-true, ltb-false, lt-ltb}
@@ -24,3 +24,10 @@ returns-clause-after c = λ k e le lt.
     ]) in
     let point = IsPartitionPoint-from_clause (λ (x : ℕ × Target). nat_lt x.0 c.args.ordinal) _ _ c.partition_point.ensures.partitioned parted (λ a r q k. search rules) in
     ltb-false _ _ (point.1 k e le lt)
+
+pub returns-then-has_ordinal-clause-before : goal.returns-then-has_ordinal-clause-before
+returns-then-has_ordinal-clause-before c = λ k e lt.
+    let within = c.if-has_ordinal.ensures.within refl in
+    let same = c.if-has_ordinal.ensures.same refl e in
+    let less = c.requires k c.guess_of-guess.result e lt within in
+    omega arith
