@@ -22,9 +22,7 @@ fn keeps(section: &SectionHeader, fixup: Fixup) -> bool
         && u64::from(fixup.field) + u64::from(fixup.kind.width()) <= end
 }
 
-/// The section in whose raw data a field wholly lies. It is looked for where a field lies in another one than the field before.
-#[cold]
-#[inline(never)]
+/// The section in whose raw data a field wholly lies.
 fn raw_section(headers: &Headers, fixup: Fixup) -> Option<SectionHeader>
     ensures { result ≡ raw_section headers.now fixup }
 {
@@ -38,7 +36,6 @@ fn raw_section(headers: &Headers, fixup: Fixup) -> Option<SectionHeader>
 
 /// The section in whose raw data a field wholly lies, unless fault 51 stands of it. `last`, where an earlier field lay, is
 /// asked first.
-#[inline(always)]
 pub(crate) fn holder(
     headers: &Headers,
     last: SectionHeader,
