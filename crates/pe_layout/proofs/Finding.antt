@@ -12,7 +12,7 @@ use Rattle.pe_head.specs.declared.headers.Headers.{Headers}
 use Rattle.pe_layout.specs.Piece.{end_of, holds, section_of, section_index}
 use Rattle.pe_layout.specs.Plain.{IsIn}
 use Rattle.pe_layout.specs.Sections.{IsInSectionAt, IsInGap}
-use Rattle.pe_layout.proofs.Placed.{AllPlaced}
+use Rattle.pe_layout.proofs.Placed.{AllPlaced, starts_ascend}
 
 module _ {X : Type 0} (p : X → Bool) (xs : List X) where
   found : (i : ℕ) (d : X) → i < length xs → position_or_len p xs ≡ i → (find p xs ≡ Some (get_or xs i d)) × (position p xs ≡ Some i)
@@ -77,17 +77,11 @@ module _ (h : Headers) (size : ℕ) (placed : AllPlaced h size 0 h.sections.item
     | inr above ↦ short_of k (get_or h.sections.items j d) (after j above lt)
   ])
 
-  starts_later : (i j : ℕ) (d : SectionHeader) → i ≤ j → j < length h.sections.items → (get_or h.sections.items i d).virtual_address ≤ (get_or h.sections.items j d).virtual_address
-  starts_later i j d le lt = elim (cases_lt i j) [
-    | inl below ↦ (let a = placed.apart i j d below lt in omega arith)
-    | inr above ↦ (let e : i ≡ j = omega arith in rw e (omega arith))
-  ]
-
   -- an RVA lies in the gap before section i
   pub in_gap : (i r : ℕ) (d : SectionHeader) → i < length h.sections.items → ((j : ℕ) → j < i → end_of (get_or h.sections.items j d) ≤ r) → r < (get_or h.sections.items i d).virtual_address
       → IsInGap h r (get_or h.sections.items i d).virtual_address
   in_gap i r d lt before below =
-      let none = λ (k : ℕ) (le : r ≤ k) (less : k < (get_or h.sections.items i d).virtual_address). no_section i k d (λ j first. let b = before j first in omega arith) (λ j later inside. let s = starts_later i j d later inside in omega arith) in
+      let none = λ (k : ℕ) (le : r ≤ k) (less : k < (get_or h.sections.items i d).virtual_address). no_section i k d (λ j first. let b = before j first in omega arith) (λ j later inside. let s = starts_ascend h.sections.items placed.apart i j d later inside in omega arith) in
       record {
         index = (none r (omega arith) below).1;
         empty = λ k le less. (none k le less).0;

@@ -10,7 +10,7 @@ use Rattle.pe_view.specs.Faults.{first_standing}
 use Rattle.pe_view.specs.FirstStanding.{none_stands, none-append}
 use Rattle.pe_layout.specs.Piece.{end_of}
 use Rattle.pe_layout.specs.SectionFaults.{section_tests, sections_tests}
-use Rattle.pe_layout.specs.Sections.{EndsAscend}
+use Rattle.pe_layout.specs.Sections.{LieApart}
 
 -- a section of which none of faults 13 to 15 stands, behind one that ends at `before`
 pub record IsPlaced (h : Headers) (size before : ℕ) (s : SectionHeader) : Type 0 where
@@ -58,16 +58,12 @@ all_placed image h size before i (s ∷ ss) none =
     let rest = all_placed image h size (end_of s) (i + 1) ss parts.1 in
     record { each = placed_more h size before s ss p rest; apart = apart_more h size before s ss rest }
 
-ends_by : (h : Headers) (size before : ℕ) (ss : List SectionHeader) → AllPlaced h size before ss → (i j : ℕ) (d : SectionHeader) → i < j → j < length ss → end_of (get_or ss i d) ≤ end_of (get_or ss j d)
-ends_by h size before ss p i j d below lt = let a = p.apart i j d below lt in omega arith
-
-ends_here : (ss : List SectionHeader) (i j : ℕ) (d : SectionHeader) → i ≡ j → end_of (get_or ss i d) ≤ end_of (get_or ss j d)
-ends_here ss i j d e = rw e (omega arith)
-
--- so their ends ascend
-pub ends_ascend : (h : Headers) (size before : ℕ) (ss : List SectionHeader) → AllPlaced h size before ss → EndsAscend ss
-ends_ascend h size before ss p i j d le lt =
-    elim (cases_lt i j) [ inl below ↦ ends_by h size before ss p i j d below lt | inr above ↦ ends_here ss i j d (omega arith) ]
+-- sections that lie apart begin one behind the other
+pub starts_ascend : (ss : List SectionHeader) → LieApart ss → (i j : ℕ) (d : SectionHeader) → i ≤ j → j < length ss → (get_or ss i d).virtual_address ≤ (get_or ss j d).virtual_address
+starts_ascend ss apart i j d le lt = elim (cases_lt i j) [
+  | inl below ↦ (let a = apart i j d below lt in omega arith)
+  | inr above ↦ (let e : i ≡ j = omega arith in rw e (omega arith))
+]
 
 -- a header, for a list of them to be read by
 pub no_header : SectionHeader

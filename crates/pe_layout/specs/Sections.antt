@@ -8,9 +8,9 @@ use Rattle.pe_layout.specs.Plain.{IsIn}
 use Rattle.pe_layout.specs.declared.locate.Spot.{Spot}
 use Rattle.pe_layout.specs.declared.locate.Spot.TheVariants.{Section, Gap}
 
--- no section ends before one that stands before it
-abbrev pub EndsAscend : List SectionHeader → Type 0
-EndsAscend ss = (i j : ℕ) (d : SectionHeader) → i ≤ j → j < length ss → end_of (slice_index_or ss i d) ≤ end_of (slice_index_or ss j d)
+-- each section ends where a later one begins at the latest
+abbrev pub LieApart : List SectionHeader → Type 0
+LieApart ss = (i j : ℕ) (d : SectionHeader) → i < j → j < length ss → end_of (slice_index_or ss i d) ≤ (slice_index_or ss j d).virtual_address
 
 -- an RVA lies in a section, which each other RVA of its extent finds too, and whose raw data a file of `size` bytes holds
 pub record IsInSection (h : Headers) (size r : ℕ) (s : SectionHeader) : Type 0 where

@@ -3,7 +3,7 @@ ghost use Rattle.pe_view.specs.View.{size_of};
 ghost use Rattle.pe_head.specs.declared.section.SectionHeader.{SectionHeader};
 ghost use Rattle.pe_layout.specs.Piece.{end_of};
 ghost use Rattle.pe_layout.specs.Locating.{located_in};
-ghost use Rattle.pe_layout.specs.Sections.{EndsAscend};
+ghost use Rattle.pe_layout.specs.Sections.{LieApart};
 
 use crate::layout::Layout;
 use crate::placing::end_of;
@@ -37,14 +37,25 @@ pub(crate) enum Spot<'s> {
     },
 }
 
-/// The index of the first section that ends after an RVA, by a binary search, or the number of sections.
+/// The index of the first section that ends after an RVA, or the number of sections.
+///
+/// The last section that begins by the RVA is found by a binary search, and it alone is asked where it ends: those before it have
+/// ended where it begins.
 fn first_ending_after(sections: &[SectionHeader], rva: u32) -> usize
-    requires { EndsAscend sections.now }
+    requires { LieApart sections.now }
     ensures bound { result ≤ length sections.now }
     ensures before { (k : ℕ) (s : SectionHeader) → k < result → end_of (slice_index_or sections.now k s) ≤ rva }
     ensures after { (k : ℕ) (s : SectionHeader) → result ≤ k → k < length sections.now → rva < end_of (slice_index_or sections.now k s) }
 {
-    sections.partition_point(|section| end_of(section) <= u64::from(rva))
+    let begun = sections.partition_point(|section| section.virtual_address <= rva);
+    if begun == 0 {
+        return 0;
+    }
+    let last = begun - 1;
+    if end_of(&sections[last]) <= u64::from(rva) {
+        return begun;
+    }
+    last
 }
 
 impl<'a> Layout<'a> {

@@ -1,7 +1,7 @@
 -- Where the search among the sections says that an RVA lies.
 use Rattle.std.proofs.Common.{arith}
 use Rattle.pe_view.specs.View.{size_of}
-use Rattle.pe_layout.proofs.Placed.{no_header, ends_ascend}
+use Rattle.pe_layout.proofs.Placed.{no_header}
 use Rattle.pe_layout.proofs.OfLayout.{sections_placed}
 use Rattle.pe_layout.proofs.Finding.{in_section, in_gap, in_last_gap}
 use Rattle.pe_layout.proofs.layout.Layout.spot.Goals as goal
@@ -9,7 +9,7 @@ use Rattle.pe_layout.proofs.layout.Layout.spot.Goals as goal
 pub first_ending_after-index-requires : goal.first_ending_after-index-requires
 first_ending_after-index-requires c =
     let l = c.args.self.now in
-    rw c.as_slice-sections.ensures.value (ends_ascend l.headers (size_of l.view) 0 l.headers.sections.items (sections_placed l))
+    rw c.as_slice-sections.ensures.value (sections_placed l).apart
 
 pub returns-then-index-sections : goal.returns-then-index-sections
 returns-then-index-sections c =
