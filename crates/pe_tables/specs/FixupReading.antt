@@ -1,6 +1,6 @@
 -- What has been read of a base relocation table.
-use Rattle.std.specs.Prelude.{◌≡◌, ℕ, ◌≤◌, List, ◌++◌, Option, None, Some, map, All, AllPairs, MatchOption, ⊤}
-use Rattle.pe_tables.specs.Ranges.{FitsBeside, Gains, SameRanges, range_end}
+use Rattle.std.specs.Prelude.{◌≡◌, ℕ, ◌+◌, ◌<◌, ◌≤◌, false, List, ◌++◌, Option, None, Some, map, All, AllPairs, MatchOption, ⊤}
+use Rattle.pe_tables.specs.Ranges.{FitsBeside, Gains, SameRanges, meets_any, range_end}
 use Rattle.pe_tables.specs.RangesView.{ranges_in}
 use Rattle.pe_tables.specs.Fixups.{range_of}
 use Rattle.pe_tables.specs.declared.fixups.Fixup.{Fixup}
@@ -36,3 +36,7 @@ Tells found field = found.fields ≡ None → found.end ≤ field
 pub record Reads {A : Type 0} (old new : FoundFixups A) (more : List Fixup) : Type 0 where
   pub fixups : new.fixups.items ≡ old.fixups.items ++ more
   pub indexed : IsIndexed new
+
+-- no field that begins in the page at an RVA has a byte of these ranges
+abbrev pub IsClear : ℕ → List (ℕ × ℕ) → Type 0
+IsClear page ranges = (start width : ℕ) → page ≤ start → start < page + 4096 → width ≤ 8 → meets_any start width ranges ≡ false

@@ -11,7 +11,7 @@ ghost use Rattle.pe_tables.specs.Fixups.{IsBlockSize, width_of, kind_of, range_o
 ghost use Rattle.pe_tables.specs.Encoded.{type_of};
 ghost use Rattle.pe_tables.specs.FixupFaults.{is_bad_size, entry_tests, entries_tests, blocks_tests, fixup_tests};
 ghost use Rattle.pe_tables.specs.Import.{slots_of};
-ghost use Rattle.pe_tables.specs.FixupReading.{IsIndexed, Reads};
+ghost use Rattle.pe_tables.specs.FixupReading.{IsClear, IsIndexed, Reads};
 ghost use Rattle.pe_tables.specs.FirstBlock.{FirstBlock};
 ghost use Rattle.pe_view.specs.declared.refusal.Refusal.{Refusal};
 
@@ -26,6 +26,12 @@ use std::alloc::{AllocError, Allocator};
 
 /// How many entries of a block are read at once.
 const ENTRIES_AT_ONCE: u32 = 256;
+
+/// From how many bytes the fields of a block are: they begin in a page of 4,096 bytes, and the last has 8 at most.
+const BLOCK_REACH: u32 = 4096 + 8;
+
+/// The most entries of a block of which each is asked for slots, and not the page.
+const FEW_ENTRIES: u32 = 4;
 
 /// What a fixup's field is, and how it is relocated ("PE Format", Base Relocation Types).
 #[derive(Clone, Copy, Debug, PartialEq, Eq)]
@@ -105,17 +111,41 @@ fn slot_ranges<A: Allocator + Copy>(
     Ok(ranges)
 }
 
+/// Whether no field of a block with this PageRVA and so many entries has a byte of a slot. False tells nothing.
+fn is_clear<A: Allocator + Copy>(slots: &Ranges<A>, page: u32, count: u32) -> bool
+    ensures { IsTrue result → IsClear page (ranges_in slots.now) }
+{
+    if count <= FEW_ENTRIES || page >= 1 << 31 {
+        return false;
+    }
+    !slots.meets(page, BLOCK_REACH)
+}
+
+/// Whether a field has a byte of a slot, which none in a clear page has.
+fn meets_slot<A: Allocator + Copy>(slots: &Ranges<A>, clear: bool, field: u32, width: u32) -> bool
+    requires small { field + width < 2 ^ 32 }
+    requires clear { IsTrue clear → meets_any field width (ranges_in slots.now) ≡ false }
+    ensures { result ≡ meets_any field width (ranges_in slots.now) }
+{
+    if clear {
+        return false;
+    }
+    slots.meets(field, width)
+}
+
 /// Reads an entry of a block with this PageRVA, which holds this number and stands at an RVA, unless one of faults 35 to 38
-/// stands.
+/// stands. `clear` tells that no field of the block has a byte of a slot.
 fn read_entry<A: Allocator + Copy>(
     layout: &Layout,
     slots: &Ranges<A>,
+    clear: bool,
     found: &mut FoundFixups<A>,
     page: u32,
     rva: u32,
     entry: u16,
 ) -> Result<(), TableError>
     requires value { entry ≡ number_at 2 (image_of layout.now) rva }
+    requires clear { IsTrue clear → IsClear page (ranges_in slots.now) }
     requires indexed { IsIndexed found.old }
     ensures { AnswersOrWants (entry_tests (image_of layout.now) (ranges_in slots.now) found.old.fixups.items (entry_of (image_of layout.now) page rva))
         (λ _. Reads found.old found.new (option_to_list (fixup_of (entry_of (image_of layout.now) page rva)))) result }
@@ -135,7 +165,7 @@ fn read_entry<A: Allocator + Copy>(
     if found.meets(field, kind.width())? {
         return Err(fault_at(37, layout, rva));
     }
-    if slots.meets(field, kind.width()) {
+    if meets_slot(slots, clear, field, kind.width()) {
         return Err(fault_at(38, layout, rva));
     }
     found.add(Fixup {
@@ -151,6 +181,7 @@ fn read_entry<A: Allocator + Copy>(
 fn read_entries<A: Allocator + Copy>(
     layout: &Layout,
     slots: &Ranges<A>,
+    clear: bool,
     found: &mut FoundFixups<A>,
     page: u32,
     rva: u32,
@@ -158,13 +189,14 @@ fn read_entries<A: Allocator + Copy>(
 ) -> Result<(), TableError>
     requires bytes { bytes_of bytes ≡ bytes_at (image_of layout.now) rva (size_of bytes) }
     requires small { rva + size_of bytes < 2 ^ 32 }
+    requires clear { IsTrue clear → IsClear page (ranges_in slots.now) }
     requires indexed { IsIndexed found.old }
     ensures { AnswersOrWants (entries_tests (image_of layout.now) (ranges_in slots.now) found.old.fixups.items (entries_at (image_of layout.now) page rva (size_of bytes.entry / 2)))
         (λ _. Reads found.old found.new (filter_map fixup_of (entries_at (image_of layout.now) page rva (size_of bytes.entry / 2)))) result }
 {
     for index in 0..(bytes.len() / 2) as u32 {
         let entry = bytes.u16_at(2 * u64::from(index)).unwrap();
-        read_entry(layout, slots, found, page, rva + 2 * index, entry)?;
+        read_entry(layout, slots, clear, found, page, rva + 2 * index, entry)?;
     }
     Ok(())
 }
@@ -174,6 +206,7 @@ fn read_entries<A: Allocator + Copy>(
 fn read_some_entries<A: Allocator + Copy>(
     layout: &Layout,
     slots: &Ranges<A>,
+    clear: bool,
     found: &mut FoundFixups<A>,
     page: u32,
     rva: u32,
@@ -182,6 +215,7 @@ fn read_some_entries<A: Allocator + Copy>(
     requires few { count ≤ 256 }
     requires inside { rva + 2 * count ≤ (image_of layout.now).size }
     requires small { rva + 2 * count < 2 ^ 32 }
+    requires clear { IsTrue clear → IsClear page (ranges_in slots.now) }
     requires indexed { IsIndexed found.old }
     ensures { AnswersOrWants (entries_tests (image_of layout.now) (ranges_in slots.now) found.old.fixups.items (entries_at (image_of layout.now) page rva count))
         (λ _. Reads found.old found.new (filter_map fixup_of (entries_at (image_of layout.now) page rva count))) result }
@@ -189,7 +223,7 @@ fn read_some_entries<A: Allocator + Copy>(
     let mut buffer = [0; 2 * ENTRIES_AT_ONCE as usize];
     let bytes = &mut buffer[..2 * count as usize];
     layout.fill(rva, bytes);
-    read_entries(layout, slots, found, page, rva, View::new(bytes))
+    read_entries(layout, slots, clear, found, page, rva, View::new(bytes))
 }
 
 /// Reads the entries of the block at an RVA of the image, of `size` bytes, unless one of faults 35 to 38 stands of one.
@@ -210,10 +244,11 @@ fn read_block<A: Allocator + Copy>(
 {
     let page = layout.u32_at(rva).unwrap();
     let count = (size - 8) / 2;
+    let clear = is_clear(slots, page, count);
     let mut index = 0;
     while index < count {
         let some = (count - index).min(ENTRIES_AT_ONCE);
-        read_some_entries(layout, slots, found, page, rva + 8 + 2 * index, some)?;
+        read_some_entries(layout, slots, clear, found, page, rva + 8 + 2 * index, some)?;
         index += some;
     }
     Ok(())

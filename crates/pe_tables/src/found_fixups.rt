@@ -82,6 +82,20 @@ impl<A: Allocator + Copy> FoundFixups<A> {
         if self.is_behind(field) {
             return Ok(false);
         }
+        self.meets_range(field, width)
+    }
+
+    /// Whether a field has a byte of another's, by their ranges. Few tables need them, so that it stands apart.
+    #[cold]
+    #[inline(never)]
+    fn meets_range(&mut self, field: u32, width: u32) -> Result<bool, AllocError>
+        requires small { field + width < 2 ^ 32 }
+        requires indexed { IsIndexed self.old }
+        ensures same { self.new.fixups ≡ self.old.fixups }
+        ensures indexed { IsIndexed self.new }
+        ensures tells { OnOk result (Tells self.new field) }
+        ensures met { IfOk result (λ met. met ≡ meets_any field width (map range_of self.old.fixups.items)) }
+    {
         let fields = match self.fields.take() {
             Some(fields) => fields,
             None => field_ranges(self.alloc, self.fixups.as_slice())?,

@@ -77,10 +77,7 @@ fn run_meets(run: &[(u32, u32)], start: u32, len: u32) -> bool
     ends_behind(last, last_len, start)
 }
 
-/// Whether one of these ranges has an RVA in common with the `len` bytes at `start`, as [`run_meets`] tells it. Few tables have any,
-/// so that it stands apart.
-#[cold]
-#[inline(never)]
+/// Whether one of these ranges has an RVA in common with the `len` bytes at `start`, as [`run_meets`] tells it.
 fn others_meet<A: Allocator>(others: &BTreeMap<u32, u32, A>, start: u32, len: u32) -> bool
     requires ascending { IsAscending others.now.entries }
     requires small { start + len < 2 ^ 32 }
@@ -111,7 +108,6 @@ impl<A: Allocator + Copy> Ranges<A> {
     }
 
     /// Whether some range has an RVA in common with the `len` bytes at `start`.
-    #[inline(always)]
     pub fn meets(&self, start: u32, len: u32) -> bool
         requires { start + len < 2 ^ 32 }
         ensures { result ≡ meets_any start len (ranges_in self.now) }

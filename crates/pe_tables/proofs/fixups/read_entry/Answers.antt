@@ -1,8 +1,8 @@
 use Rattle.std.proofs.Common.{rules}
 use Rattle.pe_tables.proofs.fixups.read_entry.Goals as goal
 
-pub returns-then-meets : goal.returns-then-meets
-returns-then-meets c = search rules
+pub returns-then-meets_slot : goal.returns-then-meets_slot
+returns-then-meets_slot c = search rules
 
 pub add-requires-clause-apart : goal.add-requires-clause-apart
 add-requires-clause-apart c = search rules

@@ -1,8 +1,7 @@
--- A field that begins behind all others meets none; before the first other one the fields rise.
-use Rattle.std.proofs.Common.{◌≡◌, ℕ, ◌≤◌, Bool, true, sym, subst, ◌∙◌}
+-- A field that begins behind all others meets none.
+use Rattle.std.proofs.Common.{◌≡◌, ℕ, ◌≤◌, Bool, true, sym, ◌∙◌}
 use Rattle.std.specs.Prelude.{nat_le}
 use Rattle.std.proofs.lemmas.Bool.{leb-true}
-use Rattle.pe_tables.specs.FixupReading.{AreRising}
 use Rattle.pe_tables.proofs.RisingFields.{behind-apart, ends-later}
 use Rattle.pe_tables.proofs.found_fixups.FoundFixups.meets.Goals as goal
 
@@ -14,10 +13,3 @@ returns-then-is_behind-clause-met g c =
     let found = c.args.self.now in
     let le = behind found.end c.args.field _ c.is_behind.ensures c.if-is_behind.true in
     sym (behind-apart c.args.field c.args.width found.fixups.items (ends-later found.end c.args.field found.fixups.items le c.requires.indexed.ends))
-
-pub field_ranges-requires : goal.field_ranges-requires
-field_ranges-requires g c =
-    let found = c.args.self.now in
-    let none = sym c.take.ensures.value ∙ c.in-None.is in
-    let rising : AreRising found.fixups.items = rw none at c.requires.indexed.fields in
-    subst AreRising (sym c.as_slice.ensures.value) rising
