@@ -1,4 +1,7 @@
 ghost use Rattle.std.specs.Prelude.{◌≡◌, ◌≤◌, length, map, IsOk};
+ghost use Rattle.pe_view.specs.Faults.{AnswersOrWants};
+ghost use Rattle.pe_image.specs.ImageTests.{image_tests};
+ghost use Rattle.pe_image.specs.ImageOf.{IsImageOf};
 ghost use Rattle.pe_set.specs.Set.{modules_of};
 ghost use Rattle.pe_set.specs.SetView.{entries_of, module_view};
 ghost use Rattle.pe_set.specs.SetFaults.{ClassAnswers, files_tests};
@@ -8,6 +11,7 @@ use crate::error::MapError;
 use crate::placement::Placed;
 use pe_head::Magic;
 use pe_image::{Image, read_image};
+use pe_tables::TableError;
 use std::alloc::Allocator;
 
 /// An image of a set: its name, its base, and what its file holds. It borrows both the name and the file.
@@ -53,6 +57,19 @@ impl<'a, A: Allocator + Copy> Placed for Module<'a, A> {
     }
 }
 
+/// Reads an image, as `read_image` does, whose exports other images look up by name.
+fn read_exporter<A: Allocator + Copy>(
+    alloc: A,
+    file: &[u8],
+    number: u16,
+) -> Result<Image<'_, A>, TableError>
+    ensures { AnswersOrWants (image_tests number file.now) (IsImageOf number file.now) result }
+{
+    let mut image = read_image(alloc, file, number)?;
+    image.exports.guess_names(alloc);
+    Ok(image)
+}
+
 /// Reads the images of a set, or answers the first of their faults 1 to 38.
 pub(crate) fn read_modules<'a, A: Allocator + Copy>(
     alloc: A,
@@ -67,7 +84,7 @@ pub(crate) fn read_modules<'a, A: Allocator + Copy>(
         modules.push(Module {
             name: entry.name,
             base: entry.base,
-            image: read_image(alloc, entry.file, index as u16)?,
+            image: read_exporter(alloc, entry.file, index as u16)?,
         })?;
     }
     Ok(modules)

@@ -16,6 +16,7 @@ pub mod Fields
 pub mod FixupPlaces
 pub mod ForwarderEndings
 pub mod Forwarding
+pub mod HeldExports
 pub mod Holding
 pub mod ImportOrder
 pub mod ImportPlaces

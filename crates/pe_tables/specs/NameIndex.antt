@@ -1,5 +1,5 @@
 -- What has been read of the names of an export table.
-use Rattle.std.specs.Prelude.{◌≡◌, ℕ, ◌+◌, List, ◌++◌, length, nat_lt, map, Option, Some, None, if◌then◌else◌, option_map, option_and_then, option_to_list}
+use Rattle.std.specs.Prelude.{◌≡◌, ℕ, ◌+◌, All, List, ◌++◌, length, nat_lt, map, Option, Some, None, if◌then◌else◌, option_map, option_and_then, option_to_list}
 use Rattle.std.specs.Borrow.{Bor}
 use Rattle.std.specs.List.{filter_map, find}
 use Rattle.std.specs.Str.{bytes_eq}
@@ -44,3 +44,7 @@ pub record IsIndexOf {A : Type 0} (f : ℕ → Option Target) (base : ℕ) (name
 -- what is held for a text is what the first export of that name is
 abbrev pub IsSearchable : {A : Type 0} → NameIndex A → Type 0
 IsSearchable index = (text : List ℕ) → option_and_then (option_map target_view) (held index text) ≡ option_map (λ p. p.1) (find (λ p. bytes_eq text p.0) (map export_view index.exports.items))
+
+-- each export is held for its text
+abbrev pub AreHeld : {A : Type 0} → NameIndex A → Type 0
+AreHeld index = All (λ export. held index export.0.now ≡ Some (Some export.1)) index.exports.items

@@ -1,8 +1,9 @@
-ghost use Rattle.std.specs.Prelude.{◌≡◌, ◌<◌, ◌≤◌, ◌==◌, ℕ, [], length, slice_index_or, IsTrue, option_map, map, AllPairs};
+ghost use Rattle.std.specs.Prelude.{◌≡◌, ◌<◌, ◌≤◌, ◌==◌, ℕ, [], Some, length, slice_index_or, IfSome, IsTrue, option_map, map, AllPairs};
 ghost use Rattle.std.specs.List.{find};
-ghost use Rattle.pe_tables.specs.NameIndex.{IsSearchable};
+ghost use Rattle.pe_tables.specs.NameIndex.{AreHeld, IsSearchable};
 ghost use Rattle.pe_tables.specs.declared.key.Target.{Target};
 
+use crate::guesses::Guesses;
 use crate::key::Target;
 use crate::name_index::NameIndex;
 use std::alloc::Allocator;
@@ -12,8 +13,11 @@ use std::alloc::Allocator;
 pub struct Exports<'a, A: Allocator> {
     pub(crate) ordinals: Vec<(u64, Target<'a>), A>,
     pub(crate) names: NameIndex<'a, A>,
+    /// Guesses of where among the names one stands, once they were asked for.
+    pub(crate) guesses: Guesses<A>,
     ghost ascending: { AllPairs (λ export later. export.0 < later.0) ordinals.items },
     ghost searchable: { IsSearchable names },
+    ghost held: { AreHeld names },
 }
 
 /// Where the export of an ordinal stands if none before it lacks one: as far behind the first as the ordinals are apart.
@@ -70,7 +74,7 @@ impl<'a, A: Allocator + Copy> Exports<'a, A> {
     ghost use Rattle.pe_tables.specs.Key.{Ordinal, Name, target_view};
     ghost use Rattle.pe_tables.specs.Exports.{target_at};
     ghost use Rattle.pe_tables.specs.ExportsView.{ordinal_view, exports_view};
-    ghost use Rattle.pe_tables.specs.NameIndex.{export_view};
+    ghost use Rattle.pe_tables.specs.NameIndex.{export_view, held};
 
     /// No exports.
     pub(crate) fn new(alloc: A) -> Exports<'a, A>
@@ -81,6 +85,7 @@ impl<'a, A: Allocator + Copy> Exports<'a, A> {
         Exports {
             ordinals: Vec::new(alloc),
             names: NameIndex::new(alloc),
+            guesses: Guesses::none(alloc),
         }
     }
 
@@ -91,11 +96,38 @@ impl<'a, A: Allocator + Copy> Exports<'a, A> {
         target_by_ordinal(self.ordinals.as_slice(), u64::from(ordinal))
     }
 
+    /// Has [`Exports::by_name`] find the names of most exports without a search, which pays where many are looked up. It takes 8 to 16
+    /// bytes of memory for each name, and changes nothing where these are refused.
+    pub fn guess_names(&mut self, alloc: A)
+        ensures { exports_view self.new ≡ exports_view self.old }
+    {
+        self.guesses = Guesses::of(alloc, self.names.exports.as_slice());
+    }
+
+    /// What a name exports, where it is that of the export that is guessed.
+    fn guessed(&self, name: &[u8]) -> Option<Target<'a>>
+        ensures { IfSome result (λ target. held self.now.names name.now ≡ Some (Some target)) }
+    {
+        let exports = self.names.exports.as_slice();
+        let index = self.guesses.get(name);
+        if index >= exports.len() {
+            return None;
+        }
+        let (text, target) = exports[index];
+        if text != name {
+            return None;
+        }
+        Some(target)
+    }
+
     /// What a name exports: what the first of the names with this text does. No memory is taken.
     pub fn by_name(&self, name: &[u8]) -> Option<Target<'a>>
         ensures { option_map target_view result ≡ target_at (exports_view self.now) (Name name.now) }
     {
-        self.names.get(name)?
+        match self.guessed(name) {
+            Some(target) => Some(target),
+            None => self.names.get(name)?,
+        }
     }
 
     /// The exports by ordinal, in the order of the export address table.

@@ -17,6 +17,7 @@ use crate::export_lookup::{Exports, target_by_ordinal};
 use crate::export_table::{Table, read_table};
 use crate::forwarder::is_forwarder;
 use crate::forwarders::Forwarders;
+use crate::guesses::Guesses;
 use crate::key::Target;
 use crate::name_index::NameIndex;
 use crate::window::Window;
@@ -203,6 +204,7 @@ fn read_entries<'a, A: Allocator + Copy>(
     Ok(Exports {
         ordinals,
         names: index,
+        guesses: Guesses::none(alloc),
     })
 }
 

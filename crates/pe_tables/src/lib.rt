@@ -26,6 +26,7 @@ mod fixups;
 mod forwarder;
 mod forwarders;
 mod found_fixups;
+mod guesses;
 mod import;
 mod imports;
 mod key;

@@ -92,7 +92,10 @@ fn a_table_of_65536_names(rt: HostRuntime) {
     let pieces: &[Piece] = &[(0x91, &[0x00, 0x20]), (0xb9, &[0x10]), (0xbc, &[0x28])];
     let table = largest_table(&rt, rt.alloc());
     let file = with_data(&rt, rt.alloc(), pieces, &table);
-    let exports = read_exports(rt.alloc(), &layout_of(&rt, &file)).expect(&rt, "exports");
+    let mut exports = read_exports(rt.alloc(), &layout_of(&rt, &file)).expect(&rt, "exports");
+    assert_largest(&rt, &exports);
+    assert_no_more(&rt, &exports);
+    exports.guess_names(rt.alloc());
     assert_largest(&rt, &exports);
     assert_no_more(&rt, &exports);
 }

@@ -12,31 +12,31 @@ use Rattle.pe_set.proofs.ModuleRead.{module_read}
 use Rattle.pe_set.specs.declared.reading.Module as code_module
 use Rattle.pe_set.proofs.reading.read_modules.Goals as goal
 
-pub returns-in_err-read_image-clause-exact : goal.returns-in_err-read_image-clause-exact
+pub returns-in_err-read_exporter-clause-exact : goal.returns-in_err-read_exporter-clause-exact
 unfolding files_tests
-returns-in_err-read_image-clause-exact g c =
+returns-in_err-read_exporter-clause-exact g c =
     let set = c.args.set.now in
     let i : ℕ = c.loop-index.index in
-    let p = err_from_is_err_and c.from_residual-in_err-read_image.result c.from_residual-in_err-read_image.ensures.1 in
+    let p = err_from_is_err_and c.from_residual-in_err-read_exporter.result c.from_residual-in_err-read_exporter.ensures.1 in
     rw (p.1, p.2)
     (refuses-table (image_tests i (entry_view (get_or set i no_entry)).file) (numbered (λ (n : ℕ) (e : Entry). image_tests n e.file) 0 (entries_of set))
     (asked_in entry_view (λ (n : ℕ) (e : Entry). image_tests n e.file) set i (get_or set i no_entry) (next_item set i no_entry c.loop-index-test.true) c.loop-index.invariant.rest)
-    c.in_err-read_image.field-0.0 c.in_err-read_image.ensures.exact)
+    c.in_err-read_exporter.field-0.0 c.in_err-read_exporter.ensures)
 
 pub loop-index-preserved : goal.loop-index-preserved
 loop-index-preserved g c =
     let set = c.args.set.now in
     let i : ℕ = c.loop-index.index in
     let next = next_item set i no_entry c.loop-index-test.true in
-    let own : code_module.Module _ = record { name = (get_or set i no_entry).name; base = (get_or set i no_entry).base; image = c.in_ok-read_image.field-0 } in
+    let own : code_module.Module _ = record { name = (get_or set i no_entry).name; base = (get_or set i no_entry).base; image = c.in_ok-read_exporter.field-0 } in
     let before : List Module = map module_view c.loop-index.modules.items in
     record {
-      rest = asked_past entry_view (λ (n : ℕ) (e : Entry). image_tests n e.file) set i (get_or set i no_entry) next c.loop-index.invariant.rest c.in_ok-read_image.ensures.exact.0;
+      rest = asked_past entry_view (λ (n : ℕ) (e : Entry). image_tests n e.file) set i (get_or set i no_entry) next c.loop-index.invariant.rest c.in_ok-read_exporter.ensures.0;
       read =
           ap (λ ms. map module_view ms ++ modules_from (i + 1) (entries_of (drop (i + 1) set))) c.in_ok-push.ensures.items
           ∙ ap (λ ms. ms ++ modules_from (i + 1) (entries_of (drop (i + 1) set))) (map-append module_view c.loop-index.modules.items (own ∷ []))
           ∙ append_assoc before (module_view own ∷ []) (modules_from (i + 1) (entries_of (drop (i + 1) set)))
-          ∙ ap (λ (m : Module). before ++ m ∷ modules_from (i + 1) (entries_of (drop (i + 1) set))) (module_read (get_or set i no_entry) i c.in_ok-read_image.field-0 c.in_ok-read_image.ensures.exact.1)
+          ∙ ap (λ (m : Module). before ++ m ∷ modules_from (i + 1) (entries_of (drop (i + 1) set))) (module_read (get_or set i no_entry) i c.in_ok-read_exporter.field-0 c.in_ok-read_exporter.ensures.1)
           ∙ ap (λ es. before ++ modules_from i (entries_of es)) (sym next)
           ∙ c.loop-index.invariant.read;
     }

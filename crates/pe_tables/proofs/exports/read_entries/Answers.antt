@@ -15,6 +15,7 @@ use Rattle.pe_tables.specs.declared.exports.Name.{Name}
 use Rattle.pe_tables.specs.declared.export_table.Table.{Table}
 use Rattle.pe_tables.specs.declared.key.Target.{Target}
 use Rattle.pe_tables.proofs.ExportPlaces.{of_entry}
+use Rattle.pe_tables.proofs.HeldExports.{held-learns}
 use Rattle.pe_tables.proofs.Indexed.{index-step, searchable}
 use Rattle.pe_tables.proofs.Search.{found_mapped}
 use Rattle.pe_tables.proofs.exports.read_entries.Goals as goal
@@ -41,6 +42,7 @@ loop-name-init g c =
         ordinals = c.in_ok-index.ensures.ordinals;
         targets = λ text. ap (option_map (option_map target_view)) (c.in_ok-index.ensures.held text);
       };
+      held = rw c.in_ok-index.ensures.exports (λ k d lt. absurd (omega arith));
     }
 
 pub loop-name-preserved : goal.loop-name-preserved
@@ -62,6 +64,7 @@ loop-name-preserved g c =
       names = index-step (λ (k : ℕ). target_of i d (entry i t k)) t.ordinal_base c.args.names.now index no_name c.loop-name.index c.add.new.self c.target_by_ordinal-target.result c.loop-name-test.true
           (exported_by i d t ordinals k c.target_by_ordinal-target.result (c.requires.within index no_name c.loop-name-test.true).inside c.in_ok-ordinals.ensures.1.0 found)
           (subst (λ (n : ℕ). Learns c.loop-name.index c.add.new.self (get_or c.args.names.now index no_name).text.bytes n c.target_by_ordinal-target.result (held c.loop-name.index (get_or c.args.names.now index no_name).text.bytes.now)) (ap (λ (n : ℕ). n + c.from-in-loop-name.result) base ∙ ap (λ (n : ℕ). t.ordinal_base + n) own) c.in_ok-add.ensures.learns) c.loop-name.invariant.names;
+      held = held-learns c.loop-name.index c.add.new.self (get_or c.args.names.now index no_name).text.bytes _ c.target_by_ordinal-target.result c.in_ok-add.ensures.learns c.loop-name.invariant.held;
     }
 
 -- the exports by ordinal ascend
@@ -77,6 +80,9 @@ invariant_of-result-clause-searchable g c =
     let i = image_of c.args.layout.now in
     let t = c.args.table.now in
     searchable (λ (k : ℕ). target_of i c.args.directory (entry i t k)) t.ordinal_base (map name_view (take c.loop-name.name-index c.args.names.now)) c.loop-name.index c.loop-name.invariant.names
+
+pub invariant_of-result-clause-held : goal.invariant_of-result-clause-held
+invariant_of-result-clause-held g c = c.loop-name.invariant.held
 
 pub returns : goal.returns
 returns g c =

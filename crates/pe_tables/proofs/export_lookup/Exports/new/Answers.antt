@@ -5,6 +5,7 @@ pub invariant_of-result : goal.invariant_of-result
 invariant_of-result g c = record {
   ascending = λ i j d before within. absurd (omega (arith, ap length c.new.ensures.items));
   searchable = λ text. rw (c.new-2.ensures.held text, c.new-2.ensures.exports);
+  held = rw c.new-2.ensures.exports (λ k d lt. absurd (omega arith));
 }
 
 pub returns-clause-ordinals : goal.returns-clause-ordinals

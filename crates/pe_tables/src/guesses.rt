@@ -1,0 +1,93 @@
+//! Guesses of where a text stands in a list of exports.
+
+use crate::key::Target;
+use std::alloc::Allocator;
+
+/// Guesses of where names stand among exports, by some of their bytes. Who takes one looks whether the name stands there, so that
+/// nothing rests on them but how long a look-up takes.
+///
+/// There are two to four places for each name, of 4 bytes.
+#[derive(Drop)]
+pub(crate) struct Guesses<A: Allocator> {
+    /// The index of a name at its place, which the upper bits of its mark tell.
+    indexes: Vec<u32, A>,
+    /// How many bits of a mark tell no place.
+    shift: u32,
+}
+
+/// The 8 bytes of a text from an index on as a number, or 0 where there are fewer.
+fn word_at(text: &[u8], index: usize) -> u64 {
+    match text.get(index..).and_then(|rest| rest.first_chunk::<8>()) {
+        Some(bytes) => u64::from_le_bytes(*bytes),
+        None => 0,
+    }
+}
+
+/// All bytes of a short text as a number.
+fn short_word(text: &[u8]) -> u64 {
+    text.iter()
+        .fold(0, |word, byte| word << 8 | u64::from(*byte))
+}
+
+/// A number that two texts seldom share: of the length and the first, the middle and the last bytes, spread by a product with the
+/// golden ratio (Fibonacci hashing).
+fn mark(text: &[u8]) -> u64 {
+    let len = text.len();
+    let word = if len < 8 {
+        short_word(text)
+    } else {
+        word_at(text, 0)
+            ^ word_at(text, len / 2 - 4).rotate_left(21)
+            ^ word_at(text, len - 8).rotate_left(42)
+    };
+    (word ^ len as u64).wrapping_mul(0x9e37_79b9_7f4a_7c15)
+}
+
+impl<A: Allocator + Copy> Guesses<A> {
+    /// No guesses. No memory is taken.
+    pub(crate) fn none(alloc: A) -> Guesses<A> {
+        Guesses {
+            indexes: Vec::new(alloc),
+            shift: 0,
+        }
+    }
+
+    /// The place of a text.
+    fn place(&self, text: &[u8]) -> usize {
+        mark(text).checked_shr(self.shift).unwrap_or(0) as usize
+    }
+
+    /// Notes where each of these names stands. Of names with one place the last is guessed.
+    fn note_all(&mut self, exports: &[(&[u8], Target)]) {
+        for (index, (name, _)) in exports.iter().enumerate() {
+            let place = self.place(name);
+            if let Some(noted) = self.indexes.get_mut(place) {
+                *noted = u32::try_from(index).unwrap_or(0);
+            }
+        }
+    }
+
+    /// Guesses for the names of these exports. Where memory is refused there are none.
+    pub(crate) fn of(alloc: A, exports: &[(&[u8], Target)]) -> Guesses<A> {
+        let mut guesses = Guesses::none(alloc);
+        let Some(bit) = exports.len().checked_ilog2() else {
+            return guesses;
+        };
+        let bits = bit.saturating_add(2);
+        let places = 1_usize.checked_shl(bits).unwrap_or(0);
+        if guesses.indexes.resize(places, 0).is_err() {
+            return guesses;
+        }
+        guesses.shift = u64::BITS.saturating_sub(bits);
+        guesses.note_all(exports);
+        guesses
+    }
+
+    /// The guess of where a name stands.
+    pub(crate) fn get(&self, name: &[u8]) -> usize {
+        match self.indexes.get(self.place(name)) {
+            Some(index) => *index as usize,
+            None => usize::MAX,
+        }
+    }
+}
