@@ -8,6 +8,7 @@ pub(crate) const DIGITS: usize = 16;
 const GLYPHS: [u8; 16] = *b"0123456789abcdef";
 
 /// A hexadecimal digit, in lower case.
+#[inline(always)]
 fn hex_digit(digit: u8) -> u8
     requires { digit < 16 }
     ensures { result ≡ glyph digit }
@@ -15,7 +16,9 @@ fn hex_digit(digit: u8) -> u8
     GLYPHS[digit as usize]
 }
 
-/// The last `width` hexadecimal digits of a number, at the end of these bytes.
+/// The last `width` hexadecimal digits of a number, at the end of these bytes. It stands in line, so that callers with a constant
+/// width have no loop.
+#[inline(always)]
 pub(crate) fn hex_digits(width: usize, number: u64) -> [u8; DIGITS]
     requires { width ≤ 16 }
     ensures { drop (16 - width) result ≡ hex width number }

@@ -142,6 +142,7 @@ impl<'w, W: Sink> TextWriter<'w, W> {
     }
 
     /// Adds the last `width` hexadecimal digits of a number.
+    #[inline(always)]
     pub fn hex(&mut self, width: u8, number: u64)
         requires ready { IsReady W.failures self.old }
         requires width { width ≤ 16 }
