@@ -9,7 +9,7 @@ ghost use Rattle.coff_object.specs.ObjectView.{raw_view, symbol_view};
 ghost use Rattle.coff_object.specs.Reading.{object_of};
 ghost use Rattle.coff_object.specs.Written.{raw_size};
 ghost use Rattle.coff_lines.specs.ObjectLines.{amd64_names, i386_names, type_names, class_names, name_in, raw_word, section_line, section_lines, relocation_line, section_text, symbol_line, shape_text, aux_line, aux_lines, symbol_lines, object_text};
-ghost use Rattle.pe_text.specs.Part.{joined, part_text};
+ghost use Rattle.pe_text.specs.Part.{joined, name_text};
 ghost use Rattle.pe_text.specs.Text.{hex, numbered};
 ghost use Rattle.pe_text.specs.TextWriter.{IsReady, Adds};
 
@@ -17,7 +17,7 @@ use coff_object::{
     Aux, FileSection, ObjectFile, RawData, Relocation, Relocations, Symbol, SymbolSection,
 };
 use pe_head::machine;
-use pe_text::Part::{self, Decimal, Hex4, Hex8, Name, Quoted, Text};
+use pe_text::Part::{self, Decimal, Hex8, Quoted, Text};
 use pe_text::{
     Sink, TextWriter, characteristics, time_date_stamp, write_fields, write_machine, write_parts,
 };
@@ -123,24 +123,30 @@ fn write_section<W: Sink>(line: &mut TextWriter<W>, number: u64, section: &FileS
     );
 }
 
+/// Adds a blank and a name, where there is one.
+fn write_name<W: Sink>(line: &mut TextWriter<W>, name: Option<&[u8]>)
+    requires { IsReady W.failures line.old }
+    ensures { Adds W.taken W.failures line.old line.new (name_text (option_map (λ text. text.now) name.entry)) }
+{
+    if let Some(name) = name {
+        line.text(b" ");
+        line.text(name);
+    }
+}
+
 #[tactic(auto, unfolding(crate::specs::ObjectLines::relocation_line))]
 fn write_relocation<W: Sink>(line: &mut TextWriter<W>, machine: u16, relocation: &Relocation)
     requires { IsReady W.failures line.old }
     ensures { Adds W.taken W.failures line.old line.new (relocation_line machine relocation.now) }
 {
-    write_parts(
-        line,
-        &[
-            Text(b"reloc 0x"),
-            Hex8(relocation.address as u64),
-            Text(b" symbol "),
-            Decimal(relocation.symbol as u64),
-            Text(b" type "),
-            Decimal(relocation.kind as u64),
-            Name(type_name(machine, relocation.kind)),
-            Text(b"\n"),
-        ],
-    );
+    line.text(b"reloc 0x");
+    line.hex(8, relocation.address as u64);
+    line.text(b" symbol ");
+    line.decimal(relocation.symbol as u64);
+    line.text(b" type ");
+    line.decimal(relocation.kind as u64);
+    write_name(line, type_name(machine, relocation.kind));
+    line.text(b"\n");
 }
 
 fn write_relocations<W: Sink>(text: &mut TextWriter<W>, machine: u16, relocations: Relocations)
@@ -166,15 +172,16 @@ fn write_sections<W: Sink>(text: &mut TextWriter<W>, machine: u16, object: &Obje
     }
 }
 
-/// To which section a symbol belongs: a word, or a number.
-fn section_part<'a>(section: SymbolSection) -> Part<'a>
-    ensures { part_text result ≡ section_text section }
+/// Adds to which section a symbol belongs: a word, or a number.
+fn write_symbol_section<W: Sink>(line: &mut TextWriter<W>, section: SymbolSection)
+    requires { IsReady W.failures line.old }
+    ensures { Adds W.taken W.failures line.old line.new (section_text section) }
 {
     match section {
-        SymbolSection::Undefined => Text(b"undefined"),
-        SymbolSection::Absolute => Text(b"absolute"),
-        SymbolSection::Debug => Text(b"debug"),
-        SymbolSection::Section(number) => Decimal(number as u64),
+        SymbolSection::Undefined => line.text(b"undefined"),
+        SymbolSection::Absolute => line.text(b"absolute"),
+        SymbolSection::Debug => line.text(b"debug"),
+        SymbolSection::Section(number) => line.decimal(number as u64),
     }
 }
 
@@ -183,27 +190,22 @@ fn write_symbol<W: Sink>(line: &mut TextWriter<W>, index: u64, symbol: &Symbol)
     requires { IsReady W.failures line.old }
     ensures { Adds W.taken W.failures line.old line.new (symbol_line index (symbol_view symbol.now)) }
 {
-    write_parts(
-        line,
-        &[
-            Text(b"symbol "),
-            Decimal(index),
-            Text(b" "),
-            Quoted(symbol.name),
-            Text(b" value 0x"),
-            Hex8(symbol.value as u64),
-            Text(b" section "),
-            section_part(symbol.section),
-            Text(b" type 0x"),
-            Hex4(symbol.kind),
-            Text(b" class "),
-            Decimal(symbol.class as u64),
-            Name(class_name(symbol.class)),
-            Text(b" aux "),
-            Decimal(symbol.aux_count() as u64),
-            Text(b"\n"),
-        ],
-    );
+    line.text(b"symbol ");
+    line.decimal(index);
+    line.text(b" ");
+    line.quoted(symbol.name);
+    line.text(b" value 0x");
+    line.hex(8, symbol.value as u64);
+    line.text(b" section ");
+    write_symbol_section(line, symbol.section);
+    line.text(b" type 0x");
+    line.hex(4, symbol.kind as u64);
+    line.text(b" class ");
+    line.decimal(symbol.class as u64);
+    write_name(line, class_name(symbol.class));
+    line.text(b" aux ");
+    line.decimal(symbol.aux_count() as u64);
+    line.text(b"\n");
 }
 
 /// Adds two digits for each byte.
