@@ -6,9 +6,9 @@ ghost use Rattle.pe_show.specs.Page.{AddsSome};
 
 use crate::date::write_date;
 use crate::flags::write_flags;
-use crate::name::{name_part, name_width};
+use crate::name::{name_width, write_name};
 use itoa::Buffer;
-use pe_text::Part::{self, Decimal, Text};
+use pe_text::Part::{self, Text};
 use pe_text::{Sink, TextWriter, write_parts};
 use pe_views::FlagKind;
 
@@ -44,7 +44,7 @@ pub(crate) fn plural(count: usize, one: &'static str, more: &'static str) -> Cel
 const BLANKS: [u8; 256] = [b' '; 256];
 
 /// So many blanks, and not more than 256.
-fn blanks(count: usize) -> &'static [u8] {
+pub(crate) fn blanks(count: usize) -> &'static [u8] {
     &BLANKS[..count.min(BLANKS.len())]
 }
 
@@ -77,6 +77,34 @@ fn write_count<W: Sink>(text: &mut TextWriter<W>, number: u64)
     }
 }
 
+/// Adds a number in so many hexadecimal digits at least, without `0x`.
+pub(crate) fn write_hex<W: Sink>(text: &mut TextWriter<W>, number: u64, digits: u8)
+    requires { IsReady W.failures text.old }
+    ensures { AddsSome W.taken W.failures text.old text.new }
+{
+    text.hex(hex_width(number).max(digits).min(16), number);
+}
+
+/// Adds a number in decimal, behind blanks up to so many columns.
+pub(crate) fn write_right<W: Sink>(text: &mut TextWriter<W>, number: u64, width: usize)
+    requires { IsReady W.failures text.old }
+    ensures { AddsSome W.taken W.failures text.old text.new }
+{
+    let mut buffer = Buffer::new();
+    let digits = buffer.format(number).as_bytes();
+    text.text(blanks(width.saturating_sub(digits.len())));
+    text.text(digits);
+}
+
+/// Adds a name of the file, and blanks up to so many columns.
+pub(crate) fn write_column<W: Sink>(text: &mut TextWriter<W>, name: &[u8], width: usize)
+    requires { IsReady W.failures text.old }
+    ensures { AddsSome W.taken W.failures text.old text.new }
+{
+    write_name(text, name);
+    text.text(blanks(width.saturating_sub(name_width(name))));
+}
+
 /// Adds a cell.
 fn write_cell<W: Sink>(text: &mut TextWriter<W>, cell: &Cell)
     requires { IsReady W.failures text.old }
@@ -84,24 +112,12 @@ fn write_cell<W: Sink>(text: &mut TextWriter<W>, cell: &Cell)
 {
     match cell {
         Cell::Words(words) => text.text(words.as_bytes()),
-        Cell::Name(name) => write_parts(text, &[name_part(name)]),
-        Cell::Column(name, width) => write_parts(
-            text,
-            &[
-                name_part(name),
-                Text(blanks(width.saturating_sub(name_width(name)))),
-            ],
-        ),
+        Cell::Name(name) => write_name(text, name),
+        Cell::Column(name, width) => write_column(text, name, *width),
         Cell::Blanks(count) => text.text(blanks(*count)),
-        Cell::Hex(number, digits) => text.hex(hex_width(*number).max(*digits).min(16), *number),
+        Cell::Hex(number, digits) => write_hex(text, *number, *digits),
         Cell::Count(number) => write_count(text, *number),
-        Cell::Right(number, width) => write_parts(
-            text,
-            &[
-                Text(blanks(width.saturating_sub(decimal_width(*number)))),
-                Decimal(*number),
-            ],
-        ),
+        Cell::Right(number, width) => write_right(text, *number, *width),
         Cell::Date(seconds) => write_date(text, *seconds),
         Cell::Flags(kind, flags) => write_flags(text, *kind, *flags),
     }

@@ -3,9 +3,10 @@
 ghost use Rattle.pe_text.specs.TextWriter.{IsReady};
 ghost use Rattle.pe_show.specs.Page.{AddsSome};
 
-use crate::cell::{Cell, decimal_width, hex_width, write_cells};
+use crate::cell::{Cell, blanks, decimal_width, hex_width, write_hex, write_right};
 use crate::heading::write_heading;
 use crate::image::Tables;
+use crate::name::write_name;
 use crate::options::ShowOptions;
 use crate::place::SectionNames;
 use pe_layout::Layout;
@@ -30,6 +31,20 @@ pub(crate) fn key_cells<'a>(key: Key<'a>) -> [Cell<'a>; 2] {
     }
 }
 
+/// Adds a name, or `#` and an ordinal.
+pub(crate) fn write_key<W: Sink>(text: &mut TextWriter<W>, key: Key)
+    requires { IsReady W.failures text.old }
+    ensures { AddsSome W.taken W.failures text.old text.new }
+{
+    match key {
+        Key::Ordinal(ordinal) => {
+            text.text(b"#");
+            text.decimal(u64::from(ordinal));
+        }
+        Key::Name(name) => write_name(text, name),
+    }
+}
+
 /// The widths of exports.
 fn widths_of(exports: &[(u64, Target)], layout: &Layout, names: &SectionNames) -> Widths {
     let mut widths = Widths {
@@ -47,7 +62,7 @@ fn widths_of(exports: &[(u64, Target)], layout: &Layout, names: &SectionNames) -
     widths
 }
 
-/// Adds what an ordinal exports.
+/// Adds what an ordinal exports, and tells how many columns stand between it and its names, beside two.
 fn write_target<W: Sink>(
     text: &mut TextWriter<W>,
     widths: &Widths,
@@ -55,60 +70,36 @@ fn write_target<W: Sink>(
     sections: &SectionNames,
     ordinal: u64,
     target: &Target,
-)
+) -> usize
     requires { IsReady W.failures text.old }
     ensures { AddsSome W.taken W.failures text.old text.new }
 {
+    write_right(text, ordinal, widths.ordinal);
     match target {
         Target::Rva(rva) => {
+            text.text(b"  0x");
+            write_hex(text, u64::from(*rva), widths.rva);
+            text.text(b"  ");
             let place = sections.place(layout, *rva);
-            let [name, plus, offset] = place.cells();
-            write_cells(
-                text,
-                &[
-                    Cell::Right(ordinal, widths.ordinal),
-                    Cell::Words("  0x"),
-                    Cell::Hex(u64::from(*rva), widths.rva),
-                    Cell::Words("  "),
-                    name,
-                    plus,
-                    offset,
-                ],
-            );
+            place.write(text);
+            widths.place.saturating_sub(place.width())
         }
         Target::Forward { module, key } => {
-            let [first, second] = key_cells(*key);
-            write_cells(
-                text,
-                &[
-                    Cell::Right(ordinal, widths.ordinal),
-                    Cell::Words("  forwarded to "),
-                    Cell::Name(module),
-                    Cell::Words("."),
-                    first,
-                    second,
-                ],
-            );
+            text.text(b"  forwarded to ");
+            write_name(text, module);
+            text.text(b".");
+            write_key(text, *key);
+            0
         }
     }
 }
 
-/// How many columns stand between what an ordinal exports and its names, beside two.
-fn gap_of(widths: &Widths, layout: &Layout, sections: &SectionNames, target: &Target) -> usize {
-    match target {
-        Target::Rva(rva) => widths
-            .place
-            .saturating_sub(sections.place(layout, *rva).width()),
-        Target::Forward { .. } => 0,
-    }
-}
-
-/// Adds names behind so many blanks and two more, and the end of their row.
+/// Adds names behind `count` blanks and two more, and the end of their row.
 fn write_names<A: Allocator + Copy, W: Sink>(
     text: &mut TextWriter<W>,
     exports: &Exports<A>,
     names: &[ExportName],
-    blanks: usize,
+    count: usize,
 )
     requires { IsReady W.failures text.old }
     ensures { AddsSome W.taken W.failures text.old text.new }
@@ -118,15 +109,14 @@ fn write_names<A: Allocator + Copy, W: Sink>(
             Some((name, _)) => name,
             None => &b""[..],
         };
-        let (blanks, gap) = if place == 0 {
-            (blanks, "  ")
+        let (count, gap): (usize, &[u8]) = if place == 0 {
+            (count, b"  ")
         } else {
-            (0, ", ")
+            (0, b", ")
         };
-        write_cells(
-            text,
-            &[Cell::Blanks(blanks), Cell::Words(gap), Cell::Name(name)],
-        );
+        text.text(blanks(count));
+        text.text(gap);
+        write_name(text, name);
     }
     text.text(b"\n");
 }
@@ -148,8 +138,7 @@ pub(crate) fn write_exports<A: Allocator + Copy, W: Sink>(
     let widths = widths_of(exports.ordinals(), layout, sections);
     write_heading(text, options, "Exports", exports.ordinals().len());
     for (ordinal, target) in exports.ordinals() {
-        write_target(text, &widths, layout, sections, *ordinal, target);
-        let blanks = gap_of(&widths, layout, sections, target);
-        write_names(text, exports, names_of(&tables.names, *ordinal), blanks);
+        let count = write_target(text, &widths, layout, sections, *ordinal, target);
+        write_names(text, exports, names_of(&tables.names, *ordinal), count);
     }
 }

@@ -4,7 +4,7 @@ ghost use Rattle.std.specs.Prelude.{◌<◌, ◌≤◌, length};
 ghost use Rattle.pe_text.specs.TextWriter.{IsReady};
 ghost use Rattle.pe_show.specs.Page.{AddsSome};
 
-use crate::cell::{Cell, hex_width, write_cells};
+use crate::cell::{hex_width, write_hex};
 use crate::heading::write_heading;
 use crate::image::Tables;
 use crate::options::ShowOptions;
@@ -48,25 +48,18 @@ fn write_row<W: Sink>(text: &mut TextWriter<W>, width: u8, row: &[Fixup])
     let Some(first) = row.first() else {
         return;
     };
-    let kind = match first.kind {
-        FixupKind::Bits32 => "HIGHLOW",
-        FixupKind::Bits64 => "DIR64  ",
-        FixupKind::High => "HIGH   ",
-        FixupKind::Low => "LOW    ",
+    let kind: &[u8] = match first.kind {
+        FixupKind::Bits32 => b"  HIGHLOW ",
+        FixupKind::Bits64 => b"  DIR64   ",
+        FixupKind::High => b"  HIGH    ",
+        FixupKind::Low => b"  LOW     ",
     };
-    write_cells(
-        text,
-        &[
-            Cell::Words("  0x"),
-            Cell::Hex(u64::from(first.field / PAGE * PAGE), width),
-            Cell::Words("  "),
-            Cell::Words(kind),
-            Cell::Words(" "),
-        ],
-    );
+    text.text(b"  0x");
+    write_hex(text, u64::from(first.field / PAGE * PAGE), width);
+    text.text(kind);
     for fixup in row {
-        let offset = Cell::Hex(u64::from(fixup.field % PAGE), 3);
-        write_cells(text, &[Cell::Words(" "), offset]);
+        text.text(b" ");
+        text.hex(3, u64::from(fixup.field % PAGE));
     }
     text.text(b"\n");
 }

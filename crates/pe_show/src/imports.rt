@@ -4,8 +4,8 @@ ghost use Rattle.std.specs.Prelude.{◌<◌, ◌≤◌, length};
 ghost use Rattle.pe_text.specs.TextWriter.{IsReady};
 ghost use Rattle.pe_show.specs.Page.{AddsSome};
 
-use crate::cell::{Cell, hex_width, write_cells};
-use crate::exports::key_cells;
+use crate::cell::{Cell, hex_width, write_cells, write_hex};
+use crate::exports::write_key;
 use crate::heading::write_heading;
 use crate::image::Tables;
 use crate::options::ShowOptions;
@@ -58,20 +58,11 @@ fn write_module<W: Sink>(text: &mut TextWriter<W>, width: u8, imports: &[Import]
         ],
     );
     for import in imports {
-        let [first, second] = key_cells(import.key);
-        let slot = Cell::Hex(u64::from(import.slot), width);
-        let end = Cell::Words("\n");
-        write_cells(
-            text,
-            &[
-                Cell::Words("    0x"),
-                slot,
-                Cell::Words("  "),
-                first,
-                second,
-                end,
-            ],
-        );
+        text.text(b"    0x");
+        write_hex(text, u64::from(import.slot), width);
+        text.text(b"  ");
+        write_key(text, import.key);
+        text.text(b"\n");
     }
 }
 

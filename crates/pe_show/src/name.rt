@@ -1,6 +1,9 @@
 //! Names of a file as a page shows them.
 
-use pe_text::Part::{self, Quoted, Text};
+ghost use Rattle.pe_text.specs.TextWriter.{IsReady};
+ghost use Rattle.pe_show.specs.Page.{AddsSome};
+
+use pe_text::{Sink, TextWriter};
 use std::str;
 
 /// The most bytes of a name that are shown: no name that a compiler writes is longer.
@@ -47,14 +50,16 @@ fn is_plain(name: &[u8]) -> bool {
     !name.is_empty() && !name.starts_with(b"\"") && (is_printable(name) || is_safe_text(name))
 }
 
-/// A name as a part of a line: as it stands where it is plain, else in quotes, with `\x` and two digits for a byte that is not
-/// printable.
-pub(crate) fn name_part(name: &[u8]) -> Part<'_> {
+/// Adds a name: as it stands where it is plain, else in quotes, with `\x` and two digits for a byte that is not printable.
+pub(crate) fn write_name<W: Sink>(text: &mut TextWriter<W>, name: &[u8])
+    requires { IsReady W.failures text.old }
+    ensures { AddsSome W.taken W.failures text.old text.new }
+{
     let name = cut(name);
     if is_plain(name) {
-        Text(name)
+        text.text(name);
     } else {
-        Quoted(name)
+        text.quoted(name);
     }
 }
 
@@ -66,12 +71,8 @@ fn characters(text: &[u8]) -> usize {
     }
 }
 
-/// How many columns a name takes.
-pub(crate) fn name_width(name: &[u8]) -> usize {
-    let name = cut(name);
-    if is_plain(name) {
-        return characters(name);
-    }
+/// How many columns a name takes in quotes.
+fn quoted_width(name: &[u8]) -> usize {
     let mut width: usize = 2;
     for byte in name {
         let columns = match byte {
@@ -82,4 +83,16 @@ pub(crate) fn name_width(name: &[u8]) -> usize {
         width = width.saturating_add(columns);
     }
     width
+}
+
+/// How many columns a name takes.
+pub(crate) fn name_width(name: &[u8]) -> usize {
+    let name = cut(name);
+    if !is_plain(name) {
+        quoted_width(name)
+    } else if is_printable(name) {
+        name.len()
+    } else {
+        characters(name)
+    }
 }

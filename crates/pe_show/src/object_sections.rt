@@ -3,8 +3,7 @@
 ghost use Rattle.pe_text.specs.TextWriter.{IsReady};
 ghost use Rattle.pe_show.specs.Page.{AddsSome};
 
-use crate::cell::{Cell, decimal_width, hex_width, write_cells};
-use crate::header_rows::named;
+use crate::cell::{Cell, decimal_width, hex_width, write_cells, write_hex};
 use crate::heading::write_heading;
 use crate::name::name_width;
 use crate::options::ShowOptions;
@@ -119,6 +118,20 @@ pub(crate) fn write_sections<W: Sink>(
     }
 }
 
+/// Adds the name of a relocation's type, or its number where the format has no name for it.
+fn write_type<W: Sink>(text: &mut TextWriter<W>, machine: u16, kind: u16)
+    requires { IsReady W.failures text.old }
+    ensures { AddsSome W.taken W.failures text.old text.new }
+{
+    match relocation_type_name(machine, kind) {
+        Some(name) => text.text(name.as_bytes()),
+        None => {
+            text.text(b"0x");
+            text.hex(4, u64::from(kind));
+        }
+    }
+}
+
 /// Adds the row of a relocation: where it stands in the section, its type, and its symbol.
 fn write_relocation<A: Allocator + Copy, W: Sink>(
     text: &mut TextWriter<W>,
@@ -129,26 +142,14 @@ fn write_relocation<A: Allocator + Copy, W: Sink>(
     requires { IsReady W.failures text.old }
     ensures { AddsSome W.taken W.failures text.old text.new }
 {
-    let [gap, name] = names.cells(relocation.symbol);
-    let [kind, number] = named(
-        relocation_type_name(machine, relocation.kind),
-        relocation.kind,
-    );
-    write_cells(
-        text,
-        &[
-            Cell::Words("    0x"),
-            Cell::Hex(u64::from(relocation.address), 6),
-            Cell::Words("  "),
-            kind,
-            number,
-            Cell::Words("  #"),
-            Cell::Right(u64::from(relocation.symbol), 1),
-            gap,
-            name,
-            Cell::Words("\n"),
-        ],
-    );
+    text.text(b"    0x");
+    write_hex(text, u64::from(relocation.address), 6);
+    text.text(b"  ");
+    write_type(text, machine, relocation.kind);
+    text.text(b"  #");
+    text.decimal(u64::from(relocation.symbol));
+    names.write(text, relocation.symbol);
+    text.text(b"\n");
 }
 
 /// Adds the relocations of a section, if it has some, under its name.

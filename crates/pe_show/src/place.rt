@@ -1,10 +1,14 @@
 //! Where an RVA lies, in the words of a page.
 
-use crate::cell::{Cell, hex_width};
-use crate::name::name_width;
+ghost use Rattle.pe_text.specs.TextWriter.{IsReady};
+ghost use Rattle.pe_show.specs.Page.{AddsSome};
+
+use crate::cell::{Cell, hex_width, write_hex};
+use crate::name::{name_width, write_name};
 use arrayvec::ArrayVec;
 use pe_head::Headers;
 use pe_layout::{Layout, Located};
+use pe_text::{Sink, TextWriter};
 use pe_view::View;
 use pe_views::{section_name, string_table};
 
@@ -91,6 +95,18 @@ impl<'a> Place<'a> {
                 Cell::Hex(u64::from(offset), 1),
             ],
             None => [Cell::Name(self.name), Cell::Words(""), Cell::Words("")],
+        }
+    }
+
+    /// Adds what its cells show.
+    pub fn write<W: Sink>(&self, text: &mut TextWriter<W>)
+        requires { IsReady W.failures text.old }
+        ensures { AddsSome W.taken W.failures text.old text.new }
+    {
+        write_name(text, self.name);
+        if let Some(offset) = self.offset {
+            text.text(b"+0x");
+            write_hex(text, u64::from(offset), 1);
         }
     }
 

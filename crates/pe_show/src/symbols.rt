@@ -3,8 +3,9 @@
 ghost use Rattle.pe_text.specs.TextWriter.{IsReady};
 ghost use Rattle.pe_show.specs.Page.{AddsSome};
 
-use crate::cell::{Cell, decimal_width, write_cells};
+use crate::cell::{decimal_width, write_column, write_right};
 use crate::heading::write_heading;
+use crate::name::write_name;
 use crate::options::ShowOptions;
 use crate::place::cut;
 use coff_object::{FileSection, ObjectFile, Symbol, SymbolSection};
@@ -36,12 +37,18 @@ impl<'a, A: Allocator + Copy> SymbolNames<'a, A> {
         Ok(SymbolNames { names })
     }
 
-    /// The cells of the name of the symbol that a record begins; an auxiliary record begins none.
-    pub fn cells(&self, index: u32) -> [Cell<'a>; 2] {
+    /// Adds a blank and the name of the symbol that a record begins; an auxiliary record begins none.
+    pub fn write<W: Sink>(&self, text: &mut TextWriter<W>, index: u32)
+        requires { IsReady W.failures text.old }
+        ensures { AddsSome W.taken W.failures text.old text.new }
+    {
         let place = self.names.partition_point(|name| name.0 < index);
         match self.names.get(place) {
-            Some((found, name)) if *found == index => [Cell::Words(" "), Cell::Name(name)],
-            _ => [Cell::Words(""), Cell::Words("")],
+            Some((found, name)) if *found == index => {
+                text.text(b" ");
+                write_name(text, name);
+            }
+            _ => {}
         }
     }
 }
@@ -61,6 +68,20 @@ fn section_words<'a>(sections: &[FileSection<'a>], section: SymbolSection) -> &'
     }
 }
 
+/// Adds the name of a storage class, or its number where the format has no name for it, in 13 columns.
+fn write_class<W: Sink>(text: &mut TextWriter<W>, class: u8)
+    requires { IsReady W.failures text.old }
+    ensures { AddsSome W.taken W.failures text.old text.new }
+{
+    match class_name(class) {
+        Some(name) => write_column(text, name.as_bytes(), 13),
+        None => {
+            text.text(b"class ");
+            write_right(text, u64::from(class), 7);
+        }
+    }
+}
+
 /// Adds the row of a symbol.
 fn write_symbol<'a, W: Sink>(
     text: &mut TextWriter<W>,
@@ -72,33 +93,21 @@ fn write_symbol<'a, W: Sink>(
     requires { IsReady W.failures text.old }
     ensures { AddsSome W.taken W.failures text.old text.new }
 {
-    let class = match class_name(symbol.class) {
-        Some(name) => [Cell::Column(name.as_bytes(), 13), Cell::Words("")],
-        None => [
-            Cell::Words("class "),
-            Cell::Right(u64::from(symbol.class), 7),
-        ],
+    write_right(text, u64::from(index), width);
+    text.text(b"  0x");
+    text.hex(8, u64::from(symbol.value));
+    text.text(b"  ");
+    write_column(text, section, 12);
+    text.text(b"  ");
+    write_class(text, symbol.class);
+    let kind: &[u8] = if symbol.kind == 0x20 {
+        b"  function  "
+    } else {
+        b"            "
     };
-    write_cells(
-        text,
-        &[
-            Cell::Right(u64::from(index), width),
-            Cell::Words("  0x"),
-            Cell::Hex(u64::from(symbol.value), 8),
-            Cell::Words("  "),
-            Cell::Column(section, 12),
-            Cell::Words("  "),
-            class[0],
-            class[1],
-            Cell::Words(if symbol.kind == 0x20 {
-                "  function  "
-            } else {
-                "            "
-            }),
-            Cell::Name(symbol.name),
-            Cell::Words("\n"),
-        ],
-    );
+    text.text(kind);
+    write_name(text, symbol.name);
+    text.text(b"\n");
 }
 
 /// Adds a row for each symbol of an object, under the index of its record, where the options want it.
