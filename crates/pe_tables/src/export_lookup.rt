@@ -1,10 +1,12 @@
 ghost use Rattle.std.specs.Prelude.{◌≡◌, ◌<◌, ◌≤◌, ◌==◌, ℕ, [], Some, length, slice_index_or, IfSome, IsTrue, option_map, map, AllPairs};
 ghost use Rattle.std.specs.List.{find};
+ghost use Rattle.std.specs.Str.{bytes_eq};
 ghost use Rattle.pe_tables.specs.NameIndex.{AreHeld, IsSearchable};
 ghost use Rattle.pe_tables.specs.declared.key.Target.{Target};
 
 use crate::guesses::Guesses;
 use crate::key::Target;
+use crate::long_texts::BLOCK;
 use crate::name_index::NameIndex;
 use std::alloc::Allocator;
 
@@ -70,6 +72,27 @@ pub(crate) fn target_by_ordinal<'a>(
     Some(target)
 }
 
+/// Whether two texts are the same. They are compared from their ends on, since long names of one file may end alike and differ before,
+/// and by parts of which each has twice as many bytes as the one before, so that the first difference ends it soon.
+fn is_same(text: &[u8], other: &[u8]) -> bool
+    ensures { result ≡ bytes_eq text.now other.now }
+{
+    if text.len() != other.len() {
+        return false;
+    }
+    let mut end = text.len();
+    let mut part = BLOCK;
+    while end > part {
+        let start = end - part;
+        if text[start..end] != other[start..end] {
+            return false;
+        }
+        end = start;
+        part = part.saturating_mul(2);
+    }
+    text[..end] == other[..end]
+}
+
 impl<'a, A: Allocator + Copy> Exports<'a, A> {
     ghost use Rattle.pe_tables.specs.Key.{Ordinal, Name, target_view};
     ghost use Rattle.pe_tables.specs.Exports.{target_at};
@@ -104,20 +127,31 @@ impl<'a, A: Allocator + Copy> Exports<'a, A> {
         self.guesses = Guesses::of(alloc, self.names.exports.as_slice());
     }
 
-    /// What a name exports, where it is that of the export that is guessed.
-    fn guessed(&self, name: &[u8]) -> Option<Target<'a>>
+    /// What the export at an index exports, where it has this name.
+    fn export_at(&self, index: usize, name: &[u8]) -> Option<Target<'a>>
         ensures { IfSome result (λ target. held self.now.names name.now ≡ Some (Some target)) }
     {
         let exports = self.names.exports.as_slice();
-        let index = self.guesses.get(name);
         if index >= exports.len() {
             return None;
         }
         let (text, target) = exports[index];
-        if text != name {
+        if !is_same(text, name) {
             return None;
         }
         Some(target)
+    }
+
+    /// What a name exports, where it is that of an export that is guessed.
+    fn guessed(&self, name: &[u8]) -> Option<Target<'a>>
+        ensures { IfSome result (λ target. held self.now.names name.now ≡ Some (Some target)) }
+    {
+        for index in self.guesses.get(name) {
+            if let Some(target) = self.export_at(index as usize, name) {
+                return Some(target);
+            }
+        }
+        None
     }
 
     /// What a name exports: what the first of the names with this text does. No memory is taken.

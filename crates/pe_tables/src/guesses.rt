@@ -3,15 +3,21 @@
 use crate::key::Target;
 use std::alloc::Allocator;
 
+/// How many guesses a text has at most.
+const PLACES: usize = 4;
+
+/// A place at which no name is noted.
+const NONE: u32 = u32::MAX;
+
 /// Guesses of where names stand among exports, by some of their bytes. Who takes one looks whether the name stands there, so that
 /// nothing rests on them but how long a look-up takes.
 ///
 /// There are two to four places for each name, of 4 bytes.
 #[derive(Drop)]
 pub(crate) struct Guesses<A: Allocator> {
-    /// The index of a name at its place, which the upper bits of its mark tell.
-    indexes: Vec<u32, A>,
-    /// How many bits of a mark tell no place.
+    /// The indexes of up to [`PLACES`] names whose marks have the same upper bits, by these bits.
+    buckets: Vec<[u32; PLACES], A>,
+    /// How many bits of a mark tell no bucket.
     shift: u32,
 }
 
@@ -47,47 +53,49 @@ impl<A: Allocator + Copy> Guesses<A> {
     /// No guesses. No memory is taken.
     pub(crate) fn none(alloc: A) -> Guesses<A> {
         Guesses {
-            indexes: Vec::new(alloc),
+            buckets: Vec::new(alloc),
             shift: 0,
         }
     }
 
-    /// The place of a text.
-    fn place(&self, text: &[u8]) -> usize {
+    /// The bucket of a text.
+    fn bucket_of(&self, text: &[u8]) -> usize {
         mark(text).checked_shr(self.shift).unwrap_or(0) as usize
     }
 
-    /// Notes where each of these names stands. Of names with one place the last is guessed.
-    fn note_all(&mut self, exports: &[(&[u8], Target)]) {
-        for (index, (name, _)) in exports.iter().enumerate() {
-            let place = self.place(name);
-            if let Some(noted) = self.indexes.get_mut(place) {
-                *noted = u32::try_from(index).unwrap_or(0);
-            }
+    /// Notes where a name stands, where its bucket has a place left.
+    fn note(&mut self, name: &[u8], index: u32) {
+        let bucket = self.bucket_of(name);
+        let Some(places) = self.buckets.get_mut(bucket) else {
+            return;
+        };
+        if let Some(free) = places.iter().position(|noted| *noted == NONE) {
+            places[free] = index;
         }
     }
 
     /// Guesses for the names of these exports. Where memory is refused there are none.
     pub(crate) fn of(alloc: A, exports: &[(&[u8], Target)]) -> Guesses<A> {
         let mut guesses = Guesses::none(alloc);
-        let Some(bit) = exports.len().checked_ilog2() else {
+        let Some(bits) = exports.len().checked_ilog2() else {
             return guesses;
         };
-        let bits = bit.saturating_add(2);
-        let places = 1_usize.checked_shl(bits).unwrap_or(0);
-        if guesses.indexes.resize(places, 0).is_err() {
+        let buckets = 1_usize.checked_shl(bits).unwrap_or(0);
+        if guesses.buckets.resize(buckets, [NONE; PLACES]).is_err() {
             return guesses;
         }
         guesses.shift = u64::BITS.saturating_sub(bits);
-        guesses.note_all(exports);
+        for (index, (name, _)) in exports.iter().enumerate() {
+            guesses.note(name, u32::try_from(index).unwrap_or(NONE));
+        }
         guesses
     }
 
-    /// The guess of where a name stands.
-    pub(crate) fn get(&self, name: &[u8]) -> usize {
-        match self.indexes.get(self.place(name)) {
-            Some(index) => *index as usize,
-            None => usize::MAX,
+    /// The guesses of where a name stands.
+    pub(crate) fn get(&self, name: &[u8]) -> [u32; PLACES] {
+        match self.buckets.get(self.bucket_of(name)) {
+            Some(places) => *places,
+            None => [NONE; PLACES],
         }
     }
 }
