@@ -54,7 +54,7 @@ entries-spare i slots before (e ∷ es) known =
     (inl (ap not known.0), field-spares i slots before (fixup_of e))
     (entries-spare i slots (before ++ option_to_list (fixup_of e)) es known.1)
 
-type_known : (kind : FixupKind) → is_known (type_of kind) ≡ true
+pub type_known : (kind : FixupKind) → is_known (type_of kind) ≡ true
 type_known High = refl
 type_known Low = refl
 type_known Bits32 = refl

@@ -35,6 +35,7 @@ pub mod Pages
 pub mod Pairs
 pub mod Past
 pub mod Patching
+pub mod PlainEntries
 pub mod Refusing
 pub mod Rising
 pub mod RisingFields

@@ -1,8 +1,14 @@
 -- What has been read of a base relocation table.
-use Rattle.std.specs.Prelude.{◌≡◌, ℕ, ◌+◌, ◌<◌, ◌≤◌, false, List, ◌++◌, Option, None, Some, map, All, AllPairs, MatchOption, ⊤}
+use Rattle.std.specs.Prelude.{◌≡◌, ℕ, ◌+◌, ◌<◌, ◌≤◌, false, List, ◌++◌, Option, None, Some, map, drop, All, AllPairs, MatchOption, ⊤}
+use Rattle.std.specs.List.{filter_map}
+use Rattle.pe_view.specs.Faults.{first_standing}
+use Rattle.pe_layout.specs.Image.{LaidOut}
 use Rattle.pe_tables.specs.Ranges.{FitsBeside, Gains, SameRanges, meets_any, range_end}
 use Rattle.pe_tables.specs.RangesView.{ranges_in}
-use Rattle.pe_tables.specs.Fixups.{range_of}
+use Rattle.pe_tables.specs.Fixups.{Entry, fixup_of, range_of, width_of}
+use Rattle.pe_tables.specs.Encoded.{type_of}
+use Rattle.pe_tables.specs.declared.fixups.Run.{Run}
+use Rattle.pe_tables.specs.FixupFaults.{entries_tests}
 use Rattle.pe_tables.specs.declared.fixups.Fixup.{Fixup}
 use Rattle.pe_tables.specs.declared.ranges.Ranges.{Ranges}
 use Rattle.pe_tables.specs.declared.found_fixups.FoundFixups.{FoundFixups}
@@ -35,6 +41,18 @@ Tells found field = found.fields ≡ None → found.end ≤ field
 -- some more fixups have been read
 pub record Reads {A : Type 0} (old new : FoundFixups A) (more : List Fixup) : Type 0 where
   pub fixups : new.fixups.items ≡ old.fixups.items ++ more
+  pub indexed : IsIndexed new
+
+-- what fields of a kind have in common in this image
+pub record IsRunOf (i : LaidOut) (run : Run) : Type 0 where
+  pub entry_type : run.entry_type ≡ type_of run.kind
+  pub width : run.width ≡ width_of run.kind
+  pub size : run.size ≡ i.size
+
+-- of some entries those before an index have been read, and no fault of theirs stands
+pub record ReadsUpTo {A : Type 0} (i : LaidOut) (slots : List (ℕ × ℕ)) (entries : List Entry) (old new : FoundFixups A) (index : ℕ) : Type 0 where
+  pub tests : first_standing (entries_tests i slots new.fixups.items (drop index entries)) ≡ first_standing (entries_tests i slots old.fixups.items entries)
+  pub fixups : new.fixups.items ++ filter_map fixup_of (drop index entries) ≡ old.fixups.items ++ filter_map fixup_of entries
   pub indexed : IsIndexed new
 
 -- no field that begins in the page at an RVA has a byte of these ranges

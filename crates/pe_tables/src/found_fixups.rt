@@ -118,4 +118,18 @@ impl<A: Allocator + Copy> FoundFixups<A> {
         self.end = self.end.max(u64::from(fixup.field) + u64::from(width));
         Ok(())
     }
+
+    /// Adds a fixup whose field begins behind all others, and ends at this RVA, while fields are told apart by where they end.
+    pub fn add_behind(&mut self, fixup: Fixup, end: u64) -> Result<(), AllocError>
+        requires indexed { IsIndexed self.old }
+        requires rising { self.old.fields ≡ None }
+        requires behind { self.old.end ≤ fixup.field }
+        requires end { end ≡ fixup.field + width_of fixup.kind }
+        ensures reads { OnOk result (Reads self.old self.new (fixup ∷ [])) }
+        ensures rising { self.new.fields ≡ None }
+    {
+        self.fixups.push(fixup)?;
+        self.end = end;
+        Ok(())
+    }
 }

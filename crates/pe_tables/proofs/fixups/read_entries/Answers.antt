@@ -35,7 +35,7 @@ returns-in_err-read_entry g c =
     let k : ℕ = c.loop-index.index in
     let before = c.loop-index.found.fixups.items in
     let lt : k < n = rw c.len.ensures at c.loop-index-test.true in
-    let p = err_from_is_err_and c.from_residual.result c.from_residual.ensures.1 in
+    let p = err_from_is_err_and c.from_residual-in_err-read_entry.result c.from_residual-in_err-read_entry.ensures.1 in
     rw (p.1, p.2)
     (refuses-whole (entry_tests i slots before (entry k)) (entries_tests i slots c.args.found.now.fixups.items (entries_at i c.args.page c.args.rva n))
     (λ y some. sym c.loop-index.invariant.tests ∙ entries-in i slots entry n k lt before y some)
