@@ -45,9 +45,19 @@ fn is_safe_text(name: &[u8]) -> bool {
     }
 }
 
+/// Whether a name begins as one that stands as it is: it has bytes, of which the first is no quote.
+fn begins_plain(name: &[u8]) -> bool {
+    !name.is_empty() && !name.starts_with(b"\"")
+}
+
+/// Whether a name stands as it is, a column a byte, as nearly all do.
+fn is_bare(name: &[u8]) -> bool {
+    begins_plain(name) && is_printable(name)
+}
+
 /// Whether a name stands as it is: it is UTF-8, of characters that may stand on a terminal, not empty, and not begun by a quote.
 fn is_plain(name: &[u8]) -> bool {
-    !name.is_empty() && !name.starts_with(b"\"") && (is_printable(name) || is_safe_text(name))
+    is_bare(name) || (begins_plain(name) && is_safe_text(name))
 }
 
 /// Adds a name: as it stands where it is plain, else in quotes, with `\x` and two digits for a byte that is not printable.
@@ -88,11 +98,11 @@ fn quoted_width(name: &[u8]) -> usize {
 /// How many columns a name takes.
 pub(crate) fn name_width(name: &[u8]) -> usize {
     let name = cut(name);
-    if !is_plain(name) {
-        quoted_width(name)
-    } else if is_printable(name) {
+    if is_bare(name) {
         name.len()
-    } else {
+    } else if is_plain(name) {
         characters(name)
+    } else {
+        quoted_width(name)
     }
 }
