@@ -6,6 +6,7 @@ use Rattle.std.proofs.lemmas.Bool.{cases_eq}
 use Rattle.std.proofs.lemmas.List.{take_more}
 use Rattle.std.proofs.lemmas.List.Elements.{All-nil, All-cons, All-tail}
 use Rattle.std.proofs.lemmas.List.Folds.{list_any-append}
+use Rattle.std.proofs.lemmas.List.Kept.{AllPairs-cons}
 use Rattle.pe_tables.specs.Ranges.{meets_any, range_end, IsAscending, FitsBeside, Gains}
 use Rattle.pe_tables.proofs.Neighbours.{Before, meets_any-none, meets_any-last, swapped}
 use Rattle.pe_tables.proofs.Pairs.{AllPairs-snoc}
@@ -94,3 +95,9 @@ meets-others start len run others apart = list_any-append _ run others ∙ ap (�
 pub ascending-pushed : (pushed : Bool) (old new : List (ℕ × ℕ)) (start len : ℕ) → new ≡ (if pushed then old ++ (start, len) ∷ [] else old) → IsAscending old → All (λ range. range.0 < start) old → All (FitsBeside start len) old → IsAscending new
 ascending-pushed true old new start len is ascending below fits = subst IsAscending (sym is) (ascending-push old start len ascending below fits)
 ascending-pushed false old new start len is ascending below fits = subst IsAscending (sym is) ascending
+
+-- a run with a range in front of it, or without it for want of memory
+pub ascending-put : (put : Bool) (old new : List (ℕ × ℕ)) (start len : ℕ) → new ≡ (if put then (start, len) ∷ old else old) → IsAscending old → All (λ range. start < range.0) old → All (FitsBeside start len) old → IsAscending new
+ascending-put true old new start len is ascending above fits =
+    subst IsAscending (sym is) (AllPairs-cons Before (start, len) old (λ k d lt. let less = above k d lt in let fit = fits k d lt in (less, fit.below less)) ascending)
+ascending-put false old new start len is ascending above fits = subst IsAscending (sym is) ascending

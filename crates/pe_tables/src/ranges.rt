@@ -2,15 +2,15 @@ ghost use Rattle.std.specs.Prelude.{◌≡◌, ◌+◌, ◌<◌, ◌≤◌, ◌^
 ghost use Rattle.pe_tables.specs.Ranges.{IsAscending, meets_any, range_end};
 
 use std::alloc::{AllocError, Allocator};
-use std::collections::BTreeMap;
+use std::collections::{BTreeMap, VecDeque};
 
 /// Ranges of RVAs by their starts, of which no later one ends first.
 ///
-/// Those of most tables ascend, and then they are all one run, whose end tells where the next one stands.
+/// Those of most tables ascend, and then they are all one run, whose ends tell where the next one stands.
 #[derive(Drop)]
 pub(crate) struct Ranges<A: Allocator> {
-    /// The ranges that start behind all those of the run before them.
-    run: Vec<(u32, u32), A>,
+    /// The ranges that started behind all those of the run, or before them, when they were added.
+    run: VecDeque<(u32, u32), A>,
     /// How long the other ranges are, by their starts.
     others: BTreeMap<u32, u32, A>,
     ghost run_ascending: { IsAscending run.items },
@@ -18,32 +18,43 @@ pub(crate) struct Ranges<A: Allocator> {
 }
 
 /// Whether all ranges of a run start below an RVA, which the last one tells.
-fn all_below(run: &[(u32, u32)], rva: u32) -> bool
-    requires { IsAscending run.now }
-    ensures { IsTrue result ↔ All (λ range. range.0 < rva) run.now }
+fn all_below<A: Allocator>(run: &VecDeque<(u32, u32), A>, rva: u32) -> bool
+    requires { IsAscending run.now.items }
+    ensures { IsTrue result ↔ All (λ range. range.0 < rva) run.now.items }
 {
-    match run.last() {
+    match run.back() {
         Some(last) => last.0 < rva,
         None => true,
     }
 }
 
 /// Whether no range of a run starts below an RVA, which the first one tells.
-fn none_below(run: &[(u32, u32)], rva: u32) -> bool
-    requires { IsAscending run.now }
-    ensures { IsTrue result → All (λ range. rva ≤ range.0) run.now }
+fn none_below<A: Allocator>(run: &VecDeque<(u32, u32), A>, rva: u32) -> bool
+    requires { IsAscending run.now.items }
+    ensures { IsTrue result → All (λ range. rva ≤ range.0) run.now.items }
 {
-    match run.first() {
+    match run.front() {
         Some(first) => rva <= first.0,
         None => true,
     }
 }
 
+/// Whether all ranges of a run start above an RVA, which the first one tells.
+fn all_above<A: Allocator>(run: &VecDeque<(u32, u32), A>, rva: u32) -> bool
+    requires { IsAscending run.now.items }
+    ensures { IsTrue result → All (λ range. rva < range.0) run.now.items }
+{
+    match run.front() {
+        Some(first) => rva < first.0,
+        None => true,
+    }
+}
+
 /// How many ranges of a run start below an RVA: most RVAs are asked for in front of all ranges, or behind them.
-fn count_below(run: &[(u32, u32)], rva: u32) -> usize
-    requires { IsAscending run.now }
-    ensures within { result ≤ length run.now }
-    ensures these { filter (λ range. nat_lt range.0 rva) run.now ≡ take result run.now }
+fn count_below<A: Allocator>(run: &VecDeque<(u32, u32), A>, rva: u32) -> usize
+    requires { IsAscending run.now.items }
+    ensures within { result ≤ length run.now.items }
+    ensures these { filter (λ range. nat_lt range.0 rva) run.now.items ≡ take result run.now.items }
 {
     if all_below(run, rva) {
         run.len()
@@ -64,10 +75,10 @@ fn ends_behind(start: u32, len: u32, rva: u32) -> bool
 /// Whether some range of a run has an RVA in common with the `len` bytes at `start`.
 ///
 /// Of the ranges that start before these bytes end, the last one ends last, so it alone is asked.
-fn run_meets(run: &[(u32, u32)], start: u32, len: u32) -> bool
-    requires ascending { IsAscending run.now }
+fn run_meets<A: Allocator>(run: &VecDeque<(u32, u32), A>, start: u32, len: u32) -> bool
+    requires ascending { IsAscending run.now.items }
     requires small { start + len < 2 ^ 32 }
-    ensures { result ≡ meets_any start len run.now }
+    ensures { result ≡ meets_any start len run.now.items }
 {
     let count = count_below(run, start + len);
     if count == 0 {
@@ -102,7 +113,7 @@ impl<A: Allocator + Copy> Ranges<A> {
         ensures { ranges_in result ≡ [] }
     {
         Ranges {
-            run: Vec::new(alloc),
+            run: VecDeque::new(alloc),
             others: BTreeMap::new(alloc),
         }
     }
@@ -112,7 +123,7 @@ impl<A: Allocator + Copy> Ranges<A> {
         requires { start + len < 2 ^ 32 }
         ensures { result ≡ meets_any start len (ranges_in self.now) }
     {
-        run_meets(self.run.as_slice(), start, len) || others_meet(&self.others, start, len)
+        run_meets(&self.run, start, len) || others_meet(&self.others, start, len)
     }
 
     /// Adds a range, which fits among the others.
@@ -120,8 +131,10 @@ impl<A: Allocator + Copy> Ranges<A> {
         requires { All (FitsBeside start len) (ranges_in self.old) }
         ensures { OnOk result (Gains (ranges_in self.old) (ranges_in self.new) (start, len)) }
     {
-        if all_below(self.run.as_slice(), start) {
-            self.run.push((start, len))?;
+        if all_below(&self.run, start) {
+            self.run.push_back((start, len))?;
+        } else if all_above(&self.run, start) {
+            self.run.push_front((start, len))?;
         } else {
             self.others.insert(start, len)?;
         }
