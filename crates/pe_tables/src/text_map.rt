@@ -34,6 +34,9 @@ fn find<'a>(run: &[(&[u8], Option<Target<'a>>)], text: &[u8]) -> Option<Option<T
     requires { TextsAscend run.now }
     ensures { result ≡ found text.now run.now }
 {
+    if all_before(run, text) {
+        return None;
+    }
     let Ok(index) = run.binary_search_by_key(&text, |entry| entry.0) else {
         return None;
     };

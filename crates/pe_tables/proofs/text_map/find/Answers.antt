@@ -1,4 +1,4 @@
--- A search finds a text, or tells where it would stand.
+-- A text behind the whole run is new, and a search finds another, or tells where it would stand.
 use Rattle.std.proofs.Common.{◌≡◌, ℕ, List, Option, get_or, sym, arith, rules}
 use Rattle.std.specs.Borrow.{Bor}
 use Rattle.std.specs.Ordering.{nat_cmp, ordering_index}
@@ -7,8 +7,11 @@ use Rattle.std.specs.Cmp.Lexicographic.{slice_cmp}
 use Rattle.std.specs.List.Sorted.{IsNonDecreasingBy, IsPartitionPoint}
 use Rattle.std.proofs.lemmas.Fn.{always_returns_same}
 use Rattle.pe_tables.specs.declared.key.Target.{Target}
-use Rattle.pe_tables.proofs.TextRun.{searched-at, searched-nowhere, against_rises}
+use Rattle.pe_tables.proofs.TextRun.{found-new, searched-at, searched-nowhere, against_rises}
 use Rattle.pe_tables.proofs.text_map.find.Goals as goal
+
+pub returns-then-all_before : goal.returns-then-all_before
+returns-then-all_before c = sym (found-new c.args.run.now c.args.text.now (c.all_before.ensures.0 c.if-all_before.true))
 
 abbrev Entry : Type 0
 Entry = Bor (List ℕ) × Option Target
