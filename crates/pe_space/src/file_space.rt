@@ -50,15 +50,16 @@ fn count_slots<A: Allocator + Copy>(
     Ok(counts)
 }
 
-/// No guesses, for as many images.
-fn no_hints<A: Allocator + Copy>(alloc: A, images: usize) -> Result<Vec<Hints<A>, A>, AllocError>
-    ensures { images ≡ 0 → IsOk result }
-{
-    let mut hints = Vec::with_capacity(alloc, images)?;
-    for _ in 0..images {
-        hints.push(Hints::none(alloc))?;
+/// No guesses, for as many images, or for none of them where memory is refused.
+fn no_hints<A: Allocator + Copy>(alloc: A, images: usize) -> Vec<Hints<A>, A> {
+    let mut hints = Vec::new(alloc);
+    if hints.reserve(images).is_err() {
+        return hints;
     }
-    Ok(hints)
+    for _ in 0..images {
+        let _ = hints.push(Hints::none(alloc));
+    }
+    hints
 }
 
 /// Whether two slots are of one image.
@@ -121,7 +122,7 @@ impl<'a, A: Allocator + Copy> FileSpace<'a, A> {
         let order = by_base(alloc, images.as_slice())?;
         let slots = ordered_copy::<BySlot, _, _>(alloc, bindings.as_slice())?;
         let counts = count_slots(alloc, images.len(), bindings.as_slice())?;
-        let mut hints = no_hints(alloc, images.len())?;
+        let mut hints = no_hints(alloc, images.len());
         hint_slots(alloc, hints.as_mut_slice(), slots.as_slice());
         Ok(FileSpace {
             images,
