@@ -1,1 +1,4 @@
 pub mod Adding
+pub mod Names
+pub mod PageRows
+pub mod Widths

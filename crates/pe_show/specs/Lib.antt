@@ -5,4 +5,6 @@ pub use Rattle.pe_text.specs.Engine
 pub use Rattle.pe_text.specs.FileKind
 pub use Rattle.pe_text.specs.TextWriter
 pub mod Judged
+pub mod Name
 pub mod Page
+pub mod Rows

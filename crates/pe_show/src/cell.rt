@@ -1,8 +1,9 @@
 //! The cells of a row of a page, and how they are written.
 
-ghost use Rattle.std.specs.Prelude.{◌≤◌};
-ghost use Rattle.pe_text.specs.TextWriter.{IsReady};
+ghost use Rattle.std.specs.Prelude.{◌≡◌, ◌≤◌, length, decimal};
+ghost use Rattle.pe_text.specs.TextWriter.{IsReady, Adds};
 ghost use Rattle.pe_show.specs.Page.{AddsSome};
+ghost use Rattle.pe_show.specs.Rows.{blanks, hex_width, hex_text, right_text, column_text};
 
 use crate::date::write_date;
 use crate::flags::write_flags;
@@ -44,13 +45,16 @@ pub(crate) fn plural(count: usize, one: &'static str, more: &'static str) -> Cel
 const BLANKS: [u8; 256] = [b' '; 256];
 
 /// So many blanks, and not more than 256.
-pub(crate) fn blanks(count: usize) -> &'static [u8] {
+pub(crate) fn blanks(count: usize) -> &'static [u8]
+    ensures { result.now ≡ blanks count }
+{
     &BLANKS[..count.min(BLANKS.len())]
 }
 
 /// How many hexadecimal digits a number has.
 pub(crate) fn hex_width(number: u64) -> u8
-    ensures { result ≤ 16 }
+    ensures value { result ≡ hex_width number }
+    ensures bound { result ≤ 16 }
 {
     match number.checked_ilog2() {
         Some(bit) => (bit / 4 + 1) as u8,
@@ -59,7 +63,9 @@ pub(crate) fn hex_width(number: u64) -> u8
 }
 
 /// How many digits a number has in decimal.
-pub(crate) fn decimal_width(number: u64) -> usize {
+pub(crate) fn decimal_width(number: u64) -> usize
+    ensures { result ≡ length (decimal number) }
+{
     Buffer::new().format(number).len()
 }
 
@@ -80,7 +86,7 @@ fn write_count<W: Sink>(text: &mut TextWriter<W>, number: u64)
 /// Adds a number in so many hexadecimal digits at least, without `0x`.
 pub(crate) fn write_hex<W: Sink>(text: &mut TextWriter<W>, number: u64, digits: u8)
     requires { IsReady W.failures text.old }
-    ensures { AddsSome W.taken W.failures text.old text.new }
+    ensures { Adds W.taken W.failures text.old text.new (hex_text number digits) }
 {
     text.hex(hex_width(number).max(digits).min(16), number);
 }
@@ -88,7 +94,7 @@ pub(crate) fn write_hex<W: Sink>(text: &mut TextWriter<W>, number: u64, digits: 
 /// Adds a number in decimal, behind blanks up to so many columns.
 pub(crate) fn write_right<W: Sink>(text: &mut TextWriter<W>, number: u64, width: usize)
     requires { IsReady W.failures text.old }
-    ensures { AddsSome W.taken W.failures text.old text.new }
+    ensures { Adds W.taken W.failures text.old text.new (right_text number width) }
 {
     let mut buffer = Buffer::new();
     let digits = buffer.format(number).as_bytes();
@@ -99,7 +105,7 @@ pub(crate) fn write_right<W: Sink>(text: &mut TextWriter<W>, number: u64, width:
 /// Adds a name of the file, and blanks up to so many columns.
 pub(crate) fn write_column<W: Sink>(text: &mut TextWriter<W>, name: &[u8], width: usize)
     requires { IsReady W.failures text.old }
-    ensures { AddsSome W.taken W.failures text.old text.new }
+    ensures { Adds W.taken W.failures text.old text.new (column_text name.now width) }
 {
     write_name(text, name);
     text.text(blanks(width.saturating_sub(name_width(name))));

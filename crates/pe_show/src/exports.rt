@@ -1,14 +1,15 @@
 //! The exports of an image, a row each.
 
-ghost use Rattle.pe_text.specs.TextWriter.{IsReady};
+ghost use Rattle.pe_text.specs.TextWriter.{IsReady, Adds};
 ghost use Rattle.pe_show.specs.Page.{AddsSome};
+ghost use Rattle.pe_show.specs.Rows.{key_text, here_text, forward_text, behind_gap};
 
 use crate::cell::{Cell, blanks, decimal_width, hex_width, write_hex, write_right};
 use crate::heading::write_heading;
 use crate::image::Tables;
 use crate::name::write_name;
 use crate::options::ShowOptions;
-use crate::place::SectionNames;
+use crate::place::{Place, SectionNames};
 use pe_layout::Layout;
 use pe_tables::{Exports, Key, Target};
 use pe_text::{Sink, TextWriter};
@@ -34,12 +35,12 @@ pub(crate) fn key_cells<'a>(key: Key<'a>) -> [Cell<'a>; 2] {
 /// Adds a name, or `#` and an ordinal.
 pub(crate) fn write_key<W: Sink>(text: &mut TextWriter<W>, key: Key)
     requires { IsReady W.failures text.old }
-    ensures { AddsSome W.taken W.failures text.old text.new }
+    ensures { Adds W.taken W.failures text.old text.new (key_text key.entry) }
 {
     match key {
         Key::Ordinal(ordinal) => {
             text.text(b"#");
-            text.decimal(u64::from(ordinal));
+            text.decimal(ordinal as u64);
         }
         Key::Name(name) => write_name(text, name),
     }
@@ -62,6 +63,42 @@ fn widths_of(exports: &[(u64, Target)], layout: &Layout, names: &SectionNames) -
     widths
 }
 
+/// Adds an ordinal and the place that it exports.
+fn write_here<W: Sink>(
+    text: &mut TextWriter<W>,
+    widths: &Widths,
+    ordinal: u64,
+    rva: u32,
+    place: &Place,
+)
+    requires { IsReady W.failures text.old }
+    ensures { Adds W.taken W.failures text.old text.new (here_text ordinal widths.now.ordinal rva widths.now.rva place.now) }
+{
+    write_right(text, ordinal, widths.ordinal);
+    text.text(b"  0x");
+    write_hex(text, rva as u64, widths.rva);
+    text.text(b"  ");
+    place.write(text);
+}
+
+/// Adds an ordinal, and the module and the key to which it is forwarded.
+fn write_forward<W: Sink>(
+    text: &mut TextWriter<W>,
+    widths: &Widths,
+    ordinal: u64,
+    module: &[u8],
+    key: Key,
+)
+    requires { IsReady W.failures text.old }
+    ensures { Adds W.taken W.failures text.old text.new (forward_text ordinal widths.now.ordinal module.now key.entry) }
+{
+    write_right(text, ordinal, widths.ordinal);
+    text.text(b"  forwarded to ");
+    write_name(text, module);
+    text.text(b".");
+    write_key(text, key);
+}
+
 /// Adds what an ordinal exports, and tells how many columns stand between it and its names, beside two.
 fn write_target<W: Sink>(
     text: &mut TextWriter<W>,
@@ -74,24 +111,27 @@ fn write_target<W: Sink>(
     requires { IsReady W.failures text.old }
     ensures { AddsSome W.taken W.failures text.old text.new }
 {
-    write_right(text, ordinal, widths.ordinal);
     match target {
         Target::Rva(rva) => {
-            text.text(b"  0x");
-            write_hex(text, u64::from(*rva), widths.rva);
-            text.text(b"  ");
             let place = sections.place(layout, *rva);
-            place.write(text);
+            write_here(text, widths, ordinal, *rva, &place);
             widths.place.saturating_sub(place.width())
         }
         Target::Forward { module, key } => {
-            text.text(b"  forwarded to ");
-            write_name(text, module);
-            text.text(b".");
-            write_key(text, *key);
+            write_forward(text, widths, ordinal, module, *key);
             0
         }
     }
+}
+
+/// Adds a name behind `count` blanks and a gap.
+fn write_behind_gap<W: Sink>(text: &mut TextWriter<W>, count: usize, gap: &[u8], name: &[u8])
+    requires { IsReady W.failures text.old }
+    ensures { Adds W.taken W.failures text.old text.new (behind_gap count gap.now name.now) }
+{
+    text.text(blanks(count));
+    text.text(gap);
+    write_name(text, name);
 }
 
 /// Adds names behind `count` blanks and two more, and the end of their row.
@@ -114,9 +154,7 @@ fn write_names<A: Allocator + Copy, W: Sink>(
         } else {
             (0, b", ")
         };
-        text.text(blanks(count));
-        text.text(gap);
-        write_name(text, name);
+        write_behind_gap(text, count, gap, name);
     }
     text.text(b"\n");
 }

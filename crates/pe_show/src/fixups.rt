@@ -1,8 +1,9 @@
 //! The base relocations of an image, by page.
 
-ghost use Rattle.std.specs.Prelude.{◌<◌, ◌≤◌, length};
-ghost use Rattle.pe_text.specs.TextWriter.{IsReady};
+ghost use Rattle.std.specs.Prelude.{◌≡◌, ◌<◌, ◌≤◌, length, flat_map};
+ghost use Rattle.pe_text.specs.TextWriter.{IsReady, Adds};
 ghost use Rattle.pe_show.specs.Page.{AddsSome};
+ghost use Rattle.pe_show.specs.Rows.{field_text, fields_row, kind_text};
 
 use crate::cell::{hex_width, write_hex};
 use crate::heading::write_heading;
@@ -40,28 +41,59 @@ fn page_len(fixups: &[Fixup]) -> usize
     len.max(1).min(fixups.len())
 }
 
-/// Adds a row of fields: their page and their kind in the format's word, and where each stands in the page.
+/// The format's word for a kind, in 7 columns.
+fn kind_word(kind: FixupKind) -> &'static [u8]
+    ensures { result.now ≡ kind_text kind }
+{
+    match kind {
+        FixupKind::Bits32 => b"HIGHLOW",
+        FixupKind::Bits64 => b"DIR64  ",
+        FixupKind::High => b"HIGH   ",
+        FixupKind::Low => b"LOW    ",
+    }
+}
+
+/// Adds where a field stands in its page.
+fn write_field<W: Sink>(text: &mut TextWriter<W>, fixup: &Fixup)
+    requires { IsReady W.failures text.old }
+    ensures { Adds W.taken W.failures text.old text.new (field_text fixup.now) }
+{
+    text.text(b" ");
+    text.hex(3, (fixup.field % PAGE) as u64);
+}
+
+/// Adds where each of these fields stands in its page.
+fn write_each<W: Sink>(text: &mut TextWriter<W>, row: &[Fixup])
+    requires { IsReady W.failures text.old }
+    ensures { Adds W.taken W.failures text.old text.new (flat_map field_text row.now) }
+{
+    for fixup in row {
+        write_field(text, fixup);
+    }
+}
+
+/// Adds the page and the kind of fields, which are those of the first, and where each stands in the page.
+fn write_fields<W: Sink>(text: &mut TextWriter<W>, width: u8, first: &Fixup, row: &[Fixup])
+    requires { IsReady W.failures text.old }
+    ensures { Adds W.taken W.failures text.old text.new (fields_row width first.now row.now) }
+{
+    text.text(b"  0x");
+    write_hex(text, (first.field / PAGE * PAGE) as u64, width);
+    text.text(b"  ");
+    text.text(kind_word(first.kind));
+    text.text(b" ");
+    write_each(text, row);
+    text.text(b"\n");
+}
+
+/// Adds a row of fields, if it has one.
 fn write_row<W: Sink>(text: &mut TextWriter<W>, width: u8, row: &[Fixup])
     requires { IsReady W.failures text.old }
     ensures { AddsSome W.taken W.failures text.old text.new }
 {
-    let Some(first) = row.first() else {
-        return;
-    };
-    let kind: &[u8] = match first.kind {
-        FixupKind::Bits32 => b"  HIGHLOW ",
-        FixupKind::Bits64 => b"  DIR64   ",
-        FixupKind::High => b"  HIGH    ",
-        FixupKind::Low => b"  LOW     ",
-    };
-    text.text(b"  0x");
-    write_hex(text, u64::from(first.field / PAGE * PAGE), width);
-    text.text(kind);
-    for fixup in row {
-        text.text(b" ");
-        text.hex(3, u64::from(fixup.field % PAGE));
+    if let Some(first) = row.first() {
+        write_fields(text, width, first, row);
     }
-    text.text(b"\n");
 }
 
 /// Adds rows for the fields of one kind in a page.

@@ -1,8 +1,9 @@
 //! The imports of an image, by module.
 
 ghost use Rattle.std.specs.Prelude.{◌<◌, ◌≤◌, length};
-ghost use Rattle.pe_text.specs.TextWriter.{IsReady};
+ghost use Rattle.pe_text.specs.TextWriter.{IsReady, Adds};
 ghost use Rattle.pe_show.specs.Page.{AddsSome};
+ghost use Rattle.pe_show.specs.Rows.{import_row};
 
 use crate::cell::{Cell, hex_width, write_cells, write_hex};
 use crate::exports::write_key;
@@ -38,7 +39,19 @@ fn module_len(imports: &[Import]) -> usize
     len.max(1).min(imports.len())
 }
 
-/// Adds the row of a module, and a row for each of its imports that stand together: its slot, and its name or ordinal.
+/// Adds the row of an import: its slot, and its name or ordinal.
+fn write_import<W: Sink>(text: &mut TextWriter<W>, width: u8, import: &Import)
+    requires { IsReady W.failures text.old }
+    ensures { Adds W.taken W.failures text.old text.new (import_row width import.now) }
+{
+    text.text(b"    0x");
+    write_hex(text, import.slot as u64, width);
+    text.text(b"  ");
+    write_key(text, import.key);
+    text.text(b"\n");
+}
+
+/// Adds the row of a module, and a row for each of its imports that stand together.
 fn write_module<W: Sink>(text: &mut TextWriter<W>, width: u8, imports: &[Import])
     requires { IsReady W.failures text.old }
     ensures { AddsSome W.taken W.failures text.old text.new }
@@ -58,11 +71,7 @@ fn write_module<W: Sink>(text: &mut TextWriter<W>, width: u8, imports: &[Import]
         ],
     );
     for import in imports {
-        text.text(b"    0x");
-        write_hex(text, u64::from(import.slot), width);
-        text.text(b"  ");
-        write_key(text, import.key);
-        text.text(b"\n");
+        write_import(text, width, import);
     }
 }
 

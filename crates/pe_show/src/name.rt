@@ -1,69 +1,90 @@
 //! Names of a file as a page shows them.
 
-ghost use Rattle.pe_text.specs.TextWriter.{IsReady};
-ghost use Rattle.pe_show.specs.Page.{AddsSome};
+ghost use Rattle.std.specs.Prelude.{◌≡◌, ◌≤◌, ◌&&◌, length, IfSome, IfNone, true, false};
+ghost use Rattle.std.specs.List.{list_all};
+ghost use Rattle.std.specs.Str.{chars};
+ghost use Rattle.pe_text.specs.Text.{is_printable, is_plain as stands_for_itself, escaped, quoted};
+ghost use Rattle.pe_text.specs.TextWriter.{IsReady, Adds};
+ghost use Rattle.pe_show.specs.Name.{is_safe, begins_plain, is_plain, cut, name_text, columns};
 
-use pe_text::{Sink, TextWriter};
+use pe_text::{Sink, TextWriter, is_printable};
 use std::str;
 
 /// The most bytes of a name that are shown: no name that a compiler writes is longer.
 const NAME_LIMIT: usize = 4096;
 
 /// The beginning of a name, cut where it is too long to be shown.
-fn cut(name: &[u8]) -> &[u8] {
-    name.get(..NAME_LIMIT).unwrap_or(name)
+fn cut(name: &[u8]) -> &[u8]
+    ensures { result.now ≡ cut name.now }
+{
+    if name.len() <= NAME_LIMIT {
+        return name;
+    }
+    &name[..NAME_LIMIT]
 }
 
 /// Whether a character may stand on a terminal as it is: it is no control character, nor one that turns the direction of the
 /// text around it.
-fn is_safe(character: char) -> bool {
+fn is_safe(character: char) -> bool
+    ensures { result ≡ is_safe character }
+{
     !matches!(character,
         '\0'..='\x1f' | '\x7f'..='\u{9f}' | '\u{61c}' | '\u{200e}' | '\u{200f}' | '\u{2028}'..='\u{202e}' | '\u{2066}'..='\u{2069}' | '\u{feff}')
 }
 
-/// Whether a byte is printable ASCII.
-fn is_graphic(byte: u8) -> bool {
-    matches!(byte, b' '..=b'~')
-}
-
-/// Whether all bytes of a piece are printable ASCII: all are looked at, which goes by vectors.
-fn is_printable_piece(piece: &[u8; 16]) -> bool {
-    piece.iter().fold(true, |all, byte| all & is_graphic(*byte))
-}
-
-/// Whether all bytes are printable ASCII, as those of nearly all names are.
-fn is_printable(name: &[u8]) -> bool {
-    let (pieces, rest) = name.as_chunks::<16>();
-    pieces.iter().all(is_printable_piece) && rest.iter().all(|byte| is_graphic(*byte))
-}
-
-/// Whether a name is UTF-8 of characters that may stand on a terminal.
-fn is_safe_text(name: &[u8]) -> bool {
-    match str::from_utf8(name) {
-        Ok(text) => text.chars().all(is_safe),
-        Err(_) => false,
-    }
+/// Whether all characters of a text may stand on a terminal.
+fn are_safe(text: &str) -> bool
+    ensures { result ≡ list_all is_safe (chars text.now) }
+{
+    text.chars().all(|character| is_safe(character))
 }
 
 /// Whether a name begins as one that stands as it is: it has bytes, of which the first is no quote.
-fn begins_plain(name: &[u8]) -> bool {
-    !name.is_empty() && !name.starts_with(b"\"")
+fn begins_plain(name: &[u8]) -> bool
+    ensures { result ≡ begins_plain name.now }
+{
+    match name.first() {
+        Some(byte) => *byte != b'"',
+        None => false,
+    }
 }
 
 /// Whether a name stands as it is, a column a byte, as nearly all do.
-fn is_bare(name: &[u8]) -> bool {
+fn is_bare(name: &[u8]) -> bool
+    ensures { result ≡ (begins_plain name.now && list_all is_printable name.now) }
+{
     begins_plain(name) && is_printable(name)
 }
 
-/// Whether a name stands as it is: it is UTF-8, of characters that may stand on a terminal, not empty, and not begun by a quote.
-fn is_plain(name: &[u8]) -> bool {
-    is_bare(name) || (begins_plain(name) && is_safe_text(name))
+/// The text of a name that stands as it is: it is UTF-8, of characters that may stand on a terminal, not empty, and not begun by a
+/// quote.
+fn plain_text(name: &[u8]) -> Option<&str>
+    ensures some { IfSome result (λ text. (text.now ≡ name.now) × (is_plain name.now ≡ true)) }
+    ensures none { IfNone result (is_plain name.now ≡ false) }
+{
+    if !begins_plain(name) {
+        return None;
+    }
+    let Ok(text) = str::from_utf8(name) else {
+        return None;
+    };
+    if !are_safe(text) {
+        return None;
+    }
+    Some(text)
+}
+
+/// Whether a name stands as it is.
+fn is_plain(name: &[u8]) -> bool
+    ensures { result ≡ is_plain name.now }
+{
+    is_bare(name) || plain_text(name).is_some()
 }
 
 /// Adds a name: as it stands where it is plain, else in quotes, with `\x` and two digits for a byte that is not printable.
 pub(crate) fn write_name<W: Sink>(text: &mut TextWriter<W>, name: &[u8])
     requires { IsReady W.failures text.old }
-    ensures { AddsSome W.taken W.failures text.old text.new }
+    ensures { Adds W.taken W.failures text.old text.new (name_text name.now) }
 {
     let name = cut(name);
     if is_plain(name) {
@@ -73,36 +94,43 @@ pub(crate) fn write_name<W: Sink>(text: &mut TextWriter<W>, name: &[u8])
     }
 }
 
-/// How many characters a text has, or bytes where it is not UTF-8.
-fn characters(text: &[u8]) -> usize {
-    match str::from_utf8(text) {
-        Ok(text) => text.chars().count(),
-        Err(_) => text.len(),
-    }
+/// Whether a byte stands for itself in quotes: it is printable, no quote and no backslash.
+fn stands_for_itself(byte: u8) -> bool
+    ensures { result ≡ stands_for_itself byte }
+{
+    matches!(byte, b' '..=b'~') && byte != b'"' && byte != b'\\'
+}
+
+/// How many columns a byte takes in quotes.
+fn escaped_width(byte: u8) -> usize
+    ensures value { result ≡ length (escaped byte) }
+    ensures bound { result ≤ 4 }
+{
+    if stands_for_itself(byte) { 1 } else { 4 }
 }
 
 /// How many columns a name takes in quotes.
-fn quoted_width(name: &[u8]) -> usize {
+fn quoted_width(name: &[u8]) -> usize
+    requires { length name.now ≤ 4096 }
+    ensures { result ≡ length (quoted name.now) }
+{
     let mut width: usize = 2;
     for byte in name {
-        let columns = match byte {
-            b'"' | b'\\' => 4,
-            b' '..=b'~' => 1,
-            _ => 4,
-        };
-        width = width.saturating_add(columns);
+        width += escaped_width(*byte);
     }
     width
 }
 
 /// How many columns a name takes.
-pub(crate) fn name_width(name: &[u8]) -> usize {
+pub(crate) fn name_width(name: &[u8]) -> usize
+    ensures { result ≡ columns name.now }
+{
     let name = cut(name);
     if is_bare(name) {
-        name.len()
-    } else if is_plain(name) {
-        characters(name)
-    } else {
-        quoted_width(name)
+        return name.len();
+    }
+    match plain_text(name) {
+        Some(text) => text.chars().count(),
+        None => quoted_width(name),
     }
 }

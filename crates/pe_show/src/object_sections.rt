@@ -1,11 +1,13 @@
 //! The sections of an object, and their relocations.
 
-ghost use Rattle.pe_text.specs.TextWriter.{IsReady};
+ghost use Rattle.std.specs.Prelude.{option_map};
+ghost use Rattle.pe_text.specs.TextWriter.{IsReady, Adds};
 ghost use Rattle.pe_show.specs.Page.{AddsSome};
+ghost use Rattle.pe_show.specs.Rows.{type_text, symbol_text, relocation_row};
 
 use crate::cell::{Cell, decimal_width, hex_width, write_cells, write_hex};
 use crate::heading::write_heading;
-use crate::name::name_width;
+use crate::name::{name_width, write_name};
 use crate::options::ShowOptions;
 use crate::place::cut;
 use crate::sections::{content, permissions};
@@ -119,36 +121,47 @@ pub(crate) fn write_sections<W: Sink>(
 }
 
 /// Adds the name of a relocation's type, or its number where the format has no name for it.
-fn write_type<W: Sink>(text: &mut TextWriter<W>, machine: u16, kind: u16)
+fn write_type<W: Sink>(text: &mut TextWriter<W>, name: Option<&str>, kind: u16)
     requires { IsReady W.failures text.old }
-    ensures { AddsSome W.taken W.failures text.old text.new }
+    ensures { Adds W.taken W.failures text.old text.new (type_text (option_map (λ name. name.now) name.entry) kind) }
 {
-    match relocation_type_name(machine, kind) {
+    match name {
         Some(name) => text.text(name.as_bytes()),
         None => {
             text.text(b"0x");
-            text.hex(4, u64::from(kind));
+            text.hex(4, kind as u64);
         }
     }
 }
 
+/// Adds a blank and the name of a symbol, where there is one.
+fn write_symbol_name<W: Sink>(text: &mut TextWriter<W>, name: Option<&[u8]>)
+    requires { IsReady W.failures text.old }
+    ensures { Adds W.taken W.failures text.old text.new (symbol_text (option_map (λ name. name.now) name.entry)) }
+{
+    if let Some(name) = name {
+        text.text(b" ");
+        write_name(text, name);
+    }
+}
+
 /// Adds the row of a relocation: where it stands in the section, its type, and its symbol.
-fn write_relocation<A: Allocator + Copy, W: Sink>(
+fn write_relocation<W: Sink>(
     text: &mut TextWriter<W>,
-    machine: u16,
-    names: &SymbolNames<A>,
+    type_name: Option<&str>,
+    symbol: Option<&[u8]>,
     relocation: &Relocation,
 )
     requires { IsReady W.failures text.old }
-    ensures { AddsSome W.taken W.failures text.old text.new }
+    ensures { Adds W.taken W.failures text.old text.new (relocation_row relocation.now.address (option_map (λ name. name.now) type_name.entry) relocation.now.kind relocation.now.symbol (option_map (λ name. name.now) symbol.entry)) }
 {
     text.text(b"    0x");
-    write_hex(text, u64::from(relocation.address), 6);
+    write_hex(text, relocation.address as u64, 6);
     text.text(b"  ");
-    write_type(text, machine, relocation.kind);
+    write_type(text, type_name, relocation.kind);
     text.text(b"  #");
-    text.decimal(u64::from(relocation.symbol));
-    names.write(text, relocation.symbol);
+    text.decimal(relocation.symbol as u64);
+    write_symbol_name(text, symbol);
     text.text(b"\n");
 }
 
@@ -178,7 +191,8 @@ fn write_section_relocations<A: Allocator + Copy, W: Sink>(
     );
     for index in 0..relocations.len() {
         let relocation = relocations.get(index).unwrap();
-        write_relocation(text, machine, names, &relocation);
+        let type_name = relocation_type_name(machine, relocation.kind);
+        write_relocation(text, type_name, names.get(relocation.symbol), &relocation);
     }
 }
 

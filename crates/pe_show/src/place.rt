@@ -1,7 +1,7 @@
 //! Where an RVA lies, in the words of a page.
 
-ghost use Rattle.pe_text.specs.TextWriter.{IsReady};
-ghost use Rattle.pe_show.specs.Page.{AddsSome};
+ghost use Rattle.pe_text.specs.TextWriter.{IsReady, Adds};
+ghost use Rattle.pe_show.specs.Rows.{place_text};
 
 use crate::cell::{Cell, hex_width, write_hex};
 use crate::name::{name_width, write_name};
@@ -101,12 +101,12 @@ impl<'a> Place<'a> {
     /// Adds what its cells show.
     pub fn write<W: Sink>(&self, text: &mut TextWriter<W>)
         requires { IsReady W.failures text.old }
-        ensures { AddsSome W.taken W.failures text.old text.new }
+        ensures { Adds W.taken W.failures text.old text.new (place_text self.now) }
     {
         write_name(text, self.name);
         if let Some(offset) = self.offset {
             text.text(b"+0x");
-            write_hex(text, u64::from(offset), 1);
+            write_hex(text, offset as u64, 1);
         }
     }
 

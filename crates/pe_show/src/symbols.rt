@@ -1,7 +1,9 @@
 //! The symbols of an object.
 
-ghost use Rattle.pe_text.specs.TextWriter.{IsReady};
+ghost use Rattle.std.specs.Prelude.{◌≡◌, option_map};
+ghost use Rattle.pe_text.specs.TextWriter.{IsReady, Adds};
 ghost use Rattle.pe_show.specs.Page.{AddsSome};
+ghost use Rattle.pe_show.specs.Rows.{class_text, function_text, symbol_row};
 
 use crate::cell::{decimal_width, write_column, write_right};
 use crate::heading::write_heading;
@@ -37,18 +39,12 @@ impl<'a, A: Allocator + Copy> SymbolNames<'a, A> {
         Ok(SymbolNames { names })
     }
 
-    /// Adds a blank and the name of the symbol that a record begins; an auxiliary record begins none.
-    pub fn write<W: Sink>(&self, text: &mut TextWriter<W>, index: u32)
-        requires { IsReady W.failures text.old }
-        ensures { AddsSome W.taken W.failures text.old text.new }
-    {
+    /// The name of the symbol that a record begins; an auxiliary record begins none.
+    pub fn get(&self, index: u32) -> Option<&'a [u8]> {
         let place = self.names.partition_point(|name| name.0 < index);
         match self.names.get(place) {
-            Some((found, name)) if *found == index => {
-                text.text(b" ");
-                write_name(text, name);
-            }
-            _ => {}
+            Some((found, name)) if *found == index => Some(name),
+            _ => None,
         }
     }
 }
@@ -69,43 +65,50 @@ fn section_words<'a>(sections: &[FileSection<'a>], section: SymbolSection) -> &'
 }
 
 /// Adds the name of a storage class, or its number where the format has no name for it, in 13 columns.
-fn write_class<W: Sink>(text: &mut TextWriter<W>, class: u8)
+fn write_class<W: Sink>(text: &mut TextWriter<W>, name: Option<&str>, class: u8)
     requires { IsReady W.failures text.old }
-    ensures { AddsSome W.taken W.failures text.old text.new }
+    ensures { Adds W.taken W.failures text.old text.new (class_text (option_map (λ name. name.now) name.entry) class) }
 {
-    match class_name(class) {
+    match name {
         Some(name) => write_column(text, name.as_bytes(), 13),
         None => {
             text.text(b"class ");
-            write_right(text, u64::from(class), 7);
+            write_right(text, class as u64, 7);
         }
     }
 }
 
-/// Adds the row of a symbol.
-fn write_symbol<'a, W: Sink>(
-    text: &mut TextWriter<W>,
-    width: usize,
-    index: u32,
-    section: &'a [u8],
-    symbol: &Symbol<'a>,
-)
-    requires { IsReady W.failures text.old }
-    ensures { AddsSome W.taken W.failures text.old text.new }
+/// The word for a function in 12 columns, or as many blanks.
+fn function_word(kind: u16) -> &'static [u8]
+    ensures { result.now ≡ function_text kind }
 {
-    write_right(text, u64::from(index), width);
-    text.text(b"  0x");
-    text.hex(8, u64::from(symbol.value));
-    text.text(b"  ");
-    write_column(text, section, 12);
-    text.text(b"  ");
-    write_class(text, symbol.class);
-    let kind: &[u8] = if symbol.kind == 0x20 {
+    if kind == 0x20 {
         b"  function  "
     } else {
         b"            "
-    };
-    text.text(kind);
+    }
+}
+
+/// Adds the row of a symbol.
+fn write_symbol<W: Sink>(
+    text: &mut TextWriter<W>,
+    width: usize,
+    index: u32,
+    section: &[u8],
+    class: Option<&str>,
+    symbol: &Symbol,
+)
+    requires { IsReady W.failures text.old }
+    ensures { Adds W.taken W.failures text.old text.new (symbol_row index width symbol.now.value section.now (option_map (λ name. name.now) class.entry) symbol.now.class symbol.now.kind symbol.now.name.now) }
+{
+    write_right(text, index as u64, width);
+    text.text(b"  0x");
+    text.hex(8, symbol.value as u64);
+    text.text(b"  ");
+    write_column(text, section, 12);
+    text.text(b"  ");
+    write_class(text, class, symbol.class);
+    text.text(function_word(symbol.kind));
     write_name(text, symbol.name);
     text.text(b"\n");
 }
@@ -128,6 +131,13 @@ pub(crate) fn write_symbols<A: Allocator + Copy, W: Sink>(
     write_heading(text, options, "Symbols", object.symbol_count());
     for (index, symbol) in object.each_symbol(alloc) {
         let section = section_words(sections, symbol.section);
-        write_symbol(text, width, index, section, &symbol);
+        write_symbol(
+            text,
+            width,
+            index,
+            section,
+            class_name(symbol.class),
+            &symbol,
+        );
     }
 }

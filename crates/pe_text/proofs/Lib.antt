@@ -5,5 +5,6 @@ pub mod Plain
 pub mod Reports
 pub mod Rows
 pub mod RuleWords
+pub mod Tested
 pub mod Token
 pub mod Widths

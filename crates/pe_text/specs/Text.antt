@@ -23,6 +23,10 @@ hex_8_width n = width_from 8 8 n
 abbrev pub hex_8 : ℕ → List ℕ
 hex_8 n = hex (hex_8_width n) n
 
+-- the byte is printable ASCII
+abbrev pub is_printable : ℕ → Bool
+is_printable byte = nat_le 0x20 byte && nat_le byte 0x7e
+
 -- the byte stands for itself in a quoted text: it is printable, no quote and no backslash
 abbrev pub is_plain : ℕ → Bool
 is_plain byte = nat_le 0x20 byte && nat_le byte 0x7e && not (byte == 0x22) && not (byte == 0x5c)

@@ -1,5 +1,11 @@
-use Rattle.pe_show.proofs.Adding.{◌and◌}
+use Rattle.pe_text.proofs.Adding.{◌then◌}
+use Rattle.pe_show.specs.Rows.{key_text}
 use Rattle.pe_show.proofs.exports.write_key.Goals as goal
 
 pub returns-in-Ordinal : goal.returns-in-Ordinal
-returns-in-Ordinal g c = (_, c.text.ensures) and (_, c.decimal.ensures)
+unfolding key_text
+returns-in-Ordinal g c = rw c.in-Ordinal.is (c.text.ensures then c.decimal.ensures)
+
+pub returns-in-Name : goal.returns-in-Name
+unfolding key_text
+returns-in-Name g c = rw c.in-Name.is c.write_name.ensures

@@ -1,7 +1,9 @@
-use Rattle.pe_show.proofs.Adding.{◌and◌}
+use Rattle.pe_text.proofs.Adding.{◌then◌}
+use Rattle.pe_show.specs.Rows.{relocation_row}
 use Rattle.pe_show.proofs.object_sections.write_relocation.Goals as goal
 
 pub returns : goal.returns
+unfolding relocation_row
 returns g c =
-    (_, c.text.ensures) and c.write_hex.ensures and (_, c.text-2.ensures) and c.write_type.ensures and (_, c.text-3.ensures)
-    and (_, c.decimal.ensures) and c.write.ensures and (_, c.text-4.ensures)
+    c.text.ensures then (c.write_hex.ensures then (c.text-2.ensures then (c.write_type.ensures then (c.text-3.ensures then (c.decimal.ensures
+    then (c.write_symbol_name.ensures then c.text-4.ensures))))))

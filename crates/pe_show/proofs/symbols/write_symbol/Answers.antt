@@ -1,7 +1,10 @@
-use Rattle.pe_show.proofs.Adding.{◌and◌}
+use Rattle.pe_text.proofs.Adding.{◌then◌}
+use Rattle.pe_show.specs.Rows.{symbol_row}
 use Rattle.pe_show.proofs.symbols.write_symbol.Goals as goal
 
 pub returns : goal.returns
+unfolding symbol_row
 returns g c =
-    c.write_right.ensures and (_, c.text.ensures) and (_, c.hex.ensures) and (_, c.text-2.ensures) and c.write_column.ensures
-    and (_, c.text-3.ensures) and c.write_class.ensures and (_, c.text-4.ensures) and c.write_name.ensures and (_, c.text-5.ensures)
+    let word = rw c.function_word.ensures at c.text-4.ensures in
+    c.write_right.ensures then (c.text.ensures then (c.hex.ensures then (c.text-2.ensures then (c.write_column.ensures then (c.text-3.ensures
+    then (c.write_class.ensures then (word then (c.write_name.ensures then c.text-5.ensures))))))))

@@ -1,5 +1,12 @@
-use Rattle.pe_show.proofs.Adding.{◌and◌}
+use Rattle.std.proofs.Common.{append-nil}
+use Rattle.pe_text.proofs.Adding.{◌then◌}
+use Rattle.pe_show.specs.Rows.{place_text}
 use Rattle.pe_show.proofs.place.Place.write.Goals as goal
 
 pub returns-in-Some : goal.returns-in-Some
-returns-in-Some g c = c.write_name.ensures and (_, c.text.ensures) and c.write_hex.ensures
+unfolding place_text
+returns-in-Some g c = rw c.in-Some.is (c.write_name.ensures then (c.text.ensures then c.write_hex.ensures))
+
+pub returns-in_default : goal.returns-in_default
+unfolding place_text
+returns-in_default g c = rw (c.in_default.is, append-nil) c.write_name.ensures

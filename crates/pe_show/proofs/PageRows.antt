@@ -1,0 +1,47 @@
+-- Rows of a page, as they stand on it.
+use Rattle.std.proofs.Common.{◌≡◌, [], ◌∷◌, None, Some, false, refl}
+use lib.Utf8.{encode}
+use Rattle.std.specs.Fmt.{digits}
+use Rattle.std.specs.Prelude.{codes}
+use Rattle.std.specs.Str.{chars, is_utf8}
+use Rattle.pe_text.specs.Text.{hex, width_from, escaped, quoted}
+use Rattle.pe_tables.specs.declared.fixups.FixupKind.TheVariants.{Bits64}
+use Rattle.pe_show.specs.Name.{is_plain, name_text, columns}
+use Rattle.pe_show.specs.Rows.{fields_row, relocation_row, symbol_row}
+
+-- "é" in UTF-8 is one character, and its first byte alone is none
+e_acute : columns (0xc3 ∷ 0xa9 ∷ []) ≡ 1
+unfolding columns chars is_utf8 encode
+e_acute = refl
+
+half : name_text (0xc3 ∷ []) ≡ codes "\"\\xc3\""
+unfolding name_text chars is_utf8 encode quoted escaped hex
+half = refl
+
+-- U+202E, which turns the direction of the text behind it, is not shown as it is
+turned : is_plain (0x61 ∷ 0xe2 ∷ 0x80 ∷ 0xae ∷ []) ≡ false
+unfolding chars is_utf8 encode
+turned = refl
+
+-- fields at 0x3010 and 0x3018
+fields : fields_row 6 (record { entry = 0; field = 0x3010; kind = Bits64 }) (record { entry = 0; field = 0x3010; kind = Bits64 } ∷ record { entry = 0; field = 0x3018; kind = Bits64 } ∷ []) ≡ codes "  0x003000  DIR64    010 018\n"
+unfolding fields_row hex width_from
+fields = refl
+
+-- a relocation of a symbol that has a name, and of one that has none
+named_relocation : relocation_row 0x1f (Some (codes "REL32")) 4 12 (Some (codes "_puts")) ≡ codes "    0x00001f  REL32  #12 _puts\n"
+unfolding relocation_row hex width_from name_text chars is_utf8 encode digits
+named_relocation = refl
+
+other_relocation : relocation_row 0x1000000 None 0x2a 3 None ≡ codes "    0x1000000  0x002a  #3\n"
+unfolding relocation_row hex width_from digits
+other_relocation = refl
+
+-- a function, and a symbol of a class without a name
+function : symbol_row 7 4 0x40 (codes ".text") (Some (codes "EXTERNAL")) 2 0x20 (codes "main") ≡ codes "   7  0x00000040  .text         EXTERNAL       function  main\n"
+unfolding symbol_row hex name_text columns chars is_utf8 encode digits
+function = refl
+
+other_class : symbol_row 12 4 0 (codes ".bss") None 130 0 (codes "x") ≡ codes "  12  0x00000000  .bss          class     130            x\n"
+unfolding symbol_row hex name_text columns chars is_utf8 encode digits
+other_class = refl

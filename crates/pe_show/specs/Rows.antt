@@ -1,0 +1,116 @@
+-- The rows of a page of which there are many, part by part.
+use Rattle.std.specs.Prelude.{ℕ, ◌-◌, ◌*◌, ◌/◌, ◌%◌, ◌==◌, min, max, if◌then◌else◌, List, [], ◌∷◌, ◌++◌, length, replicate, Option, None, Some, codes, decimal, flat_map}
+use Rattle.pe_tables.specs.declared.fixups.Fixup.{Fixup}
+use Rattle.pe_tables.specs.declared.fixups.FixupKind.{FixupKind}
+use Rattle.pe_tables.specs.declared.fixups.FixupKind.TheVariants.{Bits32, Bits64, High, Low}
+use Rattle.pe_tables.specs.declared.import.Import.{Import}
+use Rattle.pe_tables.specs.declared.key.Key.{Key}
+use Rattle.pe_tables.specs.declared.key.Key.TheVariants.{Ordinal, Name}
+use Rattle.pe_text.specs.Part.{joined}
+use Rattle.pe_text.specs.Text.{hex, width_from}
+use Rattle.pe_show.specs.Name.{name_text, columns}
+use Rattle.pe_show.specs.declared.place.Place.{Place}
+
+-- ---- parts
+-- so many blanks, and not more than 256
+abbrev pub blanks : ℕ → List ℕ
+blanks count = replicate (min count 256) 0x20
+
+-- how many hexadecimal digits a number has
+abbrev pub hex_width : ℕ → ℕ
+hex_width number = width_from 15 1 number
+
+-- a number in so many hexadecimal digits at least
+abbrev pub hex_text : ℕ → ℕ → List ℕ
+hex_text number digits = hex (min (max (hex_width number) digits) 16) number
+
+-- a number in decimal, behind blanks up to so many columns
+abbrev pub right_text : ℕ → ℕ → List ℕ
+right_text number width = blanks (width - length (decimal number)) ++ decimal number
+
+-- a name, and blanks up to so many columns
+abbrev pub column_text : List ℕ → ℕ → List ℕ
+column_text name width = name_text name ++ blanks (width - columns name)
+
+-- a name, or `#` and an ordinal
+unfoldable pub key_text : Key → List ℕ
+key_text (Ordinal ordinal) = codes "#" ++ decimal ordinal
+key_text (Name name) = name_text name.now
+
+abbrev offset_text : Option ℕ → List ℕ
+offset_text None = []
+offset_text (Some offset) = codes "+0x" ++ hex_text offset 1
+
+-- where an RVA lies: a section's name or another word, and the offset in it
+unfoldable pub place_text : Place → List ℕ
+place_text place = name_text place.name.now ++ offset_text place.offset
+
+-- ---- exports
+-- an ordinal and the place that it exports, in columns of `width` and `digits`
+unfoldable pub here_text : ℕ → ℕ → ℕ → ℕ → Place → List ℕ
+here_text ordinal width rva digits place = joined
+    (right_text ordinal width ∷ codes "  0x" ∷ hex_text rva digits ∷ codes "  " ∷ place_text place ∷ [])
+
+-- an ordinal, and the module and the key to which it is forwarded
+unfoldable pub forward_text : ℕ → ℕ → List ℕ → Key → List ℕ
+forward_text ordinal width dll key = joined
+    (right_text ordinal width ∷ codes "  forwarded to " ∷ name_text dll ∷ codes "." ∷ key_text key ∷ [])
+
+-- a name behind blanks and a gap
+unfoldable pub behind_gap : ℕ → List ℕ → List ℕ → List ℕ
+behind_gap count gap name = joined (blanks count ∷ gap ∷ name_text name ∷ [])
+
+-- ---- imports
+-- a slot, and what is imported into it
+unfoldable pub import_row : ℕ → Import → List ℕ
+import_row digits import = joined
+    (codes "    0x" ∷ hex_text import.slot digits ∷ codes "  " ∷ key_text import.key ∷ codes "\n" ∷ [])
+
+-- ---- base relocations
+abbrev pub kind_text : FixupKind → List ℕ
+kind_text Bits32 = codes "HIGHLOW"
+kind_text Bits64 = codes "DIR64  "
+kind_text High = codes "HIGH   "
+kind_text Low = codes "LOW    "
+
+-- where a field stands in its page
+abbrev pub field_text : Fixup → List ℕ
+field_text fixup = codes " " ++ hex 3 (fixup.field % 4096)
+
+-- fields of one kind in a page: the page, the kind, and where each stands
+unfoldable pub fields_row : ℕ → Fixup → List Fixup → List ℕ
+fields_row digits first fixups = joined
+    (codes "  0x" ∷ hex_text (first.field / 4096 * 4096) digits ∷ codes "  " ∷ kind_text first.kind ∷ codes " "
+    ∷ flat_map field_text fixups ∷ codes "\n" ∷ [])
+
+-- ---- objects
+-- the name of a relocation's type, or its number
+abbrev pub type_text : Option (List ℕ) → ℕ → List ℕ
+type_text None kind = codes "0x" ++ hex 4 kind
+type_text (Some name) kind = name
+
+-- the name of a symbol, where there is one
+abbrev pub symbol_text : Option (List ℕ) → List ℕ
+symbol_text None = []
+symbol_text (Some name) = codes " " ++ name_text name
+
+-- a relocation: where it stands in the section, its type by name or number, and the index of its symbol, with its name if it has one
+unfoldable pub relocation_row : ℕ → Option (List ℕ) → ℕ → ℕ → Option (List ℕ) → List ℕ
+relocation_row address type_name kind index symbol = joined
+    (codes "    0x" ∷ hex_text address 6 ∷ codes "  " ∷ type_text type_name kind ∷ codes "  #" ∷ decimal index
+    ∷ symbol_text symbol ∷ codes "\n" ∷ [])
+
+-- the name of a storage class, or its number, in 13 columns
+abbrev pub class_text : Option (List ℕ) → ℕ → List ℕ
+class_text None class = codes "class " ++ right_text class 7
+class_text (Some name) class = column_text name 13
+
+-- whether a symbol is a function
+abbrev pub function_text : ℕ → List ℕ
+function_text kind = if kind == 0x20 then codes "  function  " else codes "            "
+
+-- a symbol: the index of its record, value, section, class by name or number, whether it is a function, and name
+unfoldable pub symbol_row : ℕ → ℕ → ℕ → List ℕ → Option (List ℕ) → ℕ → ℕ → List ℕ → List ℕ
+symbol_row index width value section class_name class kind name = joined
+    (right_text index width ∷ codes "  0x" ∷ hex 8 value ∷ codes "  " ∷ column_text section 12 ∷ codes "  " ∷ class_text class_name class
+    ∷ function_text kind ∷ name_text name ∷ codes "\n" ∷ [])
