@@ -57,16 +57,19 @@ impl<'a, A: Allocator + Copy> Placed for Module<'a, A> {
     }
 }
 
-/// Reads an image, as `read_image` does, whose exports other images look up by name.
+/// Reads an image, as `read_image` does, and if others may import from it has its names guessed.
 fn read_exporter<A: Allocator + Copy>(
     alloc: A,
     file: &[u8],
     number: u16,
+    is_alone: bool,
 ) -> Result<Image<'_, A>, TableError>
     ensures { AnswersOrWants (image_tests number file.now) (IsImageOf number file.now) result }
 {
     let mut image = read_image(alloc, file, number)?;
-    image.exports.guess_names(alloc);
+    if !is_alone {
+        image.exports.guess_names(alloc);
+    }
     Ok(image)
 }
 
@@ -84,7 +87,7 @@ pub(crate) fn read_modules<'a, A: Allocator + Copy>(
         modules.push(Module {
             name: entry.name,
             base: entry.base,
-            image: read_exporter(alloc, entry.file, index as u16)?,
+            image: read_exporter(alloc, entry.file, index as u16, set.len() == 1)?,
         })?;
     }
     Ok(modules)
