@@ -7,7 +7,7 @@ use Rattle.pe_tables.specs.Ranges.{FitsBeside, Gains, SameRanges, meets_any, ran
 use Rattle.pe_tables.specs.RangesView.{ranges_in}
 use Rattle.pe_tables.specs.Fixups.{Entry, fixup_of, range_of, width_of}
 use Rattle.pe_tables.specs.Encoded.{type_of}
-use Rattle.pe_tables.specs.declared.fixups.Run.{Run}
+use Rattle.pe_tables.specs.declared.entry_run.Run.{Run}
 use Rattle.pe_tables.specs.FixupFaults.{entries_tests}
 use Rattle.pe_tables.specs.declared.fixups.Fixup.{Fixup}
 use Rattle.pe_tables.specs.declared.ranges.Ranges.{Ranges}

@@ -4,17 +4,18 @@ ghost use Rattle.pe_layout.specs.Layout.{image_of};
 ghost use Rattle.pe_view.specs.View.{bytes_of, size_of};
 ghost use Rattle.pe_layout.specs.Image.{number_at, bytes_at};
 ghost use Rattle.pe_tables.specs.TableFaults.{goes_past};
-ghost use Rattle.pe_view.specs.Faults.{AnswersOrWants, first_standing};
+ghost use Rattle.pe_view.specs.Faults.{AnswersOrWants};
 ghost use Rattle.pe_tables.specs.Ranges.{SameRanges, meets_any};
 ghost use Rattle.pe_tables.specs.RangesView.{ranges_in};
 ghost use Rattle.pe_tables.specs.Fixups.{IsBlockSize, width_of, kind_of, range_of, slot_range, block_at, blocks_of, entry_of, entries_at, entries_of, fixup_of, fixups_in, fixups_at, fixups_of};
 ghost use Rattle.pe_tables.specs.Encoded.{type_of};
 ghost use Rattle.pe_tables.specs.FixupFaults.{is_bad_size, entry_tests, entries_tests, blocks_tests, fixup_tests};
 ghost use Rattle.pe_tables.specs.Import.{slots_of};
-ghost use Rattle.pe_tables.specs.FixupReading.{IsClear, IsIndexed, IsRunOf, Reads, ReadsUpTo};
+ghost use Rattle.pe_tables.specs.FixupReading.{IsClear, IsIndexed, Reads};
 ghost use Rattle.pe_tables.specs.FirstBlock.{FirstBlock};
 ghost use Rattle.pe_view.specs.declared.refusal.Refusal.{Refusal};
 
+use crate::entry_run::read_first;
 use crate::error::{TableError, fault_at};
 use crate::found_fixups::FoundFixups;
 use crate::import::Import;
@@ -72,7 +73,7 @@ impl FixupKind {
     }
 
     /// What a type stands for, where it names a field that is relocated.
-    fn of_type(entry_type: u16) -> Option<FixupKind>
+    pub(crate) fn of_type(entry_type: u16) -> Option<FixupKind>
         ensures { result ≡ kind_of entry_type }
     {
         match entry_type {
@@ -174,128 +175,6 @@ fn read_entry<A: Allocator + Copy>(
         kind,
     })?;
     Ok(())
-}
-
-/// The kind of the first of these entries, which most of the others then have too, or HIGHLOW where it names no field.
-fn first_kind(bytes: View) -> FixupKind {
-    match bytes.u16_at(0) {
-        Some(entry) => FixupKind::of_type(entry / 4096).unwrap_or(FixupKind::Bits32),
-        None => FixupKind::Bits32,
-    }
-}
-
-/// What the fields of a run of entries have in common.
-#[derive(Drop)]
-struct Run {
-    kind: FixupKind,
-    /// The type that stands for the kind in an entry.
-    entry_type: u16,
-    /// How many bytes a field has.
-    width: u64,
-    /// How many bytes the image has.
-    size: u32,
-}
-
-/// A run of fields of this kind.
-fn run_of(layout: &Layout, kind: FixupKind) -> Run
-    ensures { IsRunOf (image_of layout.now) result }
-{
-    Run {
-        kind,
-        entry_type: kind.entry_type(),
-        width: u64::from(kind.width()),
-        size: layout.size(),
-    }
-}
-
-/// Reads an entry as [`read_entry`] does where its field is one of this run, lies in the image and begins behind all others, and
-/// tells whether it was read. No field of the block has a byte of a slot.
-fn read_rising<A: Allocator + Copy>(
-    _layout: &Layout,
-    _slots: &Ranges<A>,
-    run: &Run,
-    found: &mut FoundFixups<A>,
-    page: u32,
-    rva: u32,
-    entry: u16,
-) -> Result<bool, AllocError>
-    requires value { entry ≡ number_at 2 (image_of _layout.now) rva }
-    requires run { IsRunOf (image_of _layout.now) run.now }
-    requires clear { IsClear page (ranges_in _slots.now) }
-    requires indexed { IsIndexed found.old }
-    requires rising { found.old.fields ≡ None }
-    ensures read { IfOk result (λ read. IsTrue read → (first_standing (entry_tests (image_of _layout.now) (ranges_in _slots.now) found.old.fixups.items (entry_of (image_of _layout.now) page rva)) ≡ None)
-        × Reads found.old found.new (option_to_list (fixup_of (entry_of (image_of _layout.now) page rva)))) }
-    ensures same { IfOk result (λ read. read ≡ false → found.new ≡ found.old) }
-    ensures rising { found.new.fields ≡ None }
-{
-    if entry / 4096 != run.entry_type {
-        return Ok(false);
-    }
-    let field = u64::from(page) + u64::from(entry % 4096);
-    let end = field + run.width;
-    if end > u64::from(run.size) || field < found.end {
-        return Ok(false);
-    }
-    let fixup = Fixup {
-        entry: rva,
-        field: field as u32,
-        kind: run.kind,
-    };
-    found.add_behind(fixup, end)?;
-    Ok(true)
-}
-
-/// Reads the entries that stand in these bytes, as [`read_entries`] does, up to the first that [`read_rising`] leaves, and tells how
-/// many they are. It stands apart, so that it is a short loop.
-#[inline(never)]
-fn read_run<A: Allocator + Copy>(
-    layout: &Layout,
-    slots: &Ranges<A>,
-    found: &mut FoundFixups<A>,
-    page: u32,
-    rva: u32,
-    bytes: View,
-) -> Result<u32, AllocError>
-    requires bytes { bytes_of bytes ≡ bytes_at (image_of layout.now) rva (size_of bytes) }
-    requires small { rva + size_of bytes < 2 ^ 32 }
-    requires clear { IsClear page (ranges_in slots.now) }
-    requires indexed { IsIndexed found.old }
-    requires rising { found.old.fields ≡ None }
-    ensures { IfOk result (ReadsUpTo (image_of layout.now) (ranges_in slots.now) (entries_at (image_of layout.now) page rva (size_of bytes.entry / 2)) found.old found.new) }
-{
-    let run = run_of(layout, first_kind(bytes));
-    let count = (bytes.len() / 2) as u32;
-    for index in 0..count {
-        let entry = bytes.u16_at(2 * u64::from(index)).unwrap();
-        if !read_rising(layout, slots, &run, found, page, rva + 2 * index, entry)? {
-            return Ok(index);
-        }
-    }
-    Ok(count)
-}
-
-/// Reads the first of these entries as [`read_run`] does, where no field of their block has a byte of a slot and the fields before
-/// them rise, and tells how many.
-fn read_first<A: Allocator + Copy>(
-    layout: &Layout,
-    slots: &Ranges<A>,
-    clear: bool,
-    found: &mut FoundFixups<A>,
-    page: u32,
-    rva: u32,
-    bytes: View,
-) -> Result<u32, AllocError>
-    requires bytes { bytes_of bytes ≡ bytes_at (image_of layout.now) rva (size_of bytes) }
-    requires small { rva + size_of bytes < 2 ^ 32 }
-    requires clear { IsTrue clear → IsClear page (ranges_in slots.now) }
-    requires indexed { IsIndexed found.old }
-    ensures { IfOk result (ReadsUpTo (image_of layout.now) (ranges_in slots.now) (entries_at (image_of layout.now) page rva (size_of bytes.entry / 2)) found.old found.new) }
-{
-    if !clear || found.fields.is_some() {
-        return Ok(0);
-    }
-    read_run(layout, slots, found, page, rva, bytes)
 }
 
 /// Reads the entries of a block with this PageRVA that stand in these bytes of the image, from an RVA on, unless one of

@@ -12,12 +12,13 @@
 //!
 //! What reading costs, of a file with N bytes of texts and n entries: each byte is searched for the end of a text at most once,
 //! and 256 for each entry besides; names are told apart in N / 256 look-ups of a block of 256 bytes and n of fewer bytes; no entry
-//! costs the length of its text. Fields, slots and names that ascend are told apart in one step, others in log n. The worst file
-//! that was found, 65,536 names that are ends of one text of 1 MB, takes 0.2 seconds and 21 MB of memory.
+//! costs the length of its text. Names that ascend, and fields and slots that ascend or descend, are told apart in one step, others
+//! in log n. The worst file that was found, 65,536 names that are ends of one text of 1 MB, takes 0.2 seconds and 21 MB of memory.
 #![tactic(auto)]
 
 mod bytes;
 mod encode;
+mod entry_run;
 mod error;
 mod export_lookup;
 mod export_table;

@@ -4,7 +4,7 @@ use Rattle.pe_layout.specs.Layout.{image_of}
 use Rattle.pe_tables.specs.RangesView.{ranges_in}
 use Rattle.pe_tables.specs.Fixups.{entries_at}
 use Rattle.pe_tables.specs.FixupReading.{ReadsUpTo}
-use Rattle.pe_tables.proofs.fixups.read_run.Given as goal
+use Rattle.pe_tables.proofs.entry_run.read_run.Given as goal
 
 abbrev pub invariant-loop-index : goal.invariant-loop-index
 invariant-loop-index g l =

@@ -11,7 +11,7 @@ use Rattle.pe_tables.specs.Fixups.{Entry, entry_of, entries_at, fixup_of}
 use Rattle.pe_tables.specs.FixupFaults.{entries_tests}
 use Rattle.pe_tables.specs.declared.fixups.Fixup.{Fixup}
 use Rattle.pe_tables.proofs.Entries.{entries-past, fixups-past, number_of_part}
-use Rattle.pe_tables.proofs.fixups.read_run.Goals as goal
+use Rattle.pe_tables.proofs.entry_run.read_run.Goals as goal
 
 pub read_rising-requires-clause-value : goal.read_rising-requires-clause-value
 read_rising-requires-clause-value g c =

@@ -10,7 +10,7 @@ use Rattle.pe_tables.specs.declared.fixups.Fixup.{Fixup}
 use Rattle.pe_tables.specs.declared.fixups.FixupKind.{FixupKind}
 use Rattle.pe_tables.proofs.RisingFields.{behind-apart, ends-later}
 use Rattle.pe_tables.proofs.PlainEntries.{none_stands, its_fixup, width_few}
-use Rattle.pe_tables.proofs.fixups.read_rising.Goals as goal
+use Rattle.pe_tables.proofs.entry_run.read_rising.Goals as goal
 
 pub returns-clause-read : goal.returns-clause-read
 returns-clause-read g c = λ read.
