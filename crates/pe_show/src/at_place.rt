@@ -7,7 +7,6 @@ ghost use Rattle.pe_show.specs.Judged.{IsImageJudged};
 ghost use Rattle.pe_show.specs.Page.{AddsSome};
 
 use crate::cell::{Cell, write_cells};
-use crate::exports::key_cells;
 use crate::place::SectionNames;
 use crate::sections::permissions;
 use pe_image::{Image, read_image};
@@ -133,47 +132,35 @@ fn export_cells<'a, A: Allocator + Copy>(
 }
 
 /// The import whose slot is at an RVA, as `  slot of KERNEL32.dll Sleep`.
-fn slot_cells<'a>(imports: &[Import<'a>], width: u32, rva: u32) -> [Cell<'a>; 5] {
+fn slot_cells<'a>(imports: &[Import<'a>], width: u32, rva: u32) -> [Cell<'a>; 4] {
     for import in imports {
         if is_within(rva, import.slot, width) {
-            let [first, second] = key_cells(import.key);
             return [
                 Cell::Words("  slot of "),
                 Cell::Name(import.module),
                 Cell::Words(" "),
-                first,
-                second,
+                Cell::Key(import.key),
             ];
         }
     }
-    [NOTHING; 5]
+    [NOTHING; 4]
 }
 
 /// Where an address that a field holds while the image stands at its ImageBase lies, as ` that points to RVA 0x1350 .text+0x350`.
-fn target_cells<'a>(layout: &Layout, names: &SectionNames<'a>, address: u64) -> [Cell<'a>; 6] {
+fn target_cells<'a>(layout: &Layout, names: &SectionNames<'a>, address: u64) -> [Cell<'a>; 4] {
     match rva_of(layout, Place::Address(address)) {
         Some(rva) => {
-            let [name, plus, offset] = names.place(layout, rva).cells();
             let number = Cell::Hex(u64::from(rva), 1);
             [
                 Cell::Words(" that points to RVA 0x"),
                 number,
                 Cell::Words(" "),
-                name,
-                plus,
-                offset,
+                Cell::Place(names.place(layout, rva)),
             ]
         }
         None => {
             let number = Cell::Hex(address, 1);
-            [
-                Cell::Words(" that holds 0x"),
-                number,
-                NOTHING,
-                NOTHING,
-                NOTHING,
-                NOTHING,
-            ]
+            [Cell::Words(" that holds 0x"), number, NOTHING, NOTHING]
         }
     }
 }
@@ -184,7 +171,7 @@ fn field_cells<'a>(
     names: &SectionNames<'a>,
     fixups: &[Fixup],
     rva: u32,
-) -> [Cell<'a>; 9] {
+) -> [Cell<'a>; 7] {
     for fixup in fixups {
         if is_within(rva, fixup.field, fixup.kind.width()) {
             let address = match fixup.kind {
@@ -192,9 +179,9 @@ fn field_cells<'a>(
                 FixupKind::Bits64 => layout.u64_at(fixup.field),
                 FixupKind::High | FixupKind::Low => None,
             };
-            let [to, number, gap, name, plus, offset] = match address {
+            let [to, number, gap, place] = match address {
                 Some(address) => target_cells(layout, names, address),
-                None => [NOTHING; 6],
+                None => [NOTHING; 4],
             };
             return [
                 Cell::Words("  field of "),
@@ -203,19 +190,16 @@ fn field_cells<'a>(
                 to,
                 number,
                 gap,
-                name,
-                plus,
-                offset,
+                place,
             ];
         }
     }
-    [NOTHING; 9]
+    [NOTHING; 7]
 }
 
 /// Where an RVA lies, as `RVA 0x251e4  address 0x241bb51e4  file 0x1ffe4  .idata+0x1e4 rw-`.
-fn where_cells<'a>(layout: &Layout, names: &SectionNames<'a>, rva: u32) -> [Cell<'a>; 12] {
+fn where_cells<'a>(layout: &Layout, names: &SectionNames<'a>, rva: u32) -> [Cell<'a>; 10] {
     let place = names.place(layout, rva);
-    let [name, plus, offset] = place.cells();
     let address = layout.image_base().wrapping_add(u64::from(rva));
     let (in_file, file) = match place.file {
         Some(file) => (Cell::Words("  file 0x"), Cell::Hex(file, 1)),
@@ -233,9 +217,7 @@ fn where_cells<'a>(layout: &Layout, names: &SectionNames<'a>, rva: u32) -> [Cell
         in_file,
         file,
         Cell::Words("  "),
-        name,
-        plus,
-        offset,
+        Cell::Place(place),
         gap,
         flags,
     ]

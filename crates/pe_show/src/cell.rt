@@ -6,9 +6,12 @@ ghost use Rattle.pe_show.specs.Page.{AddsSome};
 ghost use Rattle.pe_show.specs.Rows.{blanks, hex_width, hex_text, right_text, column_text};
 
 use crate::date::write_date;
+use crate::exports::write_key;
 use crate::flags::write_flags;
 use crate::name::{name_width, write_name};
+use crate::place::Place;
 use itoa::Buffer;
+use pe_tables::Key;
 use pe_text::Part::{self, Text};
 use pe_text::{Sink, TextWriter, write_parts};
 use pe_views::FlagKind;
@@ -34,6 +37,10 @@ pub(crate) enum Cell<'a> {
     Date(u32),
     /// The flags that stand in a field, by name.
     Flags(FlagKind, u32),
+    /// By what an export or an import is looked up: a name, or `#` and an ordinal.
+    Key(Key<'a>),
+    /// Where an RVA lies, as `.text+0x350`.
+    Place(Place<'a>),
 }
 
 /// The word for so many things.
@@ -126,6 +133,8 @@ fn write_cell<W: Sink>(text: &mut TextWriter<W>, cell: &Cell)
         Cell::Right(number, width) => write_right(text, *number, *width),
         Cell::Date(seconds) => write_date(text, *seconds),
         Cell::Flags(kind, flags) => write_flags(text, *kind, *flags),
+        Cell::Key(key) => write_key(text, *key),
+        Cell::Place(place) => place.write(text),
     }
 }
 

@@ -4,7 +4,7 @@ ghost use Rattle.pe_text.specs.TextWriter.{IsReady, Adds};
 ghost use Rattle.pe_show.specs.Page.{AddsSome};
 ghost use Rattle.pe_show.specs.Rows.{key_text, here_text, forward_text, behind_gap};
 
-use crate::cell::{Cell, blanks, decimal_width, hex_width, write_hex, write_right};
+use crate::cell::{blanks, decimal_width, hex_width, write_hex, write_right};
 use crate::heading::write_heading;
 use crate::image::Tables;
 use crate::name::write_name;
@@ -22,14 +22,6 @@ struct Widths {
     ordinal: usize,
     rva: u8,
     place: usize,
-}
-
-/// By what an export or an import is looked up: a name, or `#` and an ordinal.
-pub(crate) fn key_cells<'a>(key: Key<'a>) -> [Cell<'a>; 2] {
-    match key {
-        Key::Ordinal(ordinal) => [Cell::Words("#"), Cell::Right(u64::from(ordinal), 1)],
-        Key::Name(name) => [Cell::Name(name), Cell::Words("")],
-    }
 }
 
 /// Adds a name, or `#` and an ordinal.

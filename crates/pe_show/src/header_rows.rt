@@ -123,7 +123,6 @@ fn write_entry<W: Sink>(text: &mut TextWriter<W>, rva: u32, place: Option<Place>
             ],
         ),
         Some(place) => {
-            let [name, plus, offset] = place.cells();
             let (words, file) = match place.file {
                 Some(file) => (Cell::Words("  file 0x"), Cell::Hex(file, 1)),
                 None => (Cell::Words(""), Cell::Words("")),
@@ -134,9 +133,7 @@ fn write_entry<W: Sink>(text: &mut TextWriter<W>, rva: u32, place: Option<Place>
                     Cell::Words("  Entry        0x"),
                     Cell::Hex(u64::from(rva), 1),
                     Cell::Words("  "),
-                    name,
-                    plus,
-                    offset,
+                    Cell::Place(place),
                     words,
                     file,
                     Cell::Words("\n"),

@@ -3,7 +3,7 @@
 ghost use Rattle.pe_text.specs.TextWriter.{IsReady, Adds};
 ghost use Rattle.pe_show.specs.Rows.{place_text};
 
-use crate::cell::{Cell, hex_width, write_hex};
+use crate::cell::{hex_width, write_hex};
 use crate::name::{name_width, write_name};
 use arrayvec::ArrayVec;
 use pe_head::Headers;
@@ -86,19 +86,7 @@ impl<'a> SectionNames<'a> {
 }
 
 impl<'a> Place<'a> {
-    /// The cells that show it, as `.text+0x350`.
-    pub fn cells(&self) -> [Cell<'a>; 3] {
-        match self.offset {
-            Some(offset) => [
-                Cell::Name(self.name),
-                Cell::Words("+0x"),
-                Cell::Hex(u64::from(offset), 1),
-            ],
-            None => [Cell::Name(self.name), Cell::Words(""), Cell::Words("")],
-        }
-    }
-
-    /// Adds what its cells show.
+    /// Adds its name, and the offset behind `+0x` where it has one, as `.text+0x350`.
     pub fn write<W: Sink>(&self, text: &mut TextWriter<W>)
         requires { IsReady W.failures text.old }
         ensures { Adds W.taken W.failures text.old text.new (place_text self.now) }
@@ -110,7 +98,7 @@ impl<'a> Place<'a> {
         }
     }
 
-    /// How many columns they take.
+    /// How many columns that takes.
     pub fn width(&self) -> usize {
         let offset = match self.offset {
             Some(offset) => 3 + usize::from(hex_width(u64::from(offset))),
