@@ -10,6 +10,8 @@ use Rattle.pe_text.specs.Part.{joined}
 use Rattle.pe_text.specs.Text.{hex, width_from}
 use Rattle.pe_show.specs.Name.{name_text, columns}
 use Rattle.pe_show.specs.declared.place.Place.{Place}
+use Rattle.pe_show.specs.declared.exports.Shown.{Shown}
+use Rattle.pe_show.specs.declared.exports.Shown.TheVariants.{Here, Forward}
 
 -- ---- parts
 -- so many blanks, and not more than 256
@@ -55,6 +57,11 @@ here_text ordinal width rva digits place = joined
 unfoldable pub forward_text : ℕ → ℕ → List ℕ → Key → List ℕ
 forward_text ordinal width dll key = joined
     (right_text ordinal width ∷ codes "  forwarded to " ∷ name_text dll ∷ codes "." ∷ key_text key ∷ [])
+
+-- an ordinal, and what it exports
+abbrev pub target_text : ℕ → ℕ → ℕ → Shown → List ℕ
+target_text ordinal width digits (Here rva place) = here_text ordinal width rva digits place
+target_text ordinal width digits (Forward dll key) = forward_text ordinal width dll.now key
 
 -- a name behind blanks and a gap
 unfoldable pub behind_gap : ℕ → List ℕ → List ℕ → List ℕ

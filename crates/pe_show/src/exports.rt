@@ -2,7 +2,7 @@
 
 ghost use Rattle.pe_text.specs.TextWriter.{IsReady, Adds};
 ghost use Rattle.pe_show.specs.Page.{AddsSome};
-ghost use Rattle.pe_show.specs.Rows.{key_text, here_text, forward_text, behind_gap};
+ghost use Rattle.pe_show.specs.Rows.{key_text, here_text, forward_text, target_text, behind_gap};
 
 use crate::cell::{blanks, decimal_width, hex_width, write_hex, write_right};
 use crate::heading::write_heading;
@@ -22,6 +22,30 @@ struct Widths {
     ordinal: usize,
     rva: u8,
     place: usize,
+}
+
+/// What is shown of what an ordinal exports.
+#[derive(Clone, Copy)]
+enum Shown<'s, 't> {
+    /// An RVA, and where it lies.
+    Here { rva: u32, place: Place<'s> },
+    /// The module and the key to which it is forwarded.
+    Forward { module: &'t [u8], key: Key<'t> },
+}
+
+/// What is shown of a target.
+fn shown_of<'s, 't>(
+    layout: &Layout,
+    sections: &SectionNames<'s>,
+    target: &Target<'t>,
+) -> Shown<'s, 't> {
+    match target {
+        Target::Rva(rva) => Shown::Here {
+            rva: *rva,
+            place: sections.place(layout, *rva),
+        },
+        Target::Forward { module, key } => Shown::Forward { module, key: *key },
+    }
 }
 
 /// Adds a name, or `#` and an ordinal.
@@ -91,28 +115,22 @@ fn write_forward<W: Sink>(
     write_key(text, key);
 }
 
-/// Adds what an ordinal exports, and tells how many columns stand between it and its names, beside two.
-fn write_target<W: Sink>(
-    text: &mut TextWriter<W>,
-    widths: &Widths,
-    layout: &Layout,
-    sections: &SectionNames,
-    ordinal: u64,
-    target: &Target,
-) -> usize
+/// Adds an ordinal and what it exports.
+fn write_target<W: Sink>(text: &mut TextWriter<W>, widths: &Widths, ordinal: u64, shown: &Shown)
     requires { IsReady W.failures text.old }
-    ensures { AddsSome W.taken W.failures text.old text.new }
+    ensures { Adds W.taken W.failures text.old text.new (target_text ordinal widths.now.ordinal widths.now.rva shown.now) }
 {
-    match target {
-        Target::Rva(rva) => {
-            let place = sections.place(layout, *rva);
-            write_here(text, widths, ordinal, *rva, &place);
-            widths.place.saturating_sub(place.width())
-        }
-        Target::Forward { module, key } => {
-            write_forward(text, widths, ordinal, module, *key);
-            0
-        }
+    match shown {
+        Shown::Here { rva, place } => write_here(text, widths, ordinal, *rva, place),
+        Shown::Forward { module, key } => write_forward(text, widths, ordinal, module, *key),
+    }
+}
+
+/// How many columns stand between what an ordinal exports and its names, beside two.
+fn gap_of(widths: &Widths, shown: &Shown) -> usize {
+    match shown {
+        Shown::Here { place, .. } => widths.place.saturating_sub(place.width()),
+        Shown::Forward { .. } => 0,
     }
 }
 
@@ -168,7 +186,9 @@ pub(crate) fn write_exports<A: Allocator + Copy, W: Sink>(
     let widths = widths_of(exports.ordinals(), layout, sections);
     write_heading(text, options, "Exports", exports.ordinals().len());
     for (ordinal, target) in exports.ordinals() {
-        let count = write_target(text, &widths, layout, sections, *ordinal, target);
-        write_names(text, exports, names_of(&tables.names, *ordinal), count);
+        let shown = shown_of(layout, sections, target);
+        write_target(text, &widths, *ordinal, &shown);
+        let names = names_of(&tables.names, *ordinal);
+        write_names(text, exports, names, gap_of(&widths, &shown));
     }
 }
