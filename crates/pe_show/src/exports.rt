@@ -102,15 +102,15 @@ fn write_forward<W: Sink>(
     text: &mut TextWriter<W>,
     widths: &Widths,
     ordinal: u64,
-    module: &[u8],
+    dll: &[u8],
     key: Key,
 )
     requires { IsReady W.failures text.old }
-    ensures { Adds W.taken W.failures text.old text.new (forward_text ordinal widths.now.ordinal module.now key.entry) }
+    ensures { Adds W.taken W.failures text.old text.new (forward_text ordinal widths.now.ordinal dll.now key.entry) }
 {
     write_right(text, ordinal, widths.ordinal);
     text.text(b"  forwarded to ");
-    write_name(text, module);
+    write_name(text, dll);
     text.text(b".");
     write_key(text, key);
 }
