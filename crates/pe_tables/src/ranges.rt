@@ -1,4 +1,4 @@
-ghost use Rattle.std.specs.Prelude.{◌≡◌, ◌+◌, ◌<◌, ◌≤◌, ◌^◌, ◌↔◌, All, IsTrue, OnOk, [], length, take, filter, nat_lt};
+ghost use Rattle.std.specs.Prelude.{◌≡◌, ℕ, ◌+◌, ◌<◌, ◌≤◌, ◌^◌, ◌↔◌, All, IsTrue, OnOk, [], length, take, filter, nat_lt, slice_index_or};
 ghost use Rattle.pe_tables.specs.Ranges.{IsAscending, meets_any, range_end};
 
 use std::alloc::{AllocError, Allocator};
@@ -50,6 +50,27 @@ fn all_above<A: Allocator>(run: &VecDeque<(u32, u32), A>, rva: u32) -> bool
     }
 }
 
+/// How many ranges of a slice start below an RVA.
+fn search(ranges: &[(u32, u32)], rva: u32) -> usize
+    requires { IsAscending ranges.now }
+    ensures within { result ≤ length ranges.now }
+    ensures before { (k : ℕ) (d : ℕ × ℕ) → k < result → (slice_index_or ranges.now k d).0 < rva }
+    ensures after { (k : ℕ) (d : ℕ × ℕ) → result ≤ k → k < length ranges.now → rva ≤ (slice_index_or ranges.now k d).0 }
+{
+    ranges.partition_point(|range| range.0 < rva)
+}
+
+/// How many ranges of a run start below an RVA, by a search of each of its two parts, which takes half the steps that a search by the
+/// places of the run takes.
+fn search_run<A: Allocator>(run: &VecDeque<(u32, u32), A>, rva: u32) -> usize
+    requires { IsAscending run.now.items }
+    ensures within { result ≤ length run.now.items }
+    ensures these { filter (λ range. nat_lt range.0 rva) run.now.items ≡ take result run.now.items }
+{
+    let (front, back) = run.as_slices();
+    search(front, rva) + search(back, rva)
+}
+
 /// How many ranges of a run start below an RVA: most RVAs are asked for in front of all ranges, or behind them.
 fn count_below<A: Allocator>(run: &VecDeque<(u32, u32), A>, rva: u32) -> usize
     requires { IsAscending run.now.items }
@@ -61,7 +82,7 @@ fn count_below<A: Allocator>(run: &VecDeque<(u32, u32), A>, rva: u32) -> usize
     } else if none_below(run, rva) {
         0
     } else {
-        run.partition_point(|range| range.0 < rva)
+        search_run(run, rva)
     }
 }
 
