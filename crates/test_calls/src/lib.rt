@@ -1,8 +1,7 @@
-//! The tests that need a call: what values no text shows, what devices that fail and calls in little room answer, and what the
-//! program prints.
+//! The tests that need a call: what values no text shows, and what devices that fail and calls in little room answer.
 //!
-//! They stand over the files, sets and devices of `pe_vectors`; texts, sets and faults are cases of `test_cases`. They are one crate,
-//! which holds nothing else, since the gate proves in each crate of tests once more what its types leave behind.
+//! They stand over the files, sets and devices of `pe_vectors`; texts, sets and faults are cases of `test_cases`. The crate holds
+//! nothing else, since the gate proves a crate that has tests twice, once without them.
 #![tactic(auto)]
 
 #[cfg(test)]

@@ -1,3 +1,2 @@
 mod asserts;
 mod files;
-mod program;

@@ -1,6 +1,5 @@
 //! What the program prints, on which of its outputs, and its exit status.
 
-use crate::tests::asserts::assert_holds;
 use fake::{Fake, Stored, Target};
 use linked_list_allocator::LocalHeap;
 use pe_program::{Engine, OUTPUT_BUFFER, refuse_command_line, run, run_file, run_map, words_of};
@@ -60,6 +59,11 @@ Usage: petool map [OPTIONS] <HEX=FILE>...
 
 For more information, try '--help'.
 ";
+
+/// Asserts what holds of a case.
+fn assert_holds(rt: &impl Abort, case: usize, holds: bool) {
+    assert!(rt; holds, "in case {case:#x}");
+}
 
 /// What the program is to do on a system.
 #[derive(Clone, Copy)]
