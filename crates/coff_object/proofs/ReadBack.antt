@@ -7,7 +7,7 @@ use Rattle.pe_view.specs.FirstStanding.{first-past}
 use Rattle.pe_view.specs.Faults.{Test, first_standing}
 use Rattle.pe_numbers.specs.declared.number.Number.{Number}
 use Rattle.pe_numbers.specs.declared.number.Number.TheVariants.{U16, U32}
-use Rattle.pe_numbers.specs.Numbers.{NumberFits, number_bytes, numbers_bytes, number_at}
+use Rattle.pe_numbers.specs.Numbers.{NumberFits, number_bytes, numbers_bytes, beginning_at}
 use Rattle.pe_numbers.specs.StandsAt.{StandsAt, stands-front, stands-back, stands_part}
 use Rattle.coff_read.specs.Field.{field}
 use Rattle.coff_read.specs.ObjectFaults.{is_other_file, is_cut_table, header_tests, symbol_table_tests, section_tests, symbol_tests, relocation_tests, record_tests, object_tests, IsObjectOf}
@@ -41,7 +41,7 @@ header_read : (file : List ℕ) (o : Object) → Fits o → StandsAt file 0 (cof
 header_read file o fits there sections optional start records =
     let fit : AllByRecursion NumberFits (header_numbers o) =
     (fits.header.machine, (omega (arith, sections), (fits.header.time_stamp, (pointer_lt (has_strings o) (symbols_start o) start, (records, (omega (arith, optional), (fits.header.characteristics, tt))))))) in
-    let read = λ (k : ℕ) (x : Number) (is : number_at (header_numbers o) k ≡ Some x). field_read file 0 (header_numbers o) k x fit there is in
+    let read = λ (k : ℕ) (x : Number) (is : beginning_at (header_numbers o) k ≡ Some x). field_read file 0 (header_numbers o) k x fit there is in
     record {
       machine = read 0 (U16 o.machine) refl;
       sections = read 2 (U16 (length o.sections)) refl;

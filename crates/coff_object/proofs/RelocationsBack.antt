@@ -6,7 +6,7 @@ use Rattle.std.proofs.lemmas.Bool.{or_parts}
 use Rattle.pe_view.specs.Faults.{first_standing}
 use Rattle.pe_numbers.specs.declared.number.Number.{Number}
 use Rattle.pe_numbers.specs.declared.number.Number.TheVariants.{U16, U32}
-use Rattle.pe_numbers.specs.Numbers.{NumberFits, number_bytes, number_at}
+use Rattle.pe_numbers.specs.Numbers.{NumberFits, number_bytes, beginning_at}
 use Rattle.pe_numbers.specs.StandsAt.{StandsAt, stands-front, stands-back}
 use Rattle.coff_read.specs.Field.{field}
 use Rattle.coff_read.specs.ObjectFaults.{relocation_test}
@@ -26,7 +26,7 @@ relocation_fits r fits = (fits.address, (fits.symbol, (fits.kind, tt)))
 
 pub relocation_read : (file : List ℕ) (at : ℕ) (r : Relocation) → StandsAt file at (relocation_bytes r) → RelocationFits r → relocation_at file at ≡ r
 relocation_read file at r there fits =
-    let read = λ (o : ℕ) (x : Number) (is : number_at (relocation_numbers r) o ≡ Some x). field_read file at (relocation_numbers r) o x (relocation_fits r fits) there is in
+    let read = λ (o : ℕ) (x : Number) (is : beginning_at (relocation_numbers r) o ≡ Some x). field_read file at (relocation_numbers r) o x (relocation_fits r fits) there is in
     same_relocation _ _ _ _ _ _ (read 0 (U32 r.address) refl) (read 4 (U32 r.symbol) refl) (read 8 (U16 r.kind) refl)
 
 -- relocations from index i on

@@ -9,7 +9,7 @@ use Rattle.pe_view.specs.Number.{part}
 use Rattle.pe_view.specs.FirstStanding.{first-past}
 use Rattle.pe_numbers.specs.declared.number.Number.{Number}
 use Rattle.pe_numbers.specs.declared.number.Number.TheVariants.{U16, U32}
-use Rattle.pe_numbers.specs.Numbers.{NumberFits, number_bytes, number_at}
+use Rattle.pe_numbers.specs.Numbers.{NumberFits, number_bytes, beginning_at}
 use Rattle.pe_numbers.specs.StandsAt.{StandsAt, stands-front, stands-back, stands_part, stands_inside}
 use Rattle.coff_read.specs.Field.{field}
 use Rattle.coff_read.specs.Names.{section_name, section_text, name_offset, decimal_digits, padded, is_long, begins_with_slash, is_long_section_name}
@@ -173,7 +173,7 @@ section_read file strings count h at s w records some header body small table =
     let len = length-name_field strings s w.near in
     let name = section_name_read file strings count h s w (stands-front file h name_field (section_fields at s) header) table in
     let fields : StandsAt file (h + 8) (section_fields at s) = stands-back file h (h + 8) name_field (section_fields at s) header (omega arith) in
-    let read = λ (o : ℕ) (x : Number) (is : number_at (section_numbers at s) o ≡ Some x). field_read-behind file h (section_numbers at s) o x (section_fits at s w.fits w.few small) fields is in
+    let read = λ (o : ℕ) (x : Number) (is : beginning_at (section_numbers at s) o ≡ Some x). field_read-behind file h (section_numbers at s) o x (section_fits at s w.fits w.few small) fields is in
     let size_is : field file h 16 4 ≡ raw_size s.raw = read 8 (U32 (raw_size s.raw)) refl in
     let pointer_is : field file h 20 4 ≡ pointer_to at (length (raw_bytes s.raw)) = read 12 (U32 (pointer_to at (length (raw_bytes s.raw)))) refl in
     let relocations_are : field file h 24 4 ≡ pointer_to (at + length (raw_bytes s.raw)) (length s.relocations) = read 16 (U32 (pointer_to (at + length (raw_bytes s.raw)) (length s.relocations))) refl in

@@ -9,7 +9,7 @@ use Rattle.pe_view.specs.Faults.{first_standing}
 use Rattle.pe_view.specs.Number.{num, byte_of, part}
 use Rattle.pe_numbers.specs.declared.number.Number.{Number}
 use Rattle.pe_numbers.specs.declared.number.Number.TheVariants.{U8, U16, U32}
-use Rattle.pe_numbers.specs.Numbers.{NumberFits, number_bytes, numbers_bytes, number_at}
+use Rattle.pe_numbers.specs.Numbers.{NumberFits, number_bytes, numbers_bytes, beginning_at}
 use Rattle.pe_numbers.specs.StandsAt.{StandsAt, stands-front, stands-back, stands_part}
 use Rattle.coff_read.specs.Field.{field}
 use Rattle.coff_read.specs.Names.{symbol_name, padded, is_long}
@@ -60,7 +60,7 @@ inline_read file at (suc b ∷ name) le none has =
 -- a name of the string table
 long_read : (file : List ℕ) (at offset : ℕ) (name : List ℕ) → 0 < offset → offset < 2 ^ 32 → StandsAt file at (numbers_bytes (U32 0 ∷ U32 offset ∷ [])) → string_at file offset ≡ Some name → symbol_name file at ≡ Some name
 long_read file at offset name some small has text =
-    let read = λ (o : ℕ) (x : Number) (is : number_at (U32 0 ∷ U32 offset ∷ []) o ≡ Some x). field_read file at (U32 0 ∷ U32 offset ∷ []) o x (omega arith, (small, tt)) has is in
+    let read = λ (o : ℕ) (x : Number) (is : beginning_at (U32 0 ∷ U32 offset ∷ []) o ≡ Some x). field_read file at (U32 0 ∷ U32 offset ∷ []) o x (omega arith, (small, tt)) has is in
     let first : field file at 0 4 ≡ 0 = read 0 (U32 0) refl in
     let second : field file at 4 4 ≡ offset = read 4 (U32 offset) refl in
     let more : (offset == 0) ≡ false = ne_eqb offset 0 (λ e. omega arith) in
@@ -151,7 +151,7 @@ symbol_read file strings count at s w has table =
     let whole = aux_whole count s w.good in
     let fits = w.fits in
     let fit : AllByRecursion NumberFits (symbol_numbers s) = (fits.value, (number_small count s.section parts.0, (fits.kind, (fits.class, (whole.1, tt))))) in
-    let read = λ (o : ℕ) (x : Number) (is : number_at (symbol_numbers s) o ≡ Some x). field_read-behind file at (symbol_numbers s) o x fit (stands-front file (at + 8) (symbol_fields s) s.aux behind) is in
+    let read = λ (o : ℕ) (x : Number) (is : beginning_at (symbol_numbers s) o ≡ Some x). field_read-behind file at (symbol_numbers s) o x fit (stands-front file (at + 8) (symbol_fields s) s.aux behind) is in
     let number_is : field file at 12 2 ≡ section_number s.section = read 4 (U16 (section_number s.section)) refl in
     let aux_has : StandsAt file (at + 18) s.aux = stands-back file (at + 8) (at + 18) (symbol_fields s) s.aux behind (omega arith) in
     let aux_count_is : field file at 17 1 ≡ aux_records s = read 9 (U8 (aux_records s)) refl in

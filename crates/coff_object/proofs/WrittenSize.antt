@@ -5,7 +5,7 @@ use Rattle.std.specs.List.{flat_map, list_any, AllByRecursion}
 use Rattle.std.proofs.lemmas.Bool.{le-ltb}
 use Rattle.pe_numbers.specs.declared.number.Number.{Number}
 use Rattle.pe_numbers.specs.declared.number.Number.TheVariants.{U16, U32}
-use Rattle.pe_numbers.specs.Numbers.{number_bytes, numbers_bytes, number_at}
+use Rattle.pe_numbers.specs.Numbers.{number_bytes, numbers_bytes, beginning_at}
 use Rattle.pe_numbers.specs.StandsAt.{StandsAt}
 use Rattle.coff_read.specs.Field.{field}
 use Rattle.coff_read.specs.ObjectFaults.{is_other_header, is_other_file}
@@ -83,7 +83,7 @@ other_is o machine time_stamp few =
     let strings : List (List ℕ) = strings_of o in
     let first : List Number = U16 o.machine ∷ U16 (length o.sections) ∷ U32 o.time_stamp ∷ [] in
     let there : StandsAt (canon o) 0 (numbers_bytes first) = refl in
-    let read = λ (k : ℕ) (x : Number) (is : number_at first k ≡ Some x). field_read (canon o) 0 first k x (machine, (few, (time_stamp, tt))) there is in
+    let read = λ (k : ℕ) (x : Number) (is : beginning_at first k ≡ Some x). field_read (canon o) 0 first k x (machine, (few, (time_stamp, tt))) there is in
     ap (λ (n : ℕ). is_other_header n (field (canon o) 0 2 2) (field (canon o) 0 4 4)) (read 0 (U16 o.machine) refl)
     ∙ ap (λ (n : ℕ). is_other_header o.machine n (field (canon o) 0 4 4)) (read 2 (U16 (length o.sections)) refl)
     ∙ ap (is_other_header o.machine (length o.sections)) (read 4 (U32 o.time_stamp) refl)

@@ -33,7 +33,7 @@ numbers_size [] = 0
 numbers_size (n ∷ ns) = width_of n + numbers_size ns
 
 -- the number that begins at an offset of them
-abbrev pub number_at : List Number → ℕ → Option Number
-number_at [] offset = None
-number_at (n ∷ ns) zero = Some n
-number_at (n ∷ ns) (suc offset) = if nat_lt (suc offset) (width_of n) then None else number_at ns (suc offset - width_of n)
+abbrev pub beginning_at : List Number → ℕ → Option Number
+beginning_at [] offset = None
+beginning_at (n ∷ ns) zero = Some n
+beginning_at (n ∷ ns) (suc offset) = if nat_lt (suc offset) (width_of n) then None else beginning_at ns (suc offset - width_of n)

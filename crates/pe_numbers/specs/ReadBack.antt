@@ -10,7 +10,7 @@ use Rattle.std.proofs.lemmas.List.FromFn.{length-map-range_with_len, get_or-map-
 use Rattle.pe_view.specs.Number.{num, byte_of, digit}
 use Rattle.pe_numbers.specs.declared.number.Number.{Number}
 use Rattle.pe_numbers.specs.StandsAt.{StandsAt, stands_num}
-use Rattle.pe_numbers.specs.Numbers.{width_of, value_of, NumberFits, number_bytes, numbers_bytes, numbers_size, number_at}
+use Rattle.pe_numbers.specs.Numbers.{width_of, value_of, NumberFits, number_bytes, numbers_bytes, numbers_size, beginning_at}
 
 -- the two low digits of n, to the bases c and then m
 mod-split : (n : ℕ) {m c : ℕ} → zero < m → zero < c → n % (m * c) ≡ (n / c % m) * c + n % c
@@ -71,7 +71,7 @@ record Stands (ns : List Number) (offset : ℕ) (x : Number) : Type 0 where
   digits : (k : ℕ) → k < width_of x → byte_of (numbers_bytes ns) (offset + k) ≡ digit (value_of x) k
   fits : NumberFits x
 
-stands : (ns : List Number) (offset : ℕ) (x : Number) → AllByRecursion NumberFits ns → number_at ns offset ≡ Some x → Stands ns offset x
+stands : (ns : List Number) (offset : ℕ) (x : Number) → AllByRecursion NumberFits ns → beginning_at ns offset ≡ Some x → Stands ns offset x
 stands [] offset x fits at = absurd cc
 stands (n ∷ ns) zero x fits at =
     let len = length-number n in
@@ -82,9 +82,9 @@ stands (n ∷ ns) zero x fits at =
       fits = fits.0;
     })
 stands (n ∷ ns) (suc o) x fits at = elim (cases_Bool (nat_lt (suc o) (width_of n))) [
-  | inl before ↦ absurd (let none : number_at (n ∷ ns) (suc o) ≡ None = rw before refl in let e = sym none ∙ at in cc)
+  | inl before ↦ absurd (let none : beginning_at (n ∷ ns) (suc o) ≡ None = rw before refl in let e = sym none ∙ at in cc)
   | inr behind ↦
-      (let same : number_at (n ∷ ns) (suc o) ≡ number_at ns (suc o - width_of n) = rw behind refl in
+      (let same : beginning_at (n ∷ ns) (suc o) ≡ beginning_at ns (suc o - width_of n) = rw behind refl in
       let s = stands ns (suc o - width_of n) x fits.1 (sym same ∙ at) in
       let le = ltb-false (suc o) (width_of n) behind in
       let within = s.inside in
@@ -100,11 +100,11 @@ stands (n ∷ ns) (suc o) x fits at = elim (cases_Bool (nat_lt (suc o) (width_of
 ]
 
 -- it fits as all of them do
-pub number_fits : (ns : List Number) (offset : ℕ) (x : Number) → AllByRecursion NumberFits ns → number_at ns offset ≡ Some x → NumberFits x
+pub number_fits : (ns : List Number) (offset : ℕ) (x : Number) → AllByRecursion NumberFits ns → beginning_at ns offset ≡ Some x → NumberFits x
 number_fits ns offset x fits at = (stands ns offset x fits at).fits
 
 -- a number that stands at an offset of numbers is read back there
-pub number_read : (file : List ℕ) (place : ℕ) (ns : List Number) (offset : ℕ) (x : Number) → AllByRecursion NumberFits ns → StandsAt file place (numbers_bytes ns) → number_at ns offset ≡ Some x
+pub number_read : (file : List ℕ) (place : ℕ) (ns : List Number) (offset : ℕ) (x : Number) → AllByRecursion NumberFits ns → StandsAt file place (numbers_bytes ns) → beginning_at ns offset ≡ Some x
     → num (byte_of file) (place + offset) (width_of x) ≡ value_of x
 number_read file place ns offset x fits there at =
     let s = stands ns offset x fits at in

@@ -1,4 +1,4 @@
-ghost use Rattle.std.specs.Prelude.{◌≡◌, ◌+◌, ◌<◌, ◌≤◌, length, bytes_eq, map, position, IsOk, IfOk, IfSome, OnOk, take};
+ghost use Rattle.std.specs.Prelude.{◌≡◌, ◌+◌, ◌<◌, length, bytes_eq, map, position, IsOk, IfOk, OnOk, take};
 ghost use Rattle.std.specs.Str.{str_to_ascii_lowercase};
 ghost use Rattle.pe_set.specs.Set.{forwarded_name};
 ghost use Rattle.pe_set.specs.SetView.{modules_view};

@@ -1,4 +1,4 @@
-ghost use Rattle.std.specs.Prelude.{◌≡◌, ◌≤◌, ◌≢◌, Err, length};
+ghost use Rattle.std.specs.Prelude.{◌≤◌, ◌≢◌, Err, length};
 ghost use Rattle.pe_set.specs.SetView.{modules_view};
 ghost use Rattle.pe_set.specs.SetFaults.{ClassAnswers, places_tests};
 

@@ -1,4 +1,4 @@
-ghost use Rattle.std.specs.Prelude.{◌≡◌, ◌^◌, ◌≤◌, [], length, option_map, IfOk, OnOk, All};
+ghost use Rattle.std.specs.Prelude.{◌≡◌, ◌^◌, ◌≤◌, [], length, option_map, IfOk, OnOk};
 ghost use Rattle.pe_tables.specs.Key.{key_view, target_view};
 ghost use Rattle.pe_tables.specs.Exports.{target_at};
 ghost use Rattle.pe_set.specs.Set.{named};

@@ -1,6 +1,5 @@
 //! Time stamps as dates.
 
-ghost use Rattle.std.specs.Prelude.{◌≤◌};
 ghost use Rattle.pe_text.specs.TextWriter.{IsReady};
 ghost use Rattle.pe_show.specs.Page.{AddsSome};
 

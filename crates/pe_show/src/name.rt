@@ -3,7 +3,7 @@
 ghost use Rattle.std.specs.Prelude.{◌≡◌, ◌≤◌, ◌&&◌, length, IfSome, IfNone, true, false};
 ghost use Rattle.std.specs.List.{list_all};
 ghost use Rattle.std.specs.Str.{chars};
-ghost use Rattle.pe_text.specs.Text.{is_printable, is_plain as stands_for_itself, escaped, quoted};
+ghost use Rattle.pe_text.specs.Text.{is_printable, escaped, quoted};
 ghost use Rattle.pe_text.specs.TextWriter.{IsReady, Adds};
 ghost use Rattle.pe_show.specs.Name.{is_safe, begins_plain, is_plain, cut, name_text, columns};
 
@@ -94,19 +94,12 @@ pub(crate) fn write_name<W: Sink>(text: &mut TextWriter<W>, name: &[u8])
     }
 }
 
-/// Whether a byte stands for itself in quotes: it is printable, no quote and no backslash.
-fn stands_for_itself(byte: u8) -> bool
-    ensures { result ≡ stands_for_itself byte }
-{
-    matches!(byte, b' '..=b'~') && byte != b'"' && byte != b'\\'
-}
-
 /// How many columns a byte takes in quotes.
 fn escaped_width(byte: u8) -> usize
     ensures value { result ≡ length (escaped byte) }
     ensures bound { result ≤ 4 }
 {
-    if stands_for_itself(byte) { 1 } else { 4 }
+    if pe_text::is_plain(byte) { 1 } else { 4 }
 }
 
 /// How many columns a name takes in quotes.

@@ -11,7 +11,7 @@ use Rattle.std.proofs.lemmas.List.Sorted.{Contains-permutation, IsPermutation-sy
 use borrow.Author.Tests.{lt-ltb, eq-eqb, ne_eqb}
 use Rattle.pe_tables.specs.Ranges.{meets}
 use Rattle.pe_set.specs.Placement.{Placement, no_placement, placement_at, others_than}
-use Rattle.pe_space.specs.ByBase.{base_of, number_at, IsByBase, with_base, StandApart}
+use Rattle.pe_space.specs.ByBase.{base_of, numbered, IsByBase, with_base, StandApart}
 use Rattle.pe_space.specs.Content.{is_in, placed_from}
 use Rattle.pe_space.specs.Ordered.{IsOrdered}
 use Rattle.pe_space.specs.declared.by_base.NumberAt.{NumberAt}
@@ -111,8 +111,8 @@ pub record AreUpTo (order near : List NumberAt) (most : ℕ) : Type 0 where
 
 module _ (ps : List Placement) (order near : List NumberAt) (most : ℕ) (by_base : IsByBase ps order) (stand : StandApart ps) (up_to : AreUpTo order near most) where
   -- image k begins by then
-  near_at : (k : ℕ) → k < length ps → (placement_at ps k).base ≤ most → Contains near (number_at ps k)
-  near_at k lt low = up_to.all (number_at ps k) (by_base.all k lt) low
+  near_at : (k : ℕ) → k < length ps → (placement_at ps k).base ≤ most → Contains near (numbered ps k)
+  near_at k lt low = up_to.all (numbered ps k) (by_base.all k lt) low
 
   -- where none begins by then, none holds the address
   pub none_near : length near ≡ 0 → placed_from 0 ps most ≡ None
@@ -134,11 +134,11 @@ module _ (ps : List Placement) (order near : List NumberAt) (most : ℕ) (by_bas
       record { place = it.0; base = sym (ap base_of it.1); low = own.1 }
 
   -- an image that begins by then and is not behind this one ends before it, unless it is this one
-  ends_before : (at : NumberAt) (n k q : ℕ) → IsNear at → n < length near → get_or near n at ≡ at → k < length ps → (k ≡ at.number → ⊥) → q ≤ n → get_or near q (number_at ps k) ≡ number_at ps k
+  ends_before : (at : NumberAt) (n k q : ℕ) → IsNear at → n < length near → get_or near n at ≡ at → k < length ps → (k ≡ at.number → ⊥) → q ≤ n → get_or near q (numbered ps k) ≡ numbered ps k
       → (placement_at ps k).base + (placement_at ps k).size ≤ at.base
   ends_before at n k q is lt here below ne le there =
-      let here_k : get_or near n (number_at ps k) ≡ at = get_or_default near n (number_at ps k) at lt ∙ here in
-      let order : (placement_at ps k).base ≤ at.base = subst (λ (e : NumberAt). (placement_at ps k).base ≤ e.base) here_k (subst (λ (e : NumberAt). e.base ≤ (get_or near n (number_at ps k)).base) there (up_to.ascend q n (number_at ps k) le lt)) in
+      let here_k : get_or near n (numbered ps k) ≡ at = get_or_default near n (numbered ps k) at lt ∙ here in
+      let order : (placement_at ps k).base ≤ at.base = subst (λ (e : NumberAt). (placement_at ps k).base ≤ e.base) here_k (subst (λ (e : NumberAt). e.base ≤ (get_or near n (numbered ps k)).base) there (up_to.ascend q n (numbered ps k) le lt)) in
       let some = stand.some at.number is.place in
       let base = is.base in
       elim (stand.apart k at.number below is.place ne) [ inl before ↦ omega arith | inr after ↦ absurd (omega arith) ]
@@ -200,22 +200,22 @@ module _ (ps : List Placement) (order near : List NumberAt) (most : ℕ) (by_bas
               | inl same ↦ rw same end
               | inr apart ↦
                   let there = near_at k lt by_then in
-                  elim (Contains-append_cases rest (at ∷ behind) (number_at ps k) (subst (λ (l : List NumberAt). Contains l (number_at ps k)) parts there)) [
+                  elim (Contains-append_cases rest (at ∷ behind) (numbered ps k) (subst (λ (l : List NumberAt). Contains l (numbered ps k)) parts there)) [
                     | inl early ↦
                         let count = ap length parts ∙ length-append rest (at ∷ behind) in
                         let here : get_or near (length rest) at ≡ at = ap (λ (l : List NumberAt). get_or l (length rest) at) parts ∙ get_or-behind rest at behind at in
-                        let place : get_or near early.0 (number_at ps k) ≡ number_at ps k = ap (λ (l : List NumberAt). get_or l early.0 (number_at ps k)) parts ∙ get_or-before rest (at ∷ behind) early.0 (number_at ps k) early.1 ∙ early.2 in
+                        let place : get_or near early.0 (numbered ps k) ≡ numbered ps k = ap (λ (l : List NumberAt). get_or l early.0 (numbered ps k)) parts ∙ get_or-before rest (at ∷ behind) early.0 (numbered ps k) early.1 ∙ early.2 in
                         let lt_rest = early.1 in
                         let first = ends_before at (length rest) k early.0 is (omega (arith, count)) here lt apart (omega arith) place in
                         omega arith
                     | inr (zero, at_lt, is_at) ↦ absurd (apart (ap (λ (e : NumberAt). e.number) (sym is_at)))
-                    | inr (suc q, at_lt, is_at) ↦ absurd (ne (all_own (number_at ps k) (q, omega (arith, at_lt), is_at)))
+                    | inr (suc q, at_lt, is_at) ↦ absurd (ne (all_own (numbered ps k) (q, omega (arith, at_lt), is_at)))
                   ]
             ]))
           ]
 
       pub none_found : near ≡ behind → false ≡ list_any test (others_than i ps)
-      none_found all = sym (none_overlaps (λ k lt ne by_then. absurd (ne (all_own (number_at ps k) (subst (λ (l : List NumberAt). Contains l (number_at ps k)) all (near_at k lt by_then))))))
+      none_found all = sym (none_overlaps (λ k lt ne by_then. absurd (ne (all_own (numbered ps k) (subst (λ (l : List NumberAt). Contains l (numbered ps k)) all (near_at k lt by_then))))))
 
 -- the last of a list
 pub none_last : {X : Type 0} (xs : List X) → slice_get xs (length xs - 1) ≡ None → length xs ≡ 0
@@ -225,26 +225,26 @@ none_last (x ∷ xs) is = absurd (let some = slice_get-get_or (x ∷ xs) (length
 -- ---- how that order is made
 -- the numbers of the first k images
 pub record AreFirst (ps : List Placement) (k : ℕ) (order : List NumberAt) : Type 0 where
-  pub own : (at : NumberAt) → Contains order at → (at.number < k) × (at ≡ number_at ps at.number)
-  pub all : (j : ℕ) → j < k → Contains order (number_at ps j)
+  pub own : (at : NumberAt) → Contains order at → (at.number < k) × (at ≡ numbered ps at.number)
+  pub all : (j : ℕ) → j < k → Contains order (numbered ps j)
 
 pub first_none : (ps : List Placement) → AreFirst ps 0 []
 first_none ps = record { own = λ at held. absurd (let lt = held.1 in omega arith); all = λ j lt. absurd (omega arith) }
 
-pub first_more : (ps : List Placement) (k : ℕ) (xs : List NumberAt) (at : NumberAt) → AreFirst ps k xs → at ≡ number_at ps k → AreFirst ps (k + 1) (xs ++ at ∷ [])
+pub first_more : (ps : List Placement) (k : ℕ) (xs : List NumberAt) (at : NumberAt) → AreFirst ps k xs → at ≡ numbered ps k → AreFirst ps (k + 1) (xs ++ at ∷ [])
 first_more ps k xs at so_far is = record {
   own = λ x held. elim (Contains-append_cases xs (at ∷ []) x held) [
     | inl before ↦ (let it = so_far.own x before in (omega (arith, it.0), it.1))
     | inr last ↦
         (let same : at ≡ x = one_held at x last in
         let number : x.number ≡ k = ap (λ (e : NumberAt). e.number) (sym same ∙ is) in
-        (omega (arith, number), sym same ∙ is ∙ ap (number_at ps) (sym number)))
+        (omega (arith, number), sym same ∙ is ∙ ap (numbered ps) (sym number)))
   ];
   all = λ j lt. elim (cases_lt j k) [
-    | inl below ↦ Contains-append_left xs (at ∷ []) (number_at ps j) (so_far.all j below)
+    | inl below ↦ Contains-append_left xs (at ∷ []) (numbered ps j) (so_far.all j below)
     | inr over ↦
         (let here : j ≡ k = omega arith in
-        Contains-append_right xs (at ∷ []) (number_at ps j) (0, omega arith, is ∙ ap (number_at ps) (sym here)))
+        Contains-append_right xs (at ∷ []) (numbered ps j) (0, omega arith, is ∙ ap (numbered ps) (sym here)))
   ];
 }
   where
@@ -255,7 +255,7 @@ first_more ps k xs at so_far is = record {
 pub first_all : (ps : List Placement) (xs ys : List NumberAt) → AreFirst ps (length ps) xs → IsOrdered base_of xs ys → IsByBase ps ys
 first_all ps xs ys first ordered = record {
   own = λ at held. first.own at (Contains-permutation ys xs at (IsPermutation-sym xs ys ordered.same) held);
-  all = λ j lt. Contains-permutation xs ys (number_at ps j) ordered.same (first.all j lt);
+  all = λ j lt. Contains-permutation xs ys (numbered ps j) ordered.same (first.all j lt);
   ascend = ordered.ascend;
 }
 
@@ -316,7 +316,7 @@ reordered ps order moved after i base lt by_base is ordered = record {
     there : (j : ℕ) → (j ≡ i → ⊥) → placement_at (slice_set ps i p) j ≡ placement_at ps j
     there j ne = get_or-set_other ps i j p no_placement ne
 
-    own : (at : NumberAt) → Contains after at → (at.number < length (slice_set ps i p)) × (at ≡ number_at (slice_set ps i p) at.number)
+    own : (at : NumberAt) → Contains after at → (at.number < length (slice_set ps i p)) × (at ≡ numbered (slice_set ps i p) at.number)
     own at held =
         let listed : Contains (map (with_base i base) order) at = subst (λ (l : List NumberAt). Contains l at) is (Contains-permutation after moved at (IsPermutation-sym moved after ordered.same) held) in
         let from = contains_unmap (with_base i base) order at listed in
@@ -325,22 +325,22 @@ reordered ps order moved after i base lt by_base is ordered = record {
           | inl same ↦
               (let now : record from.0 { base = base } ≡ at = sym (ap (λ (b : Bool). cond b (record from.0 { base = base }) from.0) (eq-eqb from.0.number i same)) ∙ from.2 in
               let number : at.number ≡ i = ap (λ (e : NumberAt). e.number) (sym now) ∙ same in
-              (omega (arith, number, count, lt), sym now ∙ ap (λ (n : ℕ). record { base = base; number = n }) same ∙ sym (ap (λ (n : ℕ). number_at (slice_set ps i p) n) number ∙ ap (λ (q : Placement). record { base = q.base; number = i }) here)))
+              (omega (arith, number, count, lt), sym now ∙ ap (λ (n : ℕ). record { base = base; number = n }) same ∙ sym (ap (λ (n : ℕ). numbered (slice_set ps i p) n) number ∙ ap (λ (q : Placement). record { base = q.base; number = i }) here)))
           | inr other ↦
               (let now : from.0 ≡ at = sym (ap (λ (b : Bool). cond b (record from.0 { base = base }) from.0) (ne_eqb from.0.number i other)) ∙ from.2 in
-              subst (λ (e : NumberAt). (e.number < length (slice_set ps i p)) × (e ≡ number_at (slice_set ps i p) e.number)) now
+              subst (λ (e : NumberAt). (e.number < length (slice_set ps i p)) × (e ≡ numbered (slice_set ps i p) e.number)) now
               (omega (arith, was.0, count), was.1 ∙ ap (λ (q : Placement). record { base = q.base; number = from.0.number }) (sym (there from.0.number other))))
         ]
 
-    all : (j : ℕ) → j < length (slice_set ps i p) → Contains after (number_at (slice_set ps i p) j)
+    all : (j : ℕ) → j < length (slice_set ps i p) → Contains after (numbered (slice_set ps i p) j)
     all j small =
-        let listed : Contains (map (with_base i base) order) (with_base i base (number_at ps j)) = contains_map (with_base i base) order (number_at ps j) (by_base.all j (omega (arith, small, count))) in
-        let put : with_base i base (number_at ps j) ≡ number_at (slice_set ps i p) j = elim (cases_eq j i) [
+        let listed : Contains (map (with_base i base) order) (with_base i base (numbered ps j)) = contains_map (with_base i base) order (numbered ps j) (by_base.all j (omega (arith, small, count))) in
+        let put : with_base i base (numbered ps j) ≡ numbered (slice_set ps i p) j = elim (cases_eq j i) [
           | inl same ↦
-              ap (λ (b : Bool). cond b (record { base = base; number = j }) (number_at ps j)) (eq-eqb j i same)
+              ap (λ (b : Bool). cond b (record { base = base; number = j }) (numbered ps j)) (eq-eqb j i same)
               ∙ sym (ap (λ (q : Placement). record { base = q.base; number = j }) (ap (placement_at (slice_set ps i p)) same ∙ here))
           | inr other ↦
-              ap (λ (b : Bool). cond b (record { base = base; number = j }) (number_at ps j)) (ne_eqb j i other)
+              ap (λ (b : Bool). cond b (record { base = base; number = j }) (numbered ps j)) (ne_eqb j i other)
               ∙ sym (ap (λ (q : Placement). record { base = q.base; number = j }) (there j other))
         ] in
-        Contains-permutation moved after (number_at (slice_set ps i p) j) ordered.same (subst (λ (l : List NumberAt). Contains l (number_at (slice_set ps i p) j)) (sym is) (subst (Contains (map (with_base i base) order)) put listed))
+        Contains-permutation moved after (numbered (slice_set ps i p) j) ordered.same (subst (λ (l : List NumberAt). Contains l (numbered (slice_set ps i p) j)) (sym is) (subst (Contains (map (with_base i base) order)) put listed))

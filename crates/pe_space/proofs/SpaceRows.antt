@@ -5,7 +5,7 @@ use Rattle.pe_view.specs.declared.fault.Place.TheVariants.{Address}
 use Rattle.pe_head.specs.declared.optional.Magic.{Magic}
 use Rattle.pe_head.specs.declared.optional.Magic.TheVariants.{Pe32, Pe32Plus}
 use Rattle.pe_layout.specs.Image.{LaidOut}
-use Rattle.pe_tables.specs.Key.{Ordinal, Name, Target, Forward}
+use Rattle.pe_tables.specs.Key.{Name, Target, Forward}
 use Rattle.pe_tables.specs.Key as keys
 use Rattle.pe_tables.specs.Imports.{Import}
 use Rattle.pe_tables.specs.declared.fixups.Fixup.{Fixup}

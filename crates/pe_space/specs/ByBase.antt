@@ -10,13 +10,13 @@ abbrev pub base_of : NumberAt → ℕ
 base_of at = at.base
 
 -- number j, at the base of its image
-abbrev pub number_at : List Placement → ℕ → NumberAt
-number_at ps j = record { base = (placement_at ps j).base; number = j }
+abbrev pub numbered : List Placement → ℕ → NumberAt
+numbered ps j = record { base = (placement_at ps j).base; number = j }
 
 -- the numbers of all images, by ascending bases
 pub record IsByBase (ps : List Placement) (order : List NumberAt) : Type 0 where
-  pub own : (at : NumberAt) → Contains order at → (at.number < length ps) × (at ≡ number_at ps at.number)
-  pub all : (j : ℕ) → j < length ps → Contains order (number_at ps j)
+  pub own : (at : NumberAt) → Contains order at → (at.number < length ps) × (at ≡ numbered ps at.number)
+  pub all : (j : ℕ) → j < length ps → Contains order (numbered ps j)
   pub ascend : IsNonDecreasingBy base_of order
 
 -- with image i at another base

@@ -1,4 +1,4 @@
-ghost use Rattle.std.specs.Prelude.{◌≡◌, ◌≢◌, ℕ, ◌+◌, ◌*◌, ◌<◌, ◌≤◌, ◌^◌, ◌↔◌, ◌++◌, [], IsTrue, IsOk, IfOk, OnOk, length, take, All, slice_index_or};
+ghost use Rattle.std.specs.Prelude.{◌≡◌, ◌≢◌, ℕ, ◌+◌, ◌*◌, ◌<◌, ◌≤◌, ◌^◌, ◌↔◌, ◌++◌, [], IsTrue, IsOk, IfOk, OnOk, length, slice_index_or};
 ghost use Rattle.std.specs.List.{flat_map};
 ghost use Rattle.pe_tables.specs.Encoded.{FieldsAscend, page_of, entry_bytes, block_bytes, encoded};
 ghost use Rattle.pe_tables.specs.declared.fixups.Fixup.{Fixup};

@@ -1,4 +1,4 @@
-ghost use Rattle.std.specs.Prelude.{◌≡◌, ◌<◌, None, Some, IsOk, IsErrOf, option_map, map, All, AllPairs, []};
+ghost use Rattle.std.specs.Prelude.{◌≡◌, ◌<◌, None, Some, IsOk, IsErrOf, option_map, map, All, AllPairs};
 ghost use Rattle.std.specs.List.{filter_map, range_with_len};
 ghost use Rattle.pe_layout.specs.Layout.{file_of, image_of};
 ghost use Rattle.pe_view.specs.Faults.{AnswersOrWants};

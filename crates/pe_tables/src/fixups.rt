@@ -1,4 +1,4 @@
-ghost use Rattle.std.specs.Prelude.{◌≡◌, ◌+◌, ◌*◌, ◌/◌, ◌<◌, ◌≤◌, ◌^◌, [], ◌∷◌, None, Some, IsOk, IsErrOf, IsTrue, IfOk, OnOk, map, option_to_list, true, false, ◌||◌};
+ghost use Rattle.std.specs.Prelude.{◌≡◌, ◌+◌, ◌*◌, ◌/◌, ◌<◌, ◌≤◌, ◌^◌, [], None, Some, IsOk, IsErrOf, IsTrue, IfOk, map, option_to_list, true, false, ◌||◌};
 ghost use Rattle.std.specs.List.{filter_map};
 ghost use Rattle.pe_layout.specs.Layout.{image_of};
 ghost use Rattle.pe_view.specs.View.{bytes_of, size_of};
@@ -7,7 +7,7 @@ ghost use Rattle.pe_tables.specs.TableFaults.{goes_past};
 ghost use Rattle.pe_view.specs.Faults.{AnswersOrWants};
 ghost use Rattle.pe_tables.specs.Ranges.{SameRanges, meets_any};
 ghost use Rattle.pe_tables.specs.RangesView.{ranges_in};
-ghost use Rattle.pe_tables.specs.Fixups.{IsBlockSize, width_of, kind_of, range_of, slot_range, block_at, blocks_of, entry_of, entries_at, entries_of, fixup_of, fixups_in, fixups_at, fixups_of};
+ghost use Rattle.pe_tables.specs.Fixups.{IsBlockSize, width_of, kind_of, slot_range, block_at, blocks_of, entry_of, entries_at, entries_of, fixup_of, fixups_in, fixups_at, fixups_of};
 ghost use Rattle.pe_tables.specs.Encoded.{type_of};
 ghost use Rattle.pe_tables.specs.FixupFaults.{is_bad_size, entry_tests, entries_tests, blocks_tests, fixup_tests};
 ghost use Rattle.pe_tables.specs.Import.{slots_of};

@@ -5,7 +5,7 @@ ghost use Rattle.pe_layout.specs.Image.{number_at};
 ghost use Rattle.pe_tables.specs.TableFaults.{goes_past};
 ghost use Rattle.pe_view.specs.Faults.{AnswersOrWants};
 ghost use Rattle.pe_view.specs.TextEnds.{AreEndsOf};
-ghost use Rattle.pe_tables.specs.Imports.{is_null, ends_list, descriptor_at, descriptors_of, lookup_at, lookup_table, lookups_of, ends_table, is_ordinal, key_of, import_of, module_of, imports_in, imports_at, imports_of};
+ghost use Rattle.pe_tables.specs.Imports.{is_null, ends_list, descriptor_at, descriptors_of, lookup_at, lookup_table, lookups_of, ends_table, is_ordinal, key_of, import_of, module_of, imports_in, imports_of};
 ghost use Rattle.pe_tables.specs.ImportFaults.{key_tests, slot_tests, lookup_tests, lookups_tests, module_tests, descriptor_tests, descriptors_tests, import_tests};
 ghost use Rattle.pe_tables.specs.ImportView.{import_view};
 ghost use Rattle.pe_tables.specs.ImportReading.{read_of, IsIndexed, Reads};

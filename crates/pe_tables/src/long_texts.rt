@@ -1,4 +1,4 @@
-ghost use Rattle.std.specs.Prelude.{◌≡◌, ◌+◌, ◌-◌, ◌*◌, ◌/◌, ◌≤◌, ◌<◌, ℕ, List, None, Some, length, OnOk, IfOk, slice_range, slice_index_or, max, is_none, ◌∷◌, ◌++◌, ◌==◌, ◌&&◌, [], if◌then◌else◌};
+ghost use Rattle.std.specs.Prelude.{◌≡◌, ◌+◌, ◌-◌, ◌*◌, ◌/◌, ◌≤◌, ◌<◌, ℕ, List, None, Some, length, OnOk, IfOk, slice_index_or, max, is_none, ◌∷◌, ◌++◌, ◌==◌, ◌&&◌, [], if◌then◌else◌};
 ghost use Rattle.std.specs.Str.{bytes_eq};
 ghost use Rattle.pe_layout.specs.Layout.{file_of};
 ghost use Rattle.pe_layout.specs.Span.{IsTextOf};

@@ -3,6 +3,7 @@ use Rattle.std.specs.Prelude.{ℕ, Option, None, Some, List, [], ◌∷◌, code
 use Rattle.pe_head.specs.declared.optional.Magic.{Magic}
 use Rattle.pe_head.specs.declared.optional.Magic.TheVariants.{Pe32, Pe32Plus}
 use Rattle.pe_head.specs.declared.headers.Headers.{Headers}
+use Rattle.pe_head.specs.Optional.{image_base_width}
 use Rattle.pe_text.specs.Field.{Field, field, time_date_stamp, characteristics}
 
 -- the Magic field
@@ -10,10 +11,9 @@ abbrev pub magic_number : Magic → ℕ
 magic_number Pe32 = 0x10b
 magic_number Pe32Plus = 0x20b
 
--- the width of the fields that PE32+ extends
+-- the width of the fields that PE32+ extends, of which ImageBase is one
 abbrev pub extended_width : Magic → ℕ
-extended_width Pe32 = 4
-extended_width Pe32Plus = 8
+extended_width = image_base_width
 
 -- the fields of the COFF header after Machine, in the header's order
 abbrev pub coff_fields : Headers → List Field

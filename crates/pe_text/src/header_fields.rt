@@ -29,15 +29,12 @@ fn magic_number(magic: Magic) -> u64
     }
 }
 
-/// The width of the fields that PE32+ extends.
+/// The width of the fields that PE32+ extends, of which ImageBase is one.
 fn extended_width(magic: Magic) -> u8
     ensures value { result ≡ extended_width magic }
     ensures fits { result ≤ 8 }
 {
-    match magic {
-        Magic::Pe32 => 4,
-        Magic::Pe32Plus => 8,
-    }
+    magic.image_base_width() as u8
 }
 
 /// The fields of the COFF header after Machine, in the header's order ("PE Format", COFF File Header).

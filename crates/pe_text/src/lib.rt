@@ -43,5 +43,5 @@ pub use machine_line::write_machine;
 pub use outcome::{Outcome, ToolError, status};
 pub use part::{Part, write_parts};
 pub use printable::is_printable;
-pub use text_writer::{TextWriter, write_all};
+pub use text_writer::{TextWriter, is_plain, write_all};
 pub use whole_file::read_whole;

@@ -32,7 +32,7 @@ pub fn write_all<W: Sink>(writer: &mut W, piece: &[u8]) -> Result<(), Failed>
 }
 
 /// Whether a byte of a quoted text stands for itself: it is printable, no quote and no backslash.
-fn is_plain(byte: u8) -> bool
+pub fn is_plain(byte: u8) -> bool
     ensures { result ≡ is_plain byte }
 {
     matches!(byte, b' '..=b'~') && byte != b'"' && byte != b'\\'

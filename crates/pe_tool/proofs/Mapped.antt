@@ -8,14 +8,14 @@ use Rattle.std.proofs.lemmas.Bool.{le-leb, ne_eqb}
 use Rattle.pe_view.specs.declared.fault.Fault.{Fault}
 use Rattle.pe_set.specs.Placement.{Placement, address_limit, placement_at}
 use Rattle.pe_set.specs.Set as sets
-use Rattle.pe_set.specs.Set.{Entry, Module, modules_from, modules_of}
+use Rattle.pe_set.specs.Set.{Module, modules_from, modules_of}
 use Rattle.pe_set.specs.SetView.{entry_view, entries_of}
 use Rattle.pe_set.specs.Sound.{IsSound, IsSoundBinding}
 use Rattle.pe_set.specs.Bindings.{bindings_of}
 use Rattle.pe_set.specs.declared.binding.Binding.{Binding}
 use Rattle.pe_set.specs.declared.entry.SetEntry.{SetEntry}
 use Rattle.pe_space.specs.Content as contents
-use Rattle.pe_space.specs.Content.{SpaceImage, Content, placement_of, nth_image, is_in, holder_from, byte_at, size_in, base_in, window_image_by, window_image, window_in, window_at}
+use Rattle.pe_space.specs.Content.{Content, placement_of, nth_image, holder_from, byte_at, size_in, window_image_by, window_image, window_in, window_at}
 use Rattle.pe_space.specs.ImagesApart.{ImagesApart}
 use Rattle.pe_space.specs.SetContent.{image_content, laid_out, content_of}
 use Rattle.pe_space.specs.FieldsAndSlots.{Apart}

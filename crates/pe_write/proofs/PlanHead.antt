@@ -5,7 +5,7 @@ use Rattle.std.specs.List.{AllByRecursion}
 use Rattle.pe_view.specs.Number.{num, byte_of}
 use Rattle.pe_numbers.specs.declared.number.Number.{Number}
 use Rattle.pe_numbers.specs.declared.number.Number.TheVariants.{U8, U16, U32, U64}
-use Rattle.pe_numbers.specs.Numbers.{NumberFits, width_of, value_of, number_at, numbers_bytes}
+use Rattle.pe_numbers.specs.Numbers.{NumberFits, width_of, value_of, beginning_at, numbers_bytes}
 use Rattle.pe_numbers.specs.StandsAt.{StandsAt}
 use Rattle.pe_numbers.specs.ReadBack.{number_read}
 use Rattle.pe_head.specs.declared.optional.Magic.{Magic}
@@ -82,30 +82,30 @@ module _ {A : Type 0} (plan : Plan A) (g : List ℕ) (fits : AllByRecursion Numb
   abbrev formed : Magic → List Number
   formed m = header_numbers (record plan { magic = m })
 
-  at : (o place : ℕ) (x : Number) → 0 + o ≡ place → number_at (header_numbers plan) o ≡ Some x → num (byte_of g) place (width_of x) ≡ value_of x
+  at : (o place : ℕ) (x : Number) → 0 + o ≡ place → beginning_at (header_numbers plan) o ≡ Some x → num (byte_of g) place (width_of x) ≡ value_of x
   at o place x is written = ap (λ (p : ℕ). num (byte_of g) p (width_of x)) (sym is) ∙ number_read g 0 (header_numbers plan) o x fits there written
 
   p-is : pe_offset g ≡ 0x40
   p-is = at 0x3c 0x3c (U32 0x40) refl refl
 
-  coff-is : (o : ℕ) (x : Number) (place : ℕ) → 0 + place ≡ 0x40 + 4 + o → number_at (header_numbers plan) place ≡ Some x → coff_field g o (width_of x) ≡ value_of x
+  coff-is : (o : ℕ) (x : Number) (place : ℕ) → 0 + place ≡ 0x40 + 4 + o → beginning_at (header_numbers plan) place ≡ Some x → coff_field g o (width_of x) ≡ value_of x
   coff-is o x place is written = ap (λ (p : ℕ). num (byte_of g) (p + 4 + o) (width_of x)) p-is ∙ at place (0x40 + 4 + o) x is written
 
-  field-is : (o : ℕ) (x : Number) (place : ℕ) → 0 + place ≡ 0x40 + 24 + o → number_at (header_numbers plan) place ≡ Some x → field g o (width_of x) ≡ value_of x
+  field-is : (o : ℕ) (x : Number) (place : ℕ) → 0 + place ≡ 0x40 + 24 + o → beginning_at (header_numbers plan) place ≡ Some x → field g o (width_of x) ≡ value_of x
   field-is o x place is written = ap (λ (p : ℕ). num (byte_of g) (p + 24 + o) (width_of x)) p-is ∙ at place (0x40 + 24 + o) x is written
 
   magic-is : magic_of g ≡ plan.magic
   magic-is = ap (λ (v : ℕ). cond (v == 0x10b) Pe32 Pe32Plus) (field-is 0 (U16 (magic_number plan.magic)) 0x58 refl refl) ∙ form_of plan.magic
 
   -- a field that stands at one place in both forms
-  same-is : (o : ℕ) (x : Number) (place : ℕ) → 0 + place ≡ 0x40 + 24 + o → number_at (formed Pe32) place ≡ Some x → number_at (formed Pe32Plus) place ≡ Some x → field g o (width_of x) ≡ value_of x
-  same-is o x place is narrow wide = field-is o x place is (by_form (λ m. number_at (formed m) place ≡ Some x) narrow wide plan.magic)
+  same-is : (o : ℕ) (x : Number) (place : ℕ) → 0 + place ≡ 0x40 + 24 + o → beginning_at (formed Pe32) place ≡ Some x → beginning_at (formed Pe32Plus) place ≡ Some x → field g o (width_of x) ≡ value_of x
+  same-is o x place is narrow wide = field-is o x place is (by_form (λ m. beginning_at (formed m) place ≡ Some x) narrow wide plan.magic)
 
-  in_form : (m : Magic) (o : ℕ) (x : Number) (place : ℕ) → 0 + place ≡ 0x40 + 24 + o → number_at (formed m) place ≡ Some x → plan.magic ≡ m → field g o (width_of x) ≡ value_of x
-  in_form m o x place is written form = field-is o x place is (subst (λ (m : Magic). number_at (formed m) place ≡ Some x) (sym form) written)
+  in_form : (m : Magic) (o : ℕ) (x : Number) (place : ℕ) → 0 + place ≡ 0x40 + 24 + o → beginning_at (formed m) place ≡ Some x → plan.magic ≡ m → field g o (width_of x) ≡ value_of x
+  in_form m o x place is written form = field-is o x place is (subst (λ (m : Magic). beginning_at (formed m) place ≡ Some x) (sym form) written)
 
   -- one that does not
-  form-is : (o p : ℕ) (x y : Number) (v : ℕ) → value_of x ≡ v → value_of y ≡ v → number_at (formed Pe32) (0x58 + o) ≡ Some x → number_at (formed Pe32Plus) (0x58 + p) ≡ Some y
+  form-is : (o p : ℕ) (x y : Number) (v : ℕ) → value_of x ≡ v → value_of y ≡ v → beginning_at (formed Pe32) (0x58 + o) ≡ Some x → beginning_at (formed Pe32Plus) (0x58 + p) ≡ Some y
       → either_field g o (width_of x) p (width_of y) ≡ v
   form-is o p x y v narrow wide one other =
       either_is (is_pe32 g) plan.magic _ _ v magic-is

@@ -6,7 +6,7 @@ use Rattle.std.proofs.lemmas.List.FromFn.{fill_by_all}
 use Rattle.pe_view.specs.Number.{num, byte_of, part}
 use Rattle.pe_numbers.specs.declared.number.Number.{Number}
 use Rattle.pe_numbers.specs.declared.number.Number.TheVariants.{U16, U32}
-use Rattle.pe_numbers.specs.Numbers.{NumberFits, width_of, number_at, numbers_bytes, numbers_size}
+use Rattle.pe_numbers.specs.Numbers.{NumberFits, width_of, beginning_at, numbers_bytes, numbers_size}
 use Rattle.pe_numbers.specs.StandsAt.{StandsAt, stands-front, stands-back, stands_part, stands_each}
 use Rattle.pe_numbers.specs.ReadBack.{number_read, length-numbers, size-append, bytes-append}
 use Rattle.pe_head.specs.declared.optional.Magic.{Magic}
@@ -71,7 +71,7 @@ section_made g at k s start fits there =
     let name = fits.name in
     let ns : List Number = section_numbers s in
     let behind : StandsAt g (at + 8) (numbers_bytes ns) = stands-back g at (at + 8) s.name (numbers_bytes ns) there (omega (arith, name)) in
-    let read = λ (o p : ℕ) (x : Number) (is : 8 + p ≡ o) (written : number_at ns p ≡ Some x).
+    let read = λ (o p : ℕ) (x : Number) (is : 8 + p ≡ o) (written : beginning_at ns p ≡ Some x).
     ap (λ (q : ℕ). num (byte_of g) (q + o) (width_of x)) start ∙ ap (λ (q : ℕ). num (byte_of g) q (width_of x)) (let e : at + o ≡ at + 8 + p = omega (arith, is) in e) ∙ number_read g (at + 8) ns p x fits.numbers behind written in
     section_by _ _ _ _ _ _ _ _ _ _ s
     (ap (λ (q : ℕ). part g q 8) start ∙ stands_part g at 8 s.name (stands-front g at s.name (numbers_bytes ns) there) (sym name))
@@ -121,7 +121,7 @@ module _ {A : Type 0} (plan : Plan A) (g : List ℕ) (fits : IsPlan plan) (there
       stands_each directory_bytes 8 (λ d. AllByRecursion NumberFits (directory_numbers d)) (λ x _. length-numbers (directory_numbers x)) g (0x40 + 24 + fixed_size_of plan.magic) k plan.directories no_directory ok directories_there (omega (arith, lt, count)) in
       let fit : AllByRecursion NumberFits (directory_numbers d) = all_at (λ d. AllByRecursion NumberFits (directory_numbers d)) plan.directories k no_directory ok (omega (arith, lt, count)) in
       let p = all_read.p in
-      let at = λ (o q : ℕ) (x : Number) (e : 0x40 + 24 + o ≡ start + q) (written : number_at (directory_numbers d) q ≡ Some x).
+      let at = λ (o q : ℕ) (x : Number) (e : 0x40 + 24 + o ≡ start + q) (written : beginning_at (directory_numbers d) q ≡ Some x).
       ap (λ (n : ℕ). num (byte_of g) (n + 24 + o) (width_of x)) p ∙ ap (λ (n : ℕ). num (byte_of g) n (width_of x)) e ∙ number_read g start (directory_numbers d) q x fit here written in
       let rva : either_field g (96 + 8 * k) 4 (112 + 8 * k) 4 ≡ d.rva = either_is (is_pe32 g) plan.magic _ _ d.rva all_read.magic
       (λ m. let f : fixed_size_of plan.magic ≡ 96 = ap fixed_size_of m in at (96 + 8 * k) 0 (U32 d.rva) (omega arith) refl)

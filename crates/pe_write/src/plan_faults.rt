@@ -1,6 +1,6 @@
 //! Fault 53: why a plan is refused.
 
-ghost use Rattle.std.specs.Prelude.{◌≡◌, ◌<◌, ◌≤◌, ◌+◌, ◌*◌, ◌^◌, ⊤, nat_lt, [], ◌∷◌, length};
+ghost use Rattle.std.specs.Prelude.{◌≡◌, ◌<◌, ◌≤◌, ◌+◌, ◌*◌, ◌^◌, ⊤, nat_lt, [], ◌∷◌};
 ghost use Rattle.pe_view.specs.Faults.{Answers};
 ghost use Rattle.pe_layout.specs.Piece.{end_of};
 ghost use Rattle.pe_write.specs.PlanFaults.{is_misplaced, is_wide, number_tests, places_tests, plan_test, plan_tests, table_end};

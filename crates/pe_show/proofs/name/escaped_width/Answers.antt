@@ -2,10 +2,10 @@ use Rattle.std.proofs.Common.{◌∙◌, sym, refl}
 use Rattle.pe_text.specs.Text.{escaped, hex}
 use Rattle.pe_show.proofs.name.escaped_width.Goals as goal
 
-pub returns-then-stands_for_itself-clause-value : goal.returns-then-stands_for_itself-clause-value
+pub returns-then-is_plain-clause-value : goal.returns-then-is_plain-clause-value
 unfolding escaped
-returns-then-stands_for_itself-clause-value c = rw (sym c.stands_for_itself.ensures ∙ c.if-stands_for_itself.true) refl
+returns-then-is_plain-clause-value c = rw (sym c.is_plain.ensures ∙ c.if-is_plain.true) refl
 
-pub returns-else-stands_for_itself-clause-value : goal.returns-else-stands_for_itself-clause-value
+pub returns-else-is_plain-clause-value : goal.returns-else-is_plain-clause-value
 unfolding escaped hex
-returns-else-stands_for_itself-clause-value c = rw (sym c.stands_for_itself.ensures ∙ c.if-stands_for_itself.false) refl
+returns-else-is_plain-clause-value c = rw (sym c.is_plain.ensures ∙ c.if-is_plain.false) refl
