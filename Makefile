@@ -1,5 +1,6 @@
 # Installs petool and libpetool, and builds what is missing by `rt`.
 #
+#   make -j4 petool                        builds the program, with the crates below proved side by side
 #   make                                   builds the program and the library
 #   make install [PREFIX=..] [DESTDIR=..]  installs them, with man pages and completions
 #
@@ -27,12 +28,19 @@ SOURCES := crates.txt $(shell find crates/*/src crates/*/specs crates/*/proofs)
 SHELLS := bash zsh fish
 
 .DELETE_ON_ERROR:
-.PHONY: all install anew
+.PHONY: all petool install anew
 all: $(PROGRAM) $(SHELLS:%=$(O)/completions.%)
 	$(MAKE) -C bindings/c O=$(O)/c PREFIX=$(PREFIX) LIBDIR=$(LIBDIR)
 
+petool: $(PROGRAM)
+
+# where `-j` is given, and the checkout has no library yet, the crates below are proved side by side first
+BESIDE = $(if $(findstring jobserver,$(MAKEFLAGS)),$(if $(wildcard crates/*/out/rlib/*),,yes))
+
 crates/petool/out/petool: $(SOURCES)
-	cd crates/petool && rt run -- --version
+	$(if $(BESIDE),$(MAKE) -f scripts/beside.mk O=$(O) pe_program)
+	cd crates/petool && rt run --jobs 4 -- --version
+	rm -rf $(O)/copies
 
 # anew each time, since another checkout may have made them
 $(O)/completions.%: $(PROGRAM) anew
