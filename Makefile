@@ -1,7 +1,7 @@
 # Installs petool and libpetool, and builds what is missing by `rt`.
 #
-#   make -j4 petool                        builds the program, with the crates below proved side by side
-#   make                                   builds the program and the library
+#   make [-j4] petool                      builds the program; with -j, the crates below are proved side by side
+#   make [-j4]                             builds the program and the library
 #   make install [PREFIX=..] [DESTDIR=..]  installs them, with man pages and completions
 #
 # LIBDIR and ZSHDIR name other folders for the library and for zsh's completion. What `rt ci` has left is taken where it is newer than
@@ -34,11 +34,13 @@ all: $(PROGRAM) $(SHELLS:%=$(O)/completions.%)
 
 petool: $(PROGRAM)
 
-# where `-j` is given, and the checkout has no library yet, the crates below are proved side by side first
-BESIDE = $(if $(findstring jobserver,$(MAKEFLAGS)),$(if $(wildcard crates/*/out/rlib/*),,yes))
+# where `-j` is given, and the checkout has no library yet, what the program stands on is proved side by side first, and what the
+# calls do, unless the program alone is wanted
+IS_NEW = $(if $(findstring jobserver,$(MAKEFLAGS)),$(if $(wildcard crates/*/out/rlib/*),,yes))
+BELOW := pe_program $(if $(filter petool,$(MAKECMDGOALS)),,pe_rows)
 
 crates/petool/out/petool: $(SOURCES)
-	$(if $(BESIDE),$(MAKE) -f scripts/beside.mk O=$(O) pe_program)
+	$(if $(IS_NEW),$(MAKE) -f scripts/beside.mk O=$(O) $(BELOW))
 	cd crates/petool && rt run --jobs 4 -- --version
 	rm -rf $(O)/copies
 
