@@ -13,8 +13,13 @@ below = $(filter $(CRATES),$(shell sed -n 's/^$1\( staticlib\)*: *//p' $(TOP)/cr
 .PHONY: $(CRATES)
 $(foreach crate,$(CRATES),$(eval $(crate): $(call below,$(crate))))
 
+# of each proof more jobs cost more in all, so those have more for which the others wait
+JOBS := 1
+pe_view pe_head pe_layout pe_tables pe_image pe_set pe_space pe_views pe_show: private JOBS := 2
+pe_tool pe_program: private JOBS := 4
+
 $(CRATES):
 	@mkdir -p $(COPIES)/$@
 	@cd $(TOP) && tar c --exclude=out crates.txt HANDLES crates | tar x -C $(COPIES)/$@
-	@cd $(COPIES)/$@/crates/$@ && rt lib --jobs 4 > $(COPIES)/$@.log 2>&1 || { cat $(COPIES)/$@.log; false; }
+	@cd $(COPIES)/$@/crates/$@ && rt lib --jobs $(JOBS) > $(COPIES)/$@.log 2>&1 || { cat $(COPIES)/$@.log; false; }
 	@echo '$@ proved'
