@@ -41,7 +41,7 @@ BELOW := pe_program $(if $(filter petool,$(MAKECMDGOALS)),,pe_rows)
 
 crates/petool/out/petool: $(SOURCES)
 	$(if $(IS_NEW),$(MAKE) -f scripts/beside.mk O=$(O) $(BELOW))
-	cd crates/petool && rt run --jobs 4 -- --version
+	cd crates/petool && rt run $(if $(IS_NEW),--jobs 4) -- --version
 	rm -rf $(O)/copies
 
 # anew each time, since another checkout may have made them
