@@ -1,11 +1,11 @@
 # Installs petool and libpetool, and builds what is missing by `rt`.
 #
-#   make [-j4] petool                      builds the program; with -j, the crates below are proved side by side
+#   make [-j4] petool                      builds the program; with -j, crates are proved side by side
 #   make [-j4]                             builds the program and the library
 #   make install [PREFIX=..] [DESTDIR=..]  installs them, with man pages and completions
 #
 # LIBDIR and ZSHDIR name other folders for the library and for zsh's completion. What `rt ci` has left is taken where it is newer than
-# the sources. PROGRAM and CALLS may name a program and an archive of the calls that stand already.
+# the sources. PROGRAM and CALLS may name a program and an archive of the calls that exist already.
 #
 # All but what `rt` builds, which stands in crates/*/out, is made in $(O), outside the repository.
 
@@ -34,15 +34,15 @@ all: $(PROGRAM) $(SHELLS:%=$(O)/completions.%)
 
 petool: $(PROGRAM)
 
-# where `-j` is given, and the checkout has no library yet, what the program stands on is proved side by side first, and what the
-# calls do, unless the program alone is wanted
-IS_NEW = $(if $(findstring jobserver,$(MAKEFLAGS)),$(if $(wildcard crates/*/out/rlib/*),,yes))
-BELOW := pe_program $(if $(filter petool,$(MAKECMDGOALS)),,pe_rows)
+# how many crates are proved side by side: as many as `-j` says
+JOBS = $(or $(patsubst -j%,%,$(filter -j%,$(MAKEFLAGS))),$(if $(filter -j,$(MAKEFLAGS)),$(shell nproc),1))
+# the calls of the library too, unless the program alone is wanted
+WANTED := petool $(if $(filter petool,$(MAKECMDGOALS)),,petool_c)
 
+# it is touched, since sources that were only copied or checked out again are newer than what was proved of them
 crates/petool/out/petool: $(SOURCES)
-	$(if $(IS_NEW),$(MAKE) -f scripts/beside.mk O=$(O) $(BELOW))
-	cd crates/petool && rt run $(if $(IS_NEW),--jobs 4) -- --version
-	rm -rf $(O)/copies
+	scripts/prove.py --jobs $(JOBS) --folder $(O) $(WANTED)
+	touch $@
 
 # anew each time, since another checkout may have made them
 $(O)/completions.%: $(PROGRAM) anew
