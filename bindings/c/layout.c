@@ -1,4 +1,5 @@
-/* Compiles only where the records of petool.h are laid out as the library has them, on a machine of 64 bits. */
+/* Compiles only where the records of petool.h are laid out as the library has them, on a machine of 64 bits.
+ * scripts/describe.py writes this file. */
 #include "petool.h"
 
 #ifdef __cplusplus
@@ -113,6 +114,14 @@ AT(petool_binding, slot, 4);
 AT(petool_binding, exporter, 8);
 AT(petool_binding, rva, 12);
 
+SIZE(petool_space, 16);
+AT(petool_space, state, 0);
+AT(petool_space, is_open, 8);
+
+SIZE(petool_moved, 8);
+AT(petool_moved, fields, 0);
+AT(petool_moved, slots, 4);
+
 SIZE(petool_object_section, 56);
 AT(petool_object_section, name, 0);
 AT(petool_object_section, bytes, 16);
@@ -135,11 +144,3 @@ AT(petool_object_symbol, value, 36);
 AT(petool_object_symbol, section_number, 40);
 AT(petool_object_symbol, kind, 42);
 AT(petool_object_symbol, class_, 44);
-
-SIZE(petool_space, 16);
-AT(petool_space, state, 0);
-AT(petool_space, is_open, 8);
-
-SIZE(petool_moved, 8);
-AT(petool_moved, fields, 0);
-AT(petool_moved, slots, 4);

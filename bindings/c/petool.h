@@ -49,10 +49,12 @@ enum {
     PETOOL_CLOSED = 6    /* the space is not open */
 };
 
+/* describe/records.txt: text */
 typedef struct petool_text {
     const uint8_t *at;
     size_t len;
 } petool_text;
+/* end of describe/records.txt */
 
 static const uint8_t petool_no_bytes[1] = {0};
 #define PETOOL_NONE {petool_no_bytes, 0}
@@ -74,12 +76,14 @@ enum {
     PETOOL_PLACE_ITEM = 3     /* items of a list */
 };
 
+/* describe/records.txt: fault */
 typedef struct petool_fault {
     uint16_t number; /* as in docs/FAULTS.md, from 1 to 85 */
     uint16_t image;  /* of a set the index of the entry, else 0 */
     uint32_t place;  /* what `at` counts: a PETOOL_PLACE */
     uint64_t at;
 } petool_fault;
+/* end of describe/records.txt */
 
 /* The version of this library: its first part times 65,536, and its second part. */
 #define PETOOL_VERSION 0x10000
@@ -105,11 +109,14 @@ static inline int petool_fault_line(const petool_fault *fault, char *line, size_
 /* OK where none of faults 1 to 38 stands; FAULT; or MEMORY, which never comes where one of faults 1 to 15 stands. */
 uint32_t petool_check(const uint8_t *file, size_t len, petool_fault *fault);
 
+/* describe/records.txt: directory */
 typedef struct petool_directory {
     uint32_t rva, size;
 } petool_directory;
+/* end of describe/records.txt */
 
 /* Every field of the headers, with the greater of two widths where PE32 and PE32+ differ. */
+/* describe/records.txt: headers, section */
 typedef struct petool_headers {
     uint64_t image_base, size_of_stack_reserve, size_of_stack_commit, size_of_heap_reserve, size_of_heap_commit;
     uint32_t pe_offset, time_date_stamp, pointer_to_symbol_table, number_of_symbols;
@@ -131,6 +138,7 @@ typedef struct petool_section {
     uint32_t file_size; /* how many of these, from the first on, come from the file */
     uint32_t pointer_to_raw_data, size_of_raw_data, virtual_size, characteristics;
 } petool_section;
+/* end of describe/records.txt */
 
 #define PETOOL_SECTIONS 96 /* no image has more */
 
@@ -153,6 +161,7 @@ uint32_t petool_locate(const uint8_t *file, size_t len, uint32_t rva, uint64_t *
 
 enum { PETOOL_TARGET_RVA = 0, PETOOL_TARGET_ORDINAL = 1, PETOOL_TARGET_NAME = 2 };
 
+/* describe/records.txt: target, export, import, fixup */
 typedef struct petool_target {
     uint32_t kind;            /* a PETOOL_TARGET: an RVA of the image, or an ordinal or a name of another module */
     uint32_t value;           /* the RVA, or the ordinal at the other module; 0 beside a name */
@@ -176,6 +185,7 @@ typedef struct petool_fixup {
     uint32_t entry, field; /* the RVAs of the table's entry and of the field */
     uint32_t kind;         /* the entry's type: 1 HIGH, 2 LOW, 3 HIGHLOW, 10 DIR64 */
 } petool_fixup;
+/* end of describe/records.txt */
 
 static inline void petool_target_init(petool_target *target)
 {
@@ -237,9 +247,11 @@ static inline const petool_export *petool_find_export(const petool_export *rows,
     return (const petool_export *)bsearch(&key, rows, count, sizeof key, petool_order_of_exports);
 }
 
+/* describe/records.txt: counts */
 typedef struct petool_counts {
     size_t exports, names, imports, fixups;
 } petool_counts;
+/* end of describe/records.txt */
 
 /* All four in one reading, with the faults of petool_check: OK; SMALL where one of the tables has more items than rows; FAULT of 1
  * to 38; or MEMORY, which never comes where one of faults 1 to 15 stands. */
@@ -261,6 +273,7 @@ uint32_t petool_rebase(const uint8_t *file, size_t len, uint64_t base, uint8_t *
 
 /* ---- sets of images ---- */
 
+/* describe/records.txt: entry, binding */
 typedef struct petool_entry {
     petool_text name; /* of the module, as "kernel32.dll"; the case of ASCII letters does not count */
     petool_text file; /* all bytes of its file */
@@ -271,6 +284,7 @@ typedef struct petool_binding {
     uint32_t image, slot;   /* the index of the entry whose image has the slot, and the slot's RVA */
     uint32_t exporter, rva; /* the index of the entry whose image has the export, and its RVA */
 } petool_binding;
+/* end of describe/records.txt */
 
 /* Judges a set, and tells what each import is bound to. With `known`, an import from a module that is not in the set is no fault.
  * OK; SMALL; FAULT, with the first of the set, and of 50 the length of the cycle of forwarders in *cycle; or MEMORY, which never comes
@@ -285,10 +299,12 @@ uint32_t petool_judge(const petool_entry *set, size_t entries, bool known, petoo
  * from one call to the next, but it is never copied: two copies are one space, and the second close of them frees it twice.
  * Nobody but this library writes its fields; is_open may be read.
  * It goes to one call at a time, of any thread: a lock, a thread's start or a join stands between two calls of two threads. */
+/* describe/records.txt: space */
 typedef struct petool_space {
     void *state;
     bool is_open;
 } petool_space;
+/* end of describe/records.txt */
 
 #define PETOOL_SPACE_CLOSED {NULL, false}
 
@@ -304,9 +320,11 @@ void petool_space_close(petool_space *space);
  * CLOSED. */
 uint32_t petool_space_read(petool_space *space, uint64_t address, uint8_t *buffer, size_t len, petool_fault *fault);
 
+/* describe/records.txt: moved */
 typedef struct petool_moved {
     uint32_t fields, slots; /* how many fields of the image, and how many bound slots of all images, were written */
 } petool_moved;
+/* end of describe/records.txt */
 
 /* Moves the image of an entry to another base: its fields are moved on, and the slots that end in it are bound anew. OK; FAULT,
  * the first of 55 and 44 to 47, and then nothing is changed; or CLOSED. */
@@ -320,6 +338,7 @@ uint32_t petool_space_bindings(petool_space *space, petool_binding *rows, size_t
 
 /* ---- objects ---- */
 
+/* describe/records.txt: object_section, object_relocation */
 typedef struct petool_object_section {
     petool_text name, bytes; /* bytes are empty where none stand in the file */
     uint32_t absent_size;    /* then SizeOfRawData, else 0 */
@@ -331,9 +350,11 @@ typedef struct petool_object_relocation {
     uint32_t symbol;  /* the index of the symbol's record, auxiliary records counted */
     uint32_t kind;    /* by the machine's own table of types */
 } petool_object_relocation;
+/* end of describe/records.txt */
 
 enum { PETOOL_SECTION_UNDEFINED = 0, PETOOL_SECTION_ABSOLUTE = 0xffff, PETOOL_SECTION_DEBUG = 0xfffe };
 
+/* describe/records.txt: object_symbol */
 typedef struct petool_object_symbol {
     petool_text name, aux;   /* aux has 18 bytes for each auxiliary record */
     uint32_t index;          /* of the symbol's record, by which relocations name it */
@@ -342,6 +363,7 @@ typedef struct petool_object_symbol {
     uint16_t kind;
     uint8_t class_;          /* the storage class */
 } petool_object_symbol;
+/* end of describe/records.txt */
 
 static inline void petool_object_sections_init(petool_object_section *rows, size_t room)
 {

@@ -9,7 +9,7 @@ import struct
 from collections.abc import Sequence as AbstractSequence
 from typing import Any, Callable, Generic, Iterator, List, Sequence, Tuple, TypeVar, Union, overload
 
-from . import _library
+from . import _library, _records
 
 #: Anything with the buffer protocol whose bytes stand in one piece.
 Buffer = Union[bytes, bytearray, memoryview, mmap.mmap]
@@ -106,13 +106,13 @@ class RowLayout:
         self.blank = self.struct.pack(*(_library.NO_BYTES if code == "P" else 0 for code in form if code != "x"))
 
 
-EXPORT = RowLayout("QPNIIPNPN")
-IMPORT = RowLayout("PNPNIH?x")
-FIXUP = RowLayout("III")
-BINDING = RowLayout("IIII")
-OBJECT_SECTION = RowLayout("PNPNIIIIIxxxx")
-OBJECT_RELOCATION = RowLayout("III")
-OBJECT_SYMBOL = RowLayout("PNPNIIHHBxxx")
+EXPORT = RowLayout(_records.EXPORT)
+IMPORT = RowLayout(_records.IMPORT)
+FIXUP = RowLayout(_records.FIXUP)
+BINDING = RowLayout(_records.BINDING)
+OBJECT_SECTION = RowLayout(_records.OBJECT_SECTION)
+OBJECT_RELOCATION = RowLayout(_records.OBJECT_RELOCATION)
+OBJECT_SYMBOL = RowLayout(_records.OBJECT_SYMBOL)
 
 
 def read_rows(layout: RowLayout, room: int, call: Callable[[int, int, Any], int]) -> memoryview:
@@ -173,13 +173,13 @@ class FileSet:
         self._held: List[FileBytes] = []
         entries = [self._entry(*image) for image in images]
         self.count = len(entries)
-        self.entries = (_library.Entry * max(self.count, 1))(*entries)
+        self.entries = (_records.Entry * max(self.count, 1))(*entries)
 
-    def _entry(self, name: Union[str, bytes], data: Any, base: int) -> _library.Entry:
+    def _entry(self, name: Union[str, bytes], data: Any, base: int) -> _records.Entry:
         text = self._text(name.encode() if isinstance(name, str) else name)
-        return _library.Entry(text, self._text(data), unsigned(base, 64, "a base"))
+        return _records.Entry(text, self._text(data), unsigned(base, 64, "a base"))
 
-    def _text(self, data: Any) -> _library.Text:
+    def _text(self, data: Any) -> _records.Text:
         held = FileBytes(data)
         self._held.append(held)
-        return _library.Text(held.address, held.length)
+        return _records.Text(held.address, held.length)

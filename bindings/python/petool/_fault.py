@@ -6,7 +6,7 @@ import ctypes
 import enum
 from typing import Any, Optional, Tuple
 
-from . import _library
+from . import _library, _records
 from ._library import library
 
 
@@ -29,7 +29,7 @@ _FORMS = {
 
 def _words(number: int) -> Tuple[str, str]:
     """What stands at the place of a fault, and which rule does not hold of it."""
-    subject, rule = _library.Text.none(), _library.Text.none()
+    subject, rule = _library.no_text(), _library.no_text()
     if library.petool_fault_words(number, ctypes.byref(subject), ctypes.byref(rule)) != _library.OK:
         return "place", "no fault has this number"
     # these texts are the library's own, and live as long as it does
@@ -72,7 +72,7 @@ def raise_for(status: int) -> None:
 
 def ask(function: Any, *arguments: Any, cycle: Optional[ctypes.c_uint32] = None) -> int:
     """The status of a call whose last argument is a fault: OK, ABSENT or SMALL. The others are raised."""
-    fault = _library.Fault()
+    fault = _records.Fault()
     status: int = function(*arguments, ctypes.byref(fault))
     if status == _library.FAULT:
         length = cycle.value if cycle is not None and fault.number == 50 else None

@@ -10,7 +10,7 @@ from ctypes import byref
 from dataclasses import dataclass, fields
 from typing import Any, Callable, Dict, Iterator, Optional, Sequence, Tuple, Union
 
-from . import _library
+from . import _library, _records
 from ._bytes import EXPORT, FIXUP, IMPORT, Buffer, FileBytes, RowLayout, Rows, address_of, read_rows, unsigned, view_of
 from ._fault import FormatFault, ask
 from ._file import OfFile
@@ -21,65 +21,71 @@ from ._library import library
 class Directory:
     """Where a table of the image stands, and how many bytes it has."""
 
-    rva: int
-    size: int
+    # describe/records.txt: directory
+    rva: int  #: where its table begins in the image; 0 where there is none
+    size: int  #: how many bytes the table has, as the file says
+    # end of describe/records.txt
 
 
 @dataclass(frozen=True)
 class Headers:
     """Every field of the headers, in the order of the format. Those that PE32+ does not have are 0 in it."""
 
-    pe_offset: int
-    machine: int
-    number_of_sections: int
-    time_date_stamp: int
-    pointer_to_symbol_table: int
-    number_of_symbols: int
-    size_of_optional_header: int
-    characteristics: int
-    magic: int  #: 0x10b (PE32) or 0x20b (PE32+)
-    major_linker_version: int
-    minor_linker_version: int
-    size_of_code: int
-    size_of_initialized_data: int
-    size_of_uninitialized_data: int
-    address_of_entry_point: int
-    base_of_code: int
-    base_of_data: int  #: 0 in PE32+
-    image_base: int
-    section_alignment: int
-    file_alignment: int
-    major_operating_system_version: int
-    minor_operating_system_version: int
-    major_image_version: int
-    minor_image_version: int
-    major_subsystem_version: int
-    minor_subsystem_version: int
-    win32_version_value: int
-    size_of_image: int
-    size_of_headers: int
-    check_sum: int
-    subsystem: int
-    dll_characteristics: int
-    size_of_stack_reserve: int
-    size_of_stack_commit: int
-    size_of_heap_reserve: int
-    size_of_heap_commit: int
-    loader_flags: int
-    number_of_rva_and_sizes: int
+    # describe/records.txt: headers
+    pe_offset: int  #: the file offset of the signature
+    machine: int  #: the processor that the image is for
+    number_of_sections: int  #: how many sections there are
+    time_date_stamp: int  #: when the image was made, in seconds since 1970, as it is written
+    pointer_to_symbol_table: int  #: the file offset of the symbol table, which is not read
+    number_of_symbols: int  #: how many records the symbol table has
+    size_of_optional_header: int  #: the bytes from the optional header's beginning to the section table
+    characteristics: int  #: flags of the image
+    magic: int  #: the form of the optional header: 0x10b of PE32, 0x20b of PE32+
+    major_linker_version: int  #: the linker's version
+    minor_linker_version: int  #: the second part of the linker's version
+    size_of_code: int  #: the bytes of all code
+    size_of_initialized_data: int  #: the bytes of all initialized data
+    size_of_uninitialized_data: int  #: the bytes of all uninitialized data
+    address_of_entry_point: int  #: the RVA where the image starts to run, or 0
+    base_of_code: int  #: the RVA where code begins
+    base_of_data: int  #: the RVA where data begins; 0 in PE32+
+    image_base: int  #: the address at which the image prefers to stand
+    section_alignment: int  #: the alignment of sections in the laid-out image, in bytes
+    file_alignment: int  #: the alignment of raw data in the file, in bytes
+    major_operating_system_version: int  #: the operating system's version that the image needs
+    minor_operating_system_version: int  #: the second part of the operating system's version
+    major_image_version: int  #: the image's own version
+    minor_image_version: int  #: the second part of the image's version
+    major_subsystem_version: int  #: the subsystem's version that the image needs
+    minor_subsystem_version: int  #: the second part of the subsystem's version
+    win32_version_value: int  #: reserved
+    size_of_image: int  #: the bytes of the laid-out image
+    size_of_headers: int  #: the bytes of the headers, as a piece of the laid-out image
+    check_sum: int  #: as it is written; it is not computed
+    subsystem: int  #: what the image needs to run
+    dll_characteristics: int  #: flags of a library
+    size_of_stack_reserve: int  #: the bytes of stack to reserve
+    size_of_stack_commit: int  #: the bytes of stack to commit
+    size_of_heap_reserve: int  #: the bytes of heap to reserve
+    size_of_heap_commit: int  #: the bytes of heap to commit
+    loader_flags: int  #: reserved
+    number_of_rva_and_sizes: int  #: how many directories there are; at most 16 are held
     directories: Tuple[Directory, ...]  #: 16 of them; those that the headers do not hold are 0
+    # end of describe/records.txt
 
 
 @dataclass(frozen=True)
 class Section:
-    name: bytes  #: without the zero bytes behind it
-    rva: int  #: of the first byte
+    # describe/records.txt: section
+    name: bytes  #: the name, without the zero bytes behind it
+    rva: int  #: the RVA of the first byte
     extent: int  #: how many bytes of the laid-out image the section takes
     file_size: int  #: how many of these, from the first on, come from the file
-    pointer_to_raw_data: int
-    size_of_raw_data: int
-    virtual_size: int
-    characteristics: int
+    pointer_to_raw_data: int  #: the file offset of the first byte, as the header has it
+    size_of_raw_data: int  #: the size in the file, as the header has it
+    virtual_size: int  #: the size in the laid-out image, as the header has it
+    characteristics: int  #: the section's flags
+    # end of describe/records.txt
 
 
 @dataclass(frozen=True)
@@ -130,9 +136,11 @@ _WIDTHS = {1: 2, 2: 2, 3: 4, 10: 8}
 class Fixup:
     """A base relocation: a field that changes with the image's base."""
 
+    # describe/records.txt: fixup
     entry: int  #: the RVA of the table's entry
     field: int  #: the RVA of the field
-    kind: int  #: 1 HIGH, 2 LOW, 3 HIGHLOW, 10 DIR64
+    kind: int  #: the entry's type: 1 HIGH, 2 LOW, 3 HIGHLOW, 10 DIR64
+    # end of describe/records.txt
 
     @property
     def width(self) -> int:
@@ -143,13 +151,13 @@ class Fixup:
 _TARGET_RVA, _TARGET_ORDINAL, _TARGET_NAME = range(3)
 
 
-def _headers_of(record: _library.Headers) -> Headers:
+def _headers_of(record: _records.Headers) -> Headers:
     values = {it.name: getattr(record, it.name) for it in fields(Headers)}
     values["directories"] = tuple(Directory(it.rva, it.size) for it in record.directories)
     return Headers(**values)
 
 
-def _section_of(record: _library.Section) -> Section:
+def _section_of(record: _records.Section) -> Section:
     values = {it.name: getattr(record, it.name) for it in fields(Section)}
     values["name"] = bytes(record.name).rstrip(b"\0")
     return Section(**values)
@@ -230,20 +238,20 @@ class Image(OfFile):
         self._imports: Optional[Rows[Import]] = None
         self._fixup_rows: Optional[memoryview] = None
         try:
-            self._counts = self._judge() if check else _library.Counts()
+            self._counts = self._judge() if check else _records.Counts()
             self._headers, self._sections = self._read_headers()
         except BaseException:
             self.close()
             raise
 
-    def _judge(self) -> _library.Counts:
+    def _judge(self) -> _records.Counts:
         """Judges the whole image, and counts the rows of its tables in the same reading."""
-        counts = _library.Counts()
+        counts = _records.Counts()
         self._ask(library.petool_tables, *((_library.NO_BYTES, 0) * 4), byref(counts))
         return counts
 
     def _read_headers(self) -> Tuple[Headers, Tuple[Section, ...]]:
-        headers, sections = _library.Headers(), (_library.Section * _library.MOST_SECTIONS)()
+        headers, sections = _records.Headers(), (_records.Section * _library.MOST_SECTIONS)()
         self._ask(library.petool_read_headers, byref(headers), sections, len(sections))
         return _headers_of(headers), tuple(map(_section_of, sections[: headers.number_of_sections]))
 
@@ -313,7 +321,7 @@ class Image(OfFile):
 
     def text(self, rva: int) -> Optional[bytes]:
         """The bytes from an RVA to the next zero byte, without it; None where no zero byte of the image ends them."""
-        text = _library.Text.none()
+        text = _library.no_text()
         found = 0 <= rva < 1 << 32 and self._ask(library.petool_read_text, rva, byref(text)) == _library.OK
         return self._file.text(text.at, text.len) if found else None
 

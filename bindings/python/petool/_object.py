@@ -21,31 +21,37 @@ _WINDOW = 4096
 
 @dataclass(frozen=True)
 class ObjectSection:
-    name: bytes
+    # describe/records.txt: object_section
+    name: bytes  #: the name, also where it stands in the string table
     data: bytes  #: empty where none stand in the file
-    absent_size: int  #: then SizeOfRawData, else 0
-    virtual_size: int
-    virtual_address: int
-    characteristics: int
-    relocation_count: int
+    absent_size: int  #: SizeOfRawData where no bytes stand in the file, else 0
+    virtual_size: int  #: VirtualSize, as it is written
+    virtual_address: int  #: VirtualAddress, as it is written
+    characteristics: int  #: the section's flags
+    relocation_count: int  #: how many relocations it has
+    # end of describe/records.txt
 
 
 @dataclass(frozen=True)
 class ObjectRelocation:
+    # describe/records.txt: object_relocation
     address: int  #: the offset of the reference in the section's bytes
     symbol: int  #: the index of the symbol's record, auxiliary records counted
     kind: int  #: by the machine's own table of types
+    # end of describe/records.txt
 
 
 @dataclass(frozen=True)
 class ObjectSymbol:
-    name: bytes
+    # describe/records.txt: object_symbol
+    name: bytes  #: the name, also where it stands in the string table
     aux: bytes  #: 18 bytes for each auxiliary record
     index: int  #: of the symbol's record, by which relocations name it
-    value: int  #: by the section and the storage class
+    value: int  #: by the section and the class
     section_number: int  #: counted from 1, or SECTION_UNDEFINED, SECTION_ABSOLUTE or SECTION_DEBUG
-    kind: int
-    storage_class: int
+    kind: int  #: the type; 32 is a function
+    storage_class: int  #: the storage class, by the numbers of "PE Format"
+    # end of describe/records.txt
 
 
 def _maker(file: FileBytes, kind: Callable[..., Any]) -> Callable[..., Any]:

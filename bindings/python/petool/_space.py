@@ -8,7 +8,7 @@ from ctypes import byref
 from dataclasses import dataclass
 from typing import Any, List, NamedTuple, Sequence, Tuple, Union
 
-from . import _library
+from . import _records
 from ._bytes import BINDING, Buffer, FileSet, Rows, address_of, read_rows, unsigned
 from ._fault import ask, raise_for
 from ._image import writable
@@ -25,17 +25,21 @@ _GUESS = 4096
 class Binding:
     """What an import is bound to."""
 
+    # describe/records.txt: binding
     image: int  #: the index of the entry whose image has the slot
     slot: int  #: the slot's RVA
     exporter: int  #: the index of the entry whose image has the export
     rva: int  #: the export's RVA
+    # end of describe/records.txt
 
 
 class Moved(NamedTuple):
     """What a move wrote."""
 
-    fields: int  #: fields of the image
-    slots: int  #: bound slots of all images
+    # describe/records.txt: moved
+    fields: int  #: how many fields of the image
+    slots: int  #: how many bound slots of all images
+    # end of describe/records.txt
 
 
 class Standing(NamedTuple):
@@ -69,7 +73,7 @@ class Space:
 
     def __init__(self, images: Sequence[SetEntry], *, known: bool = False) -> None:
         self._lock = threading.Lock()
-        self._space = _library.Space(None, False)
+        self._space = _records.Space(None, False)
         held, cycle = FileSet(images), ctypes.c_uint32()
         entries = (held.entries, held.count, known)
         ask(library.petool_space_map, byref(self._space), *entries, byref(cycle), cycle=cycle)
@@ -99,7 +103,7 @@ class Space:
         """
         if not 0 <= image < self._count:
             raise IndexError("there is no image of this index")
-        moved, to = _library.Moved(), unsigned(base, 64, "a base")
+        moved, to = _records.Moved(), unsigned(base, 64, "a base")
         with self._lock:
             ask(library.petool_space_move, byref(self._space), image, to, byref(moved))
         return Moved(moved.fields, moved.slots)

@@ -10,20 +10,21 @@ import tempfile
 import unittest
 
 import petool
-from petool import _bytes, _library
+from petool import _bytes, _library, _records
 
 from . import DATA, PACKAGE, TOP
 
 RECORDS = {
-    "text": _library.Text,
-    "fault": _library.Fault,
-    "directory": _library.Directory,
-    "headers": _library.Headers,
-    "section": _library.Section,
-    "counts": _library.Counts,
-    "entry": _library.Entry,
-    "space": _library.Space,
-    "moved": _library.Moved,
+    "text": _records.Text,
+    "fault": _records.Fault,
+    "directory": _records.Directory,
+    "headers": _records.Headers,
+    "section": _records.Section,
+    "target": _records.Target,
+    "counts": _records.Counts,
+    "entry": _records.Entry,
+    "space": _records.Space,
+    "moved": _records.Moved,
 }
 ROWS = {
     "export": _bytes.EXPORT,

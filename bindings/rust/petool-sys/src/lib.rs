@@ -55,6 +55,8 @@ pub const PETOOL_SECTION_DEBUG: u16 = 0xfffe;
 
 const NO_BYTES: &[u8; 1] = &[0];
 
+// describe/records.txt: records
+
 /// A part of the file, or a text of the library. An empty one points anywhere.
 #[repr(C)]
 #[derive(Clone, Copy, Debug)]
@@ -65,33 +67,17 @@ pub struct Text {
     pub len: usize,
 }
 
-impl Text {
-    /// An empty text.
-    pub const NONE: Text = Text {
-        at: NO_BYTES.as_ptr(),
-        len: 0,
-    };
-
-    /// The text of these bytes, which live as long as it is used.
-    pub const fn of(bytes: &[u8]) -> Text {
-        Text {
-            at: bytes.as_ptr(),
-            len: bytes.len(),
-        }
-    }
-}
-
 /// Which rule does not hold, and where.
 #[repr(C)]
-#[derive(Clone, Copy, Debug, Default, PartialEq, Eq)]
+#[derive(Clone, Copy, Debug, Default, PartialEq, Eq, Hash)]
 pub struct Fault {
-    /// From 1 to 85, as docs/FAULTS.md has them.
+    /// As in docs/FAULTS.md, from 1 to 85.
     pub number: u16,
     /// Of a set the index of the entry, else 0.
     pub image: u16,
     /// What `at` counts: a `PETOOL_PLACE`.
     pub place: u32,
-    /// The place.
+    /// Where the rule does not hold.
     pub at: u64,
 }
 
@@ -107,48 +93,83 @@ pub struct Directory {
 
 /// Every field of the headers, with the greater of two widths where PE32 and PE32+ differ.
 #[repr(C)]
-#[derive(Clone, Copy, Debug, Default, PartialEq, Eq)]
-#[allow(missing_docs)] // the names are those of "PE Format"
+#[derive(Clone, Copy, Debug, Default, PartialEq, Eq, Hash)]
 pub struct Headers {
+    /// The address at which the image prefers to stand.
     pub image_base: u64,
+    /// The bytes of stack to reserve.
     pub size_of_stack_reserve: u64,
+    /// The bytes of stack to commit.
     pub size_of_stack_commit: u64,
+    /// The bytes of heap to reserve.
     pub size_of_heap_reserve: u64,
+    /// The bytes of heap to commit.
     pub size_of_heap_commit: u64,
+    /// The file offset of the signature.
     pub pe_offset: u32,
+    /// When the image was made, in seconds since 1970, as it is written.
     pub time_date_stamp: u32,
+    /// The file offset of the symbol table, which is not read.
     pub pointer_to_symbol_table: u32,
+    /// How many records the symbol table has.
     pub number_of_symbols: u32,
+    /// The bytes of all code.
     pub size_of_code: u32,
+    /// The bytes of all initialized data.
     pub size_of_initialized_data: u32,
+    /// The bytes of all uninitialized data.
     pub size_of_uninitialized_data: u32,
+    /// The RVA where the image starts to run, or 0.
     pub address_of_entry_point: u32,
+    /// The RVA where code begins.
     pub base_of_code: u32,
-    /// 0 in PE32+.
+    /// The RVA where data begins; 0 in PE32+.
     pub base_of_data: u32,
+    /// The alignment of sections in the laid-out image, in bytes.
     pub section_alignment: u32,
+    /// The alignment of raw data in the file, in bytes.
     pub file_alignment: u32,
+    /// Reserved.
     pub win32_version_value: u32,
+    /// The bytes of the laid-out image.
     pub size_of_image: u32,
+    /// The bytes of the headers, as a piece of the laid-out image.
     pub size_of_headers: u32,
+    /// As it is written; it is not computed.
     pub check_sum: u32,
+    /// Reserved.
     pub loader_flags: u32,
+    /// How many directories there are; at most 16 are held.
     pub number_of_rva_and_sizes: u32,
-    /// 0x10b of PE32 or 0x20b of PE32+.
+    /// The form of the optional header: 0x10b of PE32, 0x20b of PE32+.
     pub magic: u16,
+    /// The processor that the image is for.
     pub machine: u16,
+    /// How many sections there are.
     pub number_of_sections: u16,
+    /// The bytes from the optional header's beginning to the section table.
     pub size_of_optional_header: u16,
+    /// Flags of the image.
     pub characteristics: u16,
+    /// What the image needs to run.
     pub subsystem: u16,
+    /// Flags of a library.
     pub dll_characteristics: u16,
+    /// The operating system's version that the image needs.
     pub major_operating_system_version: u16,
+    /// The second part of the operating system's version.
     pub minor_operating_system_version: u16,
+    /// The image's own version.
     pub major_image_version: u16,
+    /// The second part of the image's version.
     pub minor_image_version: u16,
+    /// The subsystem's version that the image needs.
     pub major_subsystem_version: u16,
+    /// The second part of the subsystem's version.
     pub minor_subsystem_version: u16,
+    /// The linker's version.
     pub major_linker_version: u8,
+    /// The second part of the linker's version.
     pub minor_linker_version: u8,
     /// Those that the headers do not hold are 0.
     pub directories: [Directory; 16],
@@ -156,21 +177,21 @@ pub struct Headers {
 
 /// A section of an image.
 #[repr(C)]
-#[derive(Clone, Copy, Debug, Default, PartialEq, Eq)]
+#[derive(Clone, Copy, Debug, Default, PartialEq, Eq, Hash)]
 pub struct Section {
-    /// Its name, filled up with zero bytes.
+    /// The name, filled up with zero bytes.
     pub name: [u8; 8],
-    /// Where it begins in the image.
+    /// The RVA of the first byte.
     pub rva: u32,
-    /// How many bytes of the laid-out image it takes.
+    /// How many bytes of the laid-out image the section takes.
     pub extent: u32,
     /// How many of these, from the first on, come from the file.
     pub file_size: u32,
-    /// PointerToRawData.
+    /// The file offset of the first byte, as the header has it.
     pub pointer_to_raw_data: u32,
-    /// SizeOfRawData.
+    /// The size in the file, as the header has it.
     pub size_of_raw_data: u32,
-    /// VirtualSize.
+    /// The size in the laid-out image, as the header has it.
     pub virtual_size: u32,
     /// The section's flags.
     pub characteristics: u32,
@@ -180,20 +201,20 @@ pub struct Section {
 #[repr(C)]
 #[derive(Clone, Copy, Debug)]
 pub struct Target {
-    /// A `PETOOL_TARGET`.
+    /// A `PETOOL_TARGET`: an RVA of the image, or an ordinal or a name of another module.
     pub kind: u32,
     /// The RVA, or the ordinal at the other module; 0 beside a name.
     pub value: u32,
-    /// Of a forwarder; else empty.
+    /// Of a forwarder the other module; else empty.
     pub module: Text,
     /// Of a forwarder to a name; else empty.
     pub name: Text,
 }
 
 impl Target {
-    /// What stands in a target before a call sets it.
+    /// What stands in it before a call sets it.
     pub const NONE: Target = Target {
-        kind: PETOOL_TARGET_RVA,
+        kind: 0,
         value: 0,
         module: Text::NONE,
         name: Text::NONE,
@@ -213,7 +234,7 @@ pub struct Export {
 }
 
 impl Export {
-    /// What stands in a row before a call sets it.
+    /// What stands in it before a call sets it.
     pub const NONE: Export = Export {
         ordinal: 0,
         name: Text::NONE,
@@ -238,7 +259,7 @@ pub struct Import {
 }
 
 impl Import {
-    /// What stands in a row before a call sets it.
+    /// What stands in it before a call sets it.
     pub const NONE: Import = Import {
         module: Text::NONE,
         name: Text::NONE,
@@ -256,13 +277,13 @@ pub struct Fixup {
     pub entry: u32,
     /// The RVA of the field.
     pub field: u32,
-    /// The entry's type: 1 HIGH and 2 LOW of 2 bytes, 3 HIGHLOW of 4, 10 DIR64 of 8.
+    /// The entry's type: 1 HIGH, 2 LOW, 3 HIGHLOW, 10 DIR64.
     pub kind: u32,
 }
 
 /// How many rows the tables of an image have.
 #[repr(C)]
-#[derive(Clone, Copy, Debug, Default, PartialEq, Eq)]
+#[derive(Clone, Copy, Debug, Default, PartialEq, Eq, Hash)]
 pub struct Counts {
     /// Exports by ordinal.
     pub exports: usize,
@@ -278,7 +299,7 @@ pub struct Counts {
 #[repr(C)]
 #[derive(Clone, Copy, Debug)]
 pub struct Entry {
-    /// Of the module, as `kernel32.dll`; the case of ASCII letters does not count.
+    /// Of the module, as "kernel32.dll"; the case of ASCII letters does not count.
     pub name: Text,
     /// All bytes of its file.
     pub file: Text,
@@ -310,17 +331,9 @@ pub struct Space {
     pub is_open: bool,
 }
 
-impl Space {
-    /// A space without a set.
-    pub const CLOSED: Space = Space {
-        state: core::ptr::null_mut(),
-        is_open: false,
-    };
-}
-
 /// What a move wrote.
 #[repr(C)]
-#[derive(Clone, Copy, Debug, Default, PartialEq, Eq)]
+#[derive(Clone, Copy, Debug, Default, PartialEq, Eq, Hash)]
 pub struct Moved {
     /// How many fields of the image.
     pub fields: u32,
@@ -332,15 +345,15 @@ pub struct Moved {
 #[repr(C)]
 #[derive(Clone, Copy, Debug)]
 pub struct ObjectSection {
-    /// Its name, also where that is long.
+    /// The name, also where it stands in the string table.
     pub name: Text,
     /// Empty where none stand in the file.
     pub bytes: Text,
     /// SizeOfRawData where no bytes stand in the file, else 0.
     pub absent_size: u32,
-    /// VirtualSize.
+    /// VirtualSize, as it is written.
     pub virtual_size: u32,
-    /// VirtualAddress.
+    /// VirtualAddress, as it is written.
     pub virtual_address: u32,
     /// The section's flags.
     pub characteristics: u32,
@@ -349,7 +362,7 @@ pub struct ObjectSection {
 }
 
 impl ObjectSection {
-    /// What stands in a row before a call sets it.
+    /// What stands in it before a call sets it.
     pub const NONE: ObjectSection = ObjectSection {
         name: Text::NONE,
         bytes: Text::NONE,
@@ -377,7 +390,7 @@ pub struct ObjectRelocation {
 #[repr(C)]
 #[derive(Clone, Copy, Debug)]
 pub struct ObjectSymbol {
-    /// Its name, also where that is long.
+    /// The name, also where it stands in the string table.
     pub name: Text,
     /// 18 bytes for each auxiliary record.
     pub aux: Text,
@@ -387,14 +400,14 @@ pub struct ObjectSymbol {
     pub value: u32,
     /// Counted from 1, or a `PETOOL_SECTION`.
     pub section_number: u16,
-    /// Its type.
+    /// The type; 32 is a function.
     pub kind: u16,
-    /// The storage class.
+    /// The storage class, by the numbers of "PE Format".
     pub class_: u8,
 }
 
 impl ObjectSymbol {
-    /// What stands in a row before a call sets it.
+    /// What stands in it before a call sets it.
     pub const NONE: ObjectSymbol = ObjectSymbol {
         name: Text::NONE,
         aux: Text::NONE,
@@ -406,10 +419,35 @@ impl ObjectSymbol {
     };
 }
 
+// end of describe/records.txt
+
+impl Text {
+    /// An empty text.
+    pub const NONE: Text = Text {
+        at: NO_BYTES.as_ptr(),
+        len: 0,
+    };
+
+    /// The text of these bytes, which live as long as it is used.
+    pub const fn of(bytes: &[u8]) -> Text {
+        Text {
+            at: bytes.as_ptr(),
+            len: bytes.len(),
+        }
+    }
+}
+
+impl Space {
+    /// A space without a set.
+    pub const CLOSED: Space = Space {
+        state: core::ptr::null_mut(),
+        is_open: false,
+    };
+}
+
 #[allow(missing_docs)] // petool.h says of each call what it answers
 extern "C" {
-    pub fn petool_version() -> u32;
-    pub fn petool_fault_words(number: u16, subject: *mut Text, rule: *mut Text) -> u32;
+    // describe/records.txt: calls
 
     pub fn petool_check(file: *const u8, len: usize, fault: *mut Fault) -> u32;
     pub fn petool_read_headers(
@@ -494,7 +532,6 @@ extern "C" {
         room: usize,
         fault: *mut Fault,
     ) -> u32;
-
     pub fn petool_judge(
         set: *const Entry,
         entries: usize,
@@ -505,6 +542,7 @@ extern "C" {
         cycle: *mut u32,
         fault: *mut Fault,
     ) -> u32;
+
     pub fn petool_space_map(
         space: *mut Space,
         set: *const Entry,
@@ -513,25 +551,17 @@ extern "C" {
         cycle: *mut u32,
         fault: *mut Fault,
     ) -> u32;
-    pub fn petool_space_close(space: *mut Space);
     pub fn petool_space_read(space: *mut Space, address: u64, buffer: *mut u8, len: usize, fault: *mut Fault) -> u32;
     pub fn petool_space_move(space: *mut Space, image: u16, base: u64, moved: *mut Moved, fault: *mut Fault) -> u32;
     pub fn petool_space_image(space: *mut Space, image: u16, base: *mut u64, size: *mut u32) -> u32;
     pub fn petool_space_bindings(space: *mut Space, rows: *mut Binding, room: usize, count: *mut usize) -> u32;
+    pub fn petool_space_close(space: *mut Space);
 
     pub fn petool_object_check(file: *const u8, len: usize, fault: *mut Fault) -> u32;
     pub fn petool_object_sections(
         file: *const u8,
         len: usize,
         rows: *mut ObjectSection,
-        room: usize,
-        count: *mut usize,
-        fault: *mut Fault,
-    ) -> u32;
-    pub fn petool_object_symbols(
-        file: *const u8,
-        len: usize,
-        rows: *mut ObjectSymbol,
         room: usize,
         count: *mut usize,
         fault: *mut Fault,
@@ -554,4 +584,17 @@ extern "C" {
         count: *mut usize,
         fault: *mut Fault,
     ) -> u32;
+    pub fn petool_object_symbols(
+        file: *const u8,
+        len: usize,
+        rows: *mut ObjectSymbol,
+        room: usize,
+        count: *mut usize,
+        fault: *mut Fault,
+    ) -> u32;
+
+    pub fn petool_fault_words(number: u16, subject: *mut Text, rule: *mut Text) -> u32;
+    pub fn petool_version() -> u32;
+
+    // end of describe/records.txt
 }

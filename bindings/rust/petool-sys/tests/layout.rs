@@ -1,5 +1,5 @@
 //! Each record has the size and the places of fields that the library's have, on a machine of 64 bits; `layout.c`
-//! beside the header has the same numbers.
+//! beside the header has the same numbers. scripts/describe.py writes this file.
 
 #![cfg(target_pointer_width = "64")]
 
@@ -22,12 +22,13 @@ fn the_records_of_faults_and_headers_are_laid_out_as_in_c() {
     layout!(Directory, 8, 4, rva 0, size 4);
     layout!(Headers, 272, 8, image_base 0, size_of_stack_reserve 8, size_of_stack_commit 16,
         size_of_heap_reserve 24, size_of_heap_commit 32, pe_offset 40, time_date_stamp 44,
-        pointer_to_symbol_table 48, number_of_symbols 52, size_of_code 56, size_of_initialized_data
-        60, size_of_uninitialized_data 64, address_of_entry_point 68, base_of_code 72, base_of_data
-        76, section_alignment 80, file_alignment 84, win32_version_value 88, size_of_image 92,
-        size_of_headers 96, check_sum 100, loader_flags 104, number_of_rva_and_sizes 108, magic 112,
-        machine 114, number_of_sections 116, size_of_optional_header 118, characteristics 120,
-        subsystem 122, dll_characteristics 124, major_operating_system_version 126,
+        pointer_to_symbol_table 48, number_of_symbols 52, size_of_code 56,
+        size_of_initialized_data 60, size_of_uninitialized_data 64, address_of_entry_point 68,
+        base_of_code 72, base_of_data 76, section_alignment 80, file_alignment 84,
+        win32_version_value 88, size_of_image 92, size_of_headers 96, check_sum 100,
+        loader_flags 104, number_of_rva_and_sizes 108, magic 112, machine 114,
+        number_of_sections 116, size_of_optional_header 118, characteristics 120, subsystem 122,
+        dll_characteristics 124, major_operating_system_version 126,
         minor_operating_system_version 128, major_image_version 130, minor_image_version 132,
         major_subsystem_version 134, minor_subsystem_version 136, major_linker_version 138,
         minor_linker_version 139, directories 140);
@@ -54,10 +55,11 @@ fn the_records_of_sets_and_spaces_are_laid_out_as_in_c() {
 
 #[test]
 fn the_records_of_objects_are_laid_out_as_in_c() {
-    layout!(ObjectSection, 56, 8, name 0, bytes 16, absent_size 32, virtual_size 36, virtual_address
-        40, characteristics 44, relocation_count 48);
+    layout!(ObjectSection, 56, 8, name 0, bytes 16, absent_size 32, virtual_size 36,
+        virtual_address 40, characteristics 44, relocation_count 48);
     layout!(ObjectRelocation, 12, 4, address 0, symbol 4, kind 8);
-    layout!(ObjectSymbol, 48, 8, name 0, aux 16, index 32, value 36, section_number 40, kind 42, class_ 44);
+    layout!(ObjectSymbol, 48, 8, name 0, aux 16, index 32, value 36, section_number 40, kind 42,
+        class_ 44);
 }
 
 #[test]

@@ -1,0 +1,165 @@
+"""The records and calls of the shared library, as petool.h declares them. scripts/describe.py writes this module."""
+
+from ctypes import POINTER, Structure, c_bool, c_size_t, c_uint8, c_uint16, c_uint32, c_uint64, c_void_p
+from typing import Any, Dict, List, Tuple
+
+
+class Text(Structure):
+    _fields_ = [("at", c_void_p), ("len", c_size_t)]
+
+
+class Fault(Structure):
+    _fields_ = [("number", c_uint16), ("image", c_uint16), ("place", c_uint32), ("at", c_uint64)]
+
+
+class Directory(Structure):
+    _fields_ = [("rva", c_uint32), ("size", c_uint32)]
+
+
+class Headers(Structure):
+    _fields_ = [
+        ("image_base", c_uint64),
+        ("size_of_stack_reserve", c_uint64),
+        ("size_of_stack_commit", c_uint64),
+        ("size_of_heap_reserve", c_uint64),
+        ("size_of_heap_commit", c_uint64),
+        ("pe_offset", c_uint32),
+        ("time_date_stamp", c_uint32),
+        ("pointer_to_symbol_table", c_uint32),
+        ("number_of_symbols", c_uint32),
+        ("size_of_code", c_uint32),
+        ("size_of_initialized_data", c_uint32),
+        ("size_of_uninitialized_data", c_uint32),
+        ("address_of_entry_point", c_uint32),
+        ("base_of_code", c_uint32),
+        ("base_of_data", c_uint32),
+        ("section_alignment", c_uint32),
+        ("file_alignment", c_uint32),
+        ("win32_version_value", c_uint32),
+        ("size_of_image", c_uint32),
+        ("size_of_headers", c_uint32),
+        ("check_sum", c_uint32),
+        ("loader_flags", c_uint32),
+        ("number_of_rva_and_sizes", c_uint32),
+        ("magic", c_uint16),
+        ("machine", c_uint16),
+        ("number_of_sections", c_uint16),
+        ("size_of_optional_header", c_uint16),
+        ("characteristics", c_uint16),
+        ("subsystem", c_uint16),
+        ("dll_characteristics", c_uint16),
+        ("major_operating_system_version", c_uint16),
+        ("minor_operating_system_version", c_uint16),
+        ("major_image_version", c_uint16),
+        ("minor_image_version", c_uint16),
+        ("major_subsystem_version", c_uint16),
+        ("minor_subsystem_version", c_uint16),
+        ("major_linker_version", c_uint8),
+        ("minor_linker_version", c_uint8),
+        ("directories", Directory * 16),
+    ]
+
+
+class Section(Structure):
+    _fields_ = [
+        ("name", c_uint8 * 8),
+        ("rva", c_uint32),
+        ("extent", c_uint32),
+        ("file_size", c_uint32),
+        ("pointer_to_raw_data", c_uint32),
+        ("size_of_raw_data", c_uint32),
+        ("virtual_size", c_uint32),
+        ("characteristics", c_uint32),
+    ]
+
+
+class Target(Structure):
+    _fields_ = [("kind", c_uint32), ("value", c_uint32), ("module", Text), ("name", Text)]
+
+
+class Counts(Structure):
+    _fields_ = [("exports", c_size_t), ("names", c_size_t), ("imports", c_size_t), ("fixups", c_size_t)]
+
+
+class Entry(Structure):
+    _fields_ = [("name", Text), ("file", Text), ("base", c_uint64)]
+
+
+class Space(Structure):
+    _fields_ = [("state", c_void_p), ("is_open", c_bool)]
+
+
+class Moved(Structure):
+    _fields_ = [("fields", c_uint32), ("slots", c_uint32)]
+
+
+# the layout of each row in the letters of `struct`: P and N are a text's pointer and length
+EXPORT = "QPNIIPNPN"
+IMPORT = "PNPNIH?x"
+FIXUP = "III"
+BINDING = "IIII"
+OBJECT_SECTION = "PNPNIIIIIxxxx"
+OBJECT_RELOCATION = "III"
+OBJECT_SYMBOL = "PNPNIIHHBxxx"
+
+#: What each call answers, and what it takes.
+CALLS: Dict[str, Tuple[Any, List[Any]]] = {
+    "petool_check": (c_uint32, [c_void_p, c_size_t, POINTER(Fault)]),
+    "petool_read_headers": (
+        c_uint32,
+        [c_void_p, c_size_t, POINTER(Headers), POINTER(Section), c_size_t, POINTER(Fault)],
+    ),
+    "petool_read": (c_uint32, [c_void_p, c_size_t, c_uint32, c_void_p, c_size_t, POINTER(Fault)]),
+    "petool_read_text": (c_uint32, [c_void_p, c_size_t, c_uint32, POINTER(Text), POINTER(Fault)]),
+    "petool_locate": (c_uint32, [c_void_p, c_size_t, c_uint32, POINTER(c_uint64), POINTER(Fault)]),
+    "petool_exports": (c_uint32, [c_void_p, c_size_t, c_void_p, c_size_t, POINTER(c_size_t), POINTER(Fault)]),
+    "petool_export_names": (c_uint32, [c_void_p, c_size_t, c_void_p, c_size_t, POINTER(c_size_t), POINTER(Fault)]),
+    "petool_imports": (c_uint32, [c_void_p, c_size_t, c_void_p, c_size_t, POINTER(c_size_t), POINTER(Fault)]),
+    "petool_fixups": (c_uint32, [c_void_p, c_size_t, c_void_p, c_size_t, POINTER(c_size_t), POINTER(Fault)]),
+    "petool_tables": (
+        c_uint32,
+        [
+            c_void_p,
+            c_size_t,
+            c_void_p,
+            c_size_t,
+            c_void_p,
+            c_size_t,
+            c_void_p,
+            c_size_t,
+            c_void_p,
+            c_size_t,
+            POINTER(Counts),
+            POINTER(Fault),
+        ],
+    ),
+    "petool_export_by_name": (c_uint32, [c_void_p, c_size_t, c_void_p, c_size_t, POINTER(Target), POINTER(Fault)]),
+    "petool_export_by_ordinal": (c_uint32, [c_void_p, c_size_t, c_uint32, POINTER(Target), POINTER(Fault)]),
+    "petool_rebase": (c_uint32, [c_void_p, c_size_t, c_uint64, c_void_p, c_size_t, POINTER(Fault)]),
+    "petool_judge": (
+        c_uint32,
+        [POINTER(Entry), c_size_t, c_bool, c_void_p, c_size_t, POINTER(c_size_t), POINTER(c_uint32), POINTER(Fault)],
+    ),
+    "petool_space_map": (
+        c_uint32,
+        [POINTER(Space), POINTER(Entry), c_size_t, c_bool, POINTER(c_uint32), POINTER(Fault)],
+    ),
+    "petool_space_read": (c_uint32, [POINTER(Space), c_uint64, c_void_p, c_size_t, POINTER(Fault)]),
+    "petool_space_move": (c_uint32, [POINTER(Space), c_uint16, c_uint64, POINTER(Moved), POINTER(Fault)]),
+    "petool_space_image": (c_uint32, [POINTER(Space), c_uint16, POINTER(c_uint64), POINTER(c_uint32)]),
+    "petool_space_bindings": (c_uint32, [POINTER(Space), c_void_p, c_size_t, POINTER(c_size_t)]),
+    "petool_space_close": (None, [POINTER(Space)]),
+    "petool_object_check": (c_uint32, [c_void_p, c_size_t, POINTER(Fault)]),
+    "petool_object_sections": (c_uint32, [c_void_p, c_size_t, c_void_p, c_size_t, POINTER(c_size_t), POINTER(Fault)]),
+    "petool_object_relocations": (
+        c_uint32,
+        [c_void_p, c_size_t, c_size_t, c_void_p, c_size_t, POINTER(c_size_t), POINTER(Fault)],
+    ),
+    "petool_object_all_relocations": (
+        c_uint32,
+        [c_void_p, c_size_t, c_size_t, c_void_p, c_size_t, POINTER(c_size_t), POINTER(Fault)],
+    ),
+    "petool_object_symbols": (c_uint32, [c_void_p, c_size_t, c_void_p, c_size_t, POINTER(c_size_t), POINTER(Fault)]),
+    "petool_fault_words": (c_uint32, [c_uint16, POINTER(Text), POINTER(Text)]),
+    "petool_version": (c_uint32, []),
+}

@@ -1,0 +1,108 @@
+"""What C has of the description: the structs of petool.h, layout.c, and the names that the linker gives out."""
+
+from typing import List
+
+from description import Call, Description, Field, Parameter, Record
+
+NUMBERS = {"usize": "size_t", "bool": "bool", "char": "char", **{f"u{bits}": f"uint{bits}_t" for bits in (8, 16, 32, 64)}}
+POINTERS = {"bytes": "const uint8_t *", "state": "void *"}
+RESULTS = {"u32": "uint32_t", "int": "int", "nothing": "void"}
+
+LAYOUT = """\
+/* Compiles only where the records of petool.h are laid out as the library has them, on a machine of 64 bits.
+ * scripts/describe.py writes this file. */
+#include "petool.h"
+
+#ifdef __cplusplus
+#define _Static_assert static_assert
+#endif
+
+#define SIZE(type, size) _Static_assert(sizeof(type) == (size), #type " has another size")
+#define AT(type, field, offset) _Static_assert(offsetof(type, field) == (offset), #type "." #field " stands elsewhere")
+"""
+
+
+def type_of(kind: str) -> str:
+    """A type in C, with the space or the star before what it is the type of."""
+    return POINTERS.get(kind) or f"{NUMBERS.get(kind, f'petool_{kind}')} "
+
+
+def _declared(it: Field) -> str:
+    count = f"[{it.count()}]" if "[" in it.type else ""
+    return f"{it.name}{count}" + (f" /* {it.note} */" if it.note else "")
+
+
+def _line_groups(record: Record) -> List[List[Field]]:
+    """The fields of each line of a struct."""
+    groups: List[List[Field]] = []
+    for it in record.fields:
+        if it.is_joined:
+            groups[-1].append(it)
+        else:
+            groups.append([it])
+    return groups
+
+
+def _comment(group: List[Field]) -> str:
+    said = group[-1].comment
+    return said if said is not None else group[0].meaning if len(group) == 1 else ""
+
+
+def struct(record: Record) -> List[str]:
+    """A struct of petool.h, whose comments begin in one column."""
+    groups = _line_groups(record)
+    lines = [f"{type_of(group[0].item())}{', '.join(map(_declared, group))};" for group in groups]
+    comments = list(map(_comment, groups))
+    width = max((len(line) for line, comment in zip(lines, comments) if comment), default=0)
+    rows = [f"    {line:<{width}} /* {comment} */" if comment else f"    {line}" for line, comment in zip(lines, comments)]
+    name = f"petool_{record.name}"
+    return [f"typedef struct {name} {{", *rows, f"}} {name};"]
+
+
+def structs(description: Description, what: str) -> List[str]:
+    """The structs of these names, with a blank line between two."""
+    lines: List[str] = []
+    for name in what.split(", "):
+        lines += ([""] if lines else []) + struct(description.records[name])
+    return lines
+
+
+def layout(description: Description) -> str:
+    """layout.c: the size of each record and the place of each field."""
+    parts = [LAYOUT]
+    for record in description.records.values():
+        size, _, places = description.layout(record)
+        name = f"petool_{record.name}"
+        rows = [f"SIZE({name}, {size});", *(f"AT({name}, {it.name}, {place});" for it, place in zip(record.fields, places))]
+        parts.append("\n".join(rows) + "\n")
+    return "\n".join(parts)
+
+
+def parameters(it: Parameter) -> List[str]:
+    """A parameter as C declares it; a slice is two."""
+    if not it.is_reference:
+        return [f"{type_of(it.type)}{it.name}"]
+    constant = "" if it.is_mutable else "const "
+    pointer = f"{constant}{type_of(it.type)}*{it.name}"
+    return [pointer, f"size_t {it.length}"] if it.length else [pointer]
+
+
+def prototype(call: Call) -> str:
+    """A call's prototype, on one line."""
+    declared = [word for it in call.parameters for word in parameters(it)]
+    return f"{RESULTS[call.result]} {call.name}({', '.join(declared) or 'void'});"
+
+
+def linker_map(description: Description) -> str:
+    """petool.map: the version of the names that the shared library gives out."""
+    return f"{description.library.symbols} {{ global: petool_*; local: *; }};\n"
+
+
+def debian_symbols(description: Description) -> str:
+    """libpetool0.symbols: each name with the release that it came with."""
+    library = description.library
+    since = {call.name: call.since for call in description.calls if not call.is_inline}
+    rows = {library.symbols: library.release, **since}
+    lines = [f"{library.soname} {library.package} #MINVER#", "* Build-Depends-Package: libpetool-dev"]
+    lines += [f" {name}@{library.symbols} {rows[name]}" for name in sorted(rows)]
+    return "\n".join(lines) + "\n"

@@ -1,0 +1,314 @@
+"""What records.txt says: records with their fields, calls with their parameters, and objects of JSON with their members."""
+
+import re
+from dataclasses import dataclass, field
+from typing import Dict, List, Optional, Tuple
+
+#: How many bytes each type has, and how it is aligned, on a machine of 64 bits.
+SIZES = {"u8": 1, "bool": 1, "u16": 2, "u32": 4, "u64": 8, "usize": 8, "bytes": 8, "state": 8}
+UNITS = {"-", "RVA", "address", "offset", "bytes", "count", "index", "flags"}
+COLUMNS = re.compile(r" {2,}")
+
+
+class Mistake(Exception):
+    """What is wrong with the description itself."""
+
+
+@dataclass
+class Field:
+    """A field of a record."""
+
+    name: str
+    type: str
+    unit: str
+    keys: List[str]  #: OBJECT.KEY of each member that tells of it
+    meaning: str
+    is_joined: bool  #: it stands on one line with the field before it in C
+    comment: Optional[str] = None  #: of the line in C; empty for none, None for the meaning
+    note: str = ""  #: beside the field in C
+    python: Tuple[str, str, str] = ("", "", "")  #: name, type and meaning, where they differ in Python
+
+    def item(self) -> str:
+        """The type without the count of an array."""
+        return self.type.partition("[")[0]
+
+    def count(self) -> int:
+        """How many items it has: those of an array, or one."""
+        return int(self.type.partition("[")[2].rstrip("]") or 1)
+
+
+@dataclass
+class Record:
+    """A struct of petool.h."""
+
+    name: str
+    struct: str
+    is_row: bool
+    group: str
+    about: str = ""
+    fields: List[Field] = field(default_factory=list)
+    python_module: str = ""  #: of the class that has its fields
+    python_order: List[str] = field(default_factory=list)
+
+    def camel(self) -> str:
+        """Its name in Rust and Python."""
+        return "".join(word.capitalize() for word in self.name.split("_"))
+
+
+@dataclass
+class Parameter:
+    """A parameter of a call: a value, or a reference to one or to a slice, whose length in C has a name of its own."""
+
+    name: str
+    type: str
+    is_reference: bool = False
+    is_mutable: bool = False
+    length: str = ""
+
+
+@dataclass
+class Call:
+    """A function of petool.h."""
+
+    name: str
+    group: str
+    parameters: List[Parameter]
+    result: str
+    is_inline: bool
+    since: str
+
+
+@dataclass
+class Member:
+    """A row of an object's members: one or more keys, their type and meaning."""
+
+    shown: str  #: the keys as the description writes them
+    type: str
+    meaning: str
+
+    def bases(self) -> List[str]:
+        """The keys without those that stand beside them."""
+        return [key.partition("+")[0] for key in re.split(r", | or ", self.shown)]
+
+    def keys(self) -> List[str]:
+        """All keys: also those that end in _name, _flags and _hex."""
+        found = []
+        types = self.type.split(", ") if " or " in self.shown else [self.type] * len(self.bases())
+        for key, kind in zip(re.split(r", | or ", self.shown), types):
+            base, _, suffix = key.partition("+")
+            found += [base] + ([f"{base}_{suffix}"] if suffix else []) + ([f"{base}_hex"] if kind == "name" else [])
+        return found
+
+
+@dataclass
+class Object:
+    """An object in a line of JSON, or one of the kinds of such an object."""
+
+    name: str
+    kind_of: str
+    about: str
+    is_in_words: bool = False  #: docs/JSON.md has no table of it
+    places: List[str] = field(default_factory=list)
+    members: List[Member] = field(default_factory=list)
+
+    def keys(self) -> List[str]:
+        return [key for member in self.members for key in member.keys()]
+
+
+@dataclass
+class Library:
+    """The names of the shared library: its file, Debian's package, the version of its symbols, and the first release."""
+
+    soname: str
+    package: str
+    symbols: str
+    release: str
+
+
+class Description:
+    """All that records.txt says. Mistake where a line is none of its forms, or names what is not there."""
+
+    def __init__(self, text: str) -> None:
+        self.records: Dict[str, Record] = {}
+        self.calls: List[Call] = []
+        self.objects: Dict[str, Object] = {}
+        self.library = Library("", "", "", "")
+        self._arguments: Dict[str, str] = {}
+        self._group = ""
+        self._read = self._heading
+        for number, line in _lines(text):
+            try:
+                (self._heading if line[0] != " " else self._read)(line)
+            except (Mistake, ValueError, KeyError, IndexError) as error:
+                raise Mistake(f"line {number}: {error!r}: {line.strip()}") from error
+        self._check()
+
+    def _heading(self, line: str) -> None:
+        """A line that begins something: a group, a record, the library, an argument, calls, an object or a kind of one."""
+        word, rest = line.split(" ", 1)
+        begin = {
+            "group": self._begin_group,
+            "record": self._begin_record,
+            "row": self._begin_row,
+            "library": self._name_library,
+            "argument": self._name_argument,
+            "calls": self._begin_calls,
+            "object": self._begin_object,
+            "kind": self._begin_kind,
+        }
+        begin[word](rest)
+
+    def _begin_group(self, rest: str) -> None:
+        self._group = rest
+
+    def _begin_record(self, rest: str, is_row: bool = False) -> None:
+        name, struct = rest.split(" = ")
+        self._record = self.records[name] = Record(name, struct, is_row, self._group)
+        self._read = self._about
+
+    def _begin_row(self, rest: str) -> None:
+        self._begin_record(rest, True)
+
+    def _name_library(self, rest: str) -> None:
+        self.library = Library(*rest.split())
+
+    def _name_argument(self, rest: str) -> None:
+        name, kind = COLUMNS.split(rest)
+        self._arguments[name] = kind
+
+    def _begin_calls(self, rest: str) -> None:
+        self._group = rest
+        self._read = self._call
+
+    def _begin_object(self, rest: str) -> None:
+        name, _, words = rest.partition(" in ")
+        self._object = self.objects[name] = Object(name, "", "", words == "words")
+        self._read = self._member
+
+    def _begin_kind(self, rest: str) -> None:
+        head, *about = COLUMNS.split(rest)
+        name, kind_of = head.split(" of ")
+        self._object = self.objects[f"{kind_of}.{name}"] = Object(name, kind_of, "".join(about))
+        self._read = self._member
+
+    def _about(self, line: str) -> None:
+        self._record.about = line.strip()
+        self._read = self._field
+
+    def _field(self, line: str) -> None:
+        first, _, rest = line.strip().partition(" ")
+        if first == "/":
+            self._record.fields[-1].comment = "" if rest == "-" else rest
+        elif first == "//":
+            self._record.fields[-1].note = rest
+        elif first == "python" and rest.startswith("in "):
+            self._record.python_module = rest[3:]
+        elif first == "python" and rest.startswith("order "):
+            self._record.python_order = rest[6:].split(", ")
+        elif first == "python":
+            self._record.fields[-1].python = (*COLUMNS.split(rest.strip()), "")[:3]
+        else:
+            self._add_field(first == ",", rest if first == "," else line)
+
+    def _add_field(self, is_joined: bool, row: str) -> None:
+        name, kind, unit, keys, meaning = COLUMNS.split(row.strip(), maxsplit=4)
+        if unit not in UNITS:
+            raise Mistake(f"{unit} is no unit")
+        same = f"{self._record.name}.{name}"
+        named = [same if key == "=" else key for key in keys.split(", ") if key != "-"]
+        self._record.fields.append(Field(name, kind, unit, named, meaning, is_joined))
+
+    def _call(self, line: str) -> None:
+        form = r"(inline )?(petool_\w+)\((.*)\)(?: -> (\w+))?(?: since ([\d.]+))?$"
+        inline, name, words, result, since = re.fullmatch(form, line.strip()).groups()  # type: ignore[union-attr]
+        parameters = [self._parameter(word) for word in words.split(", ") if word]
+        self.calls.append(Call(name, self._group, parameters, result or "u32", bool(inline), since or self.library.release))
+
+    def _parameter(self, word: str) -> Parameter:
+        name, _, kind = word.partition(": ")
+        kind = kind or self._arguments[name]
+        form = r"(&(?:mut )?)?(?:\[(\w+)\] (\w+)|(\w+))"
+        reference, item, length, value = re.fullmatch(form, kind).groups()  # type: ignore[union-attr]
+        return Parameter(name, item or value, bool(reference), reference == "&mut ", length or "")
+
+    def _member(self, line: str) -> None:
+        words = line.strip()
+        if words.startswith("written by "):
+            self._object.places = words[len("written by ") :].split(", ")
+        elif words.startswith("* "):
+            self._object.members += self.objects[words[2:]].members[1:]
+        else:
+            shown, kind, meaning = (*COLUMNS.split(words), "")[:3]
+            self._object.members.append(Member(shown, kind, meaning))
+
+    def _check(self) -> None:
+        """That each type is known, and that each key of a field is one of the object that it names."""
+        if not (self.records and self.calls and self.objects):
+            raise Mistake("it has no records, no calls or no objects")
+        for record in self.records.values():
+            for it in record.fields:
+                self.size(it.type)
+                for key in it.keys:
+                    name, _, member = key.partition(".")
+                    if name not in self.objects or member not in self.objects[name].keys():
+                        raise Mistake(f"{record.name}.{it.name}: there is no {key}")
+
+    def size(self, kind: str) -> Tuple[int, int]:
+        """How many bytes a type has, and how it is aligned."""
+        item, _, count = kind.partition("[")
+        if item == "text":
+            size, alignment = 16, 8
+        elif item in self.records:
+            size, alignment, _ = self.layout(self.records[item])
+        else:
+            size = alignment = SIZES[item]
+        return size * int(count.rstrip("]") or 1), alignment
+
+    def layout(self, record: Record) -> Tuple[int, int, List[int]]:
+        """How many bytes a record has, how it is aligned, and where each of its fields begins."""
+        end, most, places = 0, 1, []
+        for it in record.fields:
+            size, alignment = self.size(it.type)
+            start = -(-end // alignment) * alignment
+            places.append(start)
+            end, most = start + size, max(most, alignment)
+        return -(-end // most) * most, most, places
+
+    def has_text(self, record: Record) -> bool:
+        """Whether a text stands in a record, or in a record that is a part of it."""
+        items = [it.item() for it in record.fields]
+        return "text" in items or any(self.has_text(self.records[it]) for it in items if it in self.records)
+
+    def groups(self) -> Dict[str, List[Record]]:
+        """The records by their groups."""
+        found: Dict[str, List[Record]] = {}
+        for record in self.records.values():
+            found.setdefault(record.group, []).append(record)
+        return found
+
+    def call_groups(self) -> Dict[str, List[Call]]:
+        """The calls by their groups."""
+        found: Dict[str, List[Call]] = {}
+        for call in self.calls:
+            found.setdefault(call.group, []).append(call)
+        return found
+
+    def kinds(self, name: str) -> List[Object]:
+        """The kinds of an object."""
+        return [it for it in self.objects.values() if it.kind_of == name]
+
+
+def _lines(text: str) -> List[Tuple[int, str]]:
+    """The lines that say something, each with its number; one that ends with a comma has the next one behind it."""
+    found: List[Tuple[int, str]] = []
+    goes_on = False
+    for number, line in enumerate(text.splitlines(), 1):
+        if not line.strip() or line.startswith("#"):
+            continue
+        if goes_on:
+            start, before = found.pop()
+            found.append((start, f"{before} {line.strip()}"))
+        else:
+            found.append((number, line.rstrip()))
+        goes_on = line.rstrip().endswith(",")
+    return found

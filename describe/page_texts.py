@@ -1,0 +1,97 @@
+"""What the documents have of the description: the manual page's synopsis, the tables of JSON.md, the fields in C.md."""
+
+import re
+from typing import List, Tuple
+
+from c_texts import RESULTS, parameters
+from description import Call, Description, Member, Object
+
+#: How wide a line of the synopsis is at most, where a terminal has 80 columns and man indents by 7.
+SYNOPSIS = 72
+
+
+def _words(call: Call) -> List[Tuple[str, str]]:
+    """What stands before each parameter's name, and the name; at last what ends the call."""
+    head = f"{RESULTS[call.result]} {call.name}("
+    if not call.parameters:
+        return [(f"{head}void);", "")]
+    declared = [word for it in call.parameters for word in parameters(it)]
+    words = [re.fullmatch(r"(.*?)(\w+)", word).groups() for word in declared]  # type: ignore[union-attr]
+    return [(head + words[0][0], words[0][1]), *words[1:], (");", "")]
+
+
+def _lines(words: List[Tuple[str, str]]) -> List[List[Tuple[str, str]]]:
+    """The words of a call in lines that fit, each behind a comma of the line before."""
+    lines, column = [[words[0]]], len("".join(words[0]))
+    for before, name in words[1:]:
+        width = len(before) + len(name) + (2 if name else 0)
+        if name and column + width + 2 > SYNOPSIS:
+            lines[-1].append((",", ""))
+            lines.append([("    " + before, name)])
+            column = 4 + width
+        else:
+            lines[-1].append((f", {before}" if name else before, name))
+            column += width
+    return lines
+
+
+def _macro(words: List[Tuple[str, str]]) -> str:
+    """A line in bold type, with the parameters' names in italics."""
+    shown = " ".join(f'"{before}" {name}'.rstrip() for before, name in words)
+    return f".BI {shown}" if any(name for _, name in words) else f".B {shown}"
+
+
+def synopsis(description: Description) -> List[str]:
+    """All calls, with a paragraph for each group."""
+    lines: List[str] = []
+    for group in description.call_groups().values():
+        lines.append(".PP")
+        lines += [_macro(words) for call in group for words in _lines(_words(call))]
+    return lines
+
+
+def _cell(member: Member) -> str:
+    """The keys of a member as code."""
+    return re.sub(r"(?<!\+)\b(?!or\b)(\w+)(\+\w+)?", r"`\1`", member.shown)
+
+
+def _table(found: Object) -> List[str]:
+    rows = [f"| {_cell(it)} | {it.type} | {it.meaning} |" for it in found.members]
+    return ["| Key | Type | Meaning |", "|---|---|---|", *rows]
+
+
+def _listed(member: Member) -> str:
+    """A member in a sentence: its key, the one beside it, and what is to be said of it."""
+    base, _, suffix = member.shown.partition("+")
+    return f"`{base}`" + (f" with `{base}_{suffix}`" if suffix else "") + (f" ({member.meaning})" if member.meaning else "")
+
+
+def _kinds(description: Description, name: str) -> List[str]:
+    """The kinds of an object, with the keys of each."""
+    rows = []
+    for kind in description.kinds(name):
+        head = f"`{kind.name}`" + (f", {kind.about}" if kind.about else "")
+        keys = ", ".join(_cell(it) + (f": {it.meaning}" if it.meaning else "") for it in kind.members)
+        rows.append(f"| {head} | {keys} |")
+    return ["| `kind` | Other keys |", "|---|---|", *rows]
+
+
+def json_part(description: Description, what: str) -> List[str]:
+    """A part of docs/JSON.md: the table of an object, `all of OBJECT` as a sentence, or `kinds of OBJECT`."""
+    if what.startswith("all of "):
+        return [", ".join(map(_listed, description.objects[what[len("all of ") :]].members)) + "."]
+    if what.startswith("kinds of "):
+        return _kinds(description, what[len("kinds of ") :])
+    return _table(description.objects[what])
+
+
+def fields_table(description: Description) -> List[str]:
+    """The part of docs/C.md: all fields with their units, and the keys that tell the same in JSON."""
+    lines = ["| Record | Field | Type | Unit | Meaning | In JSON |", "|---|---|---|---|---|---|"]
+    for record in description.records.values():
+        for it in record.fields:
+            unit = "" if it.unit == "-" else it.unit
+            keys = ", ".join(f"`{key}`" for key in it.keys)
+            cells = [f"`petool_{record.name}`", f"`{it.name}`", it.type, unit, it.meaning, keys]
+            lines.append(f"| {' | '.join(cells)} |")
+    return lines

@@ -1,0 +1,176 @@
+"""Sources that are compared with the description and not written: the records and calls of the crates and the keys of pe_json,
+since proofs hang on them, and the prototypes of petool.h, which stand below what each call answers.
+
+Each comparison answers what differs, and nothing where a source agrees. A source in which nothing is found differs.
+"""
+
+import pathlib
+import re
+from typing import Dict, List, Set, Tuple
+
+from c_texts import prototype
+from description import Call, Description, Record
+
+NUMBERS = {"u8", "u16", "u32", "u64", "usize", "bool"}
+#: What a text is made of: a record that is one slice has these fields in C.
+TEXT = [("at", "bytes"), ("len", "usize")]
+#: The functions of a source, with what stands up to the next one.
+FUNCTION = re.compile(r"^\s*(?:pub(?:\(crate\))? )?fn (\w+)(.*?)(?=^\s*(?:pub(?:\(crate\))? )?fn |\Z)", re.M | re.S)
+#: A key of JSON in Rattle, or where another list or kind of object begins.
+KEY = re.compile(
+    r'begin_list\(\s*"(?P<list>\w+)"|\(\s*"kind",\s*Text\(\s*"(?P<kind>\w+)"|\.key\(\s*"(?P<own>\w+)"'
+    r'|(?:number|wide)!\(\s*\w+,\s*(?P<field>\w+)\s*\)|\(\s*"(?P<first>\w+)",|"(?P<hex>\w+_hex)"'
+)
+#: A key in the texts of the beginning of a line, which are bytes.
+TEXT_KEY = re.compile(r'(?:b|\\)"([a-z]\w*)(?:\\":|")')
+VALUES = {"true", "false"}
+
+
+def _without_comments(text: str) -> str:
+    return re.sub(r"^\s*//.*$", "", text, flags=re.M)
+
+
+def _type(kind: str, structs: Dict[str, str]) -> str:
+    """A type of Rattle in the words of the description."""
+    array = re.fullmatch(r"\[(\w+); (\d+)\]", kind)
+    if array:
+        return f"{_type(array[1], structs)}[{array[2]}]"
+    name = re.sub(r"<.*>$", "", kind)
+    if name in structs:
+        return structs[name]
+    return {"&'a [u8]": "text", "*mut u8": "state"}.get(kind, kind)
+
+
+def _fields(body: str, structs: Dict[str, str]) -> List[Tuple[str, str]]:
+    """The fields of a struct that take room in it: a ghost field and the allocator of the whole program take none."""
+    rows = re.findall(r"^\s*(?:pub )?(?!ghost)(\w+): (.+?),?$", body, re.M)
+    fields = [(name, _type(kind, structs)) for name, kind in rows if kind != "Global"]
+    return TEXT if fields == [("bytes", "text")] else fields
+
+
+def structs_of(sources: Dict[str, str]) -> Dict[str, Tuple[str, str]]:
+    """Each struct that C has too: its file and what stands in its braces."""
+    form = re.compile(r"#\[repr\(C\)\]\s*(?:#\[[^\]]*\]\s*)*pub struct (\w+)(?:<[^>]*>)?\s*\{(.*?)^\}", re.M | re.S)
+    return {found[1]: (file, found[2]) for file, text in sources.items() for found in form.finditer(_without_comments(text))}
+
+
+def _record_faults(record: Record, file: str, found: List[Tuple[str, str]]) -> List[str]:
+    described = [(it.name.rstrip("_"), it.type) for it in record.fields]
+    if found == described:
+        return []
+    rows = [(one, other) for one, other in zip([*found, None], [*described, None]) if one != other]
+    return [f"{file}: {record.struct} has {rows[0][0]}, and petool_{record.name} {rows[0][1]}"]
+
+
+def record_faults(description: Description, sources: Dict[str, str]) -> List[str]:
+    """Whether the records are the structs of the sources, field by field."""
+    found = structs_of(sources)
+    names = {record.struct: name for name, record in description.records.items()}
+    faults = [f"{file}: {name} is not described" for name, (file, _) in found.items() if name not in names]
+    for record in description.records.values():
+        if record.struct in found:
+            file, body = found[record.struct]
+            faults += _record_faults(record, file, _fields(body, names))
+        else:
+            faults.append(f"crates: there is no struct {record.struct} for petool_{record.name}")
+    return faults
+
+
+def _calls_in(sources: Dict[str, str]) -> Dict[str, Tuple[str, str, str]]:
+    """Each call that is exported: its file, its parameters and its result."""
+    form = re.compile(r'extern "C" fn (\w+)(?:<[^>]*>)?\((.*?)\)(?: -> (\w+))?\s*(?:requires|ensures|\{)', re.S)
+    return {it[1]: (file, it[2], it[3] or "nothing") for file, text in sources.items() for it in form.finditer(text)}
+
+
+def _shown(call: Call, description: Description) -> str:
+    """A call as Rattle declares it, without lifetimes."""
+    words = []
+    for it in call.parameters:
+        item = description.records[it.type].struct if it.type in description.records else it.type
+        reference = ("&mut " if it.is_mutable else "&") if it.is_reference else ""
+        words.append(f"{it.name}: {reference}" + (f"[{item}]" if it.length else item))
+    return f"({', '.join(words)}) -> {call.result}"
+
+
+def _plain(parameters: str, result: str) -> str:
+    """The same of what a source has, whose allocator C does not see."""
+    words = " ".join(parameters.split()).rstrip(", ")
+    words = re.sub(r"<'\w+>|'\w+ ", "", words)
+    return f"({re.sub(r'^alloc: Global(, )?', '', words)}) -> {result}"
+
+
+def call_faults(description: Description, sources: Dict[str, str]) -> List[str]:
+    """Whether the calls are those that the sources export, parameter by parameter."""
+    found = _calls_in(sources)
+    described = {call.name: call for call in description.calls if not call.is_inline}
+    faults = [f"{file}: {name} is not described" for name, (file, _, _) in found.items() if name not in described]
+    for name, call in described.items():
+        if name not in found:
+            faults.append(f"crates: there is no call {name}")
+            continue
+        file, parameters, result = found[name]
+        if _plain(parameters, result) != _shown(call, description):
+            faults.append(f"{file}: {name}{_plain(parameters, result)}, described as {_shown(call, description)}")
+    return faults
+
+
+def _keys_of(body: str, place: str) -> List[Tuple[str, str]]:
+    """The keys in a function's body, each with the place that it is at: the function, the list or the kind."""
+    found, inside = [], place
+    for it in KEY.finditer(body):
+        key = it["list"] or it["own"] or it["field"] or it["first"] or it["hex"]
+        if it["kind"]:
+            found.append((place, "kind"))
+            inside = f"{place}.{it['kind']}"
+        elif it["list"]:
+            found.append((place, key))
+            inside = f"{place}.{key}"
+        else:
+            found.append((inside, key))
+    return found
+
+
+def keys_in(sources: Dict[str, str]) -> Dict[str, Set[str]]:
+    """The keys that each place writes."""
+    found: Dict[str, Set[str]] = {}
+    for file, text in sources.items():
+        name = pathlib.PurePath(file).stem
+        for function in FUNCTION.finditer(_without_comments(text)):
+            place = f"{name}.{function[1]}"
+            rows = _keys_of(function[2], place)
+            if name == "beginning":
+                rows = [(place, key) for key in TEXT_KEY.findall(function[2]) if key not in VALUES]
+            for where, key in rows:
+                found.setdefault(where, set()).add(key)
+    return found
+
+
+def key_faults(description: Description, sources: Dict[str, str]) -> List[str]:
+    """Whether the keys of each object are those that its places write, and each key that is written is one of an object."""
+    found = keys_in(sources)
+    files = {pathlib.PurePath(file).stem: file for file in sources}
+    faults = []
+    told: Dict[str, Set[str]] = {place: set() for place in found}
+    for name, it in description.objects.items():
+        for place in it.places:
+            told.setdefault(place, set()).update(it.keys())
+        written = set().union(*(found.get(place, set()) for place in it.places))
+        for key in [key for key in it.keys() if key not in written]:
+            file = files.get(it.places[0].partition(".")[0], "crates/pe_json/src")
+            faults.append(f"{file}: {name} has no key {key} at {', '.join(it.places)}")
+    for place, keys in found.items():
+        file = files[place.partition(".")[0]]
+        faults += [f"{file}: {place} writes {key}, which is not described" for key in sorted(keys - told[place])]
+    return faults
+
+
+def prototype_faults(description: Description, file: str, header: str) -> List[str]:
+    """Whether the header declares the calls that are described, and no others."""
+    text = re.sub(r"/\*.*?\*/", "", header, flags=re.S)
+    found = re.findall(r"^(?:static inline )?(\w+ petool_\w+\([^()]*\))\s*;", text, re.M)
+    described = [prototype(call).rstrip(";") for call in description.calls if not call.is_inline]
+    inline = [f"static inline {prototype(call).rstrip(';')}" for call in description.calls if call.is_inline]
+    declared = {" ".join(it.split()) for it in found}
+    faults = [f"{file}: {it} is not described" for it in sorted(declared - set(described))]
+    faults += [f"{file}: there is no {it}" for it in described if it not in declared]
+    return faults + [f"{file}: there is no {it}" for it in inline if it not in text]

@@ -1,0 +1,151 @@
+"""What the crate petool-sys has of the description: its records, its calls and the test of their layout."""
+
+import re
+from typing import List
+
+from c_texts import RESULTS
+from description import Call, Description, Field, Parameter, Record
+from regions import wrapped
+
+WIDTH = 120
+POINTERS = {"bytes": "*const u8", "state": "*mut c_void"}
+
+LAYOUT = """\
+//! Each record has the size and the places of fields that the library's have, on a machine of 64 bits; `layout.c`
+//! beside the header has the same numbers. scripts/describe.py writes this file.
+
+#![cfg(target_pointer_width = "64")]
+
+use core::mem::{align_of, offset_of, size_of};
+use petool_sys::*;
+
+/// Asserts a record's size and alignment, and the offset of each of its fields.
+macro_rules! layout {
+    ($record:ty, $size:literal, $alignment:literal, $($field:ident $offset:literal),*) => {
+        assert_eq!(size_of::<$record>(), $size, concat!("size of ", stringify!($record)));
+        assert_eq!(align_of::<$record>(), $alignment, concat!("alignment of ", stringify!($record)));
+        $(assert_eq!(offset_of!($record, $field), $offset, concat!(stringify!($record), ".", stringify!($field)));)*
+    };
+}
+"""
+
+VERSION = """\
+
+#[test]
+fn the_library_has_the_version_of_the_header() {
+    // SAFETY: the call takes nothing
+    assert_eq!(unsafe { petool_version() }, PETOOL_VERSION);
+}
+"""
+
+
+def _sentence(text: str) -> str:
+    """A meaning as a sentence, with the header's names as code."""
+    text = re.sub(r"(?<!`)\b(PETOOL_\w+)", r"`\1`", text)
+    return text[0].upper() + text[1:].rstrip(".") + "."
+
+
+def _item(description: Description, kind: str) -> str:
+    if kind in description.records:
+        return description.records[kind].camel()
+    return POINTERS.get(kind, kind)
+
+
+def _type(description: Description, it: Field) -> str:
+    item = _item(description, it.item())
+    return f"[{item}; {it.count()}]" if "[" in it.type else item
+
+
+def _derived(description: Description, record: Record) -> str:
+    """What a record derives. One with a state is never copied, and one with pointers not compared."""
+    if any(it.type == "state" for it in record.fields):
+        return "Debug"
+    if description.has_text(record) or any(it.type == "bytes" for it in record.fields):
+        return "Clone, Copy, Debug"
+    return "Clone, Copy, Debug, Default, PartialEq, Eq, Hash"
+
+
+def _struct(description: Description, record: Record) -> List[str]:
+    derived = f"#[derive({_derived(description, record)})]"
+    lines = [f"/// {record.about}", "#[repr(C)]", derived, f"pub struct {record.camel()} {{"]
+    for it in record.fields:
+        lines += [f"    /// {_sentence(it.meaning)}", f"    pub {it.name}: {_type(description, it)},"]
+    return [*lines, "}"]
+
+
+def _blank(description: Description, it: Field) -> str:
+    """The value of a field before a call sets it."""
+    if it.type in description.records:
+        return f"{description.records[it.type].camel()}::NONE"
+    return "false" if it.type == "bool" else "0"
+
+
+def _none(description: Description, record: Record) -> List[str]:
+    """The constant of a record with texts, none of which may be null before a call."""
+    name = record.camel()
+    fields = [f"        {it.name}: {_blank(description, it)}," for it in record.fields]
+    about = "    /// What stands in it before a call sets it."
+    return ["", f"impl {name} {{", about, f"    pub const NONE: {name} = {name} {{", *fields, "    };", "}"]
+
+
+def _filled(description: Description) -> List[str]:
+    """What calls fill, with the parts of it."""
+    filled = {it.type for call in description.calls for it in call.parameters if it.is_mutable}
+    parts = {it.type for name in filled if name in description.records for it in description.records[name].fields}
+    return sorted(filled | parts)
+
+
+def records(description: Description) -> List[str]:
+    """All records, and the constants of those with texts that a call fills."""
+    filled = _filled(description)
+    lines: List[str] = []
+    for record in description.records.values():
+        lines += ([""] if lines else []) + _struct(description, record)
+        if record.name in filled and description.has_text(record):
+            lines += _none(description, record)
+    return lines
+
+
+def _parameters(description: Description, it: Parameter) -> List[str]:
+    item = _item(description, it.type)
+    if not it.is_reference:
+        return [f"{it.name}: {item}"]
+    pointer = f"{it.name}: *{'mut' if it.is_mutable else 'const'} {item}"
+    return [pointer, f"{it.length}: usize"] if it.length else [pointer]
+
+
+def _call(description: Description, call: Call) -> List[str]:
+    """A call, on one line where it fits, as rustfmt has it."""
+    words = [word for it in call.parameters for word in _parameters(description, it)]
+    result = "" if RESULTS[call.result] == "void" else f" -> {call.result}"
+    line = f"pub fn {call.name}({', '.join(words)}){result};"
+    if len(line) + 4 <= WIDTH:
+        return [line]
+    return [f"pub fn {call.name}(", *(f"    {word}," for word in words), f"){result};"]
+
+
+def calls(description: Description) -> List[str]:
+    """The calls, with a blank line between two groups."""
+    lines: List[str] = []
+    for group in description.call_groups().values():
+        lines += [""] if lines else []
+        lines += [line for call in group if not call.is_inline for line in _call(description, call)]
+    return lines
+
+
+def _layout(description: Description, record: Record) -> List[str]:
+    size, alignment, places = description.layout(record)
+    fields = [f"{it.name} {place}" for it, place in zip(record.fields, places)]
+    words = [f"{word}," for word in [f"layout!({record.camel()}", str(size), str(alignment), *fields]]
+    lines = wrapped([*words[:-1], f"{fields[-1]});"], 96, "    ")
+    return [f"    {line}" for line in lines]
+
+
+def layout_test(description: Description) -> str:
+    """tests/layout.rs."""
+    parts = [LAYOUT]
+    for group, held in description.groups().items():
+        rows = [line for record in held for line in _layout(description, record)]
+        name = f"the_records_of_{group.replace(' ', '_')}_are_laid_out_as_in_c"
+        parts.append("\n".join(["", "#[test]", f"fn {name}() {{", *rows, "}", ""]))
+    return "".join([*parts, VERSION])
