@@ -76,6 +76,8 @@ class Call:
     result: str
     is_inline: bool
     since: str
+    faults: str = ""  #: which it may tell, in order
+    memory: str = ""  #: where it is taken
 
 
 @dataclass
@@ -219,8 +221,15 @@ class Description:
         self._record.fields.append(Field(name, kind, unit, named, meaning, is_joined))
 
     def _call(self, line: str) -> None:
+        if line.strip().startswith("asks "):
+            call = self.calls[-1]
+            call.faults, call.memory = line.strip()[len("asks ") :].split("; memory ")
+        else:
+            self._add_call(line.strip())
+
+    def _add_call(self, line: str) -> None:
         form = r"(inline )?(petool_\w+)\((.*)\)(?: -> (\w+))?(?: since ([\d.]+))?$"
-        inline, name, words, result, since = re.fullmatch(form, line.strip()).groups()  # type: ignore[union-attr]
+        inline, name, words, result, since = re.fullmatch(form, line).groups()  # type: ignore[union-attr]
         parameters = [self._parameter(word) for word in words.split(", ") if word]
         self.calls.append(Call(name, self._group, parameters, result or "u32", bool(inline), since or self.library.release))
 
@@ -260,8 +269,10 @@ class Description:
             size, alignment = 16, 8
         elif item in self.records:
             size, alignment, _ = self.layout(self.records[item])
-        else:
+        elif item in SIZES:
             size = alignment = SIZES[item]
+        else:
+            raise Mistake(f"{kind} is no type")
         return size * int(count.rstrip("]") or 1), alignment
 
     def layout(self, record: Record) -> Tuple[int, int, List[int]]:

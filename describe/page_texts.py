@@ -1,7 +1,7 @@
 """What the documents have of the description: the manual page's synopsis, the tables of JSON.md, the fields in C.md."""
 
 import re
-from typing import List, Tuple
+from typing import Dict, List, Tuple
 
 from c_texts import RESULTS, parameters
 from description import Call, Description, Member, Object
@@ -85,8 +85,18 @@ def json_part(description: Description, what: str) -> List[str]:
     return _table(description.objects[what])
 
 
-def fields_table(description: Description) -> List[str]:
-    """The part of docs/C.md: all fields with their units, and the keys that tell the same in JSON."""
+def _calls_table(description: Description) -> List[str]:
+    """What the calls ask of a file, with those in one row that ask the same."""
+    rows: Dict[Tuple[str, str], List[str]] = {}
+    for call in description.calls:
+        if call.faults:
+            rows.setdefault((call.faults, call.memory), []).append(f"`{call.name}`")
+    lines = [f"| {', '.join(names)} | {faults} | {memory} |" for (faults, memory), names in rows.items()]
+    return ["| Call | Faults that it may tell | Memory |", "|---|---|---|", *lines]
+
+
+def _fields_table(description: Description) -> List[str]:
+    """All fields with their units, and the keys that tell the same in JSON."""
     lines = ["| Record | Field | Type | Unit | Meaning | In JSON |", "|---|---|---|---|---|---|"]
     for record in description.records.values():
         for it in record.fields:
@@ -95,3 +105,8 @@ def fields_table(description: Description) -> List[str]:
             cells = [f"`petool_{record.name}`", f"`{it.name}`", it.type, unit, it.meaning, keys]
             lines.append(f"| {' | '.join(cells)} |")
     return lines
+
+
+def c_part(description: Description, what: str) -> List[str]:
+    """A part of docs/C.md."""
+    return {"calls": _calls_table, "fields": _fields_table}[what](description)

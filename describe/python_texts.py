@@ -67,8 +67,9 @@ def records_module(description: Description) -> str:
     lines = [HEAD.rstrip("\n")]
     records = description.records.values()
     lines += [line for record in records if not record.is_row for line in _structure(description, record)]
-    lines += ["", "", "# the layout of each row in the letters of `struct`: P and N are a text's pointer and length"]
-    lines += [f'{record.name.upper()} = "{_form(description, record)}"' for record in records if record.is_row]
+    lines += ["", "", "#: The layout of each row in the letters of `struct`: P and N are a text's pointer and length.", "FORMS = {"]
+    lines += [f'    "{record.name}": "{_form(description, record)}",' for record in records if record.is_row]
+    lines.append("}")
     lines += ["", "#: What each call answers, and what it takes.", "CALLS: Dict[str, Tuple[Any, List[Any]]] = {"]
     lines += [line for call in description.calls if not call.is_inline for line in _call(description, call)]
     return "\n".join([*lines, "}", ""])

@@ -51,7 +51,7 @@ PARTS = {
     f"{PACKAGE}/_space.py": python_texts.row_fields,
     "man/petool.h.3": lambda description, _: page_texts.synopsis(description),
     JSON: page_texts.json_part,
-    "docs/C.md": lambda description, _: page_texts.fields_table(description),
+    "docs/C.md": page_texts.c_part,
 }
 
 
@@ -91,6 +91,7 @@ def parts(description):
     yield HEADER, list(records)
     yield JSON, [it.name for it in description.objects.values() if not it.kind_of and not it.is_in_words]
     yield RUST, ["records", "calls"]
+    yield "docs/C.md", ["calls", "fields"]
     for module in sorted({it.python_module for it in records.values()} - {""}):
         yield f"{PACKAGE}/{module}.py", [name for name, it in records.items() if it.python_module == module]
 

@@ -106,13 +106,8 @@ class RowLayout:
         self.blank = self.struct.pack(*(_library.NO_BYTES if code == "P" else 0 for code in form if code != "x"))
 
 
-EXPORT = RowLayout(_records.EXPORT)
-IMPORT = RowLayout(_records.IMPORT)
-FIXUP = RowLayout(_records.FIXUP)
-BINDING = RowLayout(_records.BINDING)
-OBJECT_SECTION = RowLayout(_records.OBJECT_SECTION)
-OBJECT_RELOCATION = RowLayout(_records.OBJECT_RELOCATION)
-OBJECT_SYMBOL = RowLayout(_records.OBJECT_SYMBOL)
+#: The rows of tables by their names.
+LAYOUTS = {name: RowLayout(form) for name, form in _records.FORMS.items()}
 
 
 def read_rows(layout: RowLayout, room: int, call: Callable[[int, int, Any], int]) -> memoryview:

@@ -11,7 +11,7 @@ from dataclasses import dataclass, fields
 from typing import Any, Callable, Dict, Iterator, Optional, Sequence, Tuple, Union
 
 from . import _library, _records
-from ._bytes import EXPORT, FIXUP, IMPORT, Buffer, FileBytes, RowLayout, Rows, address_of, read_rows, unsigned, view_of
+from ._bytes import LAYOUTS, Buffer, FileBytes, RowLayout, Rows, address_of, read_rows, unsigned, view_of
 from ._fault import FormatFault, ask
 from ._file import OfFile
 from ._library import library
@@ -270,28 +270,28 @@ class Image(OfFile):
     def exports(self) -> Exports:
         """Read at the first question. Without ``check`` FormatFault of 16 to 22."""
         if self._exports is None:
-            names = self._rows(library.petool_export_names, EXPORT, self._counts.names)
-            ordinals = self._rows(library.petool_exports, EXPORT, self._counts.exports)
-            by_name = Rows(names, EXPORT, _export_maker(self._file, True))
-            self._exports = Exports(by_name, Rows(ordinals, EXPORT, _export_maker(self._file, False)))
+            names = self._rows(library.petool_export_names, LAYOUTS["export"], self._counts.names)
+            ordinals = self._rows(library.petool_exports, LAYOUTS["export"], self._counts.exports)
+            by_name = Rows(names, LAYOUTS["export"], _export_maker(self._file, True))
+            self._exports = Exports(by_name, Rows(ordinals, LAYOUTS["export"], _export_maker(self._file, False)))
         return self._exports
 
     @property
     def imports(self) -> Sequence[Import]:
         """In table order, read at the first question. Without ``check`` FormatFault of 24 to 32."""
         if self._imports is None:
-            rows = self._rows(library.petool_imports, IMPORT, self._counts.imports)
-            self._imports = Rows(rows, IMPORT, _import_maker(self._file))
+            rows = self._rows(library.petool_imports, LAYOUTS["import"], self._counts.imports)
+            self._imports = Rows(rows, LAYOUTS["import"], _import_maker(self._file))
         return self._imports
 
     @property
     def fixups(self) -> Sequence[Fixup]:
         """The base relocations in table order, read at the first question. Without ``check`` FormatFault of 24 to 38."""
-        return Rows(self._fixups(), FIXUP, Fixup)
+        return Rows(self._fixups(), LAYOUTS["fixup"], Fixup)
 
     def _fixups(self) -> memoryview:
         if self._fixup_rows is None:
-            self._fixup_rows = self._rows(library.petool_fixups, FIXUP, self._counts.fixups)
+            self._fixup_rows = self._rows(library.petool_fixups, LAYOUTS["fixup"], self._counts.fixups)
         return self._fixup_rows
 
     def fixup_array(self) -> memoryview:

@@ -7,7 +7,7 @@ from itertools import accumulate
 from typing import Any, Callable, List, Optional, Sequence, Tuple
 
 from . import _library
-from ._bytes import OBJECT_RELOCATION, OBJECT_SECTION, OBJECT_SYMBOL, Buffer, FileBytes, RowLayout, Rows, first_rows, read_rows
+from ._bytes import LAYOUTS, Buffer, FileBytes, RowLayout, Rows, first_rows, read_rows
 from ._file import OfFile
 from ._library import library
 
@@ -84,16 +84,16 @@ class Object(OfFile):
     @property
     def sections(self) -> Tuple[ObjectSection, ...]:
         if self._sections is None:
-            rows = self._rows(library.petool_object_sections, OBJECT_SECTION)
-            self._sections = tuple(Rows(rows, OBJECT_SECTION, _maker(self._file, ObjectSection)))
+            rows = self._rows(library.petool_object_sections, LAYOUTS["object_section"])
+            self._sections = tuple(Rows(rows, LAYOUTS["object_section"], _maker(self._file, ObjectSection)))
         return self._sections
 
     @property
     def symbols(self) -> Sequence[ObjectSymbol]:
         """In the order of the symbol table, without the auxiliary records."""
         if self._symbols is None:
-            rows = self._rows(library.petool_object_symbols, OBJECT_SYMBOL)
-            self._symbols = Rows(rows, OBJECT_SYMBOL, _maker(self._file, ObjectSymbol))
+            rows = self._rows(library.petool_object_symbols, LAYOUTS["object_symbol"])
+            self._symbols = Rows(rows, LAYOUTS["object_symbol"], _maker(self._file, ObjectSymbol))
         return self._symbols
 
     def relocations(self, section: int) -> Sequence[ObjectRelocation]:
@@ -106,13 +106,13 @@ class Object(OfFile):
         if not 0 <= section < len(self.sections):
             raise IndexError("there is no section of this index")
         start, end = self._starts[section], self._starts[section + 1]
-        size = OBJECT_RELOCATION.size
+        size = LAYOUTS["object_relocation"].size
         with self._file.hold():
             first, rows = self._window
             if start < end and (start < first or first + len(rows) // size < end):
                 room = min(max(end - start, _WINDOW), self._starts[-1] - start)
                 first, rows = self._window = start, self._window_from(start, room)
-        return Rows(rows[(start - first) * size : (end - first) * size], OBJECT_RELOCATION, ObjectRelocation)
+        return Rows(rows[(start - first) * size : (end - first) * size], LAYOUTS["object_relocation"], ObjectRelocation)
 
     def _window_from(self, skipped: int, room: int) -> memoryview:
         """Rows of the relocations of all sections, from one on."""
@@ -120,4 +120,4 @@ class Object(OfFile):
         def call(*rows: Any) -> int:
             return self._ask(library.petool_object_all_relocations, skipped, *rows)
 
-        return first_rows(OBJECT_RELOCATION, room, call)
+        return first_rows(LAYOUTS["object_relocation"], room, call)

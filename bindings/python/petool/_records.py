@@ -93,14 +93,16 @@ class Moved(Structure):
     _fields_ = [("fields", c_uint32), ("slots", c_uint32)]
 
 
-# the layout of each row in the letters of `struct`: P and N are a text's pointer and length
-EXPORT = "QPNIIPNPN"
-IMPORT = "PNPNIH?x"
-FIXUP = "III"
-BINDING = "IIII"
-OBJECT_SECTION = "PNPNIIIIIxxxx"
-OBJECT_RELOCATION = "III"
-OBJECT_SYMBOL = "PNPNIIHHBxxx"
+#: The layout of each row in the letters of `struct`: P and N are a text's pointer and length.
+FORMS = {
+    "export": "QPNIIPNPN",
+    "import": "PNPNIH?x",
+    "fixup": "III",
+    "binding": "IIII",
+    "object_section": "PNPNIIIIIxxxx",
+    "object_relocation": "III",
+    "object_symbol": "PNPNIIHHBxxx",
+}
 
 #: What each call answers, and what it takes.
 CALLS: Dict[str, Tuple[Any, List[Any]]] = {

@@ -9,7 +9,7 @@ from dataclasses import dataclass
 from typing import Any, List, NamedTuple, Sequence, Tuple, Union
 
 from . import _records
-from ._bytes import BINDING, Buffer, FileSet, Rows, address_of, read_rows, unsigned
+from ._bytes import LAYOUTS, Buffer, FileSet, Rows, address_of, read_rows, unsigned
 from ._fault import ask, raise_for
 from ._image import writable
 from ._library import library
@@ -59,7 +59,7 @@ def judge(images: Sequence[SetEntry], known: bool = False) -> List[Binding]:
     def call(rows: int, room: int, count: Any) -> int:
         return ask(library.petool_judge, held.entries, held.count, known, rows, room, count, byref(cycle), cycle=cycle)
 
-    return list(Rows(read_rows(BINDING, _GUESS, call), BINDING, Binding))
+    return list(Rows(read_rows(LAYOUTS["binding"], _GUESS, call), LAYOUTS["binding"], Binding))
 
 
 class Space:
@@ -129,7 +129,7 @@ class Space:
             return status
 
         with self._lock:
-            return Rows(read_rows(BINDING, _GUESS, call), BINDING, Binding)
+            return Rows(read_rows(LAYOUTS["binding"], _GUESS, call), LAYOUTS["binding"], Binding)
 
     def close(self) -> None:
         """Gives the memory back. Closing a closed space does nothing."""

@@ -14,27 +14,7 @@ from petool import _bytes, _library, _records
 
 from . import DATA, PACKAGE, TOP
 
-RECORDS = {
-    "text": _records.Text,
-    "fault": _records.Fault,
-    "directory": _records.Directory,
-    "headers": _records.Headers,
-    "section": _records.Section,
-    "target": _records.Target,
-    "counts": _records.Counts,
-    "entry": _records.Entry,
-    "space": _records.Space,
-    "moved": _records.Moved,
-}
-ROWS = {
-    "export": _bytes.EXPORT,
-    "import": _bytes.IMPORT,
-    "fixup": _bytes.FIXUP,
-    "binding": _bytes.BINDING,
-    "object_section": _bytes.OBJECT_SECTION,
-    "object_relocation": _bytes.OBJECT_RELOCATION,
-    "object_symbol": _bytes.OBJECT_SYMBOL,
-}
+RECORDS = {name.lower(): it for name, it in vars(_records).items() if hasattr(it, "_fields_")}
 
 
 def run(code, library):
@@ -66,12 +46,13 @@ class Library(unittest.TestCase):
     def test_layout(self):
         numbers = (TOP / "bindings" / "c" / "layout.c").read_text()
         sizes = dict(re.findall(r"SIZE\(petool_(\w+), (\d+)\)", numbers))
+        self.assertEqual(sorted(sizes), sorted([*RECORDS, *_bytes.LAYOUTS]))
         for name, record in RECORDS.items():
             self.assertEqual(ctypes.sizeof(record), int(sizes[name]), name)
             places = re.findall(rf"AT\(petool_{name}, (\w+), (\d+)\)", numbers)
             self.assertEqual([(field, getattr(record, field).offset) for field, _ in record._fields_],
                              [(field, int(place)) for field, place in places])
-        for name, row in ROWS.items():
+        for name, row in _bytes.LAYOUTS.items():
             self.assertEqual(row.size, int(sizes[name]), name)
 
     def test_version(self):

@@ -1,0 +1,156 @@
+#!/usr/bin/env python3
+"""Tests that scripts/describe.py --check finds each kind of difference: a file is changed in a copy, and has to be named.
+
+The last line is 'N passed, M failed'.
+"""
+
+import pathlib
+import shutil
+import subprocess
+import sys
+import tempfile
+
+TOP = pathlib.Path(__file__).resolve().parents[1]
+CRATES = ("pe_rows", "pe_handle", "petool_c", "pe_json")
+COPIED = [
+    "bindings/c/layout.c",
+    "bindings/c/petool.h",
+    "bindings/c/petool.map",
+    "bindings/python/petool",
+    "bindings/rust/petool-sys/src/lib.rs",
+    "bindings/rust/petool-sys/tests/layout.rs",
+    "describe",
+    "docs/C.md",
+    "docs/JSON.md",
+    "man/petool.h.3",
+    "packaging/debian/libpetool0.symbols",
+    "scripts/describe.py",
+    *(f"crates/{crate}/src" for crate in CRATES),
+]
+
+#: What is changed: the file, what stands in it, and what takes its place.
+WRITTEN = [
+    ("bindings/c/layout.c", "AT(petool_fixup, field, 4)", "AT(petool_fixup, field, 8)"),
+    ("bindings/c/petool.map", "PETOOL_0", "PETOOL_1"),
+    ("bindings/c/petool.h", "uint32_t entry, field;", "uint32_t field, entry;"),
+    ("bindings/c/petool.h", "the entry's type: 1 HIGH", "the type: 1 HIGH"),
+    ("bindings/c/petool.h", "/* describe/records.txt: counts */\n", ""),
+    ("bindings/c/petool.h", "/* describe/records.txt: counts */", "/* describe/records.txt: unknown */"),
+    ("bindings/c/petool.h", "} petool_counts;\n/* end of describe/records.txt */", "} petool_counts;"),
+    ("bindings/rust/petool-sys/tests/layout.rs", "layout!(Fixup, 12, 4", "layout!(Fixup, 12, 8"),
+    ("bindings/rust/petool-sys/src/lib.rs", "pub by_ordinal: bool", "pub by_ordinal: u8"),
+    ("bindings/rust/petool-sys/src/lib.rs", "pub fn petool_version() -> u32;", "pub fn petool_version() -> u64;"),
+    ("bindings/python/petool/_records.py", 'FIXUP = "III"', 'FIXUP = "IIQ"'),
+    ("bindings/python/petool/_image.py", "    entry: int", "    entries: int"),
+    ("bindings/python/petool/_object.py", "    storage_class: int", "    class_: int"),
+    ("bindings/python/petool/_space.py", "    exporter: int", "    exporter: str"),
+    ("man/petool.h.3", 'petool_fixup *" rows', 'petool_import *" rows'),
+    ("docs/JSON.md", "| `bits` | number |", "| `bits` | string |"),
+    ("docs/JSON.md", "<!-- describe/records.txt: fixup -->\n", ""),
+    ("docs/C.md", "| `petool_fixup` | `field` | u32 | RVA |", "| `petool_fixup` | `field` | u32 | offset |"),
+    ("packaging/debian/libpetool0.symbols", " petool_fixups@PETOOL_0 1.0\n", ""),
+]
+COMPARED = [
+    ("bindings/c/petool.h", "petool_fixup *rows, size_t room", "petool_import *rows, size_t room"),
+    ("bindings/c/petool.h", "uint32_t petool_version(void);", "uint32_t petool_version(void);\nuint32_t petool_more(void);"),
+    ("bindings/c/petool.h", "static inline int petool_fault_line(", "static inline int petool_fault_text("),
+    ("crates/pe_rows/src/fixup.rt", "pub kind: u32", "pub kind: u16"),
+    ("crates/pe_rows/src/fixup.rt", "pub entry: u32", "pub first: u32"),
+    ("crates/pe_rows/src/fixup.rt", "pub struct FixupRow {", "pub struct RelocationRow {"),
+    ("crates/pe_rows/src/fixup.rt", "    pub kind: u32,\n", "    pub kind: u32,\n    pub width: u32,\n"),
+    ("crates/pe_rows/src/headers.rt", "pub directories: [DirectoryRow; 16]", "pub directories: [DirectoryRow; 8]"),
+    ("crates/pe_rows/src/text.rt", "pub bytes: &'a [u8]", "pub bytes: u64"),
+    ("crates/pe_handle/src/handle.rt", "pub is_open: bool", "pub is_open: u8"),
+    ("crates/petool_c/src/fixup.rt", "rows: &mut [FixupRow]", "rows: &mut [ImportRow]"),
+    ("crates/petool_c/src/fixup.rt", "fn petool_fixups(", "fn petool_relocations("),
+    ("crates/petool_c/src/words.rt", "number: u16", "number: u32"),
+    ("crates/petool_c/src/space.rt", "known: bool,\n    cycle", "cycle"),
+    ("crates/pe_json/src/tables.rt", 'json.number("rva"', 'json.number("field"'),
+    ("crates/pe_json/src/tables.rt", 'json.begin_list("fixups")', 'json.begin_list("relocations")'),
+    ("crates/pe_json/src/headers.rt", "number!(headers, check_sum),", ""),
+    ("crates/pe_json/src/headers.rt", "wide!(headers, image_base),", "wide!(headers, image_base), wide!(headers, more),"),
+    ("crates/pe_json/src/sections.rt", '"short_name_hex"', '"name_in_hex"'),
+    ("crates/pe_json/src/object.rt", 'Text("weak_external")', 'Text("weak")'),
+    ("crates/pe_json/src/exports.rt", 'json.key("forward")', 'json.key("forwarder")'),
+    ("crates/pe_json/src/beginning.rt", ',\\"rule\\":', ',\\"words\\":'),
+]
+#: A description that says something else, or what it cannot, and what is then named.
+DESCRIBED = [
+    ("    kind   u32  -    fixup.bits", "    kind   u16  -    fixup.bits", "crates/pe_rows/src/fixup.rt"),
+    ("    kind   u32  -    fixup.bits", "    kind   u32  -    fixup.bytes", "there is no fixup.bytes"),
+    ("    kind   u32  -    fixup.bits", "    kind   u32  days    fixup.bits", "days is no unit"),
+    ("    kind   u32  -    fixup.bits", "    kind   u31  -    fixup.bits", "u31 is no type"),
+    ("  petool_fixups(file, rows", "  petool_fixups(files, rows", "petool_fixups"),
+    ("  petool_check(file, fault)\n", "", "packaging/debian/libpetool0.symbols"),
+    ("  written by tables.add_fixup\n", "  written by tables.add_fixups\n", "crates/pe_json/src/tables.rt"),
+]
+
+
+def copy_to(folder):
+    for path in COPIED:
+        target = folder / path
+        target.parent.mkdir(parents=True, exist_ok=True)
+        if (TOP / path).is_dir():
+            shutil.copytree(TOP / path, target, ignore=shutil.ignore_patterns("__pycache__"))
+        else:
+            shutil.copy(TOP / path, target)
+
+
+def check(folder):
+    """The status of the check, and what it says."""
+    words = [sys.executable, str(folder / "scripts/describe.py"), "--check"]
+    found = subprocess.run(words, capture_output=True, text=True)
+    return found.returncode, found.stdout + found.stderr
+
+
+def names_change(folder, path, old, new, named):
+    """Whether the check ends with status 1 and names what it should, once one place of a file is changed."""
+    file = folder / path
+    text = file.read_text()
+    if old not in text:
+        print(f"{path}: {old!r} does not stand there")
+        return False
+    file.write_text(text.replace(old, new, 1))
+    status, said = check(folder)
+    file.write_text(text)
+    if status == 1 and named in said and "Traceback" not in said:
+        return True
+    print(f"{path}: {old!r} as {new!r}: status {status}, {said!r}")
+    return False
+
+
+def names_empty(folder, crate):
+    """Whether the check fails where the sources of a crate are not found."""
+    source = folder / "crates" / crate / "src"
+    source.rename(source.with_name("moved"))
+    status, said = check(folder)
+    source.with_name("moved").rename(source)
+    if status == 1 and "crates" in said and "Traceback" not in said:
+        return True
+    print(f"{crate} without sources: status {status}, {said!r}")
+    return False
+
+
+def results(folder):
+    """Whether each case holds: the copy agrees as it is, each change is found, and the copy agrees at the end."""
+    yield check(folder)[0] == 0
+    for path, old, new in WRITTEN + COMPARED:
+        yield names_change(folder, path, old, new, path)
+    for old, new, named in DESCRIBED:
+        yield names_change(folder, "describe/records.txt", old, new, named)
+    for crate in CRATES:
+        yield names_empty(folder, crate)
+    yield check(folder)[0] == 0
+
+
+def main():
+    with tempfile.TemporaryDirectory() as name:
+        folder = pathlib.Path(name)
+        copy_to(folder)
+        held = list(results(folder))
+    print(f"{held.count(True)} passed, {held.count(False)} failed")
+    return 0 if all(held) else 1
+
+
+if __name__ == "__main__":
+    sys.exit(main())
