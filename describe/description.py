@@ -229,7 +229,7 @@ class Description:
 
     def _add_call(self, line: str) -> None:
         form = r"(inline )?(petool_\w+)\((.*)\)(?: -> (\w+))?(?: since ([\d.]+))?$"
-        inline, name, words, result, since = re.fullmatch(form, line).groups()  # type: ignore[union-attr]
+        inline, name, words, result, since = _matched(form, line)
         parameters = [self._parameter(word) for word in words.split(", ") if word]
         self.calls.append(Call(name, self._group, parameters, result or "u32", bool(inline), since or self.library.release))
 
@@ -237,8 +237,8 @@ class Description:
         name, _, kind = word.partition(": ")
         kind = kind or self._arguments[name]
         form = r"(&(?:mut )?)?(?:\[(\w+)\] (\w+)|(\w+))"
-        reference, item, length, value = re.fullmatch(form, kind).groups()  # type: ignore[union-attr]
-        return Parameter(name, item or value, bool(reference), reference == "&mut ", length or "")
+        reference, item, length, value = _matched(form, kind)
+        return Parameter(name, item or value, bool(reference), reference == "&mut ", length)
 
     def _member(self, line: str) -> None:
         words = line.strip()
@@ -307,6 +307,14 @@ class Description:
     def kinds(self, name: str) -> List[Object]:
         """The kinds of an object."""
         return [it for it in self.objects.values() if it.kind_of == name]
+
+
+def _matched(form: str, text: str) -> Tuple[str, ...]:
+    """The parts of a text that has a form; Mistake where it has another."""
+    found = re.fullmatch(form, text)
+    if found is None:
+        raise Mistake("it has not the form of a call")
+    return tuple(it or "" for it in found.groups())
 
 
 def _lines(text: str) -> List[Tuple[int, str]]:

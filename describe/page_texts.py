@@ -3,7 +3,7 @@
 import re
 from typing import Dict, List, Tuple
 
-from c_texts import RESULTS, parameters
+from c_texts import RESULTS, parameters, type_of
 from description import Call, Description, Member, Object
 
 #: How wide a line of the synopsis is at most, where a terminal has 80 columns and man indents by 7.
@@ -16,7 +16,8 @@ def _words(call: Call) -> List[Tuple[str, str]]:
     if not call.parameters:
         return [(f"{head}void);", "")]
     declared = [word for it in call.parameters for word in parameters(it)]
-    words = [re.fullmatch(r"(.*?)(\w+)", word).groups() for word in declared]  # type: ignore[union-attr]
+    names = [re.split(r"\W", word)[-1] for word in declared]
+    words = [(word[: -len(name)], name) for word, name in zip(declared, names)]
     return [(head + words[0][0], words[0][1]), *words[1:], (");", "")]
 
 
@@ -100,9 +101,10 @@ def _fields_table(description: Description) -> List[str]:
     lines = ["| Record | Field | Type | Unit | Meaning | In JSON |", "|---|---|---|---|---|---|"]
     for record in description.records.values():
         for it in record.fields:
+            kind = type_of(it.item()).strip() + (f"[{it.count()}]" if "[" in it.type else "")
             unit = "" if it.unit == "-" else it.unit
             keys = ", ".join(f"`{key}`" for key in it.keys)
-            cells = [f"`petool_{record.name}`", f"`{it.name}`", it.type, unit, it.meaning, keys]
+            cells = [f"`petool_{record.name}`", f"`{it.name}`", f"`{kind}`", unit, it.meaning, keys]
             lines.append(f"| {' | '.join(cells)} |")
     return lines
 

@@ -1,6 +1,6 @@
 """Parts of hand-written files that are written of records.txt: they stand between two comments, and the first names them.
 
-    /* describe/records.txt: fixup */
+    /* from describe/records.txt: fixup */
     ..
     /* end of describe/records.txt */
 """
@@ -8,7 +8,7 @@
 import re
 from typing import Callable, Iterator, List
 
-BEGIN = re.compile(r"([ \t]*)(?:/\*|//|#|<!--|\.\\\") describe/records\.txt: (.+?)(?: \*/| -->)?")
+BEGIN = re.compile(r"([ \t]*)(?:/\*|//|#|<!--|\.\\\") from describe/records\.txt: (.+?)(?: \*/| -->)?")
 END = "end of describe/records.txt"
 
 

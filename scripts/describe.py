@@ -75,14 +75,14 @@ def made(description, path):
 def difference(description, path):
     """Where a file differs from what it is to be, as a list of one sentence, or of none."""
     try:
-        wanted = made(description, path).splitlines()
+        stands, wanted = read(path), made(description, path)
     except regions.NoRegion as error:
         return [f"{path}: {error}"]
-    stands = read(path).splitlines()
-    for number, (one, other) in enumerate(zip([*stands, None], [*wanted, None]), 1):
-        if one != other:
-            return [f"{path}: line {number} is {one!r}, described as {other!r}"]
-    return []
+    if stands == wanted:
+        return []
+    lines = enumerate(zip([*stands.split("\n"), None], [*wanted.split("\n"), None]), 1)
+    number, one, other = next((number, one, other) for number, (one, other) in lines if one != other)
+    return [f"{path}: line {number} is {one!r}, described as {other!r}"]
 
 
 def parts(description):

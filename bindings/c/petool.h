@@ -49,7 +49,7 @@ enum {
     PETOOL_CLOSED = 6    /* the space is not open */
 };
 
-/* describe/records.txt: text */
+/* from describe/records.txt: text */
 typedef struct petool_text {
     const uint8_t *at;
     size_t len;
@@ -76,7 +76,7 @@ enum {
     PETOOL_PLACE_ITEM = 3     /* items of a list */
 };
 
-/* describe/records.txt: fault */
+/* from describe/records.txt: fault */
 typedef struct petool_fault {
     uint16_t number; /* as in docs/FAULTS.md, from 1 to 85 */
     uint16_t image;  /* of a set the index of the entry, else 0 */
@@ -109,14 +109,14 @@ static inline int petool_fault_line(const petool_fault *fault, char *line, size_
 /* OK where none of faults 1 to 38 stands; FAULT; or MEMORY, which never comes where one of faults 1 to 15 stands. */
 uint32_t petool_check(const uint8_t *file, size_t len, petool_fault *fault);
 
-/* describe/records.txt: directory */
+/* from describe/records.txt: directory */
 typedef struct petool_directory {
     uint32_t rva, size;
 } petool_directory;
 /* end of describe/records.txt */
 
 /* Every field of the headers, with the greater of two widths where PE32 and PE32+ differ. */
-/* describe/records.txt: headers, section */
+/* from describe/records.txt: headers, section */
 typedef struct petool_headers {
     uint64_t image_base, size_of_stack_reserve, size_of_stack_commit, size_of_heap_reserve, size_of_heap_commit;
     uint32_t pe_offset, time_date_stamp, pointer_to_symbol_table, number_of_symbols;
@@ -161,7 +161,7 @@ uint32_t petool_locate(const uint8_t *file, size_t len, uint32_t rva, uint64_t *
 
 enum { PETOOL_TARGET_RVA = 0, PETOOL_TARGET_ORDINAL = 1, PETOOL_TARGET_NAME = 2 };
 
-/* describe/records.txt: target, export, import, fixup */
+/* from describe/records.txt: target, export, import, fixup */
 typedef struct petool_target {
     uint32_t kind;            /* a PETOOL_TARGET: an RVA of the image, or an ordinal or a name of another module */
     uint32_t value;           /* the RVA, or the ordinal at the other module; 0 beside a name */
@@ -247,7 +247,7 @@ static inline const petool_export *petool_find_export(const petool_export *rows,
     return (const petool_export *)bsearch(&key, rows, count, sizeof key, petool_order_of_exports);
 }
 
-/* describe/records.txt: counts */
+/* from describe/records.txt: counts */
 typedef struct petool_counts {
     size_t exports, names, imports, fixups;
 } petool_counts;
@@ -273,7 +273,7 @@ uint32_t petool_rebase(const uint8_t *file, size_t len, uint64_t base, uint8_t *
 
 /* ---- sets of images ---- */
 
-/* describe/records.txt: entry, binding */
+/* from describe/records.txt: entry, binding */
 typedef struct petool_entry {
     petool_text name; /* of the module, as "kernel32.dll"; the case of ASCII letters does not count */
     petool_text file; /* all bytes of its file */
@@ -299,7 +299,7 @@ uint32_t petool_judge(const petool_entry *set, size_t entries, bool known, petoo
  * from one call to the next, but it is never copied: two copies are one space, and the second close of them frees it twice.
  * Nobody but this library writes its fields; is_open may be read.
  * It goes to one call at a time, of any thread: a lock, a thread's start or a join stands between two calls of two threads. */
-/* describe/records.txt: space */
+/* from describe/records.txt: space */
 typedef struct petool_space {
     void *state;
     bool is_open;
@@ -320,7 +320,7 @@ void petool_space_close(petool_space *space);
  * CLOSED. */
 uint32_t petool_space_read(petool_space *space, uint64_t address, uint8_t *buffer, size_t len, petool_fault *fault);
 
-/* describe/records.txt: moved */
+/* from describe/records.txt: moved */
 typedef struct petool_moved {
     uint32_t fields, slots; /* how many fields of the image, and how many bound slots of all images, were written */
 } petool_moved;
@@ -338,7 +338,7 @@ uint32_t petool_space_bindings(petool_space *space, petool_binding *rows, size_t
 
 /* ---- objects ---- */
 
-/* describe/records.txt: object_section, object_relocation */
+/* from describe/records.txt: object_section, object_relocation */
 typedef struct petool_object_section {
     petool_text name, bytes; /* bytes are empty where none stand in the file */
     uint32_t absent_size;    /* then SizeOfRawData, else 0 */
@@ -354,7 +354,7 @@ typedef struct petool_object_relocation {
 
 enum { PETOOL_SECTION_UNDEFINED = 0, PETOOL_SECTION_ABSOLUTE = 0xffff, PETOOL_SECTION_DEBUG = 0xfffe };
 
-/* describe/records.txt: object_symbol */
+/* from describe/records.txt: object_symbol */
 typedef struct petool_object_symbol {
     petool_text name, aux;   /* aux has 18 bytes for each auxiliary record */
     uint32_t index;          /* of the symbol's record, by which relocations name it */

@@ -21,7 +21,7 @@ from ._library import library
 class Directory:
     """Where a table of the image stands, and how many bytes it has."""
 
-    # describe/records.txt: directory
+    # from describe/records.txt: directory
     rva: int  #: where its table begins in the image; 0 where there is none
     size: int  #: how many bytes the table has, as the file says
     # end of describe/records.txt
@@ -31,7 +31,7 @@ class Directory:
 class Headers:
     """Every field of the headers, in the order of the format. Those that PE32+ does not have are 0 in it."""
 
-    # describe/records.txt: headers
+    # from describe/records.txt: headers
     pe_offset: int  #: the file offset of the signature
     machine: int  #: the processor that the image is for
     number_of_sections: int  #: how many sections there are
@@ -76,7 +76,7 @@ class Headers:
 
 @dataclass(frozen=True)
 class Section:
-    # describe/records.txt: section
+    # from describe/records.txt: section
     name: bytes  #: the name, without the zero bytes behind it
     rva: int  #: the RVA of the first byte
     extent: int  #: how many bytes of the laid-out image the section takes
@@ -136,7 +136,7 @@ _WIDTHS = {1: 2, 2: 2, 3: 4, 10: 8}
 class Fixup:
     """A base relocation: a field that changes with the image's base."""
 
-    # describe/records.txt: fixup
+    # from describe/records.txt: fixup
     entry: int  #: the RVA of the table's entry
     field: int  #: the RVA of the field
     kind: int  #: the entry's type: 1 HIGH, 2 LOW, 3 HIGHLOW, 10 DIR64

@@ -21,7 +21,7 @@ _WINDOW = 4096
 
 @dataclass(frozen=True)
 class ObjectSection:
-    # describe/records.txt: object_section
+    # from describe/records.txt: object_section
     name: bytes  #: the name, also where it stands in the string table
     data: bytes  #: empty where none stand in the file
     absent_size: int  #: SizeOfRawData where no bytes stand in the file, else 0
@@ -34,7 +34,7 @@ class ObjectSection:
 
 @dataclass(frozen=True)
 class ObjectRelocation:
-    # describe/records.txt: object_relocation
+    # from describe/records.txt: object_relocation
     address: int  #: the offset of the reference in the section's bytes
     symbol: int  #: the index of the symbol's record, auxiliary records counted
     kind: int  #: by the machine's own table of types
@@ -43,7 +43,7 @@ class ObjectRelocation:
 
 @dataclass(frozen=True)
 class ObjectSymbol:
-    # describe/records.txt: object_symbol
+    # from describe/records.txt: object_symbol
     name: bytes  #: the name, also where it stands in the string table
     aux: bytes  #: 18 bytes for each auxiliary record
     index: int  #: of the symbol's record, by which relocations name it

@@ -25,7 +25,7 @@ _GUESS = 4096
 class Binding:
     """What an import is bound to."""
 
-    # describe/records.txt: binding
+    # from describe/records.txt: binding
     image: int  #: the index of the entry whose image has the slot
     slot: int  #: the slot's RVA
     exporter: int  #: the index of the entry whose image has the export
@@ -36,7 +36,7 @@ class Binding:
 class Moved(NamedTuple):
     """What a move wrote."""
 
-    # describe/records.txt: moved
+    # from describe/records.txt: moved
     fields: int  #: how many fields of the image
     slots: int  #: how many bound slots of all images
     # end of describe/records.txt

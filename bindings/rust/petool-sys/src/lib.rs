@@ -55,7 +55,7 @@ pub const PETOOL_SECTION_DEBUG: u16 = 0xfffe;
 
 const NO_BYTES: &[u8; 1] = &[0];
 
-// describe/records.txt: records
+// from describe/records.txt: records
 
 /// A part of the file, or a text of the library. An empty one points anywhere.
 #[repr(C)]
@@ -447,7 +447,7 @@ impl Space {
 
 #[allow(missing_docs)] // petool.h says of each call what it answers
 extern "C" {
-    // describe/records.txt: calls
+    // from describe/records.txt: calls
 
     pub fn petool_check(file: *const u8, len: usize, fault: *mut Fault) -> u32;
     pub fn petool_read_headers(
