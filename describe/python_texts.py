@@ -16,6 +16,8 @@ from ctypes import POINTER, Structure, c_bool, c_size_t, c_uint8, c_uint16, c_ui
 from typing import Any, Dict, List, Tuple
 '''
 
+FORMS = "#: The layout of each row in the letters of `struct`: P and N are a text's pointer and length."
+
 
 def _type(description: Description, it: Field) -> str:
     item = description.records[it.item()].camel() if it.item() in description.records else NUMBERS.get(it.item(), "c_void_p")
@@ -67,7 +69,7 @@ def records_module(description: Description) -> str:
     lines = [HEAD.rstrip("\n")]
     records = description.records.values()
     lines += [line for record in records if not record.is_row for line in _structure(description, record)]
-    lines += ["", "", "#: The layout of each row in the letters of `struct`: P and N are a text's pointer and length.", "FORMS = {"]
+    lines += ["", "", FORMS, "FORMS = {"]
     lines += [f'    "{record.name}": "{_form(description, record)}",' for record in records if record.is_row]
     lines.append("}")
     lines += ["", "#: What each call answers, and what it takes.", "CALLS: Dict[str, Tuple[Any, List[Any]]] = {"]

@@ -35,10 +35,10 @@ class Headers:
     pe_offset: int  #: the file offset of the signature
     machine: int  #: the processor that the image is for
     number_of_sections: int  #: how many sections there are
-    time_date_stamp: int  #: when the image was made, in seconds since 1970, as it is written
+    time_date_stamp: int  #: when the image was made, in seconds since 1970, as written
     pointer_to_symbol_table: int  #: the file offset of the symbol table, which is not read
     number_of_symbols: int  #: how many records the symbol table has
-    size_of_optional_header: int  #: the bytes from the optional header's beginning to the section table
+    size_of_optional_header: int  #: the bytes from the optional header to the section table
     characteristics: int  #: flags of the image
     magic: int  #: the form of the optional header: 0x10b of PE32, 0x20b of PE32+
     major_linker_version: int  #: the linker's version
@@ -139,7 +139,7 @@ class Fixup:
     # from describe/records.txt: fixup
     entry: int  #: the RVA of the table's entry
     field: int  #: the RVA of the field
-    kind: int  #: the entry's type: 1 HIGH, 2 LOW, 3 HIGHLOW, 10 DIR64
+    kind: int  #: the entry's type: 1 HIGH and 2 LOW of 2 bytes, 3 HIGHLOW of 4, 10 DIR64 of 8
     # end of describe/records.txt
 
     @property

@@ -47,7 +47,7 @@ class ObjectSymbol:
     name: bytes  #: the name, also where it stands in the string table
     aux: bytes  #: 18 bytes for each auxiliary record
     index: int  #: of the symbol's record, by which relocations name it
-    value: int  #: by the section and the class
+    value: int  #: by the section and the storage class
     section_number: int  #: counted from 1, or SECTION_UNDEFINED, SECTION_ABSOLUTE or SECTION_DEBUG
     kind: int  #: the type; 32 is a function
     storage_class: int  #: the storage class, by the numbers of "PE Format"

@@ -107,7 +107,7 @@ pub struct Headers {
     pub size_of_heap_commit: u64,
     /// The file offset of the signature.
     pub pe_offset: u32,
-    /// When the image was made, in seconds since 1970, as it is written.
+    /// When the image was made, in seconds since 1970, as written.
     pub time_date_stamp: u32,
     /// The file offset of the symbol table, which is not read.
     pub pointer_to_symbol_table: u32,
@@ -147,7 +147,7 @@ pub struct Headers {
     pub machine: u16,
     /// How many sections there are.
     pub number_of_sections: u16,
-    /// The bytes from the optional header's beginning to the section table.
+    /// The bytes from the optional header to the section table.
     pub size_of_optional_header: u16,
     /// Flags of the image.
     pub characteristics: u16,
@@ -277,7 +277,7 @@ pub struct Fixup {
     pub entry: u32,
     /// The RVA of the field.
     pub field: u32,
-    /// The entry's type: 1 HIGH, 2 LOW, 3 HIGHLOW, 10 DIR64.
+    /// The entry's type: 1 HIGH and 2 LOW of 2 bytes, 3 HIGHLOW of 4, 10 DIR64 of 8.
     pub kind: u32,
 }
 
@@ -396,7 +396,7 @@ pub struct ObjectSymbol {
     pub aux: Text,
     /// Of the symbol's record, by which relocations name it.
     pub index: u32,
-    /// By the section and the class.
+    /// By the section and the storage class.
     pub value: u32,
     /// Counted from 1, or a `PETOOL_SECTION`.
     pub section_number: u16,
