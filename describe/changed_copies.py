@@ -83,6 +83,7 @@ DESCRIBED = [
     ("  petool_fixups(file, rows", "  petool_fixups(files, rows", "petool_fixups"),
     ("  petool_version()\n", "", "packaging/debian/libpetool0.symbols"),
     ("  petool_check(file, fault)\n", "  petool_check(file, fault\n", "line "),
+    ("pe_offset, headers.., directories", "headers.., directories", "the order of headers"),
     ("row fixup = FixupRow\n", "rows fixup = FixupRow\n", "line "),
     ("  written by tables.add_fixup\n", "  written by tables.add_fixups\n", "crates/pe_json/src/tables.rt"),
 ]

@@ -2,7 +2,7 @@
 
 from typing import List
 
-from description import Call, Description, Field, Parameter, Record
+from description import Call, Description, Field, Mistake, Parameter, Record
 
 WIDTH = 120
 NUMBERS = {"bool": "c_bool", "usize": "c_size_t", **{f"u{bits}": f"c_uint{bits}" for bits in (8, 16, 32, 64)}}
@@ -85,7 +85,7 @@ def _ordered(description: Description, record: Record) -> List[Field]:
         names += [key for it in description.objects[word[:-2]].members for key in it.bases()] if is_object else [word]
     held = {it.name: it for it in record.fields}
     if sorted(names) != sorted(held):
-        raise ValueError(f"the order of {record.name} in Python has not each of its fields once")
+        raise Mistake(f"the order of {record.name} in Python has not each of its fields once")
     return [held[name] for name in names]
 
 

@@ -11,7 +11,6 @@ from typing import Dict, List, Set, Tuple
 from c_texts import prototype
 from description import Call, Description, Record
 
-NUMBERS = {"u8", "u16", "u32", "u64", "usize", "bool"}
 #: What a text is made of: a record that is one slice has these fields in C.
 TEXT = [("at", "bytes"), ("len", "usize")]
 #: The functions of a source, with what stands up to the next one.

@@ -105,23 +105,22 @@ def misplaced(description):
 
 
 def comparisons(description):
-    """Each file or source that is compared: its name, and what is wrong with it."""
+    """What is wrong with each file that is written, and with each source that is compared: a list, which is empty where it agrees."""
     for path in [*WHOLE, *PARTS]:
-        yield path, difference(description, path)
-    yield "the parts of files", list(misplaced(description))
-    yield "the calls of petool.h", rattle_sources.prototype_faults(description, HEADER, read(HEADER))
-    yield "the records of pe_rows and pe_handle", rattle_sources.record_faults(description, sources("pe_rows", "pe_handle"))
-    yield "the calls of petool_c", rattle_sources.call_faults(description, sources("petool_c"))
-    yield "the keys of pe_json", rattle_sources.key_faults(description, sources("pe_json"))
+        yield difference(description, path)
+    yield list(misplaced(description))
+    yield rattle_sources.prototype_faults(description, HEADER, read(HEADER))
+    yield rattle_sources.record_faults(description, sources("pe_rows", "pe_handle"))
+    yield rattle_sources.call_faults(description, sources("petool_c"))
+    yield rattle_sources.key_faults(description, sources("pe_json"))
 
 
 def check(description):
-    passed = failed = 0
-    for name, faults in comparisons(description):
-        passed, failed = (passed, failed + 1) if faults else (passed + 1, failed)
-        for fault in faults:
-            print(fault)
-    print(f"{passed} passed, {failed} failed")
+    found = list(comparisons(description))
+    for fault in [fault for faults in found for fault in faults]:
+        print(fault)
+    failed = sum(map(bool, found))
+    print(f"{len(found) - failed} passed, {failed} failed")
     return 0 if failed == 0 else 1
 
 
