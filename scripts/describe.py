@@ -105,7 +105,7 @@ def misplaced(description):
 
 
 def comparisons(description):
-    """What is wrong with each file that is written, and with each source that is compared: a list, which is empty where it agrees."""
+    """Of each file that is written and each source that is compared what is wrong with it: nothing where it agrees."""
     for path in [*WHOLE, *PARTS]:
         yield difference(description, path)
     yield list(misplaced(description))
