@@ -131,19 +131,34 @@ def take_sources(target):
 
 
 def prepare(crate, sources, copies):
-    """Makes the copy in which a crate is proved, or takes the one that a run which was stopped has left."""
+    """Makes the copy in which a crate is proved. What a run that was stopped has kept of the crate goes on in it."""
     room = copies / crate.name
-    mark = room / "sum"
-    if mark.is_file() and mark.read_text() == crate.sum:
-        return room
+    kept, out = copies / f"{crate.name}.kept", room / "crates" / crate.name / "out"
+    if out.is_dir():
+        shutil.rmtree(kept, ignore_errors=True)
+        out.rename(kept)
     shutil.rmtree(room, ignore_errors=True)
     copy(sources, room, linked=True)
     for other in crate.below:
         copy(other.out / "rlib", room / "crates" / other.name / "out" / "rlib", linked=True)
-    if crate.out.is_dir():
-        copy(crate.out, room / "crates" / crate.name / "out")
-    mark.write_text(crate.sum)
+    if kept.is_dir():
+        kept.rename(out)
+    elif crate.out.is_dir():
+        copy(crate.out, out)
     return room
+
+
+def replace(out, made):
+    """Puts a folder in the place of another one. It comes whole before the old one goes, inside that, where git looks at nothing."""
+    fresh = out / "fresh"
+    shutil.rmtree(fresh, ignore_errors=True)
+    out.mkdir(exist_ok=True)
+    shutil.move(made, fresh)
+    for old in [it for it in out.iterdir() if it != fresh]:
+        shutil.rmtree(old) if old.is_dir() else old.unlink()
+    for it in list(fresh.iterdir()):
+        it.rename(out / it.name)
+    fresh.rmdir()
 
 
 class Proof:
@@ -172,12 +187,9 @@ class Proof:
         proved, out = self.room / "crates" / self.crate.name / "out", self.crate.out
         (proved / self.crate.mark.relative_to(out)).write_text(self.crate.sum)
         with locked(out.parent):
-            fresh = out.with_name("out.new")
-            shutil.rmtree(fresh, ignore_errors=True)
-            shutil.move(proved, fresh)
-            shutil.rmtree(out, ignore_errors=True)
-            fresh.rename(out)
+            replace(out, proved)
         shutil.rmtree(self.room)
+        shutil.rmtree(self.room.with_name(f"{self.crate.name}.kept"), ignore_errors=True)
         return True
 
     def stop(self):
