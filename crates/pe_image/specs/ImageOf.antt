@@ -1,14 +1,31 @@
 -- The image of a file, with what its tables hold.
-use Rattle.std.specs.Prelude.{◌≡◌, ℕ, List, map}
+use Rattle.std.specs.Prelude.{◌≡◌, ℕ, List, ◌++◌, map, is_none, if◌then◌else◌, Option, None, Some, option_map}
+use Rattle.pe_view.specs.Faults.{Test, first_standing}
+use Rattle.pe_layout.specs.Image.{LaidOut}
 use Rattle.pe_layout.specs.Image.{image_of_file}
 use Rattle.pe_layout.specs.Layout.{image_of, IsLayoutOf}
 use Rattle.pe_layout.specs.declared.layout.Layout.{Layout}
+use Rattle.pe_tables.specs.ExportFaults.{export_tests}
 use Rattle.pe_tables.specs.Exports.{exports_of}
 use Rattle.pe_tables.specs.ExportsView.{exports_view}
+use Rattle.pe_tables.specs.ImportFaults.{import_tests}
 use Rattle.pe_tables.specs.Imports.{imports_of}
 use Rattle.pe_tables.specs.ImportView.{import_view}
 use Rattle.pe_tables.specs.Fixups.{fixups_of}
+use Rattle.pe_image.specs.ImageTests.{table_tests}
 use Rattle.pe_image.specs.declared.image.Image.{Image}
+use Rattle.pe_image.specs.declared.tables.Tables.{Tables}
+
+-- what is there exactly where none of the tests stands
+abbrev pub unless : {X : Type 0} → List Test → X → Option X
+unless tests x = if is_none (first_standing tests) then Some x else None
+
+-- what was read of an image's tables: each is there exactly where no fault stands of it and of those before it
+pub record AreTablesOf {A : Type 0} (i : LaidOut) (t : Tables A) : Type 0 where
+  pub exports : option_map exports_view t.exports ≡ unless (export_tests i) (exports_of i)
+  pub imports : option_map (λ imports. map import_view imports.items) t.imports ≡ unless (export_tests i ++ import_tests i) (imports_of i)
+  pub fixups : option_map (λ fixups. fixups.items) t.fixups ≡ unless (table_tests i) (fixups_of i)
+  pub fault : t.fault ≡ first_standing (table_tests i)
 
 -- what was read of the tables of a layout's image
 pub record HoldsTablesOf {A : Type 0} (l : Layout) (i : Image A) : Type 0 where

@@ -8,10 +8,18 @@ use Rattle.pe_tables.specs.Imports.{imports_of}
 use Rattle.pe_tables.specs.ImportFaults.{import_tests}
 use Rattle.pe_tables.specs.FixupFaults.{fixup_tests}
 
--- the tests of an image's tables, phase by phase; base relocations are asked with the slots of the image's own imports
-unfoldable pub table_tests : LaidOut → List Test
-table_tests i = export_tests i ++ (import_tests i ++ fixup_tests i (map (λ m. m.slot) (imports_of i)))
+-- the slots of an image's imports
+abbrev pub import_slots : LaidOut → List ℕ
+import_slots i = map (λ m. m.slot) (imports_of i)
 
--- the tests of the file of an image that has a number, in the order in which its faults count: 1 to 38
+-- base relocations are asked behind imports without a fault, beside their slots
+abbrev pub relocation_tests : LaidOut → List Test
+relocation_tests i = import_tests i ++ fixup_tests i (import_slots i)
+
+-- the tests of an image's tables, phase by phase
+unfoldable pub table_tests : LaidOut → List Test
+table_tests i = export_tests i ++ relocation_tests i
+
+-- the tests of the file of an image that has a number, in the order in which its faults count
 unfoldable pub image_tests : ℕ → List ℕ → List Test
 image_tests number file = layout_tests number file ++ table_tests (image_of_file number file)

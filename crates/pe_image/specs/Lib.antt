@@ -13,3 +13,4 @@ pub use Rattle.pe_tables.specs.ImportView
 pub use Rattle.pe_tables.specs.TableFaults
 pub mod ImageOf
 pub mod ImageTests
+pub mod Wants

@@ -1,14 +1,15 @@
-ghost use Rattle.std.specs.Prelude.{◌≡◌, ◌≢◌, ◌<◌, None, length, IsErrOf};
-ghost use Rattle.pe_view.specs.Faults.{first_standing, AnswersOrWants};
+ghost use Rattle.std.specs.Prelude.{◌≡◌, ◌<◌, None, length, IsErrOf};
+ghost use Rattle.pe_view.specs.Faults.{first_standing, Answers, AnswersOrWants};
 ghost use Rattle.pe_layout.specs.SectionFaults.{layout_tests};
 ghost use Rattle.pe_layout.specs.Layout.{image_of, IsLayoutOf};
 ghost use Rattle.pe_image.specs.ImageTests.{table_tests, image_tests};
-ghost use Rattle.pe_image.specs.ImageOf.{HoldsTablesOf, IsImageOf};
+ghost use Rattle.pe_image.specs.ImageOf.{AreTablesOf, HoldsTablesOf, IsImageOf};
 ghost use Rattle.pe_view.specs.declared.refusal.Refusal.{Refusal};
 
+use crate::tables::{Tables, read_tables};
 use pe_layout::Layout;
-use pe_tables::{Exports, Fixup, Import, TableError, read_exports, read_fixups, read_imports};
-use pe_view::View;
+use pe_tables::{Exports, Fixup, Import, TableError};
+use pe_view::{Fault, View};
 use std::alloc::Allocator;
 
 /// An image without a fault, and what its tables hold. It borrows the image's file.
@@ -24,33 +25,31 @@ pub struct Image<'a, A: Allocator> {
     pub fixups: Vec<Fixup, A>,
 }
 
-/// The layout of an image's file, or the first of faults 1 to 15.
-fn lay_out(file: &[u8], number: u16) -> Result<Layout<'_>, TableError>
-    ensures exact { AnswersOrWants (layout_tests number file.now) (IsLayoutOf file.now number) result }
-    ensures no_memory { result ≢ Err Refusal.Memory }
+/// The layout of an image's file, or the first fault of its headers and sections (1 to 15), which names the image by `number`.
+/// No memory is taken. ("PE Format": Optional Header, Section Table.)
+pub fn lay_out(file: &[u8], number: u16) -> Result<Layout<'_>, Fault>
+    ensures { Answers (layout_tests number file.now) (IsLayoutOf file.now number) result }
 {
-    match Layout::new(View::new(file), number) {
-        Ok(layout) => Ok(layout),
-        Err(fault) => Err(TableError::Fault(fault)),
-    }
+    Layout::new(View::new(file), number)
 }
 
-/// Asks for the faults of an image's tables phase by phase, each where the ones before have none, and keeps what it read.
-fn read_tables<A: Allocator + Copy>(
-    alloc: A,
-    layout: Layout<'_>,
-) -> Result<Image<'_, A>, TableError>
-    ensures { AnswersOrWants (table_tests (image_of layout.entry)) (HoldsTablesOf layout.entry) result }
+/// The image whose tables are whole, or their first fault.
+fn image_of_tables<'a, A: Allocator>(
+    layout: Layout<'a>,
+    tables: Tables<'a, A>,
+) -> Result<Image<'a, A>, Fault>
+    requires { AreTablesOf (image_of layout) tables }
+    ensures { Answers (table_tests (image_of layout.entry)) (HoldsTablesOf layout.entry) result }
 {
-    let exports = read_exports(alloc, &layout)?;
-    let imports = read_imports(alloc, &layout)?;
-    let fixups = read_fixups(alloc, &layout, &imports)?;
-    Ok(Image {
-        layout,
-        exports,
-        imports,
-        fixups,
-    })
+    match tables.fault {
+        Some(fault) => Err(fault),
+        None => Ok(Image {
+            layout,
+            exports: tables.exports.unwrap(),
+            imports: tables.imports.unwrap(),
+            fixups: tables.fixups.unwrap(),
+        }),
+    }
 }
 
 /// Reads an image whole: `file` is all of its file, and faults name the image by `number`.
@@ -71,5 +70,7 @@ pub fn read_image<A: Allocator + Copy>(
     ensures not_empty { IsErrOf result Refusal.Memory → 0 < length file.now }
 {
     let layout = lay_out(file, number)?;
-    read_tables(alloc, layout)
+    let tables = read_tables(alloc, &layout)?;
+    let image = image_of_tables(layout, tables)?;
+    Ok(image)
 }

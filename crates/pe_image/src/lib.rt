@@ -11,8 +11,13 @@
 //!     count += import.module.len();
 //! }
 //! ```
+//!
+//! [`lay_out`] and [`read_tables`] read a file as far as it goes without a fault: its headers and sections, and then each table
+//! before the first with one.
 #![tactic(auto)]
 
 mod image;
+mod tables;
 
-pub use image::{Image, read_image};
+pub use image::{Image, lay_out, read_image};
+pub use tables::{Tables, read_relocations, read_tables};

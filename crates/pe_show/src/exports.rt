@@ -6,10 +6,10 @@ ghost use Rattle.pe_show.specs.Rows.{key_text, here_text, forward_text, target_t
 
 use crate::cell::{blanks, decimal_width, hex_width, write_hex, write_right};
 use crate::heading::write_heading;
-use crate::image::Tables;
 use crate::name::write_name;
 use crate::options::ShowOptions;
 use crate::place::{Place, SectionNames};
+use pe_image::Tables;
 use pe_layout::Layout;
 use pe_tables::{Exports, Key, Target};
 use pe_text::{Sink, TextWriter};
@@ -176,6 +176,7 @@ pub(crate) fn write_exports<A: Allocator + Copy, W: Sink>(
     layout: &Layout,
     sections: &SectionNames,
     tables: &Tables<A>,
+    names_by_ordinal: &[ExportName],
 )
     requires { IsReady W.failures text.old }
     ensures { AddsSome W.taken W.failures text.old text.new }
@@ -188,7 +189,7 @@ pub(crate) fn write_exports<A: Allocator + Copy, W: Sink>(
     for (ordinal, target) in exports.ordinals() {
         let shown = shown_of(layout, sections, target);
         write_target(text, &widths, *ordinal, &shown);
-        let names = names_of(&tables.names, *ordinal);
+        let names = names_of(names_by_ordinal, *ordinal);
         write_names(text, exports, names, gap_of(&widths, &shown));
     }
 }

@@ -7,8 +7,8 @@ ghost use Rattle.pe_show.specs.Rows.{field_text, fields_row, kind_text};
 
 use crate::cell::{hex_width, write_hex};
 use crate::heading::write_heading;
-use crate::image::Tables;
 use crate::options::ShowOptions;
+use pe_image::Tables;
 use pe_tables::{Fixup, FixupKind};
 use pe_text::{Sink, TextWriter};
 use std::alloc::Allocator;

@@ -40,9 +40,6 @@ unmet s t none = record {
       elim (and_cases _ _ fails) [ inl above ↦ inr (ltb-false _ _ above) | inr below ↦ inl (ltb-false _ _ below) ];
 }
 
-no_data : (s t : SectionHeader) → (0 < rawlen s → ⊥) → Apart s t
-no_data s t none = record { apart = λ some other. absurd (none some) }
-
 record Placed (h : Headers) (before : List SectionHeader) (s : SectionHeader) : Type 0 where
   starts : 0 < rawlen s → h.size_of_headers ≤ s.pointer_to_raw_data
   behind : (j : ℕ) (d : SectionHeader) → j < length before → Apart (get_or before j d) s

@@ -29,7 +29,8 @@ use Rattle.pe_write.proofs.Writes.{covers}
 use Rattle.pe_set.specs.Placement.{address_limit}
 use Rattle.pe_write.specs.Rebase.{IsFree, check_sum_place}
 use Rattle.pe_write.proofs.Writes.{rebased_from, rebase_writes, image_base_write, check_sum_write}
-use Rattle.pe_write.specs.RebaseFaults.{own_base_tests, fields_tests, ranges_tests, data_tests, tables_tests, rebase_tests}
+use Rattle.pe_write.specs.RebaseFaults.{own_base_tests, fields_tests, ranges_tests, data_tests, rebase_tests}
+use Rattle.pe_image.specs.ImageTests.{relocation_tests}
 use Rattle.pe_write.specs.Rewriting.{AreLaid}
 use Rattle.pe_write.proofs.Lists.{Each, each_at, in_range, below_range, above_range}
 use Rattle.pe_write.proofs.Bytes.{byte_written, same_num, length-writes}
@@ -55,8 +56,8 @@ none_of file base none =
     let h = head_of file in
     let i = image_of_file 0 file in
     let after_tables = own_base_tests h.magic i base ++ data_tests h (fixups_of i) in
-    let all = none-append (layout_tests 0 file) (tables_tests i ++ after_tables) none in
-    let rest = none-append (tables_tests i) after_tables all.1 in
+    let all = none-append (layout_tests 0 file) (relocation_tests i ++ after_tables) none in
+    let rest = none-append (relocation_tests i) after_tables all.1 in
     let tables = none-append (import_tests i) (fixup_tests i (map (λ import. import.slot) (imports_of i))) rest.0 in
     let places = none-append (own_base_tests h.magic i base) (data_tests h (fixups_of i)) rest.1 in
     let files = none-append (fields_tests h (fixups_of i)) (ranges_tests h [] 0 h.sections.items) places.1 in

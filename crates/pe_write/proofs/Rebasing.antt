@@ -12,7 +12,8 @@ use Rattle.pe_tables.specs.declared.fixups.Fixup.{Fixup}
 use Rattle.pe_layout.specs.SectionFaults.{layout_tests}
 use Rattle.pe_tables.specs.Fixups.{fixups_of}
 use Rattle.pe_write.specs.Rebase.{rebased}
-use Rattle.pe_write.specs.RebaseFaults.{own_base_tests, data_tests, tables_tests, rebase_tests}
+use Rattle.pe_write.specs.RebaseFaults.{own_base_tests, data_tests, rebase_tests}
+use Rattle.pe_image.specs.ImageTests.{relocation_tests}
 use Rattle.pe_write.proofs.Writes.{rebased_from}
 use Rattle.pe_view.specs.declared.refusal.Refusal.{Refusal}
 use Rattle.pe_write.proofs.Rebasable.{IsSound, lies, kept}
@@ -38,19 +39,19 @@ module _ (file : List ℕ) (base : ℕ) where
   refused_layout y some = first-in (layout_tests 0 file) _ y some
 
   module _ (laid : first_standing (layout_tests 0 file) ≡ None) where
-    pub refused_tables : (e : Refusal) → Refuses (tables_tests (image_of_file 0 file)) e → Refuses (rebase_tests file base) e
+    pub refused_tables : (e : Refusal) → Refuses (relocation_tests (image_of_file 0 file)) e → Refuses (rebase_tests file base) e
     unfolding rebase_tests
-    refused_tables e r = refused-past (layout_tests 0 file) _ e laid (refused-in (tables_tests (image_of_file 0 file)) _ e r)
+    refused_tables e r = refused-past (layout_tests 0 file) _ e laid (refused-in (relocation_tests (image_of_file 0 file)) _ e r)
 
-    module _ (read : first_standing (tables_tests (image_of_file 0 file)) ≡ None) where
+    module _ (read : first_standing (relocation_tests (image_of_file 0 file)) ≡ None) where
       pub refused_base : (y : Fault) → first_standing (own_base_tests (head_of file).magic (image_of_file 0 file) base) ≡ Some y → first_standing (rebase_tests file base) ≡ Some y
       unfolding rebase_tests
-      refused_base y some = first-past (layout_tests 0 file) _ laid ∙ first-past (tables_tests (image_of_file 0 file)) _ read ∙ first-in (own_base_tests (head_of file).magic (image_of_file 0 file) base) (data_tests (head_of file) (fixups_of (image_of_file 0 file))) y some
+      refused_base y some = first-past (layout_tests 0 file) _ laid ∙ first-past (relocation_tests (image_of_file 0 file)) _ read ∙ first-in (own_base_tests (head_of file).magic (image_of_file 0 file) base) (data_tests (head_of file) (fixups_of (image_of_file 0 file))) y some
 
       module _ (based : first_standing (own_base_tests (head_of file).magic (image_of_file 0 file) base) ≡ None) where
         pub all_but_data : first_standing (rebase_tests file base) ≡ first_standing (data_tests (head_of file) (fixups_of (image_of_file 0 file)))
         unfolding rebase_tests
-        all_but_data = first-past (layout_tests 0 file) _ laid ∙ first-past (tables_tests (image_of_file 0 file)) _ read ∙ first-past (own_base_tests (head_of file).magic (image_of_file 0 file) base) (data_tests (head_of file) (fixups_of (image_of_file 0 file))) based
+        all_but_data = first-past (layout_tests 0 file) _ laid ∙ first-past (relocation_tests (image_of_file 0 file)) _ read ∙ first-past (own_base_tests (head_of file).magic (image_of_file 0 file) base) (data_tests (head_of file) (fixups_of (image_of_file 0 file))) based
 
   -- the rebased file, by what is written into it
   pub made : IsSound file base → rebased file base ≡ rebased_from (head_of file) file base

@@ -12,9 +12,7 @@ use Rattle.pe_layout.specs.Image.{LaidOut, image_of_file}
 use Rattle.pe_layout.specs.SectionFaults.{layout_tests}
 use Rattle.pe_tables.specs.Ranges.{meets}
 use Rattle.pe_tables.specs.Fixups.{fixups_of}
-use Rattle.pe_tables.specs.FixupFaults.{fixup_tests}
-use Rattle.pe_tables.specs.Imports.{imports_of}
-use Rattle.pe_tables.specs.ImportFaults.{import_tests}
+use Rattle.pe_image.specs.ImageTests.{relocation_tests}
 use Rattle.pe_tables.specs.declared.fixups.Fixup.{Fixup}
 use Rattle.pe_set.specs.Placement.{Placement, base_tests}
 use Rattle.pe_write.specs.Rebase.{raw_section}
@@ -50,13 +48,9 @@ ranges_tests h before k (s ∷ ss) = range_test h before k s ∷ ranges_tests h 
 abbrev pub data_tests : Headers → List Fixup → List Test
 data_tests h fixups = fields_tests h fixups ++ ranges_tests h [] 0 h.sections.items
 
--- faults 24 to 38
-abbrev pub tables_tests : LaidOut → List Test
-tables_tests i = import_tests i ++ fixup_tests i (map (λ import. import.slot) (imports_of i))
-
 -- faults 1 to 15, 24 to 38, 44 to 46, 51 and 52
 unfoldable pub rebase_tests : List ℕ → ℕ → List Test
 rebase_tests file base =
     let h = head_of file in
     let i = image_of_file 0 file in
-    layout_tests 0 file ++ (tables_tests i ++ (own_base_tests h.magic i base ++ data_tests h (fixups_of i)))
+    layout_tests 0 file ++ (relocation_tests i ++ (own_base_tests h.magic i base ++ data_tests h (fixups_of i)))

@@ -6,17 +6,18 @@ ghost use Rattle.pe_layout.specs.Layout.{headers_of, image_of, IsLayoutOf};
 ghost use Rattle.pe_tables.specs.Fixups.{fixups_of};
 ghost use Rattle.pe_write.specs.Rebase.{rebased, check_sum_place, put_header, moved_all};
 ghost use Rattle.pe_write.specs.Rebased.{IsRebased};
-ghost use Rattle.pe_write.specs.RebaseFaults.{own_base_tests, fields_tests, data_tests, tables_tests, rebase_tests};
+ghost use Rattle.pe_write.specs.RebaseFaults.{own_base_tests, fields_tests, data_tests, rebase_tests};
 ghost use Rattle.pe_write.specs.Rewriting.{AreLaid};
 ghost use Rattle.pe_view.specs.declared.refusal.Refusal.{Refusal};
 
 use crate::error::WriteError;
 use crate::raw_data::{check_raw_data, holder};
 use pe_head::{Headers, Magic, SectionHeader};
+use pe_image::{lay_out, read_relocations};
 use pe_layout::Layout;
 use pe_set::{Placed, base_fault};
-use pe_tables::{Fixup, read_fixups, read_imports, shift_field, write_low};
-use pe_view::{Fault, View};
+use pe_tables::{Fixup, shift_field, write_low};
+use pe_view::Fault;
 use std::alloc::Allocator;
 
 /// Where CheckSum stands, in bytes from the optional header's beginning on.
@@ -53,22 +54,6 @@ impl<'l, 'a> Placed for Alone<'l, 'a> {
     fn is_stripped(&self) -> bool {
         self.layout.is_stripped()
     }
-}
-
-/// The layout of an image's file, or the first of faults 1 to 15.
-fn lay_out(file: &[u8]) -> Result<Layout<'_>, Fault>
-    ensures { Answers (layout_tests 0 file.now) (IsLayoutOf file.now 0) result }
-{
-    Layout::new(View::new(file), 0)
-}
-
-/// The fixups of an image, or the first of faults 24 to 38.
-fn read_tables<A: Allocator + Copy>(alloc: A, layout: &Layout) -> Result<Vec<Fixup, A>, WriteError>
-    ensures { AnswersOrWants (tables_tests (image_of layout.now)) (λ fixups. fixups.items ≡ fixups_of (image_of layout.now)) result }
-{
-    let imports = read_imports(alloc, layout)?;
-    let fixups = read_fixups(alloc, layout, &imports)?;
-    Ok(fixups)
 }
 
 /// Looks for faults 44 to 46 of an image at a base.
@@ -146,8 +131,8 @@ pub fn rebase_file<A: Allocator + Copy>(
 {
     pe_layout::laws::sections_are_apart();
     pe_tables::laws::fields_are_apart();
-    let layout = lay_out(file)?;
-    let fixups = read_tables(alloc, &layout)?;
+    let layout = lay_out(file, 0)?;
+    let fixups = read_relocations(alloc, &layout)?;
     check_base(&layout, base)?;
     let mut bytes = Vec::from_slice(alloc, file)?;
     rewrite(&mut bytes, &layout, &fixups, base)?;

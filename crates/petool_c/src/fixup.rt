@@ -3,7 +3,8 @@ ghost use Rattle.pe_tables.specs.Fixups.{fixups_of};
 ghost use Rattle.pe_rows.specs.FixupRows.{fixup_row};
 ghost use Rattle.pe_rows.specs.Rows.{ReadsTable};
 ghost use Rattle.pe_rows.specs.TableTests.{file_relocation_tests};
-ghost use Rattle.pe_rows.specs.Wants.{FixupsTakeMemory, IsLaidOutAnd};
+ghost use Rattle.pe_image.specs.Wants.{FixupsTakeMemory};
+ghost use Rattle.pe_rows.specs.Wants.{IsLaidOutAnd};
 
 use pe_rows::fault::{FaultRecord, refuse_for};
 use pe_rows::fixup::FixupRow;

@@ -6,9 +6,9 @@ ghost use Rattle.pe_rows.specs.Faults.{IsRefusedBy};
 ghost use Rattle.pe_rows.specs.HeaderRows.{section_row, headers_record};
 ghost use Rattle.pe_rows.specs.Rows.{filled};
 
+use pe_image::lay_out;
 use pe_rows::fault::{FaultRecord, refuse};
 use pe_rows::headers::{HeadersRecord, SectionRow, headers_record, put_sections};
-use pe_rows::reading::lay_out;
 use pe_rows::status;
 
 /// Reads the headers of an image, and of its sections as many as there is room for: an image has at most 96.
@@ -29,7 +29,7 @@ pub extern "C" fn petool_read_headers(
     ensures headers_kept { result ≢ 0 → headers.new ≡ headers.old }
     ensures sections_kept { result ≢ 0 → sections.new ≡ sections.old }
 {
-    let layout = match lay_out(file) {
+    let layout = match lay_out(file, 0) {
         Ok(layout) => layout,
         Err(first) => return refuse(first, fault),
     };

@@ -8,10 +8,9 @@ ghost use Rattle.pe_image.specs.ImageTests.{image_tests};
 ghost use Rattle.pe_rows.specs.Faults.{IsAccepted, IsAnswered, IsRefusedBy};
 ghost use Rattle.pe_rows.specs.Wants.{IsLaidOut};
 
-use pe_image::read_image;
+use pe_image::{lay_out, read_image};
 use pe_layout::Located;
 use pe_rows::fault::{FaultRecord, refuse, refuse_for};
-use pe_rows::reading::lay_out;
 use pe_rows::status;
 use pe_rows::text::TextRecord;
 use std::alloc::Global;
@@ -50,7 +49,7 @@ pub extern "C" fn petool_read(
     ensures absent { result ≡ 3 → (image_of_file 0 file.now).size < rva + length buffer.old }
     ensures kept { result ≢ 0 → buffer.new ≡ buffer.old }
 {
-    let layout = match lay_out(file) {
+    let layout = match lay_out(file, 0) {
         Ok(layout) => layout,
         Err(first) => return refuse(first, fault),
     };
@@ -78,7 +77,7 @@ pub extern "C" fn petool_read_text<'a>(
     ensures absent { result ≡ 3 → (image_of_file 0 file.now).text rva ≡ None }
     ensures kept { result ≢ 0 → text.new ≡ text.old }
 {
-    let layout = match lay_out(file) {
+    let layout = match lay_out(file, 0) {
         Ok(layout) => layout,
         Err(first) => return refuse(first, fault),
     };
@@ -108,7 +107,7 @@ pub extern "C" fn petool_locate(
     ensures absent { result ≡ 3 → file_offset (located (head_of file.now) rva) ≡ None }
     ensures kept { result ≢ 0 → offset.new ≡ offset.old }
 {
-    let layout = match lay_out(file) {
+    let layout = match lay_out(file, 0) {
         Ok(layout) => layout,
         Err(first) => return refuse(first, fault),
     };

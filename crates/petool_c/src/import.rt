@@ -3,7 +3,8 @@ ghost use Rattle.pe_tables.specs.Imports.{imports_of};
 ghost use Rattle.pe_rows.specs.ImportRows.{import_text, import_row};
 ghost use Rattle.pe_rows.specs.Rows.{ReadsTable};
 ghost use Rattle.pe_rows.specs.TableTests.{file_import_tests};
-ghost use Rattle.pe_rows.specs.Wants.{ImportsTakeMemory, IsLaidOutAnd};
+ghost use Rattle.pe_image.specs.Wants.{ImportsTakeMemory};
+ghost use Rattle.pe_rows.specs.Wants.{IsLaidOutAnd};
 
 use pe_rows::fault::{FaultRecord, refuse_for};
 use pe_rows::import::ImportRow;

@@ -7,8 +7,9 @@ use Rattle.pe_view.specs.FirstStanding.{refused-in}
 use Rattle.pe_layout.specs.Image.{LaidOut, image_of_file}
 use Rattle.pe_layout.specs.SectionFaults.{layout_tests}
 use Rattle.pe_tables.specs.Fixups.{fixups_of}
-use Rattle.pe_rows.specs.TableTests.{relocation_tests, file_relocation_tests}
-use Rattle.pe_rows.specs.Wants.{FixupsTakeMemory}
+use Rattle.pe_image.specs.ImageTests.{relocation_tests}
+use Rattle.pe_rows.specs.TableTests.{file_relocation_tests}
+use Rattle.pe_image.specs.Wants.{FixupsTakeMemory}
 use Rattle.pe_rows.proofs.Phases.{behind}
 use Rattle.pe_rows.proofs.reading.fixups_in.Goals as goal
 
@@ -24,10 +25,10 @@ unfolding file_relocation_tests
 returns-clause-exact c =
     let file = c.args.file.now in
     let laid = c.in_ok-layout.ensures in
-    let asked = subst (λ (i : LaidOut). AnswersOrWants (relocation_tests i) (λ fixups. fixups.items ≡ fixups_of i) c.fixups_of.result) laid.1.shows c.fixups_of.ensures.exact in
-    behind (layout_tests 0 file) (relocation_tests (image_of_file 0 file)) _ c.fixups_of.result laid.0 asked
+    let asked = subst (λ (i : LaidOut). AnswersOrWants (relocation_tests i) (λ fixups. fixups.items ≡ fixups_of i) c.read_relocations.result) laid.1.shows c.read_relocations.ensures.exact in
+    behind (layout_tests 0 file) (relocation_tests (image_of_file 0 file)) _ c.read_relocations.result laid.0 asked
 
 pub returns-clause-memory : goal.returns-clause-memory
 returns-clause-memory c wants =
     let laid = c.in_ok-layout.ensures in
-    (laid.0, subst FixupsTakeMemory laid.1.shows (c.fixups_of.ensures.memory wants))
+    (laid.0, subst FixupsTakeMemory laid.1.shows (c.read_relocations.ensures.memory wants))

@@ -11,7 +11,7 @@ use Rattle.pe_tables.specs.ImportFaults.{import_tests}
 use Rattle.pe_tables.specs.Imports.{imports_of}
 use Rattle.pe_tables.specs.ImportView.{import_view}
 use Rattle.pe_rows.specs.TableTests.{file_import_tests}
-use Rattle.pe_rows.specs.Wants.{ImportsTakeMemory}
+use Rattle.pe_image.specs.Wants.{ImportsTakeMemory}
 use Rattle.pe_rows.proofs.Phases.{behind}
 use Rattle.pe_rows.proofs.reading.imports_in.Goals as goal
 

@@ -11,7 +11,7 @@ use Rattle.pe_tables.specs.Fixups.{fixups_of}
 use Rattle.pe_tables.specs.declared.fixups.Fixup.{Fixup}
 use Rattle.pe_write.specs.Rebase.{rebased}
 use Rattle.pe_write.specs.Rebased.{IsRebased}
-use Rattle.pe_write.specs.RebaseFaults.{tables_tests}
+use Rattle.pe_image.specs.ImageTests.{relocation_tests}
 use Rattle.pe_write.specs.Rebase.{moved_all, put_header}
 use Rattle.pe_write.proofs.InWords.{in_words}
 use Rattle.pe_write.proofs.Rebasable.{Laws, sound, laid_of, own_fields}
@@ -29,13 +29,13 @@ returns-in_err-fixups-clause-exact g c =
     let laid = c.in_ok-layout.ensures in
     let error = c.in_err-fixups.field-0.0 in
     let p = err_from_is_err_and c.from_residual-in_err-fixups.result c.from_residual-in_err-fixups.ensures.1 in
-    rw (p.1, p.2) (refused_tables file c.args.base laid.0 error (subst (λ (i : LaidOut). Refuses (tables_tests i) error) laid.1.shows c.in_err-fixups.ensures))
+    rw (p.1, p.2) (refused_tables file c.args.base laid.0 error (subst (λ (i : LaidOut). Refuses (relocation_tests i) error) laid.1.shows c.in_err-fixups.ensures.exact))
 
 pub returns-in_err-check_base-clause-exact : goal.returns-in_err-check_base-clause-exact
 returns-in_err-check_base-clause-exact g c =
     let file = c.args.file.now in
     let laid = c.in_ok-layout.ensures in
-    let read = subst (λ (i : LaidOut). first_standing (tables_tests i) ≡ None) laid.1.shows c.in_ok-fixups.ensures.0 in
+    let read = subst (λ (i : LaidOut). first_standing (relocation_tests i) ≡ None) laid.1.shows c.in_ok-fixups.ensures.exact.0 in
     let found = sym (same_base file c.args.base c.in_ok-layout.layout laid.1) ∙ c.in_err-check_base.ensures in
     let p = err_from_is_err_and c.from_residual-in_err-check_base.result c.from_residual-in_err-check_base.ensures.1 in
     rw (p.1, p.2) (refused_base file c.args.base laid.0 read c.in_err-check_base.field-0.0 found)
@@ -57,9 +57,9 @@ pub returns-in_err-rewrite-clause-exact : goal.returns-in_err-rewrite-clause-exa
 returns-in_err-rewrite-clause-exact g c =
     let file = c.args.file.now in
     let laid = c.in_ok-layout.ensures in
-    let read = subst (λ (i : LaidOut). first_standing (tables_tests i) ≡ None) laid.1.shows c.in_ok-fixups.ensures.0 in
+    let read = subst (λ (i : LaidOut). first_standing (relocation_tests i) ≡ None) laid.1.shows c.in_ok-fixups.ensures.exact.0 in
     let based = sym (same_base file c.args.base c.in_ok-layout.layout laid.1) ∙ c.in_ok-check_base.ensures.0 in
-    let fixups : c.deref.result.now ≡ fixups_of (image_of_file 0 file) = c.deref.ensures.value ∙ c.in_ok-fixups.ensures.1 ∙ ap fixups_of laid.1.shows in
+    let fixups : c.deref.result.now ≡ fixups_of (image_of_file 0 file) = c.deref.ensures.value ∙ c.in_ok-fixups.ensures.exact.1 ∙ ap fixups_of laid.1.shows in
     let found = sym (same_data file c.in_ok-layout.layout c.deref.result.now laid.1 fixups) ∙ c.in_err-rewrite.ensures in
     let p = err_from_is_err_and c.from_residual-in_err-rewrite.result c.from_residual-in_err-rewrite.ensures.1 in
     rw (p.1, p.2) (all_but_data file c.args.base laid.0 read based ∙ found)
@@ -71,9 +71,9 @@ returns-clause-exact g c =
     let file = c.args.file.now in
     let base = c.args.base in
     let laid = c.in_ok-layout.ensures in
-    let read = subst (λ (i : LaidOut). first_standing (tables_tests i) ≡ None) laid.1.shows c.in_ok-fixups.ensures.0 in
+    let read = subst (λ (i : LaidOut). first_standing (relocation_tests i) ≡ None) laid.1.shows c.in_ok-fixups.ensures.exact.0 in
     let based = sym (same_base file c.args.base c.in_ok-layout.layout laid.1) ∙ c.in_ok-check_base.ensures.0 in
-    let fixups : c.deref.result.now ≡ fixups_of (image_of_file 0 file) = c.deref.ensures.value ∙ c.in_ok-fixups.ensures.1 ∙ ap fixups_of laid.1.shows in
+    let fixups : c.deref.result.now ≡ fixups_of (image_of_file 0 file) = c.deref.ensures.value ∙ c.in_ok-fixups.ensures.exact.1 ∙ ap fixups_of laid.1.shows in
     let found = sym (same_data file c.in_ok-layout.layout c.deref.result.now laid.1 fixups) ∙ c.in_ok-rewrite.ensures.0 in
     let none = all_but_data file base laid.0 read based ∙ found in
     let copied = c.deref_mut.ensures.value ∙ c.in_ok-bytes.ensures.items in
