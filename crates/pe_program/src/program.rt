@@ -6,8 +6,7 @@ use crate::file_job::{run_file, run_files};
 use crate::map_job::run_map;
 use crate::rebase_job::run_rebase;
 use crate::texts::Engine;
-use pe_tool::{AtPlace, Job, ShowOptions, Shown, parse_words};
-use pe_view::Place;
+use pe_tool::{Job, ShowOptions, Shown, parse_words};
 use std::env::FillError;
 use std::io::Input;
 use std::rt::{Env, Files};
@@ -32,15 +31,6 @@ fn options_of(rt: &impl Env, shown: Shown, is_terminal: bool) -> ShowOptions {
     }
 }
 
-/// The place that words name. No image has an RVA of 2^32 - 1.
-fn place_of(place: AtPlace) -> Place {
-    match place {
-        AtPlace::Rva(rva) => Place::Rva(u32::try_from(rva).unwrap_or(u32::MAX)),
-        AtPlace::Address(address) => Place::Address(address),
-        AtPlace::File(offset) => Place::File(offset),
-    }
-}
-
 /// Does what the command line asks for, and answers the exit status. Pages may have colours where standard output is a
 /// terminal.
 pub fn run<R: Files + Input + Env + Print + Eprint + AllocGlobal>(rt: &R, is_terminal: bool) -> u8 {
@@ -56,7 +46,7 @@ pub fn run<R: Files + Input + Env + Print + Eprint + AllocGlobal>(rt: &R, is_ter
             run_files(rt, Engine::Show(options), &files)
         }
         Ok(Job::Json { files }) => run_files(rt, Engine::Json, &files),
-        Ok(Job::At { file, place }) => run_file(rt, Engine::At(place_of(place)), file.as_str()),
+        Ok(Job::At { file, place }) => run_file(rt, Engine::At(place), file.as_str()),
         Ok(Job::Explain { number }) => run_explain(rt, number),
         Ok(Job::Dump { file }) => run_file(rt, Engine::Dump, file.as_str()),
         Ok(Job::Object { file }) => run_file(rt, Engine::Object, file.as_str()),

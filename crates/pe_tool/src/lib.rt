@@ -30,7 +30,7 @@ pub use pe_text::{
     fault_words, file_kind, read_whole, status,
 };
 pub use pe_views::{FaultDetail, fault_detail};
-pub use pe_words::{AtPlace, MapFile, Shown, WordsError};
+pub use pe_words::{MapFile, Shown, WordsError};
 pub use rebasing::rebase;
 pub use set_report::map_report;
 pub use words::{Job, parse_words};

@@ -1,9 +1,9 @@
 //! The words of `petool at` and `petool explain`.
 
 use crate::builders::{argument, flag, new_command, required_argument, with_argument};
-use crate::job::AtPlace;
 use crate::word_values::{BadValue, address_of};
 use clap::{ArgMatches, Command};
+use pe_view::Place;
 use std::alloc::{AllocError, Global};
 
 /// What `at` does.
@@ -33,13 +33,13 @@ pub(crate) fn at_command<'a>(alloc: Global) -> Result<Command<'a>, AllocError> {
     with_argument(command, required_argument(alloc, "ADDRESS", PLACE))
 }
 
-/// The place that the words of `at` name.
-pub(crate) fn place_of<'a>(found: &ArgMatches<'a>) -> Result<AtPlace, BadValue<'a>> {
+/// The place that the words of `at` name. No image has an RVA of 2^32 - 1, for which every greater number stands.
+pub(crate) fn place_of<'a>(found: &ArgMatches<'a>) -> Result<Place, BadValue<'a>> {
     let value = found.get_str("ADDRESS").unwrap_or("");
     match address_of(value) {
-        Some(address) if found.get_flag("address") => Ok(AtPlace::Address(address)),
-        Some(offset) if found.get_flag("file") => Ok(AtPlace::File(offset)),
-        Some(rva) => Ok(AtPlace::Rva(rva)),
+        Some(address) if found.get_flag("address") => Ok(Place::Address(address)),
+        Some(offset) if found.get_flag("file") => Ok(Place::File(offset)),
+        Some(rva) => Ok(Place::Rva(u32::try_from(rva).unwrap_or(u32::MAX))),
         None => Err(BadValue {
             value,
             argument: "<ADDRESS>",

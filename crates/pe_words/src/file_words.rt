@@ -3,7 +3,7 @@
 use crate::builders::{flag, new_command, required_argument, with_argument};
 use crate::job::{Job, Shown, WordsError};
 use clap::{Arg, ArgAction, ArgMatches, Command};
-use std::alloc::{AllocError, AllocFailed, Global};
+use std::alloc::{AllocError, Global};
 
 /// A command that reads files one by one.
 #[derive(Clone, Copy)]

@@ -1,5 +1,6 @@
 //! What the words of a command line ask for, or why they ask for nothing.
 
+use pe_view::Place;
 use std::alloc::{AllocError, AllocFailed};
 
 /// A file to be mapped.
@@ -26,17 +27,6 @@ pub struct Shown {
     pub symbols: bool,
 }
 
-/// The place that `at` tells of.
-#[derive(Clone, Copy, Debug, PartialEq, Eq)]
-pub enum AtPlace {
-    /// An RVA.
-    Rva(u64),
-    /// An address, with the image at its ImageBase.
-    Address(u64),
-    /// An offset in the file.
-    File(u64),
-}
-
 /// What the words ask for.
 #[derive(Debug, Drop, PartialEq, Eq)]
 pub enum Job<P> {
@@ -60,7 +50,7 @@ pub enum Job<P> {
     /// `at FILE ADDRESS`: write what stands at a place of an image.
     At {
         file: String,
-        place: AtPlace,
+        place: Place,
     },
     /// `explain N`: write what a fault means, or the list of all.
     Explain {
