@@ -122,6 +122,27 @@ SIZE(petool_moved, 8);
 AT(petool_moved, fields, 0);
 AT(petool_moved, slots, 4);
 
+SIZE(petool_object_header, 20);
+AT(petool_object_header, machine, 0);
+AT(petool_object_header, number_of_sections, 2);
+AT(petool_object_header, time_date_stamp, 4);
+AT(petool_object_header, pointer_to_symbol_table, 8);
+AT(petool_object_header, number_of_symbols, 12);
+AT(petool_object_header, size_of_optional_header, 16);
+AT(petool_object_header, characteristics, 18);
+
+SIZE(petool_section_header, 40);
+AT(petool_section_header, name, 0);
+AT(petool_section_header, virtual_size, 8);
+AT(petool_section_header, virtual_address, 12);
+AT(petool_section_header, size_of_raw_data, 16);
+AT(petool_section_header, pointer_to_raw_data, 20);
+AT(petool_section_header, pointer_to_relocations, 24);
+AT(petool_section_header, pointer_to_linenumbers, 28);
+AT(petool_section_header, number_of_relocations, 32);
+AT(petool_section_header, number_of_linenumbers, 34);
+AT(petool_section_header, characteristics, 36);
+
 SIZE(petool_object_section, 56);
 AT(petool_object_section, name, 0);
 AT(petool_object_section, bytes, 16);

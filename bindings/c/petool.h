@@ -338,6 +338,21 @@ uint32_t petool_space_bindings(petool_space *space, petool_binding *rows, size_t
 
 /* ---- objects ---- */
 
+/* from describe/records.txt: object_header, section_header */
+typedef struct petool_object_header {
+    uint16_t machine, number_of_sections;
+    uint32_t time_date_stamp, pointer_to_symbol_table, number_of_symbols;
+    uint16_t size_of_optional_header, characteristics;
+} petool_object_header;
+
+typedef struct petool_section_header {
+    uint8_t name[8];          /* a name, filled up with zero bytes, or where it stands in the string table */
+    uint32_t virtual_size, virtual_address, size_of_raw_data, pointer_to_raw_data, pointer_to_relocations, pointer_to_linenumbers;
+    uint16_t number_of_relocations, number_of_linenumbers;
+    uint32_t characteristics; /* the section's flags */
+} petool_section_header;
+/* end of describe/records.txt */
+
 /* from describe/records.txt: object_section, object_relocation */
 typedef struct petool_object_section {
     petool_text name, bytes; /* bytes are empty where none stand in the file */
@@ -385,6 +400,11 @@ static inline void petool_object_symbols_init(petool_object_symbol *rows, size_t
 
 /* No memory is taken. OK where none of faults 61 to 72 stands, else FAULT. */
 uint32_t petool_object_check(const uint8_t *file, size_t len, petool_fault *fault);
+
+/* The COFF file header, and of the section headers as many as there is room for, each field as the file has it: number_of_sections
+ * tells how many there are. OK exactly where none of faults 61 to 72 stands, else FAULT. No memory is taken. */
+uint32_t petool_object_headers(const uint8_t *file, size_t len, petool_object_header *header, petool_section_header *sections,
+                               size_t room, petool_fault *fault);
 
 /* OK; SMALL; or FAULT of 61 to 72. Memory is taken to remember where names end; where it is refused, a name is searched again. */
 uint32_t petool_object_sections(const uint8_t *file, size_t len, petool_object_section *rows, size_t room, size_t *count,

@@ -17,6 +17,43 @@ static void check_judging(void)
     CHECK(fault.number == 61 && fault.place == PETOOL_PLACE_FILE && fault.at == 19);
 }
 
+/* An object whose headers have no byte twice but 0, so that each tells its field and its place in it. It has no symbols and no
+ * relocations, and its section's bytes are not in the file. */
+static uint8_t headers_bytes[] = {
+    /* the COFF header, with an optional header of two bytes */
+    0x01, 0x02, 1, 0, 0x03, 0x04, 0x05, 0x06, 0, 0, 0, 0, 0x07, 0x08, 0x09, 0x0a, 2, 0, 0x0b, 0x0c,
+    0xff, 0xff,
+    /* the section header */
+    'a', 'b', 'c', 'd', 'e', 'f', 'g', 'h', 0x11, 0x12, 0x13, 0x14, 0x15, 0x16, 0x17, 0x18, 0x19, 0x1a, 0x1b, 0x1c, 0, 0, 0, 0,
+    0x21, 0x22, 0x23, 0x24, 0x25, 0x26, 0x27, 0x28, 0, 0, 0x29, 0x2a, 0x2b, 0x2c, 0x2d, 0x2e,
+};
+
+static void check_headers(void)
+{
+    const bytes object = {headers_bytes, sizeof headers_bytes};
+    petool_object_header header;
+    petool_section_header rows[2];
+    petool_fault fault = {0, 0, 0, 0};
+    memset(&header, 0x55, sizeof header), memset(rows, 0x55, sizeof rows);
+    CHECK(petool_object_headers(object.at, object.len, &header, rows, 2, &fault) == PETOOL_OK && fault.number == 0);
+    CHECK(header.machine == 0x0201 && header.number_of_sections == 1 && header.time_date_stamp == 0x06050403);
+    CHECK(header.pointer_to_symbol_table == 0 && header.number_of_symbols == 0x0a090807);
+    CHECK(header.size_of_optional_header == 2 && header.characteristics == 0x0c0b);
+    CHECK(memcmp(rows[0].name, "abcdefgh", 8) == 0 && rows[0].virtual_size == 0x14131211 && rows[0].virtual_address == 0x18171615);
+    CHECK(rows[0].size_of_raw_data == 0x1c1b1a19 && rows[0].pointer_to_raw_data == 0 && rows[0].pointer_to_relocations == 0x24232221);
+    CHECK(rows[0].pointer_to_linenumbers == 0x28272625 && rows[0].number_of_relocations == 0);
+    CHECK(rows[0].number_of_linenumbers == 0x2a29 && rows[0].characteristics == 0x2e2d2c2b && rows[1].virtual_size == 0x55555555);
+
+    CHECK(petool_object_headers(o1.at, o1.len, &header, rows, 2, &fault) == PETOOL_OK);
+    CHECK(header.pointer_to_symbol_table == 76 && header.number_of_symbols == 5 && memcmp(rows[0].name, "/4\0\0\0\0\0", 8) == 0);
+    CHECK(rows[0].pointer_to_raw_data == 60 && rows[0].pointer_to_relocations == 66 && rows[0].number_of_relocations == 1);
+    memset(rows, 0x55, sizeof rows);
+    CHECK(petool_object_headers(two.at, two.len, &header, rows, 1, &fault) == PETOOL_OK && header.number_of_sections == 2);
+    CHECK(memcmp(rows[0].name, ".bss\0\0\0", 8) == 0 && rows[1].virtual_size == 0x55555555);
+    CHECK(petool_object_headers(two.at, 99, &header, rows, 2, &fault) == PETOOL_FAULT && fault.number == 63);
+    CHECK(header.machine == 0x14c && rows[1].virtual_size == 0x55555555);
+}
+
 static void check_sections(void)
 {
     petool_object_section rows[2];
@@ -176,6 +213,7 @@ int main(int argc, char **argv)
     o1 = file_in(argv[1], "o1.obj");
     two = file_in(argv[1], "two.obj");
     check_judging();
+    check_headers();
     check_sections();
     check_relocations();
     check_all_relocations();

@@ -49,9 +49,11 @@ from ._object import (
     SECTION_DEBUG,
     SECTION_UNDEFINED,
     Object,
+    ObjectHeader,
     ObjectRelocation,
     ObjectSection,
     ObjectSymbol,
+    SectionHeader,
 )
 from ._space import Binding, Moved, Space, Standing, judge
 
@@ -76,6 +78,7 @@ __all__ = [
     "Import",
     "Moved",
     "Object",
+    "ObjectHeader",
     "ObjectRelocation",
     "ObjectSection",
     "ObjectSymbol",
@@ -85,6 +88,7 @@ __all__ = [
     "SECTION_DEBUG",
     "SECTION_UNDEFINED",
     "Section",
+    "SectionHeader",
     "Space",
     "Standing",
     "Target",

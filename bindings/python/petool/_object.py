@@ -2,11 +2,12 @@
 
 from __future__ import annotations
 
-from dataclasses import dataclass
+from ctypes import byref
+from dataclasses import dataclass, fields
 from itertools import accumulate
 from typing import Any, Callable, List, Optional, Sequence, Tuple
 
-from . import _library
+from . import _library, _records
 from ._bytes import LAYOUTS, Buffer, FileBytes, RowLayout, Rows, first_rows, read_rows
 from ._file import OfFile
 from ._library import library
@@ -17,6 +18,39 @@ SECTION_DEBUG = 0xFFFE
 
 #: How many relocations at least are read at once, where there are so many.
 _WINDOW = 4096
+
+
+@dataclass(frozen=True)
+class ObjectHeader:
+    """The COFF file header of an object."""
+
+    # from describe/records.txt: object_header
+    machine: int  #: the processor that the object is for
+    number_of_sections: int  #: how many section headers there are
+    time_date_stamp: int  #: when the object was made, in seconds since 1970, as written
+    pointer_to_symbol_table: int  #: the file offset of the symbol table; 0 where there is none
+    number_of_symbols: int  #: how many records the symbol table has
+    size_of_optional_header: int  #: the bytes of the optional header
+    characteristics: int  #: flags of the object
+    # end of describe/records.txt
+
+
+@dataclass(frozen=True)
+class SectionHeader:
+    """A section header of an object, each field as the file has it."""
+
+    # from describe/records.txt: section_header
+    name: int  #: the name field, filled up with zero bytes: a name, or where it stands
+    virtual_size: int  #: VirtualSize, which is 0 in objects
+    virtual_address: int  #: VirtualAddress
+    size_of_raw_data: int  #: the size in the file
+    pointer_to_raw_data: int  #: the file offset of the first byte; 0 where there is none
+    pointer_to_relocations: int  #: the file offset of the relocations
+    pointer_to_linenumbers: int  #: the file offset of the line numbers
+    number_of_relocations: int  #: how many relocations there are
+    number_of_linenumbers: int  #: how many line numbers there are
+    characteristics: int  #: the section's flags
+    # end of describe/records.txt
 
 
 @dataclass(frozen=True)
@@ -54,6 +88,11 @@ class ObjectSymbol:
     # end of describe/records.txt
 
 
+def _section_header_of(record: _records.SectionHeader) -> SectionHeader:
+    values = {it.name: getattr(record, it.name) for it in fields(SectionHeader)}
+    return SectionHeader(**{**values, "name": bytes(record.name)})
+
+
 def _maker(file: FileBytes, kind: Callable[..., Any]) -> Callable[..., Any]:
     """Makes an item of a row that begins with two texts."""
 
@@ -80,6 +119,22 @@ class Object(OfFile):
 
     def _rows(self, function: Any, layout: RowLayout) -> memoryview:
         return read_rows(layout, 64, lambda *rows: self._ask(function, *rows))
+
+    @property
+    def header(self) -> ObjectHeader:
+        """The COFF file header."""
+        return self._read_headers(0)[0]
+
+    @property
+    def section_headers(self) -> Tuple[SectionHeader, ...]:
+        """In the order of the section table, each field as the file has it."""
+        return self._read_headers(self.header.number_of_sections)[1]
+
+    def _read_headers(self, room: int) -> Tuple[ObjectHeader, Tuple[SectionHeader, ...]]:
+        record, rows = _records.ObjectHeader(), (_records.SectionHeader * max(room, 1))()
+        self._ask(library.petool_object_headers, byref(record), rows, room)
+        header = ObjectHeader(**{it.name: getattr(record, it.name) for it in fields(ObjectHeader)})
+        return header, tuple(map(_section_header_of, rows[:room]))
 
     @property
     def sections(self) -> Tuple[ObjectSection, ...]:

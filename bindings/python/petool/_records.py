@@ -93,6 +93,33 @@ class Moved(Structure):
     _fields_ = [("fields", c_uint32), ("slots", c_uint32)]
 
 
+class ObjectHeader(Structure):
+    _fields_ = [
+        ("machine", c_uint16),
+        ("number_of_sections", c_uint16),
+        ("time_date_stamp", c_uint32),
+        ("pointer_to_symbol_table", c_uint32),
+        ("number_of_symbols", c_uint32),
+        ("size_of_optional_header", c_uint16),
+        ("characteristics", c_uint16),
+    ]
+
+
+class SectionHeader(Structure):
+    _fields_ = [
+        ("name", c_uint8 * 8),
+        ("virtual_size", c_uint32),
+        ("virtual_address", c_uint32),
+        ("size_of_raw_data", c_uint32),
+        ("pointer_to_raw_data", c_uint32),
+        ("pointer_to_relocations", c_uint32),
+        ("pointer_to_linenumbers", c_uint32),
+        ("number_of_relocations", c_uint16),
+        ("number_of_linenumbers", c_uint16),
+        ("characteristics", c_uint32),
+    ]
+
+
 #: The layout of each row in the letters of `struct`: P and N are a text's pointer and length.
 FORMS = {
     "export": "QPNIIPNPN",
@@ -152,6 +179,10 @@ CALLS: Dict[str, Tuple[Any, List[Any]]] = {
     "petool_space_bindings": (c_uint32, [POINTER(Space), c_void_p, c_size_t, POINTER(c_size_t)]),
     "petool_space_close": (None, [POINTER(Space)]),
     "petool_object_check": (c_uint32, [c_void_p, c_size_t, POINTER(Fault)]),
+    "petool_object_headers": (
+        c_uint32,
+        [c_void_p, c_size_t, POINTER(ObjectHeader), POINTER(SectionHeader), c_size_t, POINTER(Fault)],
+    ),
     "petool_object_sections": (c_uint32, [c_void_p, c_size_t, c_void_p, c_size_t, POINTER(c_size_t), POINTER(Fault)]),
     "petool_object_relocations": (
         c_uint32,

@@ -113,6 +113,17 @@ class Spaces(unittest.TestCase):
 
 
 class Objects(unittest.TestCase):
+    def test_headers_have_every_field_of_the_file(self):
+        with petool.Object(data("o1.obj")) as found:
+            self.assertEqual(found.header, petool.ObjectHeader(0x8664, 1, 0, 76, 5, 0, 0))
+            row = petool.SectionHeader(b"/4" + bytes(6), 0, 0, 6, 60, 66, 0, 1, 0, 0x60000020)
+            self.assertEqual(found.section_headers, (row,))
+        with petool.Object(data("two.obj")) as two:
+            self.assertEqual(two.header.number_of_sections, 2)
+            self.assertEqual([it.name.rstrip(b"\0") for it in two.section_headers], [b".bss", b".data"])
+        with petool.Object(bytes(20)) as empty:
+            self.assertEqual(empty.section_headers, ())
+
     def test_values(self):
         with petool.Object(data("o1.obj")) as found:
             self.assertEqual(found.sections[0].name, b".text$long")

@@ -4,6 +4,8 @@ use Rattle.std.specs.Fmt.{digits}
 use Rattle.coff_object.specs.Auxiliary as auxiliary
 use Rattle.coff_object.specs.Records.{Bytes, Absent, Section, Symbol}
 use Rattle.coff_read.specs.declared.symbol.SymbolSection.TheVariants as belongs
+use Rattle.coff_object.specs.TypeNames.{storage_class_names, amd64_type_names, i386_type_names}
+use Rattle.pe_head.specs.Names.{machine_names}
 use Rattle.pe_text.specs.MachineLine.{machine_line}
 use Rattle.pe_text.specs.Field.{field_line}
 use Rattle.coff_lines.specs.ObjectLines.{section_line, relocation_line, symbol_line, aux_line, object_text}
@@ -36,7 +38,7 @@ plain_symbol name = record { name = name; value = 0; section = belongs.Section 1
 -- the symbol behind an auxiliary record has the index behind its
 indexes : object_text (record { machine = 0x8664; time_stamp = 0; characteristics = 0; optional = []; sections = long_section ∷ []; symbols = file_symbol ∷ plain_symbol (codes "abcdefgh") ∷ [] })
     ≡ codes "Machine 0x8664 AMD64\nTimeDateStamp 0x00000000\nCharacteristics 0x0000\nsection 1 \".text$long\" size 0x00000006 bytes flags 0x60000020 relocations 1\nreloc 0x00000001 symbol 3 type 4 REL32\nsymbol 0 \".file\" value 0x00000000 section debug type 0x0000 class 103 FILE aux 1\naux 1 file \"a.c\"\nsymbol 2 \"abcdefgh\" value 0x00000000 section 1 type 0x0020 class 2 EXTERNAL aux 0\nend\n"
-unfolding long_section file_symbol plain_symbol object_text machine_line field_line section_line relocation_line symbol_line aux_line quoted escaped hex digits
+unfolding long_section file_symbol plain_symbol object_text machine_line field_line section_line relocation_line symbol_line aux_line quoted escaped hex digits machine_names amd64_type_names i386_type_names storage_class_names
 indexes = refl
 
 absent_section : section_line 2 (record long_section { raw = Absent 0x200 }) ≡ codes "section 2 \".text$long\" size 0x00000200 absent flags 0x60000020 relocations 1\n"
@@ -45,20 +47,20 @@ absent_section = refl
 
 -- type 4 has no name for I386, and no type has one for ARM64
 i386_type : relocation_line 0x14c (record { address = 0x10; symbol = 7; kind = 20 }) ≡ codes "reloc 0x00000010 symbol 7 type 20 REL32\n"
-unfolding relocation_line hex digits
+unfolding relocation_line hex digits amd64_type_names i386_type_names
 i386_type = refl
 
 i386_other : relocation_line 0x14c (record { address = 0x10; symbol = 7; kind = 4 }) ≡ codes "reloc 0x00000010 symbol 7 type 4\n"
-unfolding relocation_line hex digits
+unfolding relocation_line hex digits amd64_type_names i386_type_names
 i386_other = refl
 
 arm64_type : relocation_line 0xaa64 (record { address = 0x10; symbol = 7; kind = 4 }) ≡ codes "reloc 0x00000010 symbol 7 type 4\n"
-unfolding relocation_line hex digits
+unfolding relocation_line hex digits amd64_type_names i386_type_names
 arm64_type = refl
 
 no_class : symbol_line 3 (record file_symbol { name = []; value = 7; section = belongs.Absolute; class = 100; aux = [] })
     ≡ codes "symbol 3 \"\" value 0x00000007 section absolute type 0x0000 class 100 aux 0\n"
-unfolding file_symbol symbol_line quoted escaped hex digits
+unfolding file_symbol symbol_line quoted escaped hex digits storage_class_names
 no_class = refl
 
 function : aux_line 4 (auxiliary.Function 5 0x10 0x20 6) ≡ codes "aux 4 function 5 16 0x00000020 6\n"

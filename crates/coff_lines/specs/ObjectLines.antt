@@ -1,7 +1,9 @@
 -- The dump of an object: what it holds, a line each.
-use Rattle.std.specs.Prelude.{ℕ, ◌+◌, ◌*◌, ◌==◌, if◌then◌else◌, List, [], ◌∷◌, ◌++◌, codes, decimal, flat_map, length, Option, None, Some}
-use Rattle.std.specs.List.{range_with_len}
+use Rattle.std.specs.Prelude.{ℕ, ◌+◌, ◌*◌, ◌==◌, Bool, if◌then◌else◌, List, [], ◌∷◌, ◌++◌, codes, decimal, flat_map, length, Option, None, Some}
+use Rattle.std.specs.List.{list_any, range_with_len}
 use Rattle.pe_view.specs.Number.{part}
+use Rattle.pe_head.specs.Names.{name_in}
+use Rattle.coff_object.specs.TypeNames.{storage_class_names, relocation_type_names}
 use Rattle.coff_object.specs.Auxiliary as auxiliary
 use Rattle.coff_object.specs.Auxiliary.{AuxRecord, aux_of}
 use Rattle.coff_object.specs.Records as object
@@ -16,33 +18,25 @@ use Rattle.pe_text.specs.Part.{joined, name_text}
 use Rattle.pe_text.specs.Text.{hex, quoted, numbered}
 
 -- ---- names
--- the name of a number, in a table of numbers and names
-abbrev pub name_in : List (ℕ × List ℕ) → ℕ → Option (List ℕ)
-name_in [] number = None
-name_in (row ∷ rows) number = if number == row.0 then Some row.1 else name_in rows number
+-- the storage classes that a dump names
+abbrev pub dumped_classes : List ℕ
+dumped_classes = 0 ∷ 2 ∷ 3 ∷ 6 ∷ 101 ∷ 103 ∷ 104 ∷ 105 ∷ []
 
--- storage classes
-abbrev pub class_names : List (ℕ × List ℕ)
-class_names =
-    (0, codes "NULL") ∷ (2, codes "EXTERNAL") ∷ (3, codes "STATIC") ∷ (6, codes "LABEL")
-    ∷ (101, codes "FUNCTION") ∷ (103, codes "FILE") ∷ (104, codes "SECTION") ∷ (105, codes "WEAK_EXTERNAL") ∷ []
+-- the types of a machine's relocations that a dump names
+abbrev pub dumped_types : ℕ → List ℕ
+dumped_types machine =
+    if machine == 0x8664 then 0 ∷ 1 ∷ 2 ∷ 3 ∷ 4 ∷ 5 ∷ 6 ∷ 7 ∷ 8 ∷ 9 ∷ 10 ∷ 11 ∷ []
+    else (if machine == 0x14c then 0 ∷ 6 ∷ 7 ∷ 10 ∷ 11 ∷ 20 ∷ [] else [])
 
--- types of relocations for AMD64
-abbrev pub amd64_names : List (ℕ × List ℕ)
-amd64_names =
-    (0, codes "ABSOLUTE") ∷ (1, codes "ADDR64") ∷ (2, codes "ADDR32") ∷ (3, codes "ADDR32NB")
-    ∷ (4, codes "REL32") ∷ (5, codes "REL32_1") ∷ (6, codes "REL32_2") ∷ (7, codes "REL32_3") ∷ (8, codes "REL32_4") ∷ (9, codes "REL32_5")
-    ∷ (10, codes "SECTION") ∷ (11, codes "SECREL") ∷ []
+-- a number is one of these
+abbrev pub is_among : List ℕ → ℕ → Bool
+is_among numbers number = list_any (λ one. number == one) numbers
 
--- types of relocations for I386
-abbrev pub i386_names : List (ℕ × List ℕ)
-i386_names =
-    (0, codes "ABSOLUTE") ∷ (6, codes "DIR32") ∷ (7, codes "DIR32NB")
-    ∷ (10, codes "SECTION") ∷ (11, codes "SECREL") ∷ (20, codes "REL32") ∷ []
+abbrev pub class_name : ℕ → Option (List ℕ)
+class_name class = if is_among dumped_classes class then name_in storage_class_names class else None
 
--- types of relocations for a machine; those of other machines have no names
-abbrev pub type_names : ℕ → List (ℕ × List ℕ)
-type_names machine = if machine == 0x8664 then amd64_names else (if machine == 0x14c then i386_names else [])
+abbrev pub type_name : ℕ → ℕ → Option (List ℕ)
+type_name machine kind = if is_among (dumped_types machine) kind then name_in (relocation_type_names machine) kind else None
 
 -- ---- sections
 abbrev pub raw_word : Raw → List ℕ
@@ -59,7 +53,7 @@ section_line number s = joined
 unfoldable pub relocation_line : ℕ → Relocation → List ℕ
 relocation_line machine r = joined
     (codes "reloc 0x" ∷ hex 8 r.address ∷ codes " symbol " ∷ decimal r.symbol
-    ∷ codes " type " ∷ decimal r.kind ∷ name_text (name_in (type_names machine) r.kind) ∷ codes "\n" ∷ [])
+    ∷ codes " type " ∷ decimal r.kind ∷ name_text (type_name machine r.kind) ∷ codes "\n" ∷ [])
 
 abbrev pub section_lines : ℕ → ℕ → Section → List ℕ
 section_lines machine number s = section_line number s ++ flat_map (relocation_line machine) s.relocations
@@ -77,7 +71,7 @@ unfoldable pub symbol_line : ℕ → Symbol → List ℕ
 symbol_line index s = joined
     (codes "symbol " ∷ decimal index ∷ codes " " ∷ quoted s.name ∷ codes " value 0x" ∷ hex 8 s.value
     ∷ codes " section " ∷ section_text s.section ∷ codes " type 0x" ∷ hex 4 s.kind
-    ∷ codes " class " ∷ decimal s.class ∷ name_text (name_in class_names s.class)
+    ∷ codes " class " ∷ decimal s.class ∷ name_text (class_name s.class)
     ∷ codes " aux " ∷ decimal (aux_records s) ∷ codes "\n" ∷ [])
 
 -- what an auxiliary record holds, by its shape

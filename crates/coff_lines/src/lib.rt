@@ -14,4 +14,3 @@ pub mod laws;
 mod object_lines;
 
 pub use engine::dump_object;
-pub use object_lines::{class_name, type_name};

@@ -8,13 +8,14 @@ ghost use Rattle.coff_object.specs.ObjectFile.{file_of};
 ghost use Rattle.coff_object.specs.ObjectView.{raw_view, symbol_view};
 ghost use Rattle.coff_object.specs.Reading.{object_of};
 ghost use Rattle.coff_object.specs.Written.{raw_size};
-ghost use Rattle.coff_lines.specs.ObjectLines.{amd64_names, i386_names, type_names, class_names, name_in, raw_word, section_line, section_lines, relocation_line, section_text, symbol_line, shape_text, aux_line, aux_lines, symbol_lines, object_text};
+ghost use Rattle.coff_lines.specs.ObjectLines.{type_name, class_name, raw_word, section_line, section_lines, relocation_line, section_text, symbol_line, shape_text, aux_line, aux_lines, symbol_lines, object_text};
 ghost use Rattle.pe_text.specs.Part.{joined, name_text};
 ghost use Rattle.pe_text.specs.Text.{hex, numbered};
 ghost use Rattle.pe_text.specs.TextWriter.{IsReady, Adds};
 
 use coff_object::{
     Aux, FileSection, ObjectFile, RawData, Relocation, Relocations, Symbol, SymbolSection,
+    relocation_type_name, storage_class_name,
 };
 use pe_head::machine;
 use pe_text::Part::{self, Decimal, Hex8, Quoted, Text};
@@ -22,66 +23,24 @@ use pe_text::{
     Sink, TextWriter, characteristics, time_date_stamp, write_fields, write_machine, write_parts,
 };
 
-/// The name of a storage class ("PE Format", Storage Class).
-pub fn class_name(class: u8) -> Option<&'static [u8]>
-    ensures { option_map (λ name. name.now) result ≡ name_in class_names class }
+/// The name of a storage class, of those that a dump names.
+fn class_name(class: u8) -> Option<&'static str>
+    ensures { option_map (λ name. name.now) result ≡ class_name class }
 {
     match class {
-        0 => Some(b"NULL"),
-        2 => Some(b"EXTERNAL"),
-        3 => Some(b"STATIC"),
-        6 => Some(b"LABEL"),
-        101 => Some(b"FUNCTION"),
-        103 => Some(b"FILE"),
-        104 => Some(b"SECTION"),
-        105 => Some(b"WEAK_EXTERNAL"),
+        0 | 2 | 3 | 6 | 101 | 103 | 104 | 105 => storage_class_name(class),
         _ => None,
     }
 }
 
-/// The name of a relocation's type for AMD64 ("PE Format", Type Indicators).
-fn amd64_name(kind: u16) -> Option<&'static [u8]>
-    ensures { option_map (λ name. name.now) result ≡ name_in amd64_names kind }
+/// The name of a relocation's type, of those that a dump names: most of AMD64's and some of I386's.
+fn type_name(machine: u16, kind: u16) -> Option<&'static str>
+    ensures { option_map (λ name. name.now) result ≡ type_name machine kind }
 {
-    match kind {
-        0 => Some(b"ABSOLUTE"),
-        1 => Some(b"ADDR64"),
-        2 => Some(b"ADDR32"),
-        3 => Some(b"ADDR32NB"),
-        4 => Some(b"REL32"),
-        5 => Some(b"REL32_1"),
-        6 => Some(b"REL32_2"),
-        7 => Some(b"REL32_3"),
-        8 => Some(b"REL32_4"),
-        9 => Some(b"REL32_5"),
-        10 => Some(b"SECTION"),
-        11 => Some(b"SECREL"),
-        _ => None,
-    }
-}
-
-/// The name of a relocation's type for I386 ("PE Format", Type Indicators).
-fn i386_name(kind: u16) -> Option<&'static [u8]>
-    ensures { option_map (λ name. name.now) result ≡ name_in i386_names kind }
-{
-    match kind {
-        0 => Some(b"ABSOLUTE"),
-        6 => Some(b"DIR32"),
-        7 => Some(b"DIR32NB"),
-        10 => Some(b"SECTION"),
-        11 => Some(b"SECREL"),
-        20 => Some(b"REL32"),
-        _ => None,
-    }
-}
-
-/// The name of a relocation's type, if the types of the machine have names here.
-pub fn type_name(machine: u16, kind: u16) -> Option<&'static [u8]>
-    ensures { option_map (λ name. name.now) result ≡ name_in (type_names machine) kind }
-{
-    match machine {
-        machine::AMD64 => amd64_name(kind),
-        machine::I386 => i386_name(kind),
+    match (machine, kind) {
+        (machine::AMD64, 0..=11) | (machine::I386, 0 | 6 | 7 | 10 | 11 | 20) => {
+            relocation_type_name(machine, kind)
+        }
         _ => None,
     }
 }
@@ -124,13 +83,13 @@ fn write_section<W: Sink>(line: &mut TextWriter<W>, number: u64, section: &FileS
 }
 
 /// Adds a blank and a name, where there is one.
-fn write_name<W: Sink>(line: &mut TextWriter<W>, name: Option<&[u8]>)
+fn write_name<W: Sink>(line: &mut TextWriter<W>, name: Option<&str>)
     requires { IsReady W.failures line.old }
     ensures { Adds W.taken W.failures line.old line.new (name_text (option_map (λ text. text.now) name.entry)) }
 {
     if let Some(name) = name {
         line.text(b" ");
-        line.text(name);
+        line.text(name.as_bytes());
     }
 }
 

@@ -7,6 +7,7 @@ pub use Rattle.coff_read.specs.AuxiliaryView
 pub use Rattle.coff_read.specs.Field
 pub use Rattle.coff_read.specs.FileView
 pub use Rattle.coff_read.specs.Form
+pub use Rattle.coff_read.specs.Headers
 pub use Rattle.coff_read.specs.NameField
 pub use Rattle.coff_read.specs.Names
 pub use Rattle.coff_read.specs.ObjectFaults
@@ -20,6 +21,7 @@ pub use Rattle.coff_read.specs.StringPlaces
 pub use Rattle.coff_read.specs.Strings
 pub use Rattle.coff_read.specs.SymbolsLeft
 pub use Rattle.coff_read.specs.TablesPlace
+pub use Rattle.coff_read.specs.TypeNames
 pub mod NamePlaces
 pub mod Sizes
 pub mod StringTableView

@@ -22,7 +22,8 @@ mod string_table;
 mod write;
 
 pub use coff_read::{
-    Aux, EachSection, EachSymbol, FileSection, ObjSection, Object, ObjectError, ObjectFile,
-    RawData, Relocation, Relocations, Symbol, SymbolSection, Symbols, read_object,
+    Aux, EachSection, EachSymbol, FileHeader, FileSection, ObjSection, Object, ObjectError,
+    ObjectFile, RawData, Relocation, Relocations, Symbol, SymbolSection, Symbols, read_object,
+    relocation_type_name, storage_class_name,
 };
 pub use write::write_object;

@@ -7,6 +7,7 @@ pub mod AuxiliaryView
 pub mod Field
 pub mod FileView
 pub mod Form
+pub mod Headers
 pub mod NameField
 pub mod Names
 pub mod ObjectFaults
@@ -20,3 +21,4 @@ pub mod StringPlaces
 pub mod Strings
 pub mod SymbolsLeft
 pub mod TablesPlace
+pub mod TypeNames

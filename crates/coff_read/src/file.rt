@@ -7,6 +7,7 @@ ghost use Rattle.coff_read.specs.Reading.{section_starts, symbol_indexes};
 ghost use Rattle.coff_read.specs.TablesPlace.{AreTables};
 
 use crate::fields::{u16_in, u32_in};
+use crate::headers::{FileHeader, file_header, section_header};
 use crate::names::{name_of, section_name_field};
 use crate::object::Object;
 use crate::relocation::check_relocations;
@@ -15,6 +16,7 @@ use crate::sections::EachSection;
 use crate::symbol::{check_symbols, read_symbols};
 use crate::symbols::{EachSymbol, Symbols};
 use crate::tables::{HEADER_LEN, SECTION_LEN, Tables, check_header, read_tables};
+use pe_head::SectionHeader;
 use pe_view::{Fault, TextEnds, View};
 use std::alloc::{AllocError, Allocator};
 
@@ -48,6 +50,7 @@ fn check_all_relocations(view: View, tables: Tables) -> Result<(), Fault>
 impl<'a> ObjectFile<'a> {
     ghost use Rattle.std.specs.Prelude.{option_map, slice_get, IfOk};
     ghost use Rattle.coff_read.specs.FileView.{file_section_view};
+    ghost use Rattle.coff_read.specs.Headers.{file_header, section_headers};
     ghost use Rattle.coff_read.specs.ObjectFile.{file_of};
     ghost use Rattle.coff_read.specs.ObjectView.{object_view};
     ghost use Rattle.coff_read.specs.Reading.{object_of};
@@ -97,6 +100,13 @@ impl<'a> ObjectFile<'a> {
         u16_in(self.view, 0, 18)
     }
 
+    /// The COFF file header, field by field.
+    pub fn header(&self) -> FileHeader
+        ensures { result ≡ file_header (file_of self.now) }
+    {
+        file_header(self.view)
+    }
+
     /// The bytes of the optional header, which objects mostly lack.
     pub fn optional(&self) -> &'a [u8]
         ensures { result.now ≡ (object_of (file_of self.now)).optional }
@@ -123,6 +133,17 @@ impl<'a> ObjectFile<'a> {
         let h = self.tables.headers + SECTION_LEN * index as u64;
         let name = name_of(self.view, self.tables, section_name_field(self.view, h));
         Some(section_at(self.view, h, name))
+    }
+
+    /// The header of section `index` in table order, counted from 0, field by field; `None` exactly where there is no such one.
+    pub fn section_header(&self, index: usize) -> Option<SectionHeader>
+        ensures { result ≡ slice_get (section_headers (file_of self.now)) index }
+    {
+        if index as u64 >= self.tables.sections {
+            return None;
+        }
+        let h = self.tables.headers + SECTION_LEN * index as u64;
+        Some(section_header(self.view, h))
     }
 
     /// The sections in table order, in the time of the section table and of the string table, of which each byte is searched at

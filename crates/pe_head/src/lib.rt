@@ -23,8 +23,8 @@ pub use coff::{characteristic, machine};
 pub use directory::{Directory, directory_index};
 pub use headers::Headers;
 pub use names::{
-    characteristic_name, directory_name, dll_characteristic_name, machine_name, section_flag_name,
-    subsystem_name,
+    Named, characteristic_name, directory_name, dll_characteristic_name, machine_name, name_among,
+    section_flag_name, subsystem_name,
 };
 pub use optional::{Magic, dll_characteristic, subsystem};
 pub use reading::read_headers;

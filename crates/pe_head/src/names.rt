@@ -10,7 +10,7 @@ use crate::optional::{dll_characteristic, subsystem};
 use crate::section::section_flag;
 
 /// A value or a flag, and its name.
-type Named = (u32, &'static str);
+pub type Named = (u32, &'static str);
 
 /// The machines, without IMAGE_FILE_MACHINE_ ("PE Format", Machine Types).
 static MACHINES: [Named; 34] = [
@@ -198,9 +198,9 @@ fn row_of(names: &'static [Named], value: u32) -> Option<&'static Named>
     names.iter().find(|row| row.0 == value)
 }
 
-/// The name of a value among these.
+/// The name of a value in a table of names, and `None` of a value that is not there.
 #[tactic(auto, using(crate::proofs::Named::named))]
-fn name_among(names: &'static [Named], value: u32) -> Option<&'static str>
+pub fn name_among(names: &'static [Named], value: u32) -> Option<&'static str>
     ensures { option_map (λ name. name.now) result ≡ name_in (map name_view names.now) value }
 {
     match row_of(names, value) {

@@ -35,7 +35,7 @@ fn write_object_line<A: Allocator + Copy, W: Sink>(
         Ok(object) => {
             begin(text, name, true);
             let mut json = JsonText::new(alloc);
-            write_object(&mut json, text, file, &object);
+            write_object(&mut json, text, &object);
             json.end(text)?;
             Ok(Outcome::Done)
         }

@@ -2,37 +2,9 @@
 
 use crate::value::Value::{Absent, Flags, Number, Wide};
 use crate::value::{Member, text_if};
+use coff_object::FileHeader;
 use pe_head::{Headers, Magic, machine_name, subsystem_name};
 use pe_views::FlagKind;
-
-/// The fields of a COFF file header, in its order ("PE Format", COFF File Header).
-pub(crate) fn coff_members(
-    machine: u16,
-    number_of_sections: u64,
-    time_date_stamp: u32,
-    pointer_to_symbol_table: u32,
-    number_of_symbols: u32,
-    size_of_optional_header: u64,
-    characteristics: u16,
-) -> [Member<'static>; 9] {
-    [
-        ("machine", Number(machine as u64)),
-        ("machine_name", text_if(machine_name(machine))),
-        ("number_of_sections", Number(number_of_sections)),
-        ("time_date_stamp", Number(time_date_stamp as u64)),
-        (
-            "pointer_to_symbol_table",
-            Number(pointer_to_symbol_table as u64),
-        ),
-        ("number_of_symbols", Number(number_of_symbols as u64)),
-        ("size_of_optional_header", Number(size_of_optional_header)),
-        ("characteristics", Number(characteristics as u64)),
-        (
-            "characteristics_flags",
-            Flags(FlagKind::File, characteristics as u32),
-        ),
-    ]
-}
 
 /// A member that is a number.
 macro_rules! number {
@@ -46,6 +18,24 @@ macro_rules! wide {
     ($headers:ident, $field:ident) => {
         (stringify!($field), Wide($headers.$field))
     };
+}
+
+/// The fields of a COFF file header, in its order ("PE Format", COFF File Header).
+pub(crate) fn coff_members(header: &FileHeader) -> [Member<'static>; 9] {
+    [
+        number!(header, machine),
+        ("machine_name", text_if(machine_name(header.machine))),
+        number!(header, number_of_sections),
+        number!(header, time_date_stamp),
+        number!(header, pointer_to_symbol_table),
+        number!(header, number_of_symbols),
+        number!(header, size_of_optional_header),
+        number!(header, characteristics),
+        (
+            "characteristics_flags",
+            Flags(FlagKind::File, header.characteristics as u32),
+        ),
+    ]
 }
 
 /// The fields of an optional header, in its order ("PE Format", Optional Header).

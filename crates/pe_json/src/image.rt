@@ -10,6 +10,7 @@ use crate::sections::section_members;
 use crate::tables::{write_fixups, write_imports};
 use crate::value::Value::{Number, Text};
 use crate::value::text_if;
+use coff_object::FileHeader;
 use pe_head::{Headers, Magic, SectionHeader, directory_name};
 use pe_image::Image;
 use pe_text::{Sink, TextWriter};
@@ -29,15 +30,15 @@ fn add_headers<A: Allocator + Copy>(json: &mut JsonText<A>, headers: &Headers) {
     ]);
     json.key("headers");
     json.begin_object();
-    json.members(&coff_members(
-        headers.machine,
-        headers.number_of_sections as u64,
-        headers.time_date_stamp,
-        headers.pointer_to_symbol_table,
-        headers.number_of_symbols,
-        headers.size_of_optional_header as u64,
-        headers.characteristics,
-    ));
+    json.members(&coff_members(&FileHeader {
+        machine: headers.machine,
+        number_of_sections: headers.number_of_sections,
+        time_date_stamp: headers.time_date_stamp,
+        pointer_to_symbol_table: headers.pointer_to_symbol_table,
+        number_of_symbols: headers.number_of_symbols,
+        size_of_optional_header: headers.size_of_optional_header,
+        characteristics: headers.characteristics,
+    }));
     json.members(&optional_members(headers));
     json.end_object();
     json.begin_list("directories");

@@ -5,14 +5,15 @@ ghost use Rattle.pe_text.specs.TextWriter.{IsReady};
 
 use crate::headers::coff_members;
 use crate::json_text::JsonText;
-use crate::sections::{header_at, section_members};
+use crate::sections::section_members;
 use crate::value::Value::{Bytes, Name, Number, Text};
 use crate::value::{Member, text_if};
-use coff_object::{Aux, FileSection, ObjectFile, Relocation, Relocations, Symbol, SymbolSection};
+use coff_object::{
+    Aux, FileSection, ObjectFile, Relocation, Relocations, Symbol, SymbolSection,
+    relocation_type_name, storage_class_name,
+};
 use pe_head::SectionHeader;
 use pe_text::{Sink, TextWriter};
-use pe_view::View;
-use pe_views::{class_name, relocation_type_name};
 use std::alloc::Allocator;
 
 /// Adds a relocation.
@@ -74,18 +75,17 @@ fn write_section<'a, A: Allocator + Copy, W: Sink>(
 fn write_sections<A: Allocator + Copy, W: Sink>(
     json: &mut JsonText<A>,
     text: &mut TextWriter<W>,
-    view: View,
     object: &ObjectFile,
 )
     requires { IsReady W.failures text.old }
     ensures { Grows W.taken W.failures text.old text.new }
 {
     json.begin_list("sections");
-    let table = 20 + object.optional().len() as u64;
     for index in 0..object.section_count() {
-        let offset = (index as u64).saturating_mul(40).saturating_add(table);
-        let header = header_at(view, offset);
-        if let (Some(header), Some(section)) = (header, object.section(index)) {
+        if let (Some(header), Some(section)) = (
+            object.section_header(index),
+            object.section(index),
+        ) {
             let number = index as u64 + 1;
             write_section(json, text, object.machine(), number, &header, &section);
         }
@@ -183,7 +183,10 @@ fn add_symbol<A: Allocator + Copy>(json: &mut JsonText<A>, index: u32, symbol: &
         section,
         ("type", Number(symbol.kind as u64)),
         ("storage_class", Number(symbol.class as u64)),
-        ("storage_class_name", text_if(class_name(symbol.class))),
+        (
+            "storage_class_name",
+            text_if(storage_class_name(symbol.class)),
+        ),
     ]);
     if symbol.aux_count() > 0 {
         add_aux_records(json, index, symbol);
@@ -212,24 +215,14 @@ fn write_symbols<A: Allocator + Copy, W: Sink>(
 pub(crate) fn write_object<A: Allocator + Copy, W: Sink>(
     json: &mut JsonText<A>,
     text: &mut TextWriter<W>,
-    file: &[u8],
     object: &ObjectFile,
 )
     requires { IsReady W.failures text.old }
     ensures { Grows W.taken W.failures text.old text.new }
 {
-    let view = View::new(file);
     json.members(&[("format", Text("COFF"))]);
     json.key("headers");
-    json.object(&coff_members(
-        object.machine(),
-        object.section_count() as u64,
-        object.time_stamp(),
-        view.u32_at(8).unwrap_or(0),
-        view.u32_at(12).unwrap_or(0),
-        object.optional().len() as u64,
-        object.characteristics(),
-    ));
-    write_sections(json, text, view, object);
+    json.object(&coff_members(&object.header()));
+    write_sections(json, text, object);
     write_symbols(json, text, object);
 }

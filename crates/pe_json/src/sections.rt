@@ -4,7 +4,6 @@ use crate::value::Member;
 use crate::value::Value::{Absent, Flags, Name, Number};
 use bstr::ByteSlice;
 use pe_head::SectionHeader;
-use pe_view::View;
 use pe_views::FlagKind;
 
 /// A section of a name ("PE Format", Section Table). Its short name is the field without the zero bytes at its end.
@@ -57,23 +56,4 @@ pub(crate) fn section_members<'a>(
             Flags(FlagKind::Section, header.characteristics),
         ),
     ]
-}
-
-/// The section header at an offset of a file that holds it.
-pub(crate) fn header_at(view: View, offset: u64) -> Option<SectionHeader> {
-    let row = View::new(view.slice(offset, 40)?);
-    let mut name = [0; 8];
-    name.copy_from_slice(row.slice(0, 8)?);
-    Some(SectionHeader {
-        name,
-        virtual_size: row.u32_at(8)?,
-        virtual_address: row.u32_at(12)?,
-        size_of_raw_data: row.u32_at(16)?,
-        pointer_to_raw_data: row.u32_at(20)?,
-        pointer_to_relocations: row.u32_at(24)?,
-        pointer_to_linenumbers: row.u32_at(28)?,
-        number_of_relocations: row.u16_at(32)?,
-        number_of_linenumbers: row.u16_at(34)?,
-        characteristics: row.u32_at(36)?,
-    })
 }

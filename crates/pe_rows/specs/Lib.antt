@@ -4,6 +4,7 @@ pub mod Faults
 pub mod FixupRows
 pub mod HeaderRows
 pub mod ImportRows
+pub mod ObjectHeaderRows
 pub mod ObjectRows
 pub mod Rows
 pub mod SetRows

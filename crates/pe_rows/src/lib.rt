@@ -16,6 +16,7 @@ pub mod headers;
 pub mod import;
 pub mod mapping;
 pub mod object;
+pub mod object_headers;
 pub mod reading;
 pub mod rebase;
 pub mod row;

@@ -10,9 +10,8 @@ use crate::heading::write_heading;
 use crate::name::write_name;
 use crate::options::ShowOptions;
 use crate::place::cut;
-use coff_object::{FileSection, ObjectFile, Symbol, SymbolSection};
+use coff_object::{FileSection, ObjectFile, Symbol, SymbolSection, storage_class_name};
 use pe_text::{Sink, TextWriter};
-use pe_views::class_name;
 use std::alloc::{AllocError, Allocator};
 
 /// The names of an object's symbols, by the indexes of their records.
@@ -136,7 +135,7 @@ pub(crate) fn write_symbols<A: Allocator + Copy, W: Sink>(
             width,
             index,
             section,
-            class_name(symbol.class),
+            storage_class_name(symbol.class),
             &symbol,
         );
     }

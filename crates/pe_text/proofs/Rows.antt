@@ -5,6 +5,7 @@ use Rattle.pe_view.specs.declared.fault.Place.TheVariants.{File, Rva, Address, I
 use Rattle.pe_text.specs.FaultLine.{place_text, fault_words, fault_line, cycle_line}
 use Rattle.pe_text.specs.Field.{field, field_line}
 use Rattle.pe_text.specs.MachineLine.{machine_line}
+use Rattle.pe_head.specs.Names.{machine_names}
 use Rattle.pe_text.specs.Text.{hex, width_from, escaped, quoted}
 
 no_bytes : fault_line (record { number = 2; image = 0; place = File 0 }) ≡ codes "fault 2 image 0 file 0x00000000\n"
@@ -33,27 +34,27 @@ unfolding place_text digits
 at_item = refl
 
 i386 : machine_line 0x14c ≡ codes "Machine 0x014c I386\n"
-unfolding machine_line hex
+unfolding machine_line machine_names hex
 i386 = refl
 
 amd64 : machine_line 0x8664 ≡ codes "Machine 0x8664 AMD64\n"
-unfolding machine_line hex
+unfolding machine_line machine_names hex
 amd64 = refl
 
 arm64 : machine_line 0xaa64 ≡ codes "Machine 0xaa64 ARM64\n"
-unfolding machine_line hex
+unfolding machine_line machine_names hex
 arm64 = refl
 
 arm : machine_line 0x1c0 ≡ codes "Machine 0x01c0 ARM\n"
-unfolding machine_line hex
+unfolding machine_line machine_names hex
 arm = refl
 
 armnt : machine_line 0x1c4 ≡ codes "Machine 0x01c4 ARMNT\n"
-unfolding machine_line hex
+unfolding machine_line machine_names hex
 armnt = refl
 
 other_machine : machine_line 0xabc ≡ codes "Machine 0x0abc other\n"
-unfolding machine_line hex
+unfolding machine_line machine_names hex
 other_machine = refl
 
 wide_field : field_line (field (codes "ImageBase") 8 0x140000000) ≡ codes "ImageBase 0x0000000140000000\n"

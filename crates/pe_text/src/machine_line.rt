@@ -1,26 +1,24 @@
 //! The line of a COFF header's Machine field.
 
 ghost use Rattle.std.specs.Prelude.{◌≡◌};
-ghost use Rattle.pe_text.specs.MachineLine.{machine_name, machine_line};
+ghost use Rattle.pe_text.specs.MachineLine.{dumped_name, machine_line};
 ghost use Rattle.pe_text.specs.TextWriter.{IsReady, Adds};
 
 use crate::device::Sink;
 use crate::part::Part::{Hex4, Text};
 use crate::part::write_parts;
 use crate::text_writer::TextWriter;
-use pe_head::machine;
+use pe_head::{machine, machine_name};
 
-/// The name of a machine, or `other`.
-fn machine_name(machine: u16) -> &'static [u8]
-    ensures { result.now ≡ machine_name machine }
+/// The name of a machine, of those that a dump names, or `other`.
+fn dumped_name(machine: u16) -> &'static str
+    ensures { result.now ≡ dumped_name machine }
 {
     match machine {
-        machine::I386 => b"I386",
-        machine::AMD64 => b"AMD64",
-        machine::ARM64 => b"ARM64",
-        machine::ARM => b"ARM",
-        machine::ARMNT => b"ARMNT",
-        _ => b"other",
+        machine::I386 | machine::AMD64 | machine::ARM64 | machine::ARM | machine::ARMNT => {
+            machine_name(machine).unwrap_or("other")
+        }
+        _ => "other",
     }
 }
 
@@ -36,7 +34,7 @@ pub fn write_machine<W: Sink>(line: &mut TextWriter<W>, machine: u16)
             Text(b"Machine 0x"),
             Hex4(machine),
             Text(b" "),
-            Text(machine_name(machine)),
+            Text(dumped_name(machine).as_bytes()),
             Text(b"\n"),
         ],
     );

@@ -1,15 +1,20 @@
 ghost use Rattle.std.specs.Prelude.{◌≡◌, ◌≢◌, ◌⊎◌, drop, slice_get};
 ghost use Rattle.pe_view.specs.Faults.{first_standing};
 ghost use Rattle.coff_object.specs.ObjectFaults.{object_tests};
+ghost use Rattle.coff_object.specs.Headers.{file_header, section_headers};
 ghost use Rattle.coff_object.specs.Reading.{object_of};
 ghost use Rattle.pe_rows.specs.Faults.{IsRefusedBy};
+ghost use Rattle.pe_rows.specs.ObjectHeaderRows.{object_header_record, section_header_row};
 ghost use Rattle.pe_rows.specs.ObjectRows.{section_text, section_row, relocation_row, relocations_of, TellsRelocations};
-ghost use Rattle.pe_rows.specs.Rows.{TellsTable};
+ghost use Rattle.pe_rows.specs.Rows.{filled, TellsTable};
 
 use coff_object::ObjectFile;
 use pe_rows::fault::{FaultRecord, refuse};
 use pe_rows::object::{
     ObjectRelocationRow, ObjectSectionRow, tell_all_relocations, tell_relocations, tell_sections,
+};
+use pe_rows::object_headers::{
+    ObjectHeaderRecord, SectionHeaderRow, object_header_record, put_section_headers,
 };
 use pe_rows::status;
 use std::alloc::Global;
@@ -27,6 +32,33 @@ pub extern "C" fn petool_object_check(file: &[u8], fault: &mut FaultRecord) -> u
         Ok(_) => status::DONE,
         Err(first) => refuse(first, fault),
     }
+}
+
+/// Reads the COFF file header of an object, and of its section headers as many as there is room for.
+///
+/// The status is 0, or 1 with the first of faults 61 to 72, which leaves the header and the rows as they were. No memory is taken.
+/// ("PE Format": COFF File Header, Section Table.)
+#[unsafe(no_mangle)]
+pub extern "C" fn petool_object_headers(
+    file: &[u8],
+    header: &mut ObjectHeaderRecord,
+    sections: &mut [SectionHeaderRow],
+    fault: &mut FaultRecord,
+) -> u32
+    ensures status { (result ≡ 0) ⊎ (result ≡ 1) }
+    ensures refused { IsRefusedBy (first_standing (object_tests file.now)) fault.old fault.new result }
+    ensures header { result ≡ 0 → header.new ≡ object_header_record (file_header file.now) }
+    ensures sections { result ≡ 0 → sections.new ≡ filled section_header_row (section_headers file.now) sections.old }
+    ensures header_kept { result ≢ 0 → header.new ≡ header.old }
+    ensures sections_kept { result ≢ 0 → sections.new ≡ sections.old }
+{
+    let object = match ObjectFile::new(file) {
+        Ok(object) => object,
+        Err(first) => return refuse(first, fault),
+    };
+    *header = object_header_record(&object);
+    put_section_headers(sections, &object);
+    status::DONE
 }
 
 /// Reads the sections of an object, in table order, into the caller's rows.

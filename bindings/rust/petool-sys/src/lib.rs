@@ -341,6 +341,52 @@ pub struct Moved {
     pub slots: u32,
 }
 
+/// The COFF file header of an object, as the file has it.
+#[repr(C)]
+#[derive(Clone, Copy, Debug, Default, PartialEq, Eq, Hash)]
+pub struct ObjectHeader {
+    /// The processor that the object is for.
+    pub machine: u16,
+    /// How many section headers there are.
+    pub number_of_sections: u16,
+    /// When the object was made, in seconds since 1970, as written.
+    pub time_date_stamp: u32,
+    /// The file offset of the symbol table; 0 where there is none.
+    pub pointer_to_symbol_table: u32,
+    /// How many records the symbol table has.
+    pub number_of_symbols: u32,
+    /// The bytes of the optional header.
+    pub size_of_optional_header: u16,
+    /// Flags of the object.
+    pub characteristics: u16,
+}
+
+/// A section header of an object, as the file has it.
+#[repr(C)]
+#[derive(Clone, Copy, Debug, Default, PartialEq, Eq, Hash)]
+pub struct SectionHeader {
+    /// The name field, filled up with zero bytes: a name, or where it stands.
+    pub name: [u8; 8],
+    /// VirtualSize, which is 0 in objects.
+    pub virtual_size: u32,
+    /// VirtualAddress.
+    pub virtual_address: u32,
+    /// The size in the file.
+    pub size_of_raw_data: u32,
+    /// The file offset of the first byte; 0 where there is none.
+    pub pointer_to_raw_data: u32,
+    /// The file offset of the relocations.
+    pub pointer_to_relocations: u32,
+    /// The file offset of the line numbers.
+    pub pointer_to_linenumbers: u32,
+    /// How many relocations there are.
+    pub number_of_relocations: u16,
+    /// How many line numbers there are.
+    pub number_of_linenumbers: u16,
+    /// The section's flags.
+    pub characteristics: u32,
+}
+
 /// A section of an object.
 #[repr(C)]
 #[derive(Clone, Copy, Debug)]
@@ -558,6 +604,14 @@ extern "C" {
     pub fn petool_space_close(space: *mut Space);
 
     pub fn petool_object_check(file: *const u8, len: usize, fault: *mut Fault) -> u32;
+    pub fn petool_object_headers(
+        file: *const u8,
+        len: usize,
+        header: *mut ObjectHeader,
+        sections: *mut SectionHeader,
+        room: usize,
+        fault: *mut Fault,
+    ) -> u32;
     pub fn petool_object_sections(
         file: *const u8,
         len: usize,

@@ -55,6 +55,12 @@ fn the_records_of_sets_and_spaces_are_laid_out_as_in_c() {
 
 #[test]
 fn the_records_of_objects_are_laid_out_as_in_c() {
+    layout!(ObjectHeader, 20, 4, machine 0, number_of_sections 2, time_date_stamp 4,
+        pointer_to_symbol_table 8, number_of_symbols 12, size_of_optional_header 16,
+        characteristics 18);
+    layout!(SectionHeader, 40, 4, name 0, virtual_size 8, virtual_address 12, size_of_raw_data 16,
+        pointer_to_raw_data 20, pointer_to_relocations 24, pointer_to_linenumbers 28,
+        number_of_relocations 32, number_of_linenumbers 34, characteristics 36);
     layout!(ObjectSection, 56, 8, name 0, bytes 16, absent_size 32, virtual_size 36,
         virtual_address 40, characteristics 44, relocation_count 48);
     layout!(ObjectRelocation, 12, 4, address 0, symbol 4, kind 8);

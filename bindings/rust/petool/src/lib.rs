@@ -41,7 +41,7 @@ pub use headers::{Headers, Section};
 pub use image::Image;
 pub use object::{Object, ObjectSection, Symbol};
 #[doc(inline)]
-pub use petool_sys::{Binding, Directory, Fixup, Moved, ObjectRelocation as Relocation};
+pub use petool_sys::{Binding, Directory, Fixup, Moved, ObjectHeader, ObjectRelocation as Relocation, SectionHeader};
 pub use set::{judge, Entry, Policy};
 pub use space::{Placed, Space};
 pub use tables::{Import, Key, Tables, Target};

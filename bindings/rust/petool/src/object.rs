@@ -1,7 +1,7 @@
 //! COFF objects.
 
 use crate::rows::{read_rows, room_of, text_of};
-use crate::{Fault, OutOfMemory, Relocation};
+use crate::{Fault, ObjectHeader, OutOfMemory, Relocation, SectionHeader};
 use petool_sys as sys;
 use std::sync::{Mutex, PoisonError};
 
@@ -141,6 +141,38 @@ impl<'a> Object<'a> {
         match status {
             sys::PETOOL_OK => Ok(Object::judged(file)),
             _ => Err(Fault::of(fault)),
+        }
+    }
+
+    /// Its COFF file header.
+    pub fn header(&self) -> Result<ObjectHeader, OutOfMemory> {
+        self.read_headers(&mut [])
+    }
+
+    /// Its section headers, in the order of their table, each field as the file has it.
+    pub fn section_headers(&self) -> Result<Vec<SectionHeader>, OutOfMemory> {
+        let count = usize::from(self.header()?.number_of_sections);
+        let mut rows = room_of(SectionHeader::default(), count)?;
+        self.read_headers(&mut rows)?;
+        Ok(rows)
+    }
+
+    fn read_headers(&self, rows: &mut [SectionHeader]) -> Result<ObjectHeader, OutOfMemory> {
+        let (mut header, mut fault) = (ObjectHeader::default(), sys::Fault::default());
+        // SAFETY: the file is all of a slice, which nobody writes to; the rows are nobody else's
+        let status = unsafe {
+            sys::petool_object_headers(
+                self.file.as_ptr(),
+                self.file.len(),
+                &mut header,
+                rows.as_mut_ptr(),
+                rows.len(),
+                &mut fault,
+            )
+        };
+        match status {
+            sys::PETOOL_OK => Ok(header),
+            _ => Err(OutOfMemory),
         }
     }
 

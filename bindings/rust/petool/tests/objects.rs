@@ -1,6 +1,6 @@
 //! Objects. The values are those of o1.obj and two.obj, made by hand.
 
-use petool::{Fault, Object, Place, Relocation};
+use petool::{Fault, Object, ObjectHeader, Place, Relocation, SectionHeader};
 
 const O1: &[u8] = include_bytes!("../../../../crates/test_cases/data/o1.obj");
 const TWO: &[u8] = include_bytes!("../../../../crates/test_cases/data/two.obj");
@@ -14,6 +14,44 @@ fn an_object_is_judged_once() {
     };
     assert_eq!(Object::new(&O1[..19]).unwrap_err(), fault);
     assert_eq!(Object::new(&TWO[..99]).unwrap_err().number, 63);
+}
+
+#[test]
+fn headers_have_every_field_of_the_file() {
+    let object = Object::new(O1).unwrap();
+    let header = ObjectHeader {
+        machine: 0x8664,
+        number_of_sections: 1,
+        time_date_stamp: 0,
+        pointer_to_symbol_table: 76,
+        number_of_symbols: 5,
+        size_of_optional_header: 0,
+        characteristics: 0,
+    };
+    let section = SectionHeader {
+        name: *b"/4\0\0\0\0\0\0",
+        virtual_size: 0,
+        virtual_address: 0,
+        size_of_raw_data: 6,
+        pointer_to_raw_data: 60,
+        pointer_to_relocations: 66,
+        pointer_to_linenumbers: 0,
+        number_of_relocations: 1,
+        number_of_linenumbers: 0,
+        characteristics: 0x6000_0020,
+    };
+    assert_eq!(
+        (object.header(), object.section_headers()),
+        (Ok(header), Ok(vec![section]))
+    );
+    let other = Object::new(TWO).unwrap();
+    let sizes: Vec<u32> = other
+        .section_headers()
+        .unwrap()
+        .iter()
+        .map(|it| it.size_of_raw_data)
+        .collect();
+    assert_eq!((other.header().unwrap().machine, sizes), (0x14c, vec![0x1234_5678, 0]));
 }
 
 #[test]

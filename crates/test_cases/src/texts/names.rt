@@ -1,10 +1,10 @@
 //! The names of values and flags.
 
+use coff_object::{relocation_type_name, storage_class_name};
 use pe_head::{
     characteristic_name, directory_name, dll_characteristic_name, machine, machine_name,
     section_flag_name, subsystem_name,
 };
-use pe_views::{class_name, relocation_type_name};
 
 /// The machines whose types of relocations have names.
 const MACHINES: [u16; 5] = [
@@ -55,7 +55,7 @@ fn print_wide_flags<R: Print>(rt: &R) -> Option<()> {
 /// Prints the storage classes that have names.
 fn print_classes<R: Print>(rt: &R) -> Option<()> {
     for class in 0..=u8::MAX {
-        print_name(rt, "class", u32::from(class), class_name(class))?;
+        print_name(rt, "class", u32::from(class), storage_class_name(class))?;
     }
     Some(())
 }

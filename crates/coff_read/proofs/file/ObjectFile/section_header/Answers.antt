@@ -1,0 +1,27 @@
+-- The headers stand one behind the other.
+use Rattle.std.proofs.Common.{◌≡◌, ◌∙◌, ◌+◌, ◌*◌, Some, ap, sym, arith}
+use Rattle.std.specs.Prelude.{option_map}
+use Rattle.std.proofs.lemmas.Option.{slice_get-map}
+use Rattle.coff_read.specs.Field.{field}
+use Rattle.coff_read.specs.Headers.{section_header}
+use Rattle.coff_read.specs.ObjectFile.{file_of}
+use Rattle.coff_read.specs.Reading.{section_start, section_starts}
+use Rattle.coff_read.proofs.Walk.{made_at, made_none}
+use Rattle.coff_read.proofs.file.ObjectFile.section_header.Goals as goal
+
+pub returns-then-index-self : goal.returns-then-index-self
+returns-then-index-self c =
+    let file = file_of c.args.self.now in
+    let past = c.if-index-self.true in
+    let count = c.args.self.now.stand.sections in
+    sym (slice_get-map (section_header file) (section_starts file) c.args.index ∙ ap (option_map (section_header file)) (made_none (section_start file) 0 (field file 0 2 2) c.args.index (omega (arith, past, count))))
+
+pub returns : goal.returns
+returns c =
+    let file = file_of c.args.self.now in
+    let under = c.if-index-self.false in
+    let count = c.args.self.now.stand.sections in
+    let headers = c.args.self.now.stand.headers in
+    let at : section_start file c.args.index ≡ c.args.self.now.tables.headers + 40 * c.args.index = omega arith in
+    ap Some (c.section_header.ensures ∙ ap (section_header file) (sym at))
+    ∙ sym (slice_get-map (section_header file) (section_starts file) c.args.index ∙ ap (option_map (section_header file)) (made_at (section_start file) (field file 0 2 2) c.args.index (omega (arith, under, count))))

@@ -1,0 +1,65 @@
+//! The headers of an object's file, with every field as it is written.
+
+ghost use Rattle.std.specs.Prelude.{◌≡◌, ◌+◌, ◌≤◌};
+ghost use Rattle.pe_view.specs.View.{bytes_of, size_of};
+ghost use Rattle.coff_read.specs.Headers.{file_header, section_header};
+
+use crate::fields::{u16_in, u32_in};
+use pe_head::SectionHeader;
+use pe_view::View;
+
+/// The COFF file header of an object ("PE Format", COFF File Header).
+#[derive(Clone, Copy, Debug, PartialEq, Eq)]
+pub struct FileHeader {
+    /// The processor that the object is for.
+    pub machine: u16,
+    /// How many section headers there are.
+    pub number_of_sections: u16,
+    /// When the object was made, as its maker wrote it.
+    pub time_date_stamp: u32,
+    /// The file offset of the symbol table; 0 where there is none.
+    pub pointer_to_symbol_table: u32,
+    /// How many records the symbol table has.
+    pub number_of_symbols: u32,
+    /// How many bytes the optional header has.
+    pub size_of_optional_header: u16,
+    /// Flags of the object.
+    pub characteristics: u16,
+}
+
+/// The COFF file header of a file that has one.
+pub(crate) fn file_header(view: View) -> FileHeader
+    requires { 20 ≤ size_of view }
+    ensures { result ≡ file_header (bytes_of view.entry) }
+{
+    FileHeader {
+        machine: u16_in(view, 0, 0),
+        number_of_sections: u16_in(view, 0, 2),
+        time_date_stamp: u32_in(view, 0, 4),
+        pointer_to_symbol_table: u32_in(view, 0, 8),
+        number_of_symbols: u32_in(view, 0, 12),
+        size_of_optional_header: u16_in(view, 0, 16),
+        characteristics: u16_in(view, 0, 18),
+    }
+}
+
+/// The section header at an offset of the file.
+pub(crate) fn section_header(view: View, h: u64) -> SectionHeader
+    requires { h + 40 ≤ size_of view }
+    ensures { result ≡ section_header (bytes_of view.entry) h }
+{
+    let mut name = [0; 8];
+    name.copy_from_slice(view.slice(h, 8).unwrap());
+    SectionHeader {
+        name,
+        virtual_size: u32_in(view, h, 8),
+        virtual_address: u32_in(view, h, 12),
+        size_of_raw_data: u32_in(view, h, 16),
+        pointer_to_raw_data: u32_in(view, h, 20),
+        pointer_to_relocations: u32_in(view, h, 24),
+        pointer_to_linenumbers: u32_in(view, h, 28),
+        number_of_relocations: u16_in(view, h, 32),
+        number_of_linenumbers: u16_in(view, h, 34),
+        characteristics: u32_in(view, h, 36),
+    }
+}
