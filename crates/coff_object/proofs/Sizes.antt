@@ -14,22 +14,6 @@ use Rattle.coff_object.proofs.SectionsBack.{length-relocations}
 use Rattle.coff_read.specs.declared.section.ObjSection.{ObjSection}
 use Rattle.coff_read.specs.declared.symbol.Symbol.{Symbol}
 
--- one name, and the names behind it
-pub strings_more : {X : Type 0} (test : List ℕ → Bool) (name : X → List ℕ) (texts : List (List ℕ)) (xs : List X) (i : ℕ) (x : X) → i < length xs
-    → with_strings texts (filter test (map name (drop i xs))) ≡ with_strings (with_strings texts (filter test (name (get_or xs i x) ∷ []))) (filter test (map name (drop (i + 1) xs)))
-strings_more test name texts xs i x lt =
-    let n : List ℕ = name (get_or xs i x) in
-    let rest : List (List ℕ) = map name (drop (i + 1) xs) in
-    ap (λ (ys : List _). with_strings texts (filter test (map name ys))) (drop_more xs i x lt)
-    ∙ elim (cases_Bool (test n)) as (λ o. with_strings texts (filter test (n ∷ rest)) ≡ with_strings (with_strings texts (filter test (n ∷ []))) (filter test rest)) [
-      | inl long ↦ rw long refl
-      | inr short ↦ rw short refl
-    ]
-
--- a sum that stops at the greatest number of 64 bits, one item more
-pub counted_more : (total size item whole : ℕ) → whole ≡ counted (size + item) → counted (whole + total) ≡ counted (size + (item + total))
-counted_more total size item whole is = omega arith
-
 -- all items are counted
 pub all_counted : {X : Type 0} (F : List X → ℕ) (xs : List X) (i size whole : ℕ) → length xs ≤ i → size < 2 ^ 64 → F [] ≡ 0 → counted (size + F (drop i xs)) ≡ counted whole → size ≡ counted whole
 all_counted F xs i size whole le small none is =

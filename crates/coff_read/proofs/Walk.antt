@@ -68,13 +68,6 @@ pass_test test k n whole lt none inv =
     ap (λ (ks : List ℕ). first_standing (map test ks)) (range_left k n lt) ∙ rw none refl in
     sym step ∙ inv
 
--- no record is left
-pub all_passed : (tests : ℕ → List Test) (start : ℕ → ℕ) (i n : ℕ) (whole : List Test) → n ≤ i → first_standing (flat_map tests (map start (range_with_len i (n - i)))) ≡ first_standing whole
-    → first_standing whole ≡ None
-all_passed tests start i n whole le inv =
-    let none : n - i ≡ 0 = omega arith in
-    sym inv ∙ ap (λ (k : ℕ). first_standing (flat_map tests (map start (range_with_len i k)))) none
-
 pub all_read : {Y : Type 0} (read : ℕ → Y) (start : ℕ → ℕ) (i n : ℕ) (front whole : List Y) → n ≤ i → front ++ map read (map start (range_with_len i (n - i))) ≡ whole → front ≡ whole
 all_read read start i n front whole le inv =
     let none : n - i ≡ 0 = omega arith in

@@ -14,10 +14,6 @@ module _ {W : Type 0} {taken : W → List ℕ} {failures : W → ℕ} where
     text = λ start count s. record { rest = s.rest ++ bytes; stands = rw (← append_assoc start s.rest bytes) (p.text start _ count s.stands) };
   }
 
-  -- by none
-  pub grows_not : {a : TextWriter W} → IsReady failures a → Grows taken failures a a
-  grows_not ready = record { same = refl; ready = ready; text = λ start count s. s }
-
   infixl 20 ◌then◌
   -- and then some more
   pub ◌then◌ : {a b c : TextWriter W} → Grows taken failures a b → Grows taken failures b c → Grows taken failures a c

@@ -34,24 +34,7 @@ header_text h file r held fits lt =
     let bytes = (header_run h file r m held fits (omega arith) (omega arith)).run.bytes_are in
     ap (text_between file r) end ∙ text_between-part file r m (omega arith) ∙ sym (rw (outside, inside) (ap zero_ended bytes))
 
--- the text at an RVA behind the headers
-pub text-behind : (h : Headers) (file : List ℕ) (r : ℕ) (s : Option SectionHeader) → r < h.size_of_image → h.size_of_headers ≤ r → section_of h r ≡ s → section_text h file r s ≡ text h file r
-text-behind h file r s lt past is =
-    let outside : nat_le h.size_of_image r ≡ false = lt-leb _ _ lt in
-    let inside : nat_lt r h.size_of_headers ≡ false = le-ltb _ _ past in
-    rw (outside, inside, is) refl
-
-zero_ended-replicate : (n : ℕ) → 0 < n → zero_ended (replicate n 0) ≡ Some []
-zero_ended-replicate zero lt = absurd (omega arith)
-zero_ended-replicate (suc n) lt = refl
-
 module _ (h : Headers) (file : List ℕ) (s : SectionHeader) (r : ℕ) (past : h.size_of_headers ≤ r) (found : IsInSection h (length file) r s) where
-  -- the text in a section's zero fill
-  pub zero_text : rawlen s ≤ r - s.virtual_address → section_text h file r (Some s) ≡ Some []
-  zero_text le =
-      let high = found.inside.high in
-      ap zero_ended (zero_bytes h file s r r (end_of s - r) past found (omega arith) le (omega arith)) ∙ zero_ended-replicate (end_of s - r) (omega arith)
-
   -- the text in a section's raw data, by the search for its end
   pub raw_text : (o m n : ℕ) → r - s.virtual_address < rawlen s → o ≡ s.pointer_to_raw_data + (r - s.virtual_address) → m ≡ rawlen s - (r - s.virtual_address) → n ≡ extent s - rawlen s
       → section_text h file r (Some s) ≡ with_zeros (text_between file o (o + m)) (part file o m) n
@@ -96,11 +79,3 @@ pub rest_of-raw : (s : SectionHeader) (r o m : ℕ) → Raw o m ≡ rest_of s r 
 rest_of-raw s r o m e =
     let p = raw_by_test (nat_lt (r - s.virtual_address) (rawlen s)) o m _ _ _ e in
     (ltb-true _ _ p.0, p.1, p.2)
-
-zeros_by_test : (b : Bool) (n o' m' n' : ℕ) → Zeros n ≡ cond b (Raw o' m') (Zeros n') → b ≡ false
-zeros_by_test true n o' m' n' e = absurd cc
-zeros_by_test false n o' m' n' e = refl
-
--- where it is zero fill
-pub rest_of-zeros : (s : SectionHeader) (r n : ℕ) → Zeros n ≡ rest_of s r → rawlen s ≤ r - s.virtual_address
-rest_of-zeros s r n e = ltb-false _ _ (zeros_by_test (nat_lt (r - s.virtual_address) (rawlen s)) n _ _ _ e)

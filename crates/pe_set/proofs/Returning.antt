@@ -68,9 +68,6 @@ module _ (s : List Module) (name : List ℕ) (key : Key) (first length : ℕ) (p
     | inl lt ↦ absurd (return.between n above lt (comes_back n again))
   ]
 
-  is_cycle : IsCycle (stands s name key) length
-  is_cycle = record { above = return.above; repeats = repeats; least = least }
-
   pub return_is_cycle : Endless length ≡ resolve s name key
   unfolding resolve
   return_is_cycle =

@@ -63,15 +63,6 @@ module _ (s : List Module) (name : List ℕ) (key : Key) (n : ℕ) where
     pub stand_step : (to : List ℕ) (next : Key) → target_in s key i ≡ Some (Forward to next) → steps s (suc n) (stand_at s name key) ≡ steps s n (stand_at s (forwarded_name to) next)
     stand_step to next is = ap (λ o. steps s n (option_and_then (step s) (option_map (λ i. (i, key)) o))) here ∙ ap (λ t. steps s n (onward s t)) is
 
--- the number that the names give is that of the image
-pub named_in : {A : Type 0} (ms : List (code_module.Module A)) (names : List (List ℕ)) (text buffer name : List ℕ) → names ≡ lowered (modules_view ms) → text ≡ buffer → FoundAlike names buffer (str_to_ascii_lowercase name)
-    → position (λ other. bytes_eq text other) names ≡ named (modules_view ms) name
-named_in ms names text buffer name is same alike =
-    ap (λ b. position (λ other. bytes_eq b other) names) same
-    ∙ alike
-    ∙ ap (λ ns. position (λ other. bytes_eq (str_to_ascii_lowercase name) other) ns) is
-    ∙ position-map (λ other. bytes_eq (str_to_ascii_lowercase name) other) (λ (m : Module). str_to_ascii_lowercase m.name) (modules_view ms)
-
 -- what the image of a number exports
 pub target_is : {A : Type 0} (ms : List (code_module.Module A)) (m : code_module.Module A) (i : ℕ) (key : Key) (o : Option Target) → i < length ms → m ≡ get_or ms i m
     → o ≡ target_at (module_view m).exports key → target_in (modules_view ms) key i ≡ o
@@ -82,39 +73,6 @@ target_is ms m i key o lt is found =
 -- there are as many names as images
 pub names_count : {A : Type 0} (ms : List (code_module.Module A)) (names : List (List ℕ)) → names ≡ lowered (modules_view ms) → length names ≡ length ms
 names_count ms names is = ap length is ∙ length-map (modules_view ms) (λ (m : Module). str_to_ascii_lowercase m.name) ∙ length-map ms module_view
-
--- ---- where a search stands
-module _ {A : Type 0} (ms : List (code_module.Module A)) (names : List (List ℕ)) (text buffer name : List ℕ) (is : names ≡ lowered (modules_view ms)) (same : text ≡ buffer) (alike : FoundAlike names buffer (str_to_ascii_lowercase name)) where
-  pub standing_is : (key : Key) → option_map (λ i. (i, key)) (position (λ other. bytes_eq text other) names) ≡ stand_at (modules_view ms) name key
-  standing_is key = ap (option_map (λ i. (i, key))) (named_in ms names text buffer name is same alike)
-
-pub step_is : (s : List Module) (p : ℕ × Key) (t : Option Target) → target_in s p.1 p.0 ≡ t → step s p ≡ onward s t
-step_is s p t is = ap (onward s) is
-
-pub steps_to_none : (n : ℕ) (s : List Module) (p : ℕ × Key) → steps_to n s p None ≡ n
-steps_to_none zero s p = refl
-steps_to_none (suc n) s p = ap (λ k. suc k) (steps_to_none n s p)
-
-module _ (n : ℕ) (s : List Module) (p q : ℕ × Key) where
-  pub steps_to_lost : step s q ≡ None → steps_to (suc n) s p (Some q) ≡ suc n
-  steps_to_lost is = ap (λ o. suc (cond (same_stand p o) 0 (steps_to n s p o))) is ∙ ap (λ k. suc k) (steps_to_none n s p)
-
-  module _ (r : ℕ × Key) (is : step s q ≡ Some r) where
-    pub steps_to_back : same_stand p (Some r) ≡ true → steps_to (suc n) s p (Some q) ≡ 1
-    steps_to_back same = ap (λ o. suc (cond (same_stand p o) 0 (steps_to n s p o))) is ∙ ap (λ b. suc (cond b 0 (steps_to n s p (Some r)))) same
-
-    pub steps_to_on : same_stand p (Some r) ≡ false → steps_to (suc n) s p (Some q) ≡ suc (steps_to n s p (Some r))
-    steps_to_on same = ap (λ o. suc (cond (same_stand p o) 0 (steps_to n s p o))) is ∙ ap (λ b. suc (cond b 0 (steps_to n s p (Some r)))) same
-
--- ---- how many exports there are
-pub pairs_past : {A : Type 0} (ms : List (code_module.Module A)) (i : ℕ) (m : code_module.Module A) (a b : ℕ) → drop i ms ≡ m ∷ drop (i + 1) ms
-    → a ≡ length (exports_view m.image.exports).ordinals → b ≡ length (exports_view m.image.exports).names
-    → pairs_of (modules_view (drop i ms)) ≡ a + b + pairs_of (modules_view (drop (i + 1) ms))
-unfolding module_view
-pairs_past ms i m a b next is_a is_b =
-    ap (λ (xs : List (code_module.Module _)). pairs_of (modules_view xs)) next
-    ∙ ap (λ n. n + length (exports_view m.image.exports).names + pairs_of (modules_view (drop (i + 1) ms))) (sym is_a)
-    ∙ ap (λ n. a + n + pairs_of (modules_view (drop (i + 1) ms))) (sym is_b)
 
 -- the number by which a name is found is that of the image
 pub found_named : {A : Type 0} (ms : List (code_module.Module A)) (names : List (List ℕ)) (name : List ℕ) → names ≡ lowered (modules_view ms) → found names name ≡ named (modules_view ms) name
