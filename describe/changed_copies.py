@@ -12,6 +12,19 @@ import tempfile
 
 TOP = pathlib.Path(__file__).resolve().parents[1]
 CRATES = ("pe_rows", "pe_handle", "petool_c", "pe_json")
+#: The crates that ask faults or have a table of them.
+FAULT_CRATES = (
+    "pe_text",
+    "pe_program",
+    "pe_head",
+    "pe_layout",
+    "pe_tables",
+    "pe_set",
+    "pe_space",
+    "pe_write",
+    "coff_read",
+    "coff_object",
+)
 COPIED = [
     "bindings/c/layout.c",
     "bindings/c/petool.h",
@@ -21,11 +34,12 @@ COPIED = [
     "bindings/rust/petool-sys/tests/layout.rs",
     "describe",
     "docs/C.md",
+    "docs/FAULTS.md",
     "docs/JSON.md",
     "man/petool.h.3",
     "packaging/debian/libpetool0.symbols",
     "scripts/describe.py",
-    *(f"crates/{crate}/src" for crate in CRATES),
+    *(f"crates/{crate}/src" for crate in CRATES + FAULT_CRATES),
 ]
 
 #: What is changed: the file, what stands in it, and what takes its place.
@@ -87,6 +101,50 @@ DESCRIBED = [
     ("row fixup = FixupRow\n", "rows fixup = FixupRow\n", "line "),
     ("  written by tables.add_fixup\n", "  written by tables.add_fixups\n", "crates/pe_json/src/tables.rt"),
 ]
+#: What is changed of the faults: also a fault that is left out, and one more.
+RULES = "crates/pe_text/src/fault_text.rt"
+EXPLAINED = "crates/pe_program/src/explain.rt"
+FAULTS = "docs/FAULTS.md"
+FAULTS_WRITTEN = [
+    (RULES, "the file has over 2^32 bytes", "the file has over 2^31 bytes"),
+    (RULES, '(9, "NumberOfSections"', '(9, "NumberOfSymbols"'),
+    (RULES, '    (41, "file", "the set has over 256 files"),\n', ""),
+    (RULES, '    (83, "section",', '    (82, "section",'),
+    (RULES, "; 69] = [", "; 68] = ["),
+    (RULES, "static RULES", "static WORDS"),
+    (EXPLAINED, "an MS-DOS, NE, LE or LX program", "an MS-DOS program"),
+    (EXPLAINED, '"SizeOfImage is 0 or over 2^31"', '"SizeOfImage is over 2^31"'),
+    (EXPLAINED, '    (11, "SizeOfImage is 0 or over 2^31", "a damaged header"),\n', ""),
+    (EXPLAINED, '    (\n        12,\n        "SizeOfHeaders', '    (\n        11,\n        "SizeOfHeaders'),
+    (FAULTS, "| n is under 64 |", "| n is at most 64 |"),
+    (FAULTS, "`Rva(slot)`, the importing image", "`Rva(slot)`, image 0"),
+    (FAULTS, "its Magic is not that of file 0", "its Magic differs"),
+    (FAULTS, "`pe_set/src/placing.rt` |", "`pe_set/src/names.rt` |"),
+    (FAULTS, "| 84 | the file would", "| 86 | the file would"),
+    (FAULTS, "| image faults | 1 to 38 |", "| image faults | 1 to 32 |"),
+    (FAULTS, "| 1 | n is over 2^32 | `File(2^32)` | byte: the file has over 2^32 bytes | `pe_head/src/reading.rt` |\n", ""),
+]
+FAULTS_PARTS = [
+    (FAULTS, "<!-- from describe/faults.txt: sections -->\n", ""),
+    (FAULTS, "<!-- from describe/faults.txt: sections -->", "<!-- from describe/faults.txt: exports -->"),
+    (FAULTS, "<!-- from describe/faults.txt: names -->", "<!-- from describe/records.txt: names -->"),
+]
+FAULTS_DESCRIBED = [
+    ("  9 NumberOfSections: the image has", "  9 NumberOfSections: an image has", RULES),
+    ("    met by     an empty file, or one", "    met by     a file of 0 bytes, or one", EXPLAINED),
+    ("    stands     n is under 64", "    stands     n is at most 64", FAULTS),
+    ("  85 object: a part", "  84 object: a part", "line "),
+    ("  61 end of the file", "  41 end of the file", "fault 41 stands twice"),
+    ("    place      `File(60)`\n", "", "fault 4: its rows"),
+    ("    place      `File(60)`\n", "    place      `File(60)`\n    places     `File(60)`\n", "line "),
+    ("    place      `File(60)`", "    place      `File(60)` | `File(64)`", "fault 4: its rows"),
+    ("    code       coff_read/src/section.rt, symbol.rt", "    code       coff_read/src/section.rt, symbols.rt", "symbols.rt"),
+    ("1 to 38    an image", "1 to 39    an image", "39, which is no fault"),
+    ("name plan fault              53         the plan of an image to be written\n", "", "fault 53 is in no range"),
+    ("faults exports\n", "fault exports\n", "line "),
+    ("faults headers\n", "", "it stands in no table"),
+    ("    stands     n is under 64", "   stands     n is under 64", "a fault has an indent of 2"),
+]
 
 
 def copy_to(folder):
@@ -122,6 +180,21 @@ def names_change(folder, path, old, new, named):
     return False
 
 
+def writes_back(folder, path, old, new):
+    """Whether a file in which one place is changed is written as it was."""
+    file = folder / path
+    text = file.read_bytes()
+    file.write_bytes(text.replace(old.encode(), new.encode(), 1))
+    words = [sys.executable, str(folder / "scripts/describe.py")]
+    said = subprocess.run(words, capture_output=True, text=True).stdout
+    written = file.read_bytes()
+    file.write_bytes(text)
+    if said == f"{path}: written\n" and written == text:
+        return True
+    print(f"{path}: {old!r} as {new!r} is not written back: {said!r}")
+    return False
+
+
 def names_empty(folder, crate):
     """Whether the check fails where the sources of a crate are not found."""
     source = folder / "crates" / crate / "src"
@@ -137,11 +210,16 @@ def names_empty(folder, crate):
 def results(folder):
     """Whether each case holds: the copy agrees as it is, each change is found, and the copy agrees at the end."""
     yield check(folder)[0] == 0
-    for path, old, new in WRITTEN + COMPARED:
+    for path, old, new in WRITTEN + COMPARED + FAULTS_WRITTEN + FAULTS_PARTS:
         yield names_change(folder, path, old, new, path)
     for old, new, named in DESCRIBED:
         yield names_change(folder, "describe/records.txt", old, new, named)
-    for crate in CRATES:
+    for old, new, named in FAULTS_DESCRIBED:
+        yield names_change(folder, "describe/faults.txt", old, new, named)
+    for path, old, new in FAULTS_WRITTEN:
+        if not old.startswith("static"):
+            yield writes_back(folder, path, old, new)
+    for crate in CRATES + FAULT_CRATES:
         yield names_empty(folder, crate)
     yield check(folder)[0] == 0
 

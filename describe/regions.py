@@ -1,4 +1,4 @@
-"""Parts of hand-written files that are written of records.txt: they stand between two comments, and the first names them.
+"""Parts of hand-written files that are written of a description: they stand between two comments, and the first names them.
 
     /* from describe/records.txt: fixup */
     ..
@@ -6,27 +6,29 @@
 """
 
 import re
-from typing import Callable, Iterator, List
-
-BEGIN = re.compile(r"([ \t]*)(?:/\*|//|#|<!--|\.\\\") from describe/records\.txt: (.+?)(?: \*/| -->)?")
-END = "end of describe/records.txt"
+from typing import Callable, Iterator, List, Optional
 
 
 class NoRegion(Exception):
     """A part that does not end, or of which nothing is described; or there is none."""
 
 
-def filled(text: str, render: Callable[[str], List[str]]) -> str:
-    """The file with each such part written anew; `render` makes the lines of the part that a comment names."""
+def _begins(line: str, source: str) -> Optional["re.Match[str]"]:
+    """The indent and the name of a part of a description that begins here."""
+    return re.fullmatch(rf"([ \t]*)(?:/\*|//|#|<!--|\.\\\") from {re.escape(source)}: (.+?)(?: \*/| -->)?", line)
+
+
+def filled(text: str, source: str, render: Callable[[str], List[str]]) -> str:
+    """The file with each part of a description written anew; `render` makes the lines of the part that a comment names."""
     lines, written = iter(text.splitlines()), []
     for line in lines:
         written.append(line)
-        begins = BEGIN.fullmatch(line)
+        begins = _begins(line, source)
         if begins:
             written += _rendered(begins[2], begins[1], render)
-            written.append(_end(lines, begins[2]))
-    if not names(text):
-        raise NoRegion("it has no part that is written of describe/records.txt")
+            written.append(_end(lines, source, begins[2]))
+    if not parts(text, source):
+        raise NoRegion(f"it has no part that is written of {source}")
     return "\n".join(written) + "\n"
 
 
@@ -37,20 +39,24 @@ def _rendered(name: str, indent: str, render: Callable[[str], List[str]]) -> Lis
         raise NoRegion(f"the part {name} is not described: there is no {error}") from error
 
 
-def _end(lines: Iterator[str], name: str) -> str:
+def _end(lines: Iterator[str], source: str, name: str) -> str:
     """The line that ends a part; what stands before it is left out."""
     for line in lines:
-        if END in line:
+        if f"end of {source}" in line:
             return line
-        if BEGIN.fullmatch(line):
+        if _begins(line, source):
             break
     raise NoRegion(f"the part {name} does not end")
 
 
-def names(text: str) -> List[str]:
-    """What the parts of a file have, in order: of `NAME, NAME` each, and of `kinds of NAME` the name."""
-    parts = [found[2] for line in text.splitlines() if (found := BEGIN.fullmatch(line))]
-    return [name.rpartition(" ")[2] for part in parts for name in part.split(", ")]
+def parts(text: str, source: str) -> List[str]:
+    """The parts of a file that are written of a description, in order."""
+    return [found[2] for line in text.splitlines() if (found := _begins(line, source))]
+
+
+def names(text: str, source: str) -> List[str]:
+    """What these parts have: of `NAME, NAME` each, and of `kinds of NAME` the name."""
+    return [name.rpartition(" ")[2] for part in parts(text, source) for name in part.split(", ")]
 
 
 def wrapped(words: List[str], width: int, indent: str) -> List[str]:

@@ -1,5 +1,5 @@
 #!/usr/bin/env python3
-"""Writes what describe/records.txt describes into the files that have it: describe.py [--check]
+"""Writes what describe/records.txt and describe/faults.txt describe into the files that have it: describe.py [--check]
 
 With --check nothing is written: each such file is compared, and with it the sources that are not written, since proofs hang on
 them. A file that differs is named, with its first line that does; the last line is 'N passed, M failed', and the status is 1
@@ -14,18 +14,22 @@ sys.dont_write_bytecode = True
 sys.path.insert(0, str(TOP / "describe"))
 
 import c_texts
+import fault_texts
 import page_texts
 import python_texts
 import rattle_sources
 import regions
 import rust_texts
 from description import Description, Mistake
+from faults import Faults
 
 RECORDS = "describe/records.txt"
+FAULTS = "describe/faults.txt"
 HEADER = "bindings/c/petool.h"
 RUST = "bindings/rust/petool-sys/src/lib.rs"
 PACKAGE = "bindings/python/petool"
 JSON = "docs/JSON.md"
+FAULTS_PAGE = "docs/FAULTS.md"
 
 #: The files that are written whole.
 WHOLE = {
@@ -42,7 +46,7 @@ def rust_part(description, what):
     return ["", *{"records": rust_texts.records, "calls": rust_texts.calls}[what](description), ""]
 
 
-#: The files of which parts are written, each between two comments.
+#: The files of which parts are written of the records, each between two comments.
 PARTS = {
     HEADER: c_texts.structs,
     RUST: rust_part,
@@ -53,10 +57,20 @@ PARTS = {
     JSON: page_texts.json_part,
     "docs/C.md": page_texts.c_part,
 }
+#: All files that are written, whole or in part.
+WRITTEN = [*WHOLE, *PARTS, FAULTS_PAGE, *fault_texts.TABLES]
 
 
 def read(path):
     return (TOP / path).read_text()
+
+
+def described_by(path, form):
+    """What a description says. Mistake, with its path, where it has not its form."""
+    try:
+        return form(read(path))
+    except Mistake as error:
+        raise Mistake(f"{path}: {error}") from error
 
 
 def sources(*crates):
@@ -65,18 +79,22 @@ def sources(*crates):
     return {str(it.relative_to(TOP)): it.read_text() for it in files}
 
 
-def made(description, path):
-    """What a file is to be that is written of the description. NoRegion where a part of it cannot be."""
+def made(description, faults, path):
+    """What a file is to be that is written of a description. NoRegion or NoTable where a part of it cannot be."""
     if path in WHOLE:
         return WHOLE[path](description)
-    return regions.filled(read(path), lambda what: PARTS[path](description, what))
+    if path in fault_texts.TABLES:
+        return fault_texts.source(faults, path, read(path))
+    if path == FAULTS_PAGE:
+        return regions.filled(read(path), FAULTS, lambda what: fault_texts.part(faults, what))
+    return regions.filled(read(path), RECORDS, lambda what: PARTS[path](description, what))
 
 
-def difference(description, path):
+def difference(description, faults, path):
     """Where a file differs from what it is to be, as a list of one sentence, or of none."""
     try:
-        stands, wanted = read(path), made(description, path)
-    except regions.NoRegion as error:
+        stands, wanted = read(path), made(description, faults, path)
+    except (regions.NoRegion, fault_texts.NoTable) as error:
         return [f"{path}: {error}"]
     if stands == wanted:
         return []
@@ -99,34 +117,46 @@ def parts(description):
 def misplaced(description):
     """What stands in no part of a file, or in two, or is not described."""
     for path, wanted in parts(description):
-        found = regions.names(read(path))
-        yield from (f"{path}: {it} stands in {found.count(it)} parts" for it in wanted if found.count(it) != 1)
-        yield from (f"{path}: {it} is not described" for it in found if it not in wanted)
+        yield from wrong_parts(path, regions.names(read(path), RECORDS), wanted)
 
 
-def comparisons(description):
+def wrong_parts(path, found, wanted):
+    """Which of the parts of a file that are wanted stand in it otherwise than once, and which are not described."""
+    yield from (f"{path}: {it} stands in {found.count(it)} parts" for it in wanted if found.count(it) != 1)
+    yield from (f"{path}: {it} is not described" for it in found if it not in wanted)
+
+
+def missing_sources(faults):
+    """The sources that are said to ask faults, and that are not there."""
+    named = [(it.number, path) for it in faults.by_number() for path in it.files()]
+    return [f"{FAULTS}: fault {number}: there is no {path}" for number, path in named if not (TOP / path).is_file()]
+
+
+def comparisons(description, faults):
     """Of each file that is written and each source that is compared what is wrong with it: nothing where it agrees."""
-    for path in [*WHOLE, *PARTS]:
-        yield difference(description, path)
+    for path in WRITTEN:
+        yield difference(description, faults, path)
     yield list(misplaced(description))
+    yield list(wrong_parts(FAULTS_PAGE, regions.parts(read(FAULTS_PAGE), FAULTS), fault_texts.parts(faults)))
+    yield missing_sources(faults)
     yield rattle_sources.prototype_faults(description, HEADER, read(HEADER))
     yield rattle_sources.record_faults(description, sources("pe_rows", "pe_handle"))
     yield rattle_sources.call_faults(description, sources("petool_c"))
     yield rattle_sources.key_faults(description, sources("pe_json"))
 
 
-def check(description):
-    found = list(comparisons(description))
-    for fault in [fault for faults in found for fault in faults]:
-        print(fault)
+def check(description, faults):
+    found = list(comparisons(description, faults))
+    for sentence in [sentence for sentences in found for sentence in sentences]:
+        print(sentence)
     failed = sum(map(bool, found))
     print(f"{len(found) - failed} passed, {failed} failed")
     return 0 if failed == 0 else 1
 
 
-def write(description):
-    for path in [*WHOLE, *PARTS]:
-        text = made(description, path)
+def write(description, faults):
+    for path in WRITTEN:
+        text = made(description, faults, path)
         if not (TOP / path).exists() or read(path) != text:
             (TOP / path).write_text(text)
             print(f"{path}: written")
@@ -138,9 +168,9 @@ def main(words):
         print(__doc__.splitlines()[0], file=sys.stderr)
         return 2
     try:
-        description = Description(read(RECORDS))
-        return check(description) if words else write(description)
-    except (Mistake, regions.NoRegion, OSError) as error:
+        described = described_by(RECORDS, Description), described_by(FAULTS, Faults)
+        return check(*described) if words else write(*described)
+    except (Mistake, regions.NoRegion, fault_texts.NoTable, OSError) as error:
         print(f"describe.py: {error}\n0 passed, 1 failed")
         return 1
 

@@ -1,0 +1,82 @@
+"""What is written of the faults: the tables of docs/FAULTS.md, and the tables RULES and EXPLAINED of the sources.
+
+These two stand in their sources without comments of their own, from `static NAME` to `];`, in the layout of `rt fmt`: a source
+that changes is proved anew, so one that agrees is left as it is to the byte.
+"""
+
+import re
+from typing import Callable, Dict, List, Tuple
+
+from faults import Fault, Faults
+
+#: How long a row is at most that stands on one line.
+ONE_LINE = 60
+
+
+class NoTable(Exception):
+    """A source that does not have its table once."""
+
+
+def _literal(text: str) -> str:
+    """A text as a literal of Rattle."""
+    escaped = text.replace("\\", "\\\\").replace('"', '\\"')
+    return f'"{escaped}"'
+
+
+def _row(words: List[str]) -> List[str]:
+    """A row of a table: on one line where it is short, else with a line for each word."""
+    line = ", ".join(words)
+    return [f"    ({line}),"] if len(line) <= ONE_LINE else ["    (", *(f"        {word}," for word in words), "    ),"]
+
+
+def _rules(it: Fault) -> Tuple[str, str]:
+    return it.subject, it.rule
+
+
+def _explained(it: Fault) -> Tuple[str, str]:
+    return it.rows["explained"], it.rows["met by"]
+
+
+#: The table of each source: its name, the type of a row, and the texts in one.
+TABLES: Dict[str, Tuple[str, str, Callable[[Fault], Tuple[str, str]]]] = {
+    "crates/pe_text/src/fault_text.rt": ("RULES", "(u16, &str, &str)", _rules),
+    "crates/pe_program/src/explain.rt": ("EXPLAINED", "Explained", _explained),
+}
+
+
+def source(faults: Faults, path: str, text: str) -> str:
+    """A source with its table written anew. NoTable where it does not have it once."""
+    name, kind, texts = TABLES[path]
+    found = list(re.finditer(rf"^static {name}\b.*?^\];$", text, re.M | re.S))
+    if len(found) != 1:
+        raise NoTable(f"the table {name} stands in it {len(found)} times")
+    all_faults = faults.by_number()
+    rows = [line for it in all_faults for line in _row([str(it.number), *map(_literal, texts(it))])]
+    table = "\n".join([f"static {name}: [{kind}; {len(all_faults)}] = [", *rows, "];"])
+    return text[: found[0].start()] + table + text[found[0].end() :]
+
+
+def _names(faults: Faults) -> List[str]:
+    rows = [f"| {it.name} | {it.shown} | {it.meaning} |" for it in faults.names]
+    return ["| Name | Numbers | Rules of |", "|---|---|---|", *rows]
+
+
+def _cells(it: Fault) -> List[str]:
+    image = f", {it.rows['image']}" if "image" in it.rows else ""
+    code = ", ".join(f"`{name}`" for name in it.rows["code"].split(", "))
+    return [str(it.number), it.rows["stands"], it.rows["place"] + image, f"{it.subject}: {it.rule}", code]
+
+
+def part(faults: Faults, what: str) -> List[str]:
+    """A part of docs/FAULTS.md: the names, or the table of some faults."""
+    if what == "names":
+        return _names(faults)
+    table = faults.tables[what]
+    place = "Place and image" if any("image" in it.rows for it in table) else "Place"
+    head = f"| No. | Stands where | {place} | In words: what stands there, and what is wrong | Code |"
+    return [head, "|---|---|---|---|---|", *(f"| {' | '.join(_cells(it))} |" for it in table)]
+
+
+def parts(faults: Faults) -> List[str]:
+    """What the parts of docs/FAULTS.md have to be."""
+    return ["names", *faults.tables]
