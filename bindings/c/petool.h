@@ -106,7 +106,8 @@ static inline int petool_fault_line(const petool_fault *fault, char *line, size_
 
 /* ---- an image: its headers and its bytes ---- */
 
-/* OK where none of faults 1 to 38 stands; FAULT; or MEMORY, which never comes where one of faults 1 to 15 stands. */
+/* OK where none of the image faults (docs/FAULTS.md) stands; FAULT; or MEMORY, which never comes where one of faults 1 to 15
+ * stands. */
 uint32_t petool_check(const uint8_t *file, size_t len, petool_fault *fault);
 
 /* from describe/records.txt: directory */
@@ -253,8 +254,8 @@ typedef struct petool_counts {
 } petool_counts;
 /* end of describe/records.txt */
 
-/* All four in one reading, with the faults of petool_check: OK; SMALL where one of the tables has more items than rows; FAULT of 1
- * to 38; or MEMORY, which never comes where one of faults 1 to 15 stands. */
+/* All four in one reading, with the faults of petool_check: OK; SMALL where one of the tables has more items than rows; FAULT,
+ * with the first of the image faults; or MEMORY, which never comes where one of faults 1 to 15 stands. */
 uint32_t petool_tables(const uint8_t *file, size_t len, petool_export *exports, size_t export_room, petool_export *names,
                        size_t name_room, petool_import *imports, size_t import_room, petool_fixup *fixups, size_t fixup_room,
                        petool_counts *counts, petool_fault *fault);

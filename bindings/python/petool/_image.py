@@ -225,7 +225,7 @@ class Exports(AbstractMapping):  # type: ignore[type-arg]
 
 
 class Image(OfFile):
-    """One image, from the bytes of its file. FormatFault where one of faults 1 to 38 stands of them.
+    """One image, from the bytes of its file. FormatFault where one of the image faults of docs/FAULTS.md stands of them.
 
     With ``check=False`` the headers and sections alone are judged (1 to 15), and each table at its first question. Nothing is
     copied, and nobody may change the bytes while the image is open; a bytearray cannot be resized until ``close()``. After that
@@ -348,7 +348,7 @@ def writable(buffer: Any) -> memoryview:
 
 
 def check(data: Buffer) -> Optional[FormatFault]:
-    """The first of faults 1 to 38 that stands of an image, as a value: for those who sort files."""
+    """The first of the image faults that stands of an image, as a value: for those who sort files."""
     file = FileBytes(data)
     try:
         ask(library.petool_check, file.address, file.length)

@@ -50,7 +50,7 @@ class Standing(NamedTuple):
 
 
 def judge(images: Sequence[SetEntry], known: bool = False) -> List[Binding]:
-    """Judges a set, and tells what each import is bound to. FormatFault of 1 to 38 and 41 to 50.
+    """Judges a set, and tells what each import is bound to. FormatFault of an image or set fault (docs/FAULTS.md).
 
     With ``known``, an import from a module that is not in the set is no fault.
     """
@@ -66,9 +66,9 @@ class Space:
     """Images in one address space, each at its base, with its fields relocated and its imports bound.
 
     ``images`` are tuples of a module's name, its file's bytes and its base; the index of a tuple is that of its image. FormatFault
-    of 1 to 38 and 41 to 50. With ``known``, an import from a module that is not in the set is no fault, and its slot is left as it
-    stands in the file. A space holds its own bytes: the files may go. A lock is taken by each call, so threads may share a space.
-    After ``close()`` each question raises ValueError.
+    of an image or set fault. With ``known``, an import from a module that is not in the set is no fault, and its slot is left as
+    it stands in the file. A space holds its own bytes: the files may go. A lock is taken by each call, so threads may share a
+    space. After ``close()`` each question raises ValueError.
     """
 
     def __init__(self, images: Sequence[SetEntry], *, known: bool = False) -> None:

@@ -20,6 +20,6 @@ relocation_tests i = import_tests i ++ fixup_tests i (import_slots i)
 unfoldable pub table_tests : LaidOut → List Test
 table_tests i = export_tests i ++ relocation_tests i
 
--- the tests of the file of an image that has a number, in the order in which its faults count
+-- the tests of the file of an image that has a number, in the order in which its faults count: the image faults
 unfoldable pub image_tests : ℕ → List ℕ → List Test
 image_tests number file = layout_tests number file ++ table_tests (image_of_file number file)

@@ -112,9 +112,9 @@ fn print_line<A: Allocator + Copy, W: Sink>(
 /// Writes one JSON object, and a line feed, of the file that the reader gives: what the image or the object holds, or its first
 /// fault. `name` is what the line calls the file.
 ///
-/// A file whose first bytes show a COFF object is judged as an object, by faults 61 to 72, and every other one as an image, by
-/// faults 1 to 38. After `Done` none of these stands of the file, and after `Refused` the one that is answered is the first that
-/// does. What the line says is not part of the contract.
+/// A file whose first bytes show a COFF object is judged by the object faults of docs/FAULTS.md, and every other one by the image
+/// faults. After `Done` none of these stands of the file, and after `Refused` the one that is answered is the first that does.
+/// What the line says is not part of the contract.
 ///
 /// At most 2^32 + 1 bytes are read; an outcome and `Write` come only after so many, or after the reader's end. The answer is
 /// `Read` or `Write` exactly where a call of that device failed, and `Memory` never comes where the reader gave no byte. After

@@ -27,7 +27,7 @@ name_tests es i e =
 unfoldable pub names_tests : List Entry → List Test
 names_tests es = numbered (name_tests es) 0 es
 
--- faults 1 to 38 of each file
+-- the image faults of each file
 unfoldable pub files_tests : List Entry → List Test
 files_tests es = numbered (λ i (e : Entry). image_tests i e.file) 0 es
 

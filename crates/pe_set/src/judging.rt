@@ -26,7 +26,7 @@ pub struct Accepted<'a, A: Allocator> {
 /// Reads the images of a set and judges the set. An image has the number of its entry, counted from 0, and so do its faults.
 ///
 /// Faults are looked for class by class, and in a class only where those before it have none: the names of the entries (41, 42);
-/// each file on its own (1 to 38), image by image; where the images stand (43 to 47), image by image; their imports (48 to 50),
+/// the image faults of each file, image by image; where the images stand (43 to 47), image by image; their imports (48 to 50),
 /// image by image, and in each image in the order of its imports. An error is [`MapError::Fault`] with the first fault, or, where
 /// that is 50, [`MapError::Cycle`] with the fault and the length of the cycle, or [`MapError::Memory`] where a growth of memory was
 /// refused. It is never the latter where a name has a fault, and so not for more than 256 entries, nor for a set of no entries. On

@@ -73,7 +73,7 @@ fn read_exporter<A: Allocator + Copy>(
     Ok(image)
 }
 
-/// Reads the images of a set, or answers the first of their faults 1 to 38.
+/// Reads the images of a set, or answers the first of their image faults.
 pub(crate) fn read_modules<'a, A: Allocator + Copy>(
     alloc: A,
     set: &[SetEntry<'a>],

@@ -33,7 +33,7 @@ fn place<A: Allocator + Copy>(alloc: A, own: Module<A>) -> Result<MappedImage<A>
 /// Maps a set of images: each at its base, with its fields relocated and its imports bound.
 ///
 /// The files are judged as they are handed in, each under the number of its entry. Faults are asked class by class, each class
-/// where the ones before have none: the names of the entries (41, 42); each file on its own (1 to 38), image by image; where the
+/// where the ones before have none: the names of the entries (41, 42); the image faults of each file, image by image; where the
 /// images stand (43 to 47); their imports (48 to 50), image by image and in the order of each one's imports. The answer is
 /// [`MapError::Fault`] with the first fault that stands, or, where that is 50, [`MapError::Cycle`] with the fault and the length of
 /// the cycle of forwarders, or [`MapError::Memory`] where a growth was refused: never where a name has a fault, and so never of over

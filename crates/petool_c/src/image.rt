@@ -17,9 +17,9 @@ use std::alloc::Global;
 
 /// Judges an image's file: headers and sections, exports, imports and base relocations.
 ///
-/// The status is 0 where none of faults 1 to 38 stands; 1 with the first that does; or 2 for want of memory, which never comes
-/// where one of faults 1 to 15 stands. ("PE Format": Optional Header, Section Table, The .edata Section, The .idata Section,
-/// The .reloc Section.)
+/// The status is 0 where none of the image faults of docs/FAULTS.md stands; 1 with the first that does; or 2 for want of memory,
+/// which never comes where one of faults 1 to 15 stands. ("PE Format": Optional Header, Section Table, The .edata Section, The
+/// .idata Section, The .reloc Section.)
 #[unsafe(no_mangle)]
 pub extern "C" fn petool_check(alloc: Global, file: &[u8], fault: &mut FaultRecord) -> u32
     ensures faults { IsAnswered (IsLaidOut file.now) (image_tests 0 file.now) fault.old fault.new result }

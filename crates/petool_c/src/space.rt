@@ -20,7 +20,7 @@ use std::alloc::Global;
 /// closed first. With `known`, an import that leads to a module that is not in the set is no fault, and its slot is left as it
 /// stands in the file.
 ///
-/// The space is open exactly where the status is 0. It is 1 with the set's first fault (1 to 38 and 41 to 50), and where that is
+/// The space is open exactly where the status is 0. It is 1 with the set's first fault (an image or set fault), and where that is
 /// 50 with the length of the cycle of forwarders; or 2, for want of memory, which never comes where a name has a fault (41, 42).
 /// A space takes memory of its own, also where it holds no image. `cycle` is else left as it was. The space keeps no byte of the
 /// files: they may go.

@@ -23,8 +23,8 @@ use std::alloc::Global;
 /// Reads all tables of an image at once into the caller's rows: exports by ordinal and by name, imports and base relocations.
 ///
 /// The status is 0; 4 where one of the tables has more items than rows, of which the first are then told; 1 with the first of
-/// faults 1 to 38; or 2 for want of memory, which never comes where one of faults 1 to 15 stands. The counts tell how many items
-/// each table has; they and all rows are left as they were by 1 and 2.
+/// the image faults; or 2 for want of memory, which never comes where one of faults 1 to 15 stands. The counts tell how many
+/// items each table has; they and all rows are left as they were by 1 and 2.
 #[unsafe(no_mangle)]
 pub extern "C" fn petool_tables<'a>(
     alloc: Global,

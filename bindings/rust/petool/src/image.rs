@@ -4,7 +4,7 @@ use crate::rows::{room_of, text_of};
 use crate::{Error, Headers, OutOfMemory, Section, Tables, Target};
 use petool_sys as sys;
 
-/// A file in which none of faults 1 to 38 stands.
+/// A file in which none of the image faults of docs/FAULTS.md stands.
 ///
 /// It is judged once, when it is made. After that no call answers a fault, and only those that read tables want memory.
 #[derive(Clone, Debug)]
