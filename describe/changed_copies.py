@@ -139,6 +139,7 @@ FAULTS_DESCRIBED = [
     ("    place      `File(60)`\n", "    place      `File(60)`\n    places     `File(60)`\n", "line "),
     ("    place      `File(60)`", "    place      `File(60)` | `File(64)`", "fault 4: its rows"),
     ("    code       coff_read/src/section.rt, symbol.rt", "    code       coff_read/src/section.rt, symbols.rt", "symbols.rt"),
+    ("    code       pe_head/src/reading.rt", "    code       reading.rt", "crates/reading.rt"),
     ("1 to 38    an image", "1 to 39    an image", "39, which is no fault"),
     ("name plan fault              53         the plan of an image to be written\n", "", "fault 53 is in no range"),
     ("faults exports\n", "fault exports\n", "line "),

@@ -22,10 +22,10 @@ class Fault:
 
     def files(self) -> List[str]:
         """The sources that ask it; one without a folder stands beside the one before it."""
-        found: List[str] = []
+        found, folder = [], "crates"
         for name in self.rows["code"].split(", "):
-            folder = found[-1].rpartition("/")[0] if "/" not in name else "crates"
-            found.append(f"{folder}/{name}")
+            found.append(f"crates/{name}" if "/" in name else f"{folder}/{name}")
+            folder = found[-1].rpartition("/")[0]
         return found
 
 
