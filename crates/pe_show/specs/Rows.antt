@@ -9,9 +9,9 @@ use Rattle.pe_tables.specs.declared.key.Key.TheVariants.{Ordinal, Name}
 use Rattle.pe_text.specs.Part.{joined}
 use Rattle.pe_text.specs.Text.{hex, width_from}
 use Rattle.pe_show.specs.Name.{name_text, columns}
-use Rattle.pe_show.specs.declared.place.Place.{Place}
-use Rattle.pe_show.specs.declared.exports.Shown.{Shown}
-use Rattle.pe_show.specs.declared.exports.Shown.TheVariants.{Here, Forward}
+use Rattle.pe_show.specs.declared.place.SectionPlace.{SectionPlace}
+use Rattle.pe_show.specs.declared.exports.ShownTarget.{ShownTarget}
+use Rattle.pe_show.specs.declared.exports.ShownTarget.TheVariants.{Here, Forward}
 
 -- ---- parts
 -- so many blanks, and not more than 256
@@ -44,12 +44,12 @@ offset_text None = []
 offset_text (Some offset) = codes "+0x" ++ hex_text offset 1
 
 -- where an RVA lies: a section's name or another word, and the offset in it
-unfoldable pub place_text : Place → List ℕ
+unfoldable pub place_text : SectionPlace → List ℕ
 place_text place = name_text place.name.now ++ offset_text place.offset
 
 -- ---- exports
 -- an ordinal and the place that it exports, in columns of `width` and `digits`
-unfoldable pub here_text : ℕ → ℕ → ℕ → ℕ → Place → List ℕ
+unfoldable pub here_text : ℕ → ℕ → ℕ → ℕ → SectionPlace → List ℕ
 here_text ordinal width rva digits place = joined
     (right_text ordinal width ∷ codes "  0x" ∷ hex_text rva digits ∷ codes "  " ∷ place_text place ∷ [])
 
@@ -59,7 +59,7 @@ forward_text ordinal width dll key = joined
     (right_text ordinal width ∷ codes "  forwarded to " ∷ name_text dll ∷ codes "." ∷ key_text key ∷ [])
 
 -- an ordinal, and what it exports
-abbrev pub target_text : ℕ → ℕ → ℕ → Shown → List ℕ
+abbrev pub target_text : ℕ → ℕ → ℕ → ShownTarget → List ℕ
 target_text ordinal width digits (Here rva place) = here_text ordinal width rva digits place
 target_text ordinal width digits (Forward dll key) = forward_text ordinal width dll.now key
 

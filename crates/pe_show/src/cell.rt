@@ -9,7 +9,7 @@ use crate::date::write_date;
 use crate::exports::write_key;
 use crate::flags::write_flags;
 use crate::name::{name_width, write_name};
-use crate::place::Place;
+use crate::place::SectionPlace;
 use itoa::Buffer;
 use pe_tables::Key;
 use pe_text::Part::{self, Text};
@@ -40,7 +40,7 @@ pub(crate) enum Cell<'a> {
     /// By what an export or an import is looked up: a name, or `#` and an ordinal.
     Key(Key<'a>),
     /// Where an RVA lies, as `.text+0x350`.
-    Place(Place<'a>),
+    Place(SectionPlace<'a>),
 }
 
 /// The word for so many things.

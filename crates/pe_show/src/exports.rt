@@ -8,7 +8,7 @@ use crate::cell::{blanks, decimal_width, hex_width, write_hex, write_right};
 use crate::heading::write_heading;
 use crate::name::write_name;
 use crate::options::ShowOptions;
-use crate::place::{Place, SectionNames};
+use crate::place::{SectionNames, SectionPlace};
 use pe_image::Tables;
 use pe_layout::Layout;
 use pe_tables::{Exports, Key, Target};
@@ -26,9 +26,9 @@ struct Widths {
 
 /// What is shown of what an ordinal exports.
 #[derive(Clone, Copy)]
-enum Shown<'s, 't> {
+enum ShownTarget<'s, 't> {
     /// An RVA, and where it lies.
-    Here { rva: u32, place: Place<'s> },
+    Here { rva: u32, place: SectionPlace<'s> },
     /// The module and the key to which it is forwarded.
     Forward { module: &'t [u8], key: Key<'t> },
 }
@@ -38,13 +38,13 @@ fn shown_of<'s, 't>(
     layout: &Layout,
     sections: &SectionNames<'s>,
     target: &Target<'t>,
-) -> Shown<'s, 't> {
+) -> ShownTarget<'s, 't> {
     match target {
-        Target::Rva(rva) => Shown::Here {
+        Target::Rva(rva) => ShownTarget::Here {
             rva: *rva,
             place: sections.place(layout, *rva),
         },
-        Target::Forward { module, key } => Shown::Forward { module, key: *key },
+        Target::Forward { module, key } => ShownTarget::Forward { module, key: *key },
     }
 }
 
@@ -85,7 +85,7 @@ fn write_here<W: Sink>(
     widths: &Widths,
     ordinal: u64,
     rva: u32,
-    place: &Place,
+    place: &SectionPlace,
 )
     requires { IsReady W.failures text.old }
     ensures { Adds W.taken W.failures text.old text.new (here_text ordinal widths.now.ordinal rva widths.now.rva place.now) }
@@ -116,21 +116,26 @@ fn write_forward<W: Sink>(
 }
 
 /// Adds an ordinal and what it exports.
-fn write_target<W: Sink>(text: &mut TextWriter<W>, widths: &Widths, ordinal: u64, shown: &Shown)
+fn write_target<W: Sink>(
+    text: &mut TextWriter<W>,
+    widths: &Widths,
+    ordinal: u64,
+    shown: &ShownTarget,
+)
     requires { IsReady W.failures text.old }
     ensures { Adds W.taken W.failures text.old text.new (target_text ordinal widths.now.ordinal widths.now.rva shown.now) }
 {
     match shown {
-        Shown::Here { rva, place } => write_here(text, widths, ordinal, *rva, place),
-        Shown::Forward { module, key } => write_forward(text, widths, ordinal, module, *key),
+        ShownTarget::Here { rva, place } => write_here(text, widths, ordinal, *rva, place),
+        ShownTarget::Forward { module, key } => write_forward(text, widths, ordinal, module, *key),
     }
 }
 
 /// How many columns stand between what an ordinal exports and its names, beside two.
-fn gap_of(widths: &Widths, shown: &Shown) -> usize {
+fn gap_of(widths: &Widths, shown: &ShownTarget) -> usize {
     match shown {
-        Shown::Here { place, .. } => widths.place.saturating_sub(place.width()),
-        Shown::Forward { .. } => 0,
+        ShownTarget::Here { place, .. } => widths.place.saturating_sub(place.width()),
+        ShownTarget::Forward { .. } => 0,
     }
 }
 

@@ -5,7 +5,7 @@ ghost use Rattle.pe_show.specs.Page.{AddsSome};
 
 use crate::cell::{Cell, write_cells};
 use crate::heading::Kind;
-use crate::place::Place;
+use crate::place::SectionPlace;
 use pe_head::{Headers, Magic, characteristic, machine_name, subsystem_name};
 use pe_text::{Sink, TextWriter};
 use pe_views::FlagKind;
@@ -108,7 +108,7 @@ fn write_versions<W: Sink>(text: &mut TextWriter<W>, headers: &Headers)
 }
 
 /// Adds the row of the entry point: its RVA, and where it lies, if the image is laid out.
-fn write_entry<W: Sink>(text: &mut TextWriter<W>, rva: u32, place: Option<Place>)
+fn write_entry<W: Sink>(text: &mut TextWriter<W>, rva: u32, place: Option<SectionPlace>)
     requires { IsReady W.failures text.old }
     ensures { AddsSome W.taken W.failures text.old text.new }
 {
@@ -198,7 +198,7 @@ fn write_sizes<W: Sink>(text: &mut TextWriter<W>, headers: &Headers)
 pub(crate) fn write_headers<W: Sink>(
     text: &mut TextWriter<W>,
     headers: &Headers,
-    place: Option<Place>,
+    place: Option<SectionPlace>,
 )
     requires { IsReady W.failures text.old }
     ensures { AddsSome W.taken W.failures text.old text.new }

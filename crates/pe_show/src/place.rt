@@ -23,7 +23,7 @@ pub(crate) struct SectionNames<'a> {
 
 /// Where an RVA lies.
 #[derive(Clone, Copy)]
-pub(crate) struct Place<'a> {
+pub(crate) struct SectionPlace<'a> {
     /// The section's name, or what else it is.
     pub name: &'a [u8],
     /// How many bytes behind its beginning, where it is one of the image's pieces.
@@ -54,7 +54,7 @@ impl<'a> SectionNames<'a> {
     }
 
     /// Where an RVA of the image lies.
-    pub fn place(&self, layout: &Layout, rva: u32) -> Place<'a> {
+    pub fn place(&self, layout: &Layout, rva: u32) -> SectionPlace<'a> {
         let (name, offset, file) = match layout.locate(rva) {
             Located::Raw { section, file } => return self.in_section(
                 layout,
@@ -67,17 +67,23 @@ impl<'a> SectionNames<'a> {
             Located::Gap => (&b"no section"[..], None, None),
             Located::Outside => (&b"outside the image"[..], None, None),
         };
-        Place { name, offset, file }
+        SectionPlace { name, offset, file }
     }
 
     /// A place in a section.
-    fn in_section(&self, layout: &Layout, index: u8, rva: u32, file: Option<u64>) -> Place<'a> {
+    fn in_section(
+        &self,
+        layout: &Layout,
+        index: u8,
+        rva: u32,
+        file: Option<u64>,
+    ) -> SectionPlace<'a> {
         let index = usize::from(index);
         let start = match layout.headers().sections.as_slice().get(index) {
             Some(section) => section.virtual_address,
             None => 0,
         };
-        Place {
+        SectionPlace {
             name: self.get(index),
             offset: Some(rva.saturating_sub(start)),
             file,
@@ -85,7 +91,7 @@ impl<'a> SectionNames<'a> {
     }
 }
 
-impl<'a> Place<'a> {
+impl<'a> SectionPlace<'a> {
     /// Adds its name, and the offset behind `+0x` where it has one, as `.text+0x350`.
     pub fn write<W: Sink>(&self, text: &mut TextWriter<W>)
         requires { IsReady W.failures text.old }

@@ -3,6 +3,7 @@ use Rattle.std.proofs.Common.{subst}
 use Rattle.std.proofs.lemmas.Result.{err_from_is_err_and}
 use Rattle.pe_view.specs.FirstStanding.{first-in}
 use Rattle.pe_layout.specs.Image.{LaidOut, image_of_file}
+use Rattle.pe_layout.specs.Layout.{image_of}
 use Rattle.pe_layout.specs.SectionFaults.{layout_tests}
 use Rattle.pe_image.specs.ImageTests.{image_tests, table_tests}
 use Rattle.pe_views.specs.Judging.{behind, has_bytes}
@@ -14,13 +15,19 @@ returns-in_err-tables-in-Ok-clause-reads g c =
     let p = err_from_is_err_and c.from_residual.result c.from_residual.ensures.1 in
     rw p.1 (has_bytes 0 c.args.file.now c.in-Ok.ensures.0)
 
-pub returns-in_ok-tables-in-Ok-clause-judged : goal.returns-in_ok-tables-in-Ok-clause-judged
+pub returns-in_err-names-in-Ok-clause-reads : goal.returns-in_err-names-in-Ok-clause-reads
+returns-in_err-names-in-Ok-clause-reads g c =
+    let p = err_from_is_err_and c.from_residual-in_err-names-in-Ok.result c.from_residual-in_err-names-in-Ok.ensures.1 in
+    rw p.1 (has_bytes 0 c.args.file.now c.in-Ok.ensures.0)
+
+pub returns-in_ok-names-in-Ok-clause-judged : goal.returns-in_ok-names-in-Ok-clause-judged
 unfolding image_tests
-returns-in_ok-tables-in-Ok-clause-judged g c =
+returns-in_ok-names-in-Ok-clause-judged g c =
     let file = c.args.file.now in
-    let outcome = c.in_ok-tables-in-Ok.tables.outcome in
+    let outcome = c.outcome_of.result in
+    let judged = c.outcome_of.ensures (table_tests (image_of c.in-Ok.layout)) c.in_ok-tables-in-Ok.ensures.fault in
     behind (layout_tests 0 file) (table_tests (image_of_file 0 file)) outcome c.in-Ok.ensures.0
-    (subst (λ (i : LaidOut). IsOutcomeOf (table_tests i) outcome) c.in-Ok.ensures.1.shows c.in_ok-tables-in-Ok.ensures)
+    (subst (λ (i : LaidOut). IsOutcomeOf (table_tests i) outcome) c.in-Ok.ensures.1.shows judged)
 
 pub returns-in-Err-clause-judged : goal.returns-in-Err-clause-judged
 unfolding image_tests

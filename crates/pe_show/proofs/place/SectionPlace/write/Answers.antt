@@ -1,7 +1,7 @@
 use Rattle.std.proofs.Common.{append-nil}
 use Rattle.pe_text.proofs.Adding.{◌then◌}
 use Rattle.pe_show.specs.Rows.{place_text}
-use Rattle.pe_show.proofs.place.Place.write.Goals as goal
+use Rattle.pe_show.proofs.place.SectionPlace.write.Goals as goal
 
 pub returns-in-Some : goal.returns-in-Some
 unfolding place_text
