@@ -6,7 +6,7 @@ use std::fs;
 use std::rt::Files;
 
 /// The most bytes that a word gives a file.
-const MOST: u64 = 0x1_0000;
+const MOST: u64 = 0x2_0000;
 
 /// Writes bytes over a file, from an offset on; `None` where they do not lie in it.
 fn put(file: &mut [u8], offset: u64, bytes: &[u8]) -> Option<()> {
@@ -24,14 +24,22 @@ fn resize(file: &mut Vec<u8>, len: u64) -> Option<()> {
     }
 }
 
-/// Writes the bytes of digits in pairs over a file.
-fn put_digits(alloc: Global, file: &mut [u8], offset: u64, digits: &str) -> Option<()> {
-    let bytes = hex::decode(alloc, digits).ok()?;
-    put(file, offset, &bytes)
+/// The bytes of digits in pairs, or of two digits, `*` and a decimal number, which says how often their byte stands.
+fn bytes_of_digits(alloc: Global, digits: &str) -> Option<Vec<u8>> {
+    let Some((digits, count)) = digits.split_once("*") else {
+        return hex::decode(alloc, digits).ok();
+    };
+    let byte = u8::from_str_radix(digits, 16).ok()?;
+    vec![in alloc; byte; usize::from_str_radix(count, 10).ok()?].ok()
 }
 
-/// Changes a file as a word says: `len=` and a number of bytes cuts it, or fills it up with zeros; an offset, `=` and digits in
-/// pairs writes bytes over it. `None` where the word says neither, where the bytes do not lie in the file, or where memory is
+/// Writes the bytes of digits over a file.
+fn put_digits(alloc: Global, file: &mut [u8], offset: u64, digits: &str) -> Option<()> {
+    put(file, offset, &bytes_of_digits(alloc, digits)?)
+}
+
+/// Changes a file as a word says: `len=` and a number of bytes cuts it, or fills it up with zeros; an offset, `=` and digits
+/// writes bytes over it. `None` where the word says neither, where the bytes do not lie in the file, or where memory is
 /// wanted.
 pub(crate) fn edit(alloc: Global, file: &mut Vec<u8>, word: &str) -> Option<()> {
     let (place, digits) = word.split_once("=")?;

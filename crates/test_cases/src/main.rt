@@ -1,13 +1,13 @@
-//! Runs the cases that the files `texts`, `sets` and `views` list, and prints what each comes to: the stored output says what that
-//! has to be.
+//! Runs the cases that the files `words` and `sets` list, and prints what each comes to: the stored output says what that has to be.
 //!
-//! A line is a case: a word, and what it is to be run on. Those of `texts` are run over one file, a set or words, and print what an
-//! engine writes or a reader answers; so are those of `views`, pages and lines for scripts; those of `sets` are run over a set, by
-//! both spaces and by the slow checker. Empty lines and those that begin with `#` are for the reader.
+//! A line is a case: a word, and what it is to be run on. Those of `words` are faults in words and command lines; those of `sets` are
+//! run over a set, by both spaces and by the slow checker. Empty lines and those that begin with `#` are for the reader. What the
+//! program petool prints of files and sets is tested by `bindings/python`.
 //!
 //! A word `len=400` cuts a file, or fills it up with zeros, to 0x400 bytes, and a word `0x3c=ffffffff` writes bytes over it. A
 //! word `10000000=a.dll=v1.dll` puts the file `v1.dll` into a set, as the module `a.dll` at a base; the changes behind it are of
-//! that file.
+//! that file. Where many bytes are alike, `6d*70000` stands for so many of one byte, and `*70000.dll` for a name of so many letters
+//! `m` and its ending.
 #![tactic(auto)]
 
 mod edits;
@@ -15,15 +15,15 @@ mod fault_line;
 mod numbers;
 mod sets;
 mod spaces;
-mod texts;
+mod words;
 
 use crate::spaces::run_space;
-use crate::texts::run_text;
+use crate::words::run_words;
 use std::rt::Files;
 use std::{fs, io};
 
 /// The files that list the cases.
-const LISTS: [&str; 3] = ["texts", "sets", "views"];
+const LISTS: [&str; 2] = ["words", "sets"];
 
 /// Runs the case of a line, and tells where it cannot be run.
 fn run_case<R: Files + Print + AllocGlobal>(rt: &R, list: &str, line: &str) -> io::Result<()> {
@@ -34,7 +34,7 @@ fn run_case<R: Files + Print + AllocGlobal>(rt: &R, list: &str, line: &str) -> i
     let (kind, rest) = line.split_once(" ").unwrap_or((line, ""));
     let done = match list {
         "sets" => run_space(rt, kind, rest),
-        _ => run_text(rt, kind, rest),
+        _ => run_words(rt, kind, rest),
     };
     match done {
         Some(()) => Ok(()),

@@ -29,3 +29,15 @@ pub(crate) fn bytes_of(alloc: Global, text: &str) -> Option<Vec<u8>> {
     }
     Some(bytes)
 }
+
+/// The bytes of a module's name: behind `*` a decimal number of letters `m`, a dot and an ending; else as [`bytes_of`] says.
+pub(crate) fn name_of(alloc: Global, text: &str) -> Option<Vec<u8>> {
+    let Some(rest) = text.strip_prefix("*") else {
+        return bytes_of(alloc, text);
+    };
+    let (count, ending) = rest.split_once(".")?;
+    let mut name = vec![in alloc; b'm'; usize::from_str_radix(count, 10).ok()?].ok()?;
+    name.extend_from_slice(b".").ok()?;
+    name.extend_from_slice(ending.as_bytes()).ok()?;
+    Some(name)
+}

@@ -1,7 +1,7 @@
 //! Sets of files.
 
 use crate::edits::edit;
-use crate::numbers::{bytes_of, number_of};
+use crate::numbers::{name_of, number_of};
 use pe_set::{Policy, SetEntry};
 use std::alloc::Global;
 use std::fs;
@@ -29,7 +29,7 @@ pub(crate) struct SetCase<'a> {
 fn read_member<R: Files + AllocGlobal>(rt: &R, base: &str, named: &str) -> Option<Member> {
     let (name, path) = named.split_once("=")?;
     Some(Member {
-        name: bytes_of(rt.alloc(), name)?,
+        name: name_of(rt.alloc(), name)?,
         file: fs::read(rt, path).ok()?,
         base: number_of(base)?,
     })

@@ -1,6 +1,5 @@
-//! What is asserted in many tests, the bytes of a file at its offsets, and numbers behind one another.
+//! What is asserted in many tests, and the bytes of a file at its offsets.
 
-use pe_vectors::files::push_number;
 use std::process::Abort;
 
 /// Asserts what holds of a case.
@@ -35,11 +34,4 @@ pub(super) fn has_pieces(file: &[u8], pieces: &[(usize, &[u8])]) -> bool {
         }
     }
     true
-}
-
-/// Adds numbers of 4 bytes to a table.
-pub(super) fn push_numbers(rt: &impl Abort, table: &mut Vec<u8>, numbers: &[u32]) {
-    for number in numbers {
-        push_number(table, *number).expect(rt, "memory");
-    }
 }

@@ -1,11 +1,9 @@
 //! The tests of files that are read and written whole, of devices that fail and of calls in little room.
 
 mod counted;
-mod cycles;
 mod devices;
 mod engines;
 mod images_written;
-mod long_names;
 mod o1;
 mod objects;
 mod objects_written;

@@ -1,111 +1,17 @@
-//! Files at other bases: what they map to, and what the engine writes of them.
+//! Files at other bases: what the engine writes of them, and over devices that fail.
 
-use super::cycles::entry;
 use crate::tests::asserts::assert_holds;
-use pe_space::{Policy, Space, map, open_space};
 use pe_tool::{Outcome, Sink, ToolError, rebase, status};
-use pe_vectors::files::{Piece, Vector, changed_file, file_of, put};
+use pe_vectors::files::{Vector, file_of};
 use pe_vectors::{StepReader, StepWriter};
 use pe_view::{Fault, Place};
 use pe_write::rebase_file;
 use std::alloc::{Allocator, Global};
 use std::process::Abort;
 
-/// The offsets of ImageBase, in PE32 and in PE32+.
-const IMAGE_BASE: usize = 0x74;
-
-const WIDE_IMAGE_BASE: usize = 0x70;
-
-/// ImageBase 0x10008000, and two fields of two bytes: LOW at 0x1008 and HIGH at 0x100a.
-const HALVES: &[Piece] = &[(0x75, &[0x80]), (0x408, &[0x08, 0x20, 0x0a, 0x10])];
-
 /// What a file is at a base.
 fn rebased(rt: &impl Abort, alloc: Global, file: &[u8], base: u64) -> Vec<u8> {
     rebase_file(alloc, file, base).expect(rt, "a file")
-}
-
-/// Asserts that a file differs at a base, and is as before where it is rebased to the first one again.
-fn assert_there_and_back(rt: &impl Abort, alloc: Global, old: &[u8], first: u64, base: u64) {
-    let there = rebased(rt, alloc, old, base);
-    assert_holds(rt, 0, *there.as_slice() != *old);
-    let back = rebased(rt, alloc, &there, first);
-    assert_holds(rt, 0, *back.as_slice() == *old);
-}
-
-#[test]
-fn a_file_that_is_rebased_and_back_is_as_before(rt: HostRuntime) {
-    for (vector, first, base) in [
-        (Vector::V2, 0x1000_0000, 0xfff0_0000),
-        (Vector::V3, 0x1_8000_0000, 0xffff_ffff_fff0_0000),
-    ] {
-        let old = file_of(rt.alloc(), vector).expect(&rt, "memory");
-        assert_there_and_back(&rt, rt.alloc(), &old, first, base);
-    }
-}
-
-/// The first 0x3000 bytes at a base in a space.
-pub(super) fn bytes_of<S: Space>(rt: &impl Abort, space: &S, base: u64) -> [u8; 0x3000] {
-    let mut bytes = [0; 0x3000];
-    assert!(rt; space.window(base, &mut bytes) == Ok(()));
-    bytes
-}
-
-/// All bytes of the image of a file at a base, which has 0x3000 of them, by both spaces.
-fn mapped_bytes(rt: &impl Abort, alloc: Global, file: &[u8], base: u64) -> [u8; 0x3000] {
-    let set = [entry(b"a.dll", file, base)];
-    let mapped = map(alloc, &set, Policy::Strict).expect(rt, "a space");
-    let bytes = bytes_of(rt, &mapped, base);
-    let opened = open_space(alloc, &set, Policy::Strict).expect(rt, "a space over files");
-    assert_holds(rt, 0, bytes == bytes_of(rt, &opened, base));
-    bytes
-}
-
-/// A base, where it stands in a file as ImageBase, and in how many bytes.
-type Base = (u64, usize, usize);
-
-/// Asserts that a file, rebased, maps at a third base to the bytes of the old one, but for ImageBase.
-fn assert_mapped(rt: &impl Abort, alloc: Global, old: &[u8], at: u64, new: Base) {
-    let (base, offset, width) = new;
-    let mut expected = mapped_bytes(rt, alloc, old, at);
-    let found = mapped_bytes(rt, alloc, &rebased(rt, alloc, old, base), at);
-    assert_holds(rt, 0, found != expected);
-    assert!(rt; offset < 0x100 && width <= 8);
-    put(&mut expected, offset, &base.to_le_bytes()[..width]);
-    assert_holds(rt, 0, found == expected);
-}
-
-#[test]
-fn a_rebased_file_maps_to_the_bytes_of_the_old_one(rt: HostRuntime) {
-    for (vector, at, new) in [
-        (Vector::V2, 0x3000_0000, (0x2000_0000, IMAGE_BASE, 4)),
-        (
-            Vector::V3,
-            0x2_0000_0000,
-            (0x1_4000_0000, WIDE_IMAGE_BASE, 8),
-        ),
-    ] {
-        let old = file_of(rt.alloc(), vector).expect(&rt, "memory");
-        assert_mapped(&rt, rt.alloc(), &old, at, new);
-    }
-}
-
-/// Asserts the four bytes at 0x1008 at the base 0x30000000, of a file that was rebased to 0x20000000.
-fn assert_moved_on(rt: &impl Abort, alloc: Global, old: &[u8], expected: &[u8]) {
-    let new = rebased(rt, alloc, old, 0x2000_0000);
-    let bytes = mapped_bytes(rt, alloc, &new, 0x3000_0000);
-    assert_holds(rt, 0, bytes[0x1008..0x100c].starts_with(expected));
-}
-
-#[test]
-fn v2_rebased_holds_at_0x30000000_what_v2_holds_there(rt: HostRuntime) {
-    let old = file_of(rt.alloc(), Vector::V2).expect(&rt, "memory");
-    assert_moved_on(&rt, rt.alloc(), &old, &[0x08, 0x10, 0x00, 0x30]);
-}
-
-#[test]
-fn halves_that_were_rebased_are_moved_on_as_those_of_the_old_file(rt: HostRuntime) {
-    let old = changed_file(rt.alloc(), Vector::V2, HALVES).expect(&rt, "a changed file");
-    assert_moved_on(&rt, rt.alloc(), &old, &[0x08, 0x90, 0xff, 0x2f]);
 }
 
 /// How the devices of a run work: the most bytes a call, and the read, and the write of either output, that fails.

@@ -6,7 +6,7 @@ use super::engines::{Devices, Engine, report_over, run as run_engine, run_over, 
 use super::images_written::REFUSED;
 use super::o1::{O1_SYMBOLS, fault_of, same_object};
 use super::plans::{V2, plan_of};
-use super::rebased::{FINE, bytes_of, rebased_over, rebased_v2};
+use super::rebased::{FINE, rebased_over, rebased_v2};
 use crate::tests::asserts::assert_holds;
 use bumpalo::Bump;
 use coff_object::{Object, ObjectError, ObjectFile, Symbol, read_object, write_object};
@@ -228,6 +228,13 @@ const BINDINGS: &[Binding] = &[Binding {
     exporter: 1,
     rva: 0x1010,
 }];
+
+/// The first 0x3000 bytes at a base in a space.
+fn bytes_of<S: Space>(rt: &impl Abort, space: &S, base: u64) -> [u8; 0x3000] {
+    let mut bytes = [0; 0x3000];
+    assert!(rt; space.window(base, &mut bytes) == Ok(()));
+    bytes
+}
 
 /// The base of an image, and its bytes.
 fn image_at<S: Space>(rt: &impl Abort, space: &S, image: u16) -> (u64, [u8; 0x3000]) {

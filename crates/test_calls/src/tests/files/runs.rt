@@ -3,14 +3,14 @@
 
 ghost use Rattle.std.specs.Prelude.{◌≡◌, ◌<◌};
 
-use super::cycles::library;
 use super::engines::{Answered, Devices, Engine, report_over, run, steps_of};
 use crate::tests::asserts::assert_holds;
-use pe_tool::{Outcome, SetEntry, ToolError, check, json, status};
-use pe_vectors::files::{VECTORS, Vector, file_of};
+use pe_tool::{Outcome, Policy, SetEntry, ToolError, check, map_report, status};
+use pe_vectors::files::{Piece, VECTORS, Vector, file_of, put_pieces};
 use pe_vectors::members::{A, B, C, files_of, set_of};
 use pe_vectors::objects::O1;
-use pe_vectors::{StepReader, StepWriter};
+use pe_vectors::{StepReader, StepWriter, vf};
+use pe_view::{Fault, Place};
 use std::alloc::Global;
 use std::process::Abort;
 
@@ -223,16 +223,23 @@ fn each_read_and_each_write_that_fails_is_told(rt: HostRuntime) {
     assert_each_call_fails(&rt, rt.alloc(), Work::File(Engine::Object, O1));
 }
 
-/// The forwarder of a module whose name has so many letters.
-fn long_text(rt: &impl Abort, alloc: Global, letters: usize) -> String {
-    let module = "m".repeat(alloc, letters).expect(rt, "memory");
-    format!(in alloc; "{module}.#0").expect(rt, "memory")
-}
+/// What gives VF two forwarders of one text, 2,100 and 2,500 letters before its end, in a section of 0x2000 bytes.
+const LONG: &[Piece] = &[
+    (0x91, &[0x40]),
+    (0x141, &[0x20]),
+    (0x149, &[0x20]),
+    (0x248, &[0x90, 0x13, 0x00, 0x00, 0x00, 0x12]),
+];
 
 /// A library with two forwarders whose texts have over 2,000 bytes, more than a writer holds.
 fn long_texts(rt: &impl Abort, alloc: Global) -> Vec<u8> {
-    let texts = [long_text(rt, alloc, 2_100), long_text(rt, alloc, 2_500)];
-    library(rt, alloc, &texts)
+    let mut file = vf(alloc, 2).expect(rt, "memory");
+    put_pieces(&mut file, LONG).expect(rt, "pieces in the file");
+    file.truncate(0x400);
+    file.resize(0x400 + 2_500, b'm').expect(rt, "memory");
+    file.extend_from_slice(b".#0").expect(rt, "memory");
+    file.resize(0x2200, 0).expect(rt, "memory");
+    file
 }
 
 #[test]
@@ -262,21 +269,39 @@ fn a_report_is_the_same_in_any_steps_and_each_write_that_fails_is_told(rt: HostR
     assert_text(&rt, rt.alloc(), Work::Set(&set));
 }
 
-/// A file's name of each byte from 1 to 127.
-const EACH_BYTE: &[u8] =
-    b"\x01\x02\x03\x04\x05\x06\x07\x08\x09\x0a\x0b\x0c\x0d\x0e\x0f\x10\x11\x12\x13\x14\x15\x16\x17\x18\x19\x1a\x1b\x1c\x1d\x1e\x1f !\"#$%&'()*+,-./0123456789:;<=>?@ABCDEFGHIJKLMNOPQRSTUVWXYZ[\\]^_`abcdefghijklmnopqrstuvwxyz{|}~\x7f";
+/// A policy, a window, and the answer and the text of the report of no image.
+type Report = (
+    Policy,
+    Option<(u64, u32)>,
+    Result<Outcome, ToolError>,
+    &'static [u8],
+);
 
-/// The line of an empty file of that name, with the name as Python's `json` writes it that keeps what need not be escaped.
-const NAMED_LINE: &[u8] =
-    b"{\"schema\":1,\"file\":\"\\u0001\\u0002\\u0003\\u0004\\u0005\\u0006\\u0007\\b\\t\\n\\u000b\\f\\r\\u000e\\u000f\\u0010\\u0011\\u0012\\u0013\\u0014\\u0015\\u0016\\u0017\\u0018\\u0019\\u001a\\u001b\\u001c\\u001d\\u001e\\u001f !\\\"#$%&'()*+,-./0123456789:;<=>?@ABCDEFGHIJKLMNOPQRSTUVWXYZ[\\\\]^_`abcdefghijklmnopqrstuvwxyz{|}~\x7f\",\"accepted\":false,\"fault\":{\"number\":2,\"image\":0,\"place\":{\"file\":0},\"subject\":\"end of the file\",\"rule\":\"the file has under 64 bytes, which an MS-DOS header takes\"}}\n";
+/// Fault 54 of address 0, where no image stands.
+const NO_WINDOW: Outcome = Outcome::Refused(Fault {
+    number: 54,
+    image: 0xffff,
+    place: Place::Address(0),
+});
+
+const NO_IMAGES: &[Report] = &[
+    (Policy::Strict, None, Ok(Outcome::Done), b"end\n"),
+    (Policy::Known, Some((0, 0)), Ok(Outcome::Done), b"end\n"),
+    (
+        Policy::Strict,
+        Some((0, 1)),
+        Ok(NO_WINDOW),
+        b"fault 54 image 65535 address 0x0000000000000000\n",
+    ),
+];
 
 #[test]
-fn a_line_of_json_has_the_name_of_a_file_with_escapes(rt: HostRuntime) {
-    let mut reader = StepReader::new(b"", 4096, None);
-    let mut writer = StepWriter::new(rt.alloc(), 0x400, 4096, None).expect(&rt, "memory");
-    let answer = json(rt.alloc(), EACH_BYTE, &mut reader, &mut writer);
-    assert_holds(&rt, 0, matches!(answer, Ok(Outcome::Refused(_))));
-    assert_holds(&rt, 1, writer.taken() == NAMED_LINE);
+fn the_report_of_no_image_is_its_end(rt: HostRuntime) {
+    for (index, (policy, window, answer, text)) in NO_IMAGES.iter().enumerate() {
+        let mut writer = StepWriter::new(rt.alloc(), 0x100, 4096, None).expect(&rt, "memory");
+        let found = map_report(rt.alloc(), &[], *policy, *window, &mut writer);
+        assert_holds(&rt, index, found == *answer && writer.taken() == *text);
+    }
 }
 
 #[test]

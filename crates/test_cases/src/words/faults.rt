@@ -1,7 +1,7 @@
-//! Words of faults, and of what first bytes show.
+//! Faults in words.
 
 use crate::numbers::number_of;
-use pe_tool::{FaultText, fault_words, file_kind};
+use pe_tool::FaultText;
 use pe_view::{Fault, Place};
 
 /// The place that a word and a number name.
@@ -25,23 +25,4 @@ pub(crate) fn print_fault<R: Print>(rt: &R, words: &str) -> Option<()> {
         place: place_of(kind, number_of(digits)?)?,
     });
     println!(rt; "{text}").ok()
-}
-
-/// Prints the words of each number that belongs to a fault.
-pub(crate) fn print_words_of_faults<R: Print>(rt: &R) -> Option<()> {
-    for number in 0..=u16::MAX {
-        if let Some(words) = fault_words(number) {
-            println!(rt; "{number} {}: {}", words.subject, words.rule).ok()?;
-        }
-    }
-    Some(())
-}
-
-/// Prints what first bytes, in hexadecimal digits, show a file to be.
-pub(crate) fn print_kind<R: Print + AllocGlobal>(rt: &R, digits: &str) -> Option<()> {
-    let first = hex::decode(rt.alloc(), digits).ok()?;
-    match file_kind(&first) {
-        Some(kind) => println!(rt; "{kind}").ok(),
-        None => println!(rt; "nothing").ok(),
-    }
 }

@@ -1,0 +1,106 @@
+"""Files that tests make: the small files with bytes written over them, and libraries, programs and objects put together field by
+field. None of it is read by petool's own code."""
+
+from __future__ import annotations
+
+import struct
+from typing import Dict, Iterable, List, Optional, Sequence, Tuple
+
+from . import data
+
+#: Bytes at an offset.
+Piece = Tuple[int, bytes]
+
+
+def put(file: bytearray, *pieces: Piece) -> bytearray:
+    """Writes bytes over a file; they have to lie in it."""
+    for offset, written in pieces:
+        if offset + len(written) > len(file):
+            raise ValueError(f"the bytes at {offset:#x} pass the file")
+        file[offset : offset + len(written)] = written
+    return file
+
+
+def changed(name: str, *pieces: Piece, size: Optional[int] = 0x600) -> bytes:
+    """A small file, cut or filled up with zeros to so many bytes, with pieces written over it."""
+    file = bytearray(data(name))
+    if size is not None:
+        file = file[:size].ljust(size, b"\0")
+    return bytes(put(file, *pieces))
+
+
+def edit(file: bytearray, word: str) -> bytearray:
+    """Changes a file as a word says: `len=400` cuts it, or fills it up with zeros, to 0x400 bytes; `0x3c=ff00` writes bytes over it."""
+    place, digits = word.split("=")
+    if place == "len":
+        return file[: int(digits, 16)].ljust(int(digits, 16), b"\0")
+    return put(file, (int(place, 16), bytes.fromhex(digits)))
+
+
+def edited(words: Sequence[str]) -> bytes:
+    """The small file that the first word names, changed as the others say."""
+    file = bytearray(data(words[0]))
+    for word in words[1:]:
+        file = edit(file, word)
+    return bytes(file)
+
+
+def numbers(*values: int) -> bytes:
+    """Numbers of 4 bytes, lowest byte first."""
+    return struct.pack(f"<{len(values)}I", *values)
+
+
+def with_data(pieces: Iterable[Piece], section: bytes) -> bytes:
+    """V1 with other bytes in its section, which ends the file."""
+    file = bytearray(data("v1.dll"))
+    put(file, *pieces, (0x140, numbers(len(section))), (0x148, numbers(len(section))))
+    return bytes(file[:0x200]) + section
+
+
+# ---- forwarders ----
+
+#: The RVA for which an ordinal of a library stands that is no forwarder: its headers have it.
+EXPORT = 0x10
+
+
+def library(texts: Sequence[bytes]) -> bytes:
+    """A library whose ordinals count from 0: each stands for the forwarder of its text, or, where that is empty, for EXPORT."""
+    addresses, rva = [], 0x1028 + 4 * len(texts)
+    for text in texts:
+        addresses.append(rva if text else EXPORT)
+        rva += len(text) + 1
+    table = numbers(0, 0, 0, 0, 0, len(texts), 0, 0x1028, 0, 0) + numbers(*addresses)
+    table += b"".join(text + b"\0" for text in texts)
+    file = bytearray(data("vb.dll")[:0x200])
+    put(file, (0x90, numbers(len(table) + 0x2000)), (0xB8, numbers(0x1000, len(table))))
+    put(file, (0x140, numbers(len(table))), (0x148, numbers(-(-len(table) // 0x200) * 0x200)))
+    return bytes(file) + table.ljust(-(-len(table) // 0x200) * 0x200, b"\0")
+
+
+def chain(nexts: int, last: bytes, module: bytes = b"f") -> bytes:
+    """The library `f.dll` of which so many ordinals lead to the next one each; the last has this text."""
+    return library([b"%s.#%d" % (module, index + 1) for index in range(nexts)] + [last])
+
+
+def looped(tail: int, length: int) -> bytes:
+    """The library `f.dll` whose ordinals below tail + length lead to the next one each, and the last back to the first behind the
+    tail."""
+    return chain(tail + length - 1, b"f.#%d" % tail)
+
+
+def program(ordinal: int) -> bytes:
+    """VC with an import of an ordinal of `F.DLL`. Its slot is at RVA 0x1030."""
+    return changed("vc.dll", (0x240, b"F"), (0x228, bytes([ordinal, 0, 0, 0x80])), size=None)
+
+
+# ---- objects ----
+
+#: The storage class, the type, the section and the auxiliary records of a symbol.
+Symbol = Dict[str, object]
+
+
+def with_aux(storage_class: int, kind: int, section: int, aux: bytes) -> bytes:
+    """An object for AMD64 with one section and one symbol `s`, which has these auxiliary records."""
+    header = struct.pack("<HHIIIHH", 0x8664, 1, 0, 60, 1 + len(aux) // 18, 0, 0)
+    symbol = struct.pack("<8sIHHBB", b"s", 0, section, kind, storage_class, len(aux) // 18)
+    return header + struct.pack("<8s6IHHI", b"", *(0,) * 9) + symbol + aux + numbers(4)

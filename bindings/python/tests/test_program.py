@@ -1,0 +1,580 @@
+"""The program petool: what it prints, on which of its outputs, and its exit status, where files are missing, refused or cannot be read,
+and where an output is full or lost."""
+
+import errno
+import os
+import pathlib
+import shutil
+import subprocess
+import tempfile
+import unittest
+from dataclasses import dataclass, replace
+from typing import Optional, Sequence, Tuple
+
+from .files import put
+
+PROGRAM = os.environ.get("PETOOL_PROGRAM")
+
+
+def image_of(size_of_optional_header, size_of_headers, *pieces):
+    """The file of a PE32 image that has headers alone, 0x1000 bytes of the image."""
+    file = bytearray(size_of_headers)
+    put(file, (0x00, b"MZ"), (0x3C, b"\x40"), (0x40, b"PE\0\0\x4c\x01"), (0x54, bytes([size_of_optional_header, 0, 2, 0x21])))
+    put(file, (0x58, b"\x0b\x01"), (0x77, b"\x10\0\x10"), (0x7D, b"\x02"), (0x91, b"\x10"))
+    return bytes(put(file, (0x94, size_of_headers.to_bytes(4, "little")), *pieces))
+
+
+#: An image with no directory and no section.
+HEADERS = image_of(0x60, 0xB8)
+
+#: An image without a section that has a CheckSum and a certificate.
+SIGNED = image_of(0x88, 0xE0, (0x98, b"\x34\x12"), (0xB4, b"\x05"), (0xD8, b"\xe0\0\0\0\x08")) + b"\x08\0\0\0\0\x02\x02\0"
+
+#: The header of a section `.text`.
+TEXT_SECTION = [(0x46, b"\x01"), (0xB8, b".text"), (0xC0, b"\x10"), (0xDC, b"\x20\0\0\x60")]
+
+#: An image whose one section begins inside the headers.
+SECTION = image_of(0x60, 0xE0, *TEXT_SECTION, (0xC4, b"\x20"))
+
+#: An image whose one section has bytes of the headers as its raw data.
+SHARED = image_of(0x60, 0xE0, *TEXT_SECTION, (0xC5, b"\x01\0\0\x10"), (0xCC, b"\x10"))
+
+#: An image whose import table passes its end.
+IMPORTS = image_of(0x70, 0xC8, (0xB4, b"\x02"), (0xC0, b"\xf0\x0f\0\0\x14"))
+
+#: The import table of an image, with the slot at 0x140 and the module `K.dll`.
+IMPORTING = [(0xB4, b"\x02"), (0xC1, b"\x01\0\0\x28"), (0x100, b"\x30\x01"), (0x10C, b"\x48\x01\0\0\x40\x01"),
+             (0x148, b"K.dll"), (0x152, b"Sleep")]  # fmt: skip
+
+#: An image that imports `Sleep` of `K.dll`.
+NAMED = image_of(0x70, 0x160, *IMPORTING, (0x130, b"\x50\x01"), (0x140, b"\x50\x01"))
+
+#: An image that imports what has the ordinal 7 in `K.dll`.
+NUMBERED = image_of(0x70, 0x160, *IMPORTING, (0x130, b"\x07\0\0\x80"), (0x140, b"\x07\0\0\x80"))
+
+#: A file of which each read fails.
+BROKEN = None
+
+CHECK, DUMP, OBJECT = ["check", "a.dll"], ["dump", "a.dll"], ["object", "a.dll"]
+MAP, REBASE = ["map", "10000000=a.dll"], ["rebase", "20000000", "a.dll", "new.dll"]
+
+
+def told(number):
+    """The system's word for an error."""
+    return f"{os.strerror(number)} (os error {number})"
+
+
+NO_SUCH_FILE = f"petool: b.dll: cannot be opened: {told(errno.ENOENT)}\n"
+READING_FAILED = f"petool: a.dll: reading failed: {told(errno.EIO)}\n"
+OUTPUT_IS_FULL = f"petool: standard output: writing failed: {told(errno.ENOSPC)}\n"
+
+NO_BYTES = "petool: a.dll: end of the file at 0x0: the file has under 64 bytes, which an MS-DOS header takes: it has 0\n"
+
+NO_FILE_GIVEN = """\
+error: the following required arguments were not provided:
+  <FILE>...
+
+Usage: petool check <FILE>...
+
+For more information, try '--help'.
+"""
+
+NO_BASE = """\
+error: invalid value 'a.dll' for '<HEX=FILE>...': no '=' after a base
+
+Usage: petool map [OPTIONS] <HEX=FILE>...
+
+For more information, try '--help'.
+"""
+
+#: A page and a line of JSON of a file without bytes.
+EMPTY_PAGES = """\
+a.dll: refused: 0 bytes
+
+Fault 2: end of the file at 0x0: the file has under 64 bytes, which an MS-DOS header takes: it has 0
+
+standard input: refused: 0 bytes
+
+Fault 2: end of the file at 0x0: the file has under 64 bytes, which an MS-DOS header takes: it has 0
+"""
+
+EMPTY_JSON = (
+    '{"schema":1,"file":"a.dll","accepted":false,"fault":{"number":2,"image":0,"place":{"file":0},"subject":"end of the file",'
+    '"rule":"the file has under 64 bytes, which an MS-DOS header takes"}}\n'
+)
+
+AT_SIGNATURE = """\
+RVA 0x40  address 0x10000040  file 0x40  headers+0x40
+  50 45 00 00 4c 01 00 00 00 00 00 00 00 00 00 00
+"""
+
+EXPLAINED = """\
+fault 13: section header: the section's raw data passes the end of the file
+  It stands where the bytes that the file is to give the section, from PointerToRawData on, pass the end of the file.
+  Met by: an image that was cut off behind its headers, as a broken download is.
+"""
+
+#: What help says of the exit statuses.
+STATUSES = """
+Exit statuses:
+  0  done
+  1  refused by a fault
+  2  bad command line
+  3  reading or writing failed
+  4  out of memory
+"""
+
+
+@dataclass(frozen=True)
+class Case:
+    """What the program does in a folder with the file `a.dll`, which is `A.DLL` too and stands on standard input, and with no
+    `b.dll`."""
+
+    words: Sequence[object] = ("check", "a.dll")
+    file: Optional[bytes] = HEADERS
+    #: Whether `new.dll` takes what it is given, is full, or cannot be made.
+    target: str = "cannot be made"
+    #: What standard output is: a file, a full device, or a pipe whose reader went away.
+    output: str = "open"
+    status: int = 0
+    printed: str = ""
+    complained: str = ""
+    #: Whether `new.dll` is made.
+    is_made: bool = False
+
+
+SILENT = Case()
+REBASED = Case(words=REBASE, target="open", printed="rebased 0x0000000020000000\n", is_made=True)
+FULL = Case(output="full", status=3, complained=OUTPUT_IS_FULL)
+
+#: Commands that read one file.
+ENDS = [
+    replace(SILENT, printed="accepted PE32 sections 0\n"),
+    replace(SILENT, words=DUMP, file=b"", status=1, printed="fault 2 image 0 file 0x00000000\n", complained=NO_BYTES),
+    replace(
+        SILENT,
+        words=OBJECT,
+        file=b"\x64\x86\0\0\x78\x56\x34\x12\0\0\0\0\0\0\0\0\0\0\x04\0",
+        printed="Machine 0x8664 AMD64\nTimeDateStamp 0x12345678\nCharacteristics 0x0004\nend\n",
+    ),
+    replace(
+        SILENT,
+        words=OBJECT,
+        status=1,
+        printed="fault 62 image 0 file 0x00000000\n",
+        complained="petool: a.dll: COFF file header at 0x0: the file begins as an image, an archive or an import object does; it is an image\n",
+    ),
+    replace(SILENT, words=["check"], status=2, complained=NO_FILE_GIVEN),
+    replace(SILENT, words=["check", b"\xff"], status=2, complained="petool: word 2 of the command line is not UTF-8\n"),
+    replace(SILENT, words=["dump", "b.dll"], status=3, complained=NO_SUCH_FILE),
+    replace(SILENT, words=DUMP, file=BROKEN, status=3, complained=READING_FAILED),
+    FULL,
+    replace(FULL, words=["--help"]),
+]
+
+#: Commands that show files, of which several may be named.
+VIEW_ENDS = [
+    # one that cannot be opened does not stop the others
+    replace(
+        SILENT,
+        words=["check", "a.dll", "b.dll", "A.DLL"],
+        status=3,
+        printed="a.dll: accepted PE32 sections 0\nA.DLL: accepted PE32 sections 0\n",
+        complained=NO_SUCH_FILE,
+    ),
+    replace(
+        SILENT,
+        words=["check", "a.dll", "-"],
+        file=b"",
+        status=1,
+        printed="a.dll: fault 2 image 0 file 0x00000000\nstandard input: fault 2 image 0 file 0x00000000\n",
+        complained=NO_BYTES + NO_BYTES.replace("a.dll", "standard input"),
+    ),
+    # an output that fails does
+    replace(FULL, words=["check", "a.dll", "A.DLL"]),
+    # a page before which none was printed begins without a blank line
+    replace(SILENT, words=["show", "b.dll", "a.dll", "-"], file=b"", status=3, printed=EMPTY_PAGES, complained=NO_SUCH_FILE),
+    replace(SILENT, words=["json", "a.dll"], file=b"", status=1, printed=EMPTY_JSON),
+    replace(SILENT, words=["json", "a.dll"], file=BROKEN, status=3, complained=READING_FAILED),
+    # a lost output ends the others, and a reader that went away is told of by the status alone
+    replace(FULL, words=["show", "a.dll", "b.dll"]),
+    replace(SILENT, words=["json", "a.dll", "b.dll"], output="lost", status=3),
+    replace(FULL, words=["at", "a.dll", "40"]),
+    replace(SILENT, words=["show", "a.dll"], file=BROKEN, status=3, complained=READING_FAILED),
+    replace(SILENT, words=["at", "a.dll", "40"], printed=AT_SIGNATURE),
+    replace(SILENT, words=["at", "--address", "a.dll", "0x10000040"], printed=AT_SIGNATURE),
+    replace(SILENT, words=["at", "--file", "a.dll", "40"], printed=AT_SIGNATURE),
+    replace(SILENT, words=["at", "a.dll", "100000040"], printed="the place is outside the image\n"),
+    replace(
+        SILENT, words=["at", "a.dll", "40"], file=b"", status=1, printed="fault 2 image 0 file 0x00000000\n", complained=NO_BYTES
+    ),
+    replace(SILENT, words=["explain", "13"], printed=EXPLAINED),
+    replace(SILENT, words=["explain", "23"], status=2, complained="petool: no fault has the number 23\n"),
+    replace(FULL, words=["explain"]),
+]
+
+#: Commands that read a set.
+MAP_ENDS = [
+    replace(
+        SILENT,
+        words=["map", "--window", "0x10000000", "--count", "2", "10000000=a.dll"],
+        printed='image 0 "a.dll" base 0x0000000010000000 size 0x00001000\n0x0000000010000000 4d 5a\nend\n',
+    ),
+    replace(SILENT, words=MAP, file=b"", status=1, printed="fault 2 image 0 file 0x00000000\n", complained=NO_BYTES),
+    # all words are judged before a file is opened
+    replace(SILENT, words=["map", "10000000=b.dll", "a.dll"], status=2, complained=NO_BASE),
+    # all files are read before one is judged
+    replace(SILENT, words=["map", "10000000=a.dll", "20000000=b.dll"], file=b"", status=3, complained=NO_SUCH_FILE),
+    replace(SILENT, words=MAP, file=BROKEN, status=3, complained=READING_FAILED),
+    replace(FULL, words=MAP),
+]
+
+#: Commands that write a file.
+REBASE_ENDS = [
+    REBASED,
+    replace(
+        REBASED,
+        file=SIGNED,
+        complained="petool: new.dll: CheckSum is now 0\npetool: new.dll: the certificate is that of the old file, and no longer fits\n",
+    ),
+    # a refused file leaves the target unmade
+    replace(
+        REBASED,
+        words=["rebase", "20000001", "a.dll", "new.dll"],
+        status=1,
+        printed="fault 44 image 0 address 0x0000000020000001\n",
+        complained="petool: a.dll: base 0x20000001: the base is no multiple of 65,536\n",
+        is_made=False,
+    ),
+    replace(
+        REBASED, target="full", status=3, printed="", complained=f"petool: new.dll: writing failed: {told(errno.ENOSPC)}\n"
+    ),
+    replace(
+        REBASED,
+        target="cannot be made",
+        status=3,
+        printed="",
+        complained=f"petool: new.dll: writing failed: {told(errno.ENOENT)}\n",
+        is_made=False,
+    ),
+    replace(REBASED, file=BROKEN, status=3, printed="", complained=READING_FAILED, is_made=False),
+    replace(
+        REBASED, words=["rebase", "20000000", "b.dll", "new.dll"], status=3, printed="", complained=NO_SUCH_FILE, is_made=False
+    ),
+    replace(
+        REBASED,
+        words=["rebase", "20000000", "a.dll", "a.dll"],
+        status=3,
+        printed="",
+        complained="petool: a.dll: is the file that is read\n",
+        is_made=False,
+    ),
+    # the line comes after the file
+    replace(REBASED, output="full", status=3, printed="", complained=OUTPUT_IS_FULL),
+]
+
+#: Words in place of files, the version, and readers that went away.
+DASHES = [
+    replace(SILENT, words=["--version"], file=BROKEN, printed="petool 0.1.0\n"),
+    replace(SILENT, words=["check", "-"], printed="accepted PE32 sections 0\n"),
+    replace(
+        SILENT, words=["map", "10000000=-"], printed='image 0 "-" base 0x0000000010000000 size 0x00001000\nend\n'
+    ),
+    # a path, which is no file of the system
+    replace(
+        SILENT,
+        words=["rebase", "20000000", "-", "new.dll"],
+        status=3,
+        complained=f"petool: -: cannot be opened: {told(errno.ENOENT)}\n",
+    ),
+    # a reader of a pipe that went away
+    replace(SILENT, output="lost", status=3),
+    replace(SILENT, words=["--help"], output="lost", status=3),
+]
+
+#: The words, the file `a.dll`, and what stands on standard output and on standard error: a fault of the headers, of a section, of a
+#: table, of an object, and of a file to be written at another base.
+FILES = [
+    (
+        CHECK,
+        b"MZ",
+        "fault 2 image 0 file 0x00000002\n",
+        "petool: a.dll: end of the file at 0x2: the file has under 64 bytes, which an MS-DOS header takes: it has 2\n",
+    ),
+    (
+        DUMP,
+        SECTION,
+        "fault 15 image 0 file 0x000000b8\n",
+        "petool: a.dll: section header at 0xb8: the section begins before the headers or the section before it end: it begins at RVA 0x20, and the headers end at 0xe0\n",
+    ),
+    (
+        DUMP,
+        IMPORTS,
+        "fault 24 image 0 rva 0x00000ff0\n",
+        "petool: a.dll: import directory entry at RVA 0xff0: the entry is not wholly in the image\n",
+    ),
+    (
+        OBJECT,
+        b"\x4c\x01\x01".ljust(20, b"\0"),
+        "fault 63 image 0 file 0x00000002\n",
+        "petool: a.dll: NumberOfSections at 0x2: the section table passes the end of the file\n",
+    ),
+    (
+        REBASE,
+        SHARED,
+        "fault 52 image 0 file 0x000000b8\n",
+        "petool: a.dll: section header at 0xb8: the section's raw data begins in the headers, or has a byte in common with that of an earlier section\n",
+    ),
+]
+
+#: A fault of a set, of a base, and of a window; the file that the fault names is the one that is told.
+SETS = [
+    (
+        ["map", "10000000=a.dll", "20000000=A.DLL"],
+        HEADERS,
+        "fault 42 image 1 item 1\n",
+        "petool: A.DLL: file 1: its module has the name of an earlier one\n",
+    ),
+    (
+        ["map", "10008000=a.dll"],
+        HEADERS,
+        "fault 44 image 0 address 0x0000000010008000\n",
+        "petool: a.dll: base 0x10008000: the base is no multiple of 65,536\n",
+    ),
+    (
+        ["map", "--window", "10000ff8", "10000000=a.dll"],
+        HEADERS,
+        "fault 54 image 0 address 0x0000000010000ff8\n",
+        "petool: a.dll: window 0x10000ff8: the window does not lie in one image\n",
+    ),
+    # the import is named
+    (
+        MAP,
+        NAMED,
+        "fault 48 image 0 rva 0x00000140\n",
+        "petool: a.dll: import address table slot at RVA 0x140: the import leads to a module that is not in the set: K.dll Sleep; --known leaves such slots as they stand\n",
+    ),
+    (
+        MAP,
+        NUMBERED,
+        "fault 48 image 0 rva 0x00000140\n",
+        "petool: a.dll: import address table slot at RVA 0x140: the import leads to a module that is not in the set: K.dll #7; --known leaves such slots as they stand\n",
+    ),
+    # no image holds the window's first address
+    (
+        ["map", "--window", "0", "10000000=a.dll"],
+        HEADERS,
+        "fault 54 image 65535 address 0x0000000000000000\n",
+        "petool: map: window 0x0: the window does not lie in one image\n",
+    ),
+]
+
+#: Files that are not what a command reads.
+KINDS = [
+    (
+        DUMP,
+        b"\x7fELF\x02\x01\x01\0\0\0\0\0\0\0\0\0\x03\0\x3e\0",
+        "fault 2 image 0 file 0x00000014\n",
+        "petool: a.dll: end of the file at 0x14: the file has under 64 bytes, which an MS-DOS header takes: it has 20; it is an ELF file\n",
+    ),
+    (
+        CHECK,
+        b"0123456789012345678901234567890123456789012345678901234567890123",
+        "fault 3 image 0 file 0x00000000\n",
+        "petool: a.dll: MS-DOS header at 0x0: the file does not begin with MZ; it is a text\n",
+    ),
+    (
+        MAP,
+        b"!<arch>\n/               0           0     0     0       4         `\n",
+        "fault 3 image 0 file 0x00000000\n",
+        "petool: a.dll: MS-DOS header at 0x0: the file does not begin with MZ; it is an archive\n",
+    ),
+    (
+        ["dump", "-"],
+        b"\x64\x86".ljust(20, b"\0"),
+        "fault 2 image 0 file 0x00000014\n",
+        "petool: standard input: end of the file at 0x14: the file has under 64 bytes, which an MS-DOS header takes: it has 20; it is a COFF object\n",
+    ),
+    (
+        OBJECT,
+        HEADERS,
+        "fault 62 image 0 file 0x00000000\n",
+        "petool: a.dll: COFF file header at 0x0: the file begins as an image, an archive or an import object does; it is an image\n",
+    ),
+]
+
+#: Each byte from 1 to 127, of which a slash ends the name of a folder.
+EACH_BYTE = bytes(range(1, 128))
+
+#: The line of an empty file of that name, with the name as Python's `json` writes it that keeps what need not be escaped.
+NAMED_LINE = (
+    r'{"schema":1,"file":"\u0001\u0002\u0003\u0004\u0005\u0006\u0007\b\t\n\u000b\f\r\u000e\u000f\u0010\u0011\u0012\u0013\u0014\u0015'
+    r"\u0016\u0017\u0018\u0019\u001a\u001b\u001c\u001d\u001e\u001f !\"#$%&'()*+,-./0123456789:;<=>?@ABCDEFGHIJKLMNOPQRSTUVWXYZ[\\]^_"
+    "`abcdefghijklmnopqrstuvwxyz{|}~\x7f"
+    r'","accepted":false,"fault":{"number":2,"image":0,"place":{"file":0},"subject":"end of the file",'
+    r'"rule":"the file has under 64 bytes, which an MS-DOS header takes"}}'
+    "\n"
+)
+
+
+@unittest.skipUnless(PROGRAM, "PETOOL_PROGRAM does not name the program petool")
+class Ends(unittest.TestCase):
+    maxDiff = None
+
+    def setUp(self):
+        folder = tempfile.TemporaryDirectory()
+        self.addCleanup(folder.cleanup)
+        self.folder = pathlib.Path(folder.name)
+        self.target = self.folder / "new.dll"
+
+    def lay_out(self, case):
+        """Makes the files of a case: a link to one that leads nowhere cannot be made."""
+        for old in (self.folder / "a.dll", self.folder / "A.DLL", self.target):
+            old.unlink(missing_ok=True)
+        for name in ("a.dll", "A.DLL"):
+            if case.file is BROKEN:
+                # no memory stands at address 0
+                (self.folder / name).symlink_to("/proc/self/mem")
+            else:
+                (self.folder / name).write_bytes(case.file)
+        if case.target != "open":
+            self.target.symlink_to("/dev/full" if case.target == "full" else "missing/new.dll")
+
+    def run_case(self, case) -> Tuple[int, bytes, bytes]:
+        """Runs the program: its status and what is on its outputs."""
+        reader, writer = os.pipe() if case.output != "full" else (None, os.open("/dev/full", os.O_WRONLY))
+        if case.output == "lost":
+            os.close(reader)
+        try:
+            done = subprocess.run(
+                [PROGRAM, *case.words], cwd=self.folder, input=case.file or b"", stdout=writer, stderr=subprocess.PIPE
+            )
+        finally:
+            os.close(writer)
+        printed = b""
+        if case.output == "open":
+            with open(reader, "rb") as pipe:
+                printed = pipe.read()
+        return done.returncode, printed, done.stderr
+
+    def assert_end(self, case):
+        self.lay_out(case)
+        status, printed, complained = self.run_case(case)
+        self.assertEqual((printed.decode(), complained.decode(), status), (case.printed, case.complained, case.status))
+        self.assertEqual(self.target.exists(), case.is_made)
+
+    def assert_ends(self, cases):
+        for case in cases:
+            with self.subTest(words=case.words, file=case.file, target=case.target, output=case.output):
+                self.assert_end(case)
+
+    def test_each_end_has_its_status_and_its_text(self):
+        self.assert_ends(ENDS)
+
+    def test_each_end_of_views_has_its_status_and_its_text(self):
+        self.assert_ends(VIEW_ENDS)
+
+    def test_each_end_of_map_has_its_status_and_its_text(self):
+        self.assert_ends(MAP_ENDS)
+
+    def test_each_end_of_rebase_has_its_status_and_its_text(self):
+        self.assert_ends(REBASE_ENDS)
+
+    def test_dashes_version_and_pipes(self):
+        self.assert_ends(DASHES)
+
+    def test_help_goes_to_standard_output(self):
+        self.lay_out(replace(SILENT, file=BROKEN))
+        status, printed, complained = self.run_case(replace(SILENT, words=["--help"], file=BROKEN))
+        self.assertEqual((status, complained), (0, b""))
+        for part in ("\nUsage: petool <COMMAND>\n", STATUSES, "petool explain N explains fault N."):
+            self.assertIn(part, printed.decode())
+
+    def assert_refused(self, cases):
+        """Asserts the whole text of a refusal, on both outputs."""
+        for words, file, printed, complained in cases:
+            case = replace(SILENT, words=words, file=file, status=1, printed=printed, complained=complained)
+            with self.subTest(words=words, printed=printed):
+                self.assert_end(case)
+
+    def test_faults_of_files_are_told_in_words(self):
+        self.assert_refused(FILES)
+
+    def test_faults_of_sets_are_told_in_words(self):
+        self.assert_refused(SETS)
+
+    def test_files_of_other_kinds_are_told_for_what_they_are(self):
+        self.assert_refused(KINDS)
+
+    def test_a_line_of_json_has_the_name_of_a_file_with_escapes(self):
+        path = bytes(self.folder) + b"/" + EACH_BYTE
+        os.mkdir(os.path.dirname(path))
+        with open(path, "wb"):
+            pass
+        done = subprocess.run([PROGRAM, "json", EACH_BYTE], cwd=self.folder, stdout=subprocess.PIPE)
+        self.assertEqual((done.stdout.decode(), done.returncode), (NAMED_LINE, 1))
+
+
+#: A command, what it prints where no growth of memory is refused, and what it tells where each is in turn: of the words, of a file,
+#: and, of `map`, of the set and its output. Some growths are tried in vain, and the command ends as if there were no need of them.
+WANTS = [
+    (CHECK, "accepted PE32 sections 0\n", ["", "a.dll: "]),
+    (["show", "a.dll"], None, ["", "a.dll: "]),
+    (["json", "a.dll"], None, ["", "a.dll: "]),
+    (DUMP, None, ["", "a.dll: "]),
+    (MAP, 'image 0 "a.dll" base 0x0000000010000000 size 0x00001000\nend\n', ["", "a.dll: ", "map: "]),
+    (REBASE, "rebased 0x0000000020000000\n", ["", "a.dll: "]),
+]
+
+
+@unittest.skipUnless(PROGRAM and shutil.which("cc"), "PETOOL_PROGRAM does not name the program petool, or there is no cc")
+class Memory(unittest.TestCase):
+    """Want of memory: each growth that the program asks for is refused in turn."""
+
+    def setUp(self):
+        folder = tempfile.TemporaryDirectory()
+        self.addCleanup(folder.cleanup)
+        self.folder = pathlib.Path(folder.name)
+        self.refuse = str(self.folder / "refuse.so")
+        source = pathlib.Path(__file__).with_name("refuse.c")
+        subprocess.run(["cc", "-shared", "-fPIC", "-o", self.refuse, str(source), "-ldl"], check=True)
+        (self.folder / "a.dll").write_bytes(HEADERS)
+
+    def run_without(self, words, number):
+        """Runs the program without the growth of a number: its status, and what is on its outputs."""
+        environment = {**os.environ, "LD_PRELOAD": self.refuse, "REFUSED": str(number)}
+        done = subprocess.run([PROGRAM, *words], cwd=self.folder, env=environment, capture_output=True, text=True)
+        return done.returncode, done.stdout, done.stderr
+
+    def told(self, words, printed):
+        """What is told where each growth is refused in turn, without repeats, as the growths come."""
+        told, in_vain = [], 0
+        whole = self.run_without(words, -1)
+        self.assertEqual((whole[0], whole[2]), (0, ""))
+        self.assertEqual(whole[1], whole[1] if printed is None else printed)
+        for number in range(1000):
+            status, output, complained = self.run_without(words, number)
+            if status == 0:
+                self.assertEqual((output, complained), (whole[1], ""))
+                in_vain += 1
+                # no more than a few growths are tried in vain, and none behind the last
+                if in_vain == 20:
+                    return told
+                continue
+            in_vain = 0
+            self.assertEqual(status, 4)
+            # a line of JSON may have begun
+            self.assertTrue(output == "" or words[0] == "json" and whole[1].startswith(output), output)
+            if told[-1:] != [complained]:
+                told.append(complained)
+        self.fail("there was never memory enough")
+
+    def test_want_of_memory_is_told(self):
+        for words, printed, subjects in WANTS:
+            with self.subTest(words=words):
+                expected = [f"petool: {subject}out of memory\n" for subject in subjects]
+                self.assertEqual(self.told(words, printed), expected)
+
+
+if __name__ == "__main__":
+    unittest.main()
