@@ -72,11 +72,6 @@ pub fn number(file: &[u8], offset: usize, width: usize) -> Option<u64> {
     Some(u64::from_le_bytes(bytes))
 }
 
-/// Adds a number of 4 bytes, lowest byte first.
-pub fn push_number(table: &mut Vec<u8>, number: u32) -> Result<(), AllocError> {
-    table.extend_from_slice(&number.to_le_bytes())
-}
-
 /// One of the small files.
 #[derive(Clone, Copy, Debug)]
 pub enum Vector {

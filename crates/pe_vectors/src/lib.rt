@@ -12,8 +12,7 @@
 //! ```
 //!
 //! Over these stand pieces of bytes that are written over a file ([`files`]), sets of files ([`members`]), an object file
-//! ([`objects`]), where the fields of headers stand ([`header_fields`]), comparisons ([`same`]), a source and a sink over memory
-//! that work in steps and fail on demand.
+//! ([`objects`]), comparisons ([`same`]), a source and a sink over memory that work in steps and fail on demand.
 //!
 //! No function here stops a test: want of memory is answered, and so is a piece that does not lie in its file. A test unwraps the
 //! answer:
@@ -26,7 +25,6 @@
 
 mod devices;
 pub mod files;
-pub mod header_fields;
 mod images;
 pub mod members;
 pub mod objects;

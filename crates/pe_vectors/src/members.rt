@@ -1,8 +1,7 @@
-//! Sets of images: which small file stands where under which name, the set of them, and faults of sets.
+//! Sets of images: which small file stands where under which name, and the set of them.
 
 use crate::files::{FileError, Piece, Vector, file_of, put_pieces};
 use pe_set::SetEntry;
-use pe_view::{Fault, Place};
 use std::alloc::{AllocError, Global};
 
 /// An image of a set: its name and its base, and a file with pieces written over it.
@@ -94,16 +93,4 @@ pub fn repeated<'a>(
         set.push(entry)?;
     }
     Ok(set)
-}
-
-/// A fault by number, image and place.
-pub type Refusal = (u16, u16, Place);
-
-/// The fault of a refusal.
-pub fn fault_of((number, image, place): Refusal) -> Fault {
-    Fault {
-        number,
-        image,
-        place,
-    }
 }

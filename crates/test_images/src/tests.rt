@@ -1,10 +1,8 @@
 mod asserts;
 mod cases;
 mod chains;
-mod exports;
 mod fixups;
 mod head;
-mod imports;
 mod layout;
 mod texts;
 mod view;

@@ -1,78 +1,11 @@
-//! What `pe_layout` shows of laid-out images.
+//! What `pe_layout` shows of laid-out images: numbers, directories, and what belongs to the layout itself.
 
-use super::cases::{IMAGE, layout_of, number_at};
-use crate::tests::asserts::{assert_holds, bytes_from};
+use super::cases::{IMAGE, layout_of};
+use crate::tests::asserts::assert_holds;
 use pe_head::Directory;
-use pe_layout::{Layout, Located};
-use pe_vectors::files::{Piece, VECTORS, Vector, changed_file, file_of, put, put_pieces};
-use std::alloc::Global;
+use pe_layout::Layout;
+use pe_vectors::files::{Piece, Vector, changed_file, file_of, put_pieces};
 use std::process::Abort;
-
-/// The number of 4 bytes at an offset.
-fn word(rt: &impl Abort, file: &[u8], offset: usize) -> u64 {
-    number_at(rt, file, offset, 4)
-}
-
-/// Writes the bytes that the file holds for a section of its own place in the image; the rest of the section is zeros.
-fn lay_section(rt: &impl Abort, image: &mut [u8], file: &[u8], header: &[u8]) {
-    let virtual_size = word(rt, header, 8);
-    let virtual_address = word(rt, header, 12) as usize;
-    let size_of_raw_data = word(rt, header, 16);
-    let pointer_to_raw_data = word(rt, header, 20) as usize;
-    let extent = if virtual_size == 0 {
-        size_of_raw_data
-    } else {
-        virtual_size
-    };
-    if pointer_to_raw_data == 0 {
-        return;
-    }
-    let len = extent.min(size_of_raw_data) as usize;
-    let raw = bytes_from(rt, file, pointer_to_raw_data);
-    assert!(rt; len <= raw.len());
-    assert!(rt; virtual_address <= image.len() && len <= image.len() - virtual_address);
-    put(image, virtual_address, &raw[..len]);
-}
-
-/// The laid-out image of a file, by the rule: the headers, each section's raw bytes at its place, and zeros.
-fn laid_out(rt: &impl Abort, alloc: Global, file: &[u8]) -> Vec<u8> {
-    let signature = bytes_from(rt, file, word(rt, file, 0x3c) as usize);
-    let optional = bytes_from(rt, signature, 24);
-    let size_of_image = word(rt, optional, 56) as usize;
-    let size_of_headers = word(rt, optional, 60) as usize;
-    let mut image = vec![in alloc; 0; size_of_image].expect(rt, "memory");
-    assert!(rt; size_of_headers <= file.len() && size_of_headers <= image.len());
-    put(&mut image, 0, &file[..size_of_headers]);
-    let mut table = bytes_from(rt, optional, number_at(rt, signature, 20, 2) as usize);
-    for _ in 0..number_at(rt, signature, 6, 2) {
-        lay_section(rt, &mut image, file, table);
-        table = bytes_from(rt, table, 40);
-    }
-    image
-}
-
-/// Whether the byte at each RVA is the one that the rule lays there, and none follows.
-fn has_bytes(layout: &Layout, image: &[u8]) -> bool {
-    let size = layout.size();
-    if size as usize != image.len() {
-        return false;
-    }
-    for rva in 0..size {
-        if layout.byte(rva) != Some(image[rva as usize]) {
-            return false;
-        }
-    }
-    layout.byte(size).is_none() && layout.byte(0xffff_ffff).is_none()
-}
-
-#[test]
-fn each_byte_of_each_vector_is_the_one_that_the_rule_lays_there(rt: HostRuntime) {
-    for (index, vector) in VECTORS.iter().enumerate() {
-        let file = file_of(rt.alloc(), *vector).expect(&rt, "memory");
-        let image = laid_out(&rt, rt.alloc(), &file);
-        assert_holds(&rt, index, has_bytes(&layout_of(&rt, &file), &image));
-    }
-}
 
 #[test]
 fn a_slot_has_four_bytes_in_pe32_and_eight_in_pe32_plus(rt: HostRuntime) {
@@ -88,100 +21,6 @@ fn a_layout_shows_its_headers_and_its_number(rt: HostRuntime) {
     let layout = layout_of(&rt, &file);
     assert_holds(&rt, 0, layout.image() == IMAGE);
     assert_holds(&rt, 0, layout.headers().image_base == 0x1000_0000);
-}
-
-/// V1 changed, an RVA, and the byte and what stands there.
-type Byte = (&'static [Piece], u32, Option<u8>, Located);
-
-const BYTES: &[Byte] = &[
-    (
-        &[],
-        0x100f,
-        Some(0x0f),
-        Located::Raw {
-            section: 0,
-            file: 0x20f,
-        },
-    ),
-    // a byte past VirtualSize is zero, although the file has 0x10 there
-    (&[(0x210, &[0x10])], 0x1010, Some(0), Located::Gap),
-    // a VirtualSize of 0 stands for SizeOfRawData
-    (
-        &[(0x140, &[0x00])],
-        0x11ff,
-        Some(0xff),
-        Located::Raw {
-            section: 0,
-            file: 0x3ff,
-        },
-    ),
-    (&[(0x140, &[0x00])], 0x1200, Some(0), Located::Gap),
-    // the largest image ends at 2^31
-    (LARGEST, 0x7fff_ffff, Some(0), Located::Gap),
-    (LARGEST, 0x8000_0000, None, Located::Outside),
-];
-
-#[test]
-fn a_byte_and_what_stands_there(rt: HostRuntime) {
-    for (index, (pieces, rva, byte, located)) in BYTES.iter().enumerate() {
-        let file = changed_file(rt.alloc(), Vector::V1, pieces).expect(&rt, "a changed file");
-        let layout = layout_of(&rt, &file);
-        assert_holds(&rt, index, layout.byte(*rva) == *byte);
-        assert_holds(&rt, index, layout.locate(*rva) == *located);
-    }
-}
-
-/// V2 where `.data` has 0x300 bytes of the image, of which the file holds 0x200: an RVA, and what stands there.
-const PLACES: &[(u32, Located)] = &[
-    (0, Located::Header { file: 0 }),
-    (0x1ff, Located::Header { file: 0x1ff }),
-    (0x200, Located::Gap),
-    (0xfff, Located::Gap),
-    (
-        0x1000,
-        Located::Raw {
-            section: 0,
-            file: 0x200,
-        },
-    ),
-    (
-        0x11ff,
-        Located::Raw {
-            section: 0,
-            file: 0x3ff,
-        },
-    ),
-    (0x1200, Located::Zero { section: 0 }),
-    (0x12ff, Located::Zero { section: 0 }),
-    (0x1300, Located::Gap),
-    (
-        0x2000,
-        Located::Raw {
-            section: 1,
-            file: 0x400,
-        },
-    ),
-    (
-        0x200b,
-        Located::Raw {
-            section: 1,
-            file: 0x40b,
-        },
-    ),
-    (0x200c, Located::Gap),
-    (0x2fff, Located::Gap),
-    (0x3000, Located::Outside),
-    (0xffff_ffff, Located::Outside),
-];
-
-#[test]
-fn locate_names_the_piece_and_the_file_offset(rt: HostRuntime) {
-    let pieces: &[Piece] = &[(0x140, &[0x00, 0x03])];
-    let file = changed_file(rt.alloc(), Vector::V2, pieces).expect(&rt, "a changed file");
-    let layout = layout_of(&rt, &file);
-    for (rva, expected) in PLACES {
-        assert_holds(&rt, *rva as usize, layout.locate(*rva) == *expected);
-    }
 }
 
 /// What V2 becomes where `.reloc` begins at the end of `.data`, and the headers' last byte is not zero.
@@ -279,85 +118,6 @@ fn numbers_cross_pieces_and_end_with_the_image(rt: HostRuntime) {
 /// What gives a file the largest SizeOfImage, 2^31.
 const LARGEST: &[Piece] = &[(0x90, &[0x00, 0x00, 0x00, 0x80])];
 
-/// An RVA, and the text there.
-type Text = (u32, Option<&'static [u8]>);
-
-/// Whether two calls answer the same text, or both none.
-fn is_same_text(first: Option<&[u8]>, second: Option<&[u8]>) -> bool {
-    match (first, second) {
-        (Some(first), Some(second)) => first == second,
-        (None, None) => true,
-        _ => false,
-    }
-}
-
-/// Asserts the texts of a layout.
-fn assert_texts(rt: &impl Abort, layout: &Layout, texts: &[Text]) {
-    for (rva, text) in texts {
-        assert_holds(rt, *rva as usize, is_same_text(layout.name_at(*rva), *text));
-    }
-}
-
-/// Texts of V1 with text at the end of the headers, and at the beginning and the end of `.data`.
-const TEXTS: &[Text] = &[
-    (0, Some(b"MZ")),
-    (0x138, Some(b".data")),
-    (0x13a, Some(b"ata")),
-    (0x13d, Some(b"")),
-    // no zero byte stands before the headers' end, though a gap follows
-    (0x1fe, None),
-    (0x1ff, None),
-    // in a gap, whatever follows
-    (0x200, Some(b"")),
-    (0xfff, Some(b"")),
-    (0x1000, Some(b"name")),
-    (0x1003, Some(b"e")),
-    (0x1004, Some(b"")),
-    // none before the section's end, though the file has one at 0x300
-    (0x100e, None),
-    (0x100f, None),
-    (0x1010, Some(b"")),
-    (0x2fff, Some(b"")),
-    (0x3000, None),
-    (0xffff_ffff, None),
-];
-
-/// Texts of V1 where `.data` has 0x300 bytes, of which the file holds 0x200.
-const ZERO_FILLED: &[Text] = &[
-    (0x10fe, Some(&[0xfe, 0xff])),
-    (0x11fc, Some(&[0xfc, 0xfd, 0xfe, 0xff])),
-    (0x11ff, Some(&[0xff])),
-    (0x1200, Some(b"")),
-    (0x12ff, Some(b"")),
-    (0x1300, Some(b"")),
-];
-
-/// A file changed, and its texts.
-const NAMED: &[(Vector, &[Piece], &[Text])] = &[
-    (
-        Vector::V1,
-        &[(0x1fe, b"ab"), (0x200, b"name\0"), (0x20e, b"xy")],
-        TEXTS,
-    ),
-    (Vector::V1, &[(0x140, &[0x00, 0x03])], ZERO_FILLED),
-    // a zero byte of the next piece ends no text, though no gap stands between
-    (Vector::V2, TOUCHING, &[(0x100e, None), (0x1010, Some(b""))]),
-    // a section without raw data is all zeros
-    (
-        Vector::V1,
-        &[(0x14c, &[0x00, 0x00])],
-        &[(0x1001, Some(b""))],
-    ),
-];
-
-#[test]
-fn a_text_ends_inside_its_piece(rt: HostRuntime) {
-    for (vector, pieces, texts) in NAMED {
-        let file = changed_file(rt.alloc(), *vector, pieces).expect(&rt, "a changed file");
-        assert_texts(&rt, &layout_of(&rt, &file), texts);
-    }
-}
-
 /// Changes of V2, the index of a directory, and its RVA and Size; None where it is absent.
 type Present = (&'static [Piece], usize, Option<(u32, u32)>);
 
@@ -454,57 +214,17 @@ const SMALL: &[Piece] = &[
     (0x16c, b"abcdefghijklmnopqrst"),
 ];
 
-/// Whether no byte of a buffer was written.
-fn is_untouched(buffer: &[u8]) -> bool {
-    for byte in buffer {
-        if *byte != 0xee {
-            return false;
-        }
-    }
-    true
-}
-
-/// Whether `fill` gives the bytes of the laid-out image, and leaves the buffer where the range isn't in it.
-fn is_filled(layout: &Layout, image: &[u8], rva: u32, buffer: &mut [u8]) -> bool {
-    let filled = layout.fill(rva, buffer);
-    let start = rva as usize;
-    if start <= image.len() && buffer.len() <= image.len() - start {
-        filled && image[start..].starts_with(buffer)
-    } else {
-        !filled && is_untouched(buffer)
-    }
-}
-
-/// Asserts what `fill` answers for a range of at most 0x1a0 bytes.
-fn assert_filled(rt: &impl Abort, layout: &Layout, image: &[u8], rva: u32, len: usize) {
-    let mut buffer = [0xee; 0x1a0];
-    assert!(rt; len <= 0x1a0);
-    assert_holds(rt, len, is_filled(layout, image, rva, &mut buffer[..len]));
-}
-
 #[test]
-fn fill_gives_what_byte_gives_for_every_range(rt: HostRuntime) {
+fn byte_and_bytes_give_what_fill_gives(rt: HostRuntime) {
     let mut file = [0; 0x180];
     put_pieces(&mut file, SMALL).expect(&rt, "pieces in the file");
     let layout = layout_of(&rt, &file);
-    let image = laid_out(&rt, rt.alloc(), &file);
-    assert_holds(&rt, 0, has_bytes(&layout, &image));
-    // the image has 0x19a bytes
-    for rva in 0..0x19d_u32 {
-        for len in 0..0x19d - rva {
-            assert_filled(&rt, &layout, &image, rva, len as usize);
-        }
+    let mut image = [0xee; 0x19a];
+    assert_holds(&rt, 0, layout.fill(0, &mut image));
+    let bytes = layout.bytes(rt.alloc()).expect(&rt, "memory");
+    assert_holds(&rt, 1, bytes.as_slice() == image.as_slice());
+    for (rva, byte) in image.iter().enumerate() {
+        assert_holds(&rt, rva, layout.byte(rva as u32) == Some(*byte));
     }
-    // a range that would wrap
-    assert_filled(&rt, &layout, &image, 0xffff_ffff, 2);
-}
-
-#[test]
-fn bytes_are_those_of_the_whole_image(rt: HostRuntime) {
-    let mut file = [0; 0x180];
-    put_pieces(&mut file, SMALL).expect(&rt, "pieces in the file");
-    let image = laid_out(&rt, rt.alloc(), &file);
-    let bytes = layout_of(&rt, &file).bytes(rt.alloc());
-    let bytes = bytes.expect(&rt, "memory");
-    assert_holds(&rt, 0, bytes.as_slice() == image.as_slice());
+    assert_holds(&rt, 0x19a, layout.byte(0x19a).is_none());
 }
