@@ -11,7 +11,7 @@ import sys
 import tempfile
 
 TOP = pathlib.Path(__file__).resolve().parents[1]
-CRATES = ("pe_rows", "pe_handle", "petool_c", "pe_json")
+CRATES = ("pe_records_c", "pe_handle", "petool_c", "pe_json")
 #: The crates that ask faults or have a table of them.
 FAULT_CRATES = (
     "pe_text",
@@ -68,12 +68,12 @@ COMPARED = [
     ("bindings/c/petool.h", "petool_fixup *rows, size_t room", "petool_import *rows, size_t room"),
     ("bindings/c/petool.h", "uint32_t petool_version(void);", "uint32_t petool_version(void);\nuint32_t petool_more(void);"),
     ("bindings/c/petool.h", "static inline int petool_fault_line(", "static inline int petool_fault_text("),
-    ("crates/pe_rows/src/fixup.rt", "pub kind: u32", "pub kind: u16"),
-    ("crates/pe_rows/src/fixup.rt", "pub entry: u32", "pub first: u32"),
-    ("crates/pe_rows/src/fixup.rt", "pub struct FixupRow {", "pub struct RelocationRow {"),
-    ("crates/pe_rows/src/fixup.rt", "    pub kind: u32,\n", "    pub kind: u32,\n    pub width: u32,\n"),
-    ("crates/pe_rows/src/headers.rt", "pub directories: [DirectoryRow; 16]", "pub directories: [DirectoryRow; 8]"),
-    ("crates/pe_rows/src/text.rt", "pub bytes: &'a [u8]", "pub bytes: u64"),
+    ("crates/pe_records_c/src/fixup.rt", "pub kind: u32", "pub kind: u16"),
+    ("crates/pe_records_c/src/fixup.rt", "pub entry: u32", "pub first: u32"),
+    ("crates/pe_records_c/src/fixup.rt", "pub struct FixupRow {", "pub struct RelocationRow {"),
+    ("crates/pe_records_c/src/fixup.rt", "    pub kind: u32,\n", "    pub kind: u32,\n    pub width: u32,\n"),
+    ("crates/pe_records_c/src/headers.rt", "pub directories: [DirectoryRow; 16]", "pub directories: [DirectoryRow; 8]"),
+    ("crates/pe_records_c/src/text.rt", "pub bytes: &'a [u8]", "pub bytes: u64"),
     ("crates/pe_handle/src/handle.rt", "pub is_open: bool", "pub is_open: u8"),
     ("crates/petool_c/src/fixup.rt", "rows: &mut [FixupRow]", "rows: &mut [ImportRow]"),
     ("crates/petool_c/src/fixup.rt", "fn petool_fixups(", "fn petool_relocations("),
@@ -90,7 +90,7 @@ COMPARED = [
 ]
 #: A description that says something else, or what it cannot, and what is then named.
 DESCRIBED = [
-    ("    kind   u32  -    fixup.bits", "    kind   u16  -    fixup.bits", "crates/pe_rows/src/fixup.rt"),
+    ("    kind   u32  -    fixup.bits", "    kind   u16  -    fixup.bits", "crates/pe_records_c/src/fixup.rt"),
     ("    kind   u32  -    fixup.bits", "    kind   u32  -    fixup.bytes", "there is no fixup.bytes"),
     ("    kind   u32  -    fixup.bits", "    kind   u32  days    fixup.bits", "days is no unit"),
     ("    kind   u32  -    fixup.bits", "    kind   u31  -    fixup.bits", "u31 is no type"),

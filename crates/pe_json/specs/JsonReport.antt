@@ -4,7 +4,7 @@ use Rattle.pe_text.specs.declared.outcome.Outcome.{Outcome}
 use Rattle.pe_text.specs.declared.outcome.ToolError.{ToolError}
 use Rattle.pe_text.specs.declared.outcome.ToolError.TheVariants.{Read, Write, Memory}
 use Rattle.pe_text.specs.Engine.{IsWhole, OnJudged}
-use Rattle.pe_views.specs.Judged.{file_tests, IsOutcomeOf}
+use Rattle.pe_names.specs.Judged.{file_tests, IsOutcomeOf}
 
 -- why a line was not written whole: a write failed, or memory was refused
 abbrev pub Fails : ℕ → ℕ → ToolError → Type 0

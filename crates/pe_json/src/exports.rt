@@ -5,9 +5,9 @@ ghost use Rattle.pe_text.specs.TextWriter.{IsReady};
 
 use crate::json_text::JsonText;
 use crate::tables::add_key;
+use pe_names::{ExportName, names_by_ordinal, names_of};
 use pe_tables::{Exports, Key, Target};
 use pe_text::{Sink, TextWriter};
-use pe_views::{ExportName, names_by_ordinal, names_of};
 use std::alloc::Allocator;
 
 /// Adds the member of what is exported in place of an RVA.

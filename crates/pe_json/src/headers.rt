@@ -4,7 +4,7 @@ use crate::value::Value::{Absent, Flags, Number, Wide};
 use crate::value::{Member, text_if};
 use coff_object::FileHeader;
 use pe_head::{Headers, Magic, machine_name, subsystem_name};
-use pe_views::FlagKind;
+use pe_names::FlagKind;
 
 /// A member that is a number.
 macro_rules! number {

@@ -13,9 +13,9 @@ use crate::value::text_if;
 use coff_object::FileHeader;
 use pe_head::{Headers, Magic, SectionHeader, directory_name};
 use pe_image::Image;
+use pe_names::{section_name, string_table};
 use pe_text::{Sink, TextWriter};
 use pe_view::View;
-use pe_views::{section_name, string_table};
 use std::alloc::Allocator;
 
 /// Adds the headers and the list of directories ("PE Format", Optional Header Data Directories).

@@ -4,7 +4,7 @@ use crate::value::Member;
 use crate::value::Value::{Absent, Flags, Name, Number};
 use bstr::ByteSlice;
 use pe_head::SectionHeader;
-use pe_views::FlagKind;
+use pe_names::FlagKind;
 
 /// A section of a name ("PE Format", Section Table). Its short name is the field without the zero bytes at its end.
 pub(crate) fn section_members<'a>(

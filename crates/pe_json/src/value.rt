@@ -1,6 +1,6 @@
 //! The members of a JSON object.
 
-use pe_views::FlagKind;
+use pe_names::FlagKind;
 
 /// The value of a member.
 #[derive(Clone, Copy)]

@@ -2,7 +2,7 @@
 use Rattle.std.specs.Prelude.{ℕ, List}
 use Rattle.pe_image.specs.ImageTests.{image_tests}
 use Rattle.pe_text.specs.declared.outcome.Outcome.{Outcome}
-use Rattle.pe_views.specs.Judged.{file_tests, IsOutcomeOf}
+use Rattle.pe_names.specs.Judged.{file_tests, IsOutcomeOf}
 
 -- a file is judged by its faults, whatever text tells of it
 abbrev pub IsJudged : List ℕ → Outcome → List ℕ → Type 0

@@ -8,8 +8,8 @@ use crate::heading::Page;
 use crate::image::show_image;
 use crate::object::show_object;
 use crate::options::ShowOptions;
+use pe_names::is_object;
 use pe_text::{Outcome, Report, Sink, Source, TextWriter, ToolError, run_report};
-use pe_views::is_object;
 use std::alloc::{AllocError, Allocator};
 
 impl<'p> Report for Page<'p> {

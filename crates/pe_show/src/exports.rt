@@ -11,9 +11,9 @@ use crate::options::ShowOptions;
 use crate::place::{SectionNames, SectionPlace};
 use pe_image::Tables;
 use pe_layout::Layout;
+use pe_names::{ExportName, names_of};
 use pe_tables::{Exports, Key, Target};
 use pe_text::{Sink, TextWriter};
-use pe_views::{ExportName, names_of};
 use std::alloc::Allocator;
 
 /// How wide the columns of exports are.

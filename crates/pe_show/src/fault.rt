@@ -5,9 +5,9 @@ ghost use Rattle.pe_show.specs.Page.{AddsSome};
 
 use crate::cell::{Cell, write_cells};
 use crate::options::ShowOptions;
+use pe_names::{Amount, fault_detail};
 use pe_text::{FaultWords, Outcome, Sink, TextWriter, fault_words};
 use pe_view::{Fault, Place, View};
-use pe_views::{Amount, fault_detail};
 
 /// The cells of words and of the number behind them.
 fn part_cells(words: &'static str, amount: Amount) -> [Cell<'static>; 3] {

@@ -5,9 +5,9 @@ ghost use Rattle.pe_show.specs.Page.{AddsSome};
 
 use crate::cell::hex_width;
 use pe_head::section_flag;
+use pe_names::{FlagKind, flag_name};
 use pe_text::Part::{Name, Text};
 use pe_text::{Sink, TextWriter, write_parts};
-use pe_views::{FlagKind, flag_name};
 
 /// The flags of a section that its columns show: what it holds and how it may be used. The alignment is a number.
 const SHOWN_BY_COLUMNS: u32 = section_flag::CODE

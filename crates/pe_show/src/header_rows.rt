@@ -7,8 +7,8 @@ use crate::cell::{Cell, write_cells};
 use crate::heading::Kind;
 use crate::place::SectionPlace;
 use pe_head::{Headers, Magic, characteristic, machine_name, subsystem_name};
+use pe_names::FlagKind;
 use pe_text::{Sink, TextWriter};
-use pe_views::FlagKind;
 
 /// A value's name, or its number where the format has no name for it.
 pub(crate) fn named(name: Option<&'static str>, value: u16) -> [Cell<'static>; 2] {

@@ -5,7 +5,7 @@ ghost use Rattle.pe_view.specs.Faults.{Test, first_standing};
 ghost use Rattle.pe_image.specs.ImageTests.{image_tests};
 ghost use Rattle.pe_text.specs.TextWriter.{IsReady};
 ghost use Rattle.pe_show.specs.Page.{AddsSome};
-ghost use Rattle.pe_views.specs.Judged.{IsOutcomeOf};
+ghost use Rattle.pe_names.specs.Judged.{IsOutcomeOf};
 
 use crate::cell::Cell;
 use crate::directories::write_directories;
@@ -20,9 +20,9 @@ use crate::sections::write_sections;
 use pe_head::read_headers;
 use pe_image::{Tables, lay_out, read_tables};
 use pe_layout::Layout;
+use pe_names::{ExportName, names_by_ordinal};
 use pe_text::{Outcome, Sink, TextWriter};
 use pe_view::{Fault, View};
-use pe_views::{ExportName, names_by_ordinal};
 use std::alloc::{AllocError, Allocator};
 
 /// The outcome of an image whose headers and sections have no fault, by the first fault of its tables.

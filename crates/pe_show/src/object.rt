@@ -4,7 +4,7 @@ ghost use Rattle.std.specs.Prelude.{◌≡◌, ◌<◌, length, IfOk, OnErr};
 ghost use Rattle.coff_object.specs.ObjectFaults.{object_tests};
 ghost use Rattle.pe_text.specs.TextWriter.{IsReady};
 ghost use Rattle.pe_show.specs.Page.{AddsSome};
-ghost use Rattle.pe_views.specs.Judged.{IsOutcomeOf};
+ghost use Rattle.pe_names.specs.Judged.{IsOutcomeOf};
 
 use crate::cell::{Cell, write_cells};
 use crate::fault::write_refusal;
@@ -14,9 +14,9 @@ use crate::object_sections::{read_sections, write_relocations, write_sections};
 use crate::symbols::{SymbolNames, write_symbols};
 use coff_object::{FileSection, ObjectFile};
 use pe_head::machine_name;
+use pe_names::FlagKind;
 use pe_text::{Outcome, Sink, TextWriter};
 use pe_view::View;
-use pe_views::FlagKind;
 use std::alloc::{AllocError, Allocator};
 
 /// Adds the rows of an object's header.

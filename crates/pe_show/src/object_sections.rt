@@ -13,8 +13,8 @@ use crate::place::cut;
 use crate::sections::{content, permissions};
 use crate::symbols::SymbolNames;
 use coff_object::{FileSection, ObjectFile, RawData, Relocation, relocation_type_name};
+use pe_names::FlagKind;
 use pe_text::{Sink, TextWriter};
-use pe_views::FlagKind;
 use std::alloc::{AllocError, Allocator};
 
 /// How wide the columns of sections are.

@@ -8,9 +8,9 @@ use crate::name::{name_width, write_name};
 use arrayvec::ArrayVec;
 use pe_head::Headers;
 use pe_layout::{Layout, Located};
+use pe_names::{section_name, string_table};
 use pe_text::{Sink, TextWriter};
 use pe_view::View;
-use pe_views::{section_name, string_table};
 
 /// The most bytes of a section's name that are shown.
 const NAME_LIMIT: usize = 40;

@@ -9,8 +9,8 @@ use crate::name::name_width;
 use crate::options::ShowOptions;
 use crate::place::SectionNames;
 use pe_head::{Headers, SectionHeader, section_flag};
+use pe_names::FlagKind;
 use pe_text::{Sink, TextWriter};
-use pe_views::FlagKind;
 
 /// How wide the columns of sections are.
 #[derive(Clone, Copy)]

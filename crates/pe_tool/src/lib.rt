@@ -23,13 +23,13 @@ mod words;
 pub use coff_lines::dump_object;
 pub use pe_json::json;
 pub use pe_lines::{check, dump};
+pub use pe_names::{FaultDetail, fault_detail};
 pub use pe_show::{ShowOptions, at, show};
 pub use pe_space::{Policy, SetEntry};
 pub use pe_text::{
     Counted, Failed, FaultText, FaultWords, FileKind, Outcome, Sink, Source, ToolError,
     fault_words, file_kind, read_whole, status,
 };
-pub use pe_views::{FaultDetail, fault_detail};
 pub use pe_words::{MapFile, Shown, WordsError};
 pub use rebasing::rebase;
 pub use set_report::map_report;

@@ -2,16 +2,16 @@ ghost use Rattle.std.specs.Prelude.{◌≡◌};
 ghost use Rattle.pe_layout.specs.Image.{image_of_file};
 ghost use Rattle.pe_tables.specs.Exports.{exports_of, target_at};
 ghost use Rattle.pe_tables.specs.Key.{Name, Ordinal};
-ghost use Rattle.pe_rows.specs.ExportRows.{export_text, export_by_ordinal, export_by_name, TellsTarget};
-ghost use Rattle.pe_rows.specs.Faults.{IsAccepted, IsAnswered, IsRefused};
-ghost use Rattle.pe_rows.specs.Rows.{ReadsTable};
-ghost use Rattle.pe_rows.specs.TableTests.{file_export_tests};
-ghost use Rattle.pe_rows.specs.Wants.{ExportsTakeMemory, IsLaidOutAnd};
+ghost use Rattle.pe_records_c.specs.ExportRows.{export_text, export_by_ordinal, export_by_name, TellsTarget};
+ghost use Rattle.pe_records_c.specs.Faults.{IsAccepted, IsAnswered, IsRefused};
+ghost use Rattle.pe_records_c.specs.Rows.{ReadsTable};
+ghost use Rattle.pe_records_c.specs.TableTests.{file_export_tests};
+ghost use Rattle.pe_records_c.specs.Wants.{ExportsTakeMemory, IsLaidOutAnd};
 
-use pe_rows::export::{ExportRow, TargetRecord, put_target};
-use pe_rows::fault::{FaultRecord, refuse_for};
-use pe_rows::reading::exports_in;
-use pe_rows::row::put_table;
+use pe_records_c::export::{ExportRow, TargetRecord, put_target};
+use pe_records_c::fault::{FaultRecord, refuse_for};
+use pe_records_c::reading::exports_in;
+use pe_records_c::row::put_table;
 use std::alloc::Global;
 
 /// Reads the exports of an image by ordinal, in the order of the export address table, into the caller's rows.

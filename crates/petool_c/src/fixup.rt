@@ -1,15 +1,15 @@
 ghost use Rattle.pe_layout.specs.Image.{image_of_file};
 ghost use Rattle.pe_tables.specs.Fixups.{fixups_of};
-ghost use Rattle.pe_rows.specs.FixupRows.{fixup_row};
-ghost use Rattle.pe_rows.specs.Rows.{ReadsTable};
-ghost use Rattle.pe_rows.specs.TableTests.{file_relocation_tests};
+ghost use Rattle.pe_records_c.specs.FixupRows.{fixup_row};
+ghost use Rattle.pe_records_c.specs.Rows.{ReadsTable};
+ghost use Rattle.pe_records_c.specs.TableTests.{file_relocation_tests};
 ghost use Rattle.pe_image.specs.Wants.{FixupsTakeMemory};
-ghost use Rattle.pe_rows.specs.Wants.{IsLaidOutAnd};
+ghost use Rattle.pe_records_c.specs.Wants.{IsLaidOutAnd};
 
-use pe_rows::fault::{FaultRecord, refuse_for};
-use pe_rows::fixup::FixupRow;
-use pe_rows::reading::fixups_in;
-use pe_rows::row::put_table;
+use pe_records_c::fault::{FaultRecord, refuse_for};
+use pe_records_c::fixup::FixupRow;
+use pe_records_c::reading::fixups_in;
+use pe_records_c::row::put_table;
 use std::alloc::Global;
 
 /// Reads the base relocations of an image, in the order of its base relocation table, into the caller's rows.

@@ -2,14 +2,14 @@ ghost use Rattle.std.specs.Prelude.{◌≡◌, ◌≢◌, ◌⊎◌};
 ghost use Rattle.pe_view.specs.Faults.{first_standing};
 ghost use Rattle.pe_head.specs.Head.{head_of};
 ghost use Rattle.pe_layout.specs.SectionFaults.{layout_tests};
-ghost use Rattle.pe_rows.specs.Faults.{IsRefusedBy};
-ghost use Rattle.pe_rows.specs.HeaderRows.{section_row, headers_record};
-ghost use Rattle.pe_rows.specs.Rows.{filled};
+ghost use Rattle.pe_records_c.specs.Faults.{IsRefusedBy};
+ghost use Rattle.pe_records_c.specs.HeaderRows.{section_row, headers_record};
+ghost use Rattle.pe_records_c.specs.Rows.{filled};
 
 use pe_image::lay_out;
-use pe_rows::fault::{FaultRecord, refuse};
-use pe_rows::headers::{HeadersRecord, SectionRow, headers_record, put_sections};
-use pe_rows::status;
+use pe_records_c::fault::{FaultRecord, refuse};
+use pe_records_c::headers::{HeadersRecord, SectionRow, headers_record, put_sections};
+use pe_records_c::status;
 
 /// Reads the headers of an image, and of its sections as many as there is room for: an image has at most 96.
 ///

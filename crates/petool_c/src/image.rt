@@ -5,14 +5,14 @@ ghost use Rattle.pe_layout.specs.Image.{image_of_file, bytes_at};
 ghost use Rattle.pe_layout.specs.Locating.{located, file_offset};
 ghost use Rattle.pe_layout.specs.SectionFaults.{layout_tests};
 ghost use Rattle.pe_image.specs.ImageTests.{image_tests};
-ghost use Rattle.pe_rows.specs.Faults.{IsAccepted, IsAnswered, IsRefusedBy};
-ghost use Rattle.pe_rows.specs.Wants.{IsLaidOut};
+ghost use Rattle.pe_records_c.specs.Faults.{IsAccepted, IsAnswered, IsRefusedBy};
+ghost use Rattle.pe_records_c.specs.Wants.{IsLaidOut};
 
 use pe_image::{lay_out, read_image};
 use pe_layout::Located;
-use pe_rows::fault::{FaultRecord, refuse, refuse_for};
-use pe_rows::status;
-use pe_rows::text::TextRecord;
+use pe_records_c::fault::{FaultRecord, refuse, refuse_for};
+use pe_records_c::status;
+use pe_records_c::text::TextRecord;
 use std::alloc::Global;
 
 /// Judges an image's file: headers and sections, exports, imports and base relocations.

@@ -1,15 +1,15 @@
 ghost use Rattle.pe_layout.specs.Image.{image_of_file};
 ghost use Rattle.pe_tables.specs.Imports.{imports_of};
-ghost use Rattle.pe_rows.specs.ImportRows.{import_text, import_row};
-ghost use Rattle.pe_rows.specs.Rows.{ReadsTable};
-ghost use Rattle.pe_rows.specs.TableTests.{file_import_tests};
+ghost use Rattle.pe_records_c.specs.ImportRows.{import_text, import_row};
+ghost use Rattle.pe_records_c.specs.Rows.{ReadsTable};
+ghost use Rattle.pe_records_c.specs.TableTests.{file_import_tests};
 ghost use Rattle.pe_image.specs.Wants.{ImportsTakeMemory};
-ghost use Rattle.pe_rows.specs.Wants.{IsLaidOutAnd};
+ghost use Rattle.pe_records_c.specs.Wants.{IsLaidOutAnd};
 
-use pe_rows::fault::{FaultRecord, refuse_for};
-use pe_rows::import::ImportRow;
-use pe_rows::reading::imports_in;
-use pe_rows::row::put_table;
+use pe_records_c::fault::{FaultRecord, refuse_for};
+use pe_records_c::import::ImportRow;
+use pe_records_c::reading::imports_in;
+use pe_records_c::row::put_table;
 use std::alloc::Global;
 
 /// Reads the imports of an image, in the order of its import table, into the caller's rows.

@@ -3,20 +3,20 @@ ghost use Rattle.pe_view.specs.Faults.{first_standing};
 ghost use Rattle.coff_object.specs.ObjectFaults.{object_tests};
 ghost use Rattle.coff_object.specs.Headers.{file_header, section_headers};
 ghost use Rattle.coff_object.specs.Reading.{object_of};
-ghost use Rattle.pe_rows.specs.Faults.{IsRefusedBy};
-ghost use Rattle.pe_rows.specs.ObjectHeaderRows.{object_header_record, section_header_row};
-ghost use Rattle.pe_rows.specs.ObjectRows.{section_text, section_row, relocation_row, relocations_of, TellsRelocations};
-ghost use Rattle.pe_rows.specs.Rows.{filled, TellsTable};
+ghost use Rattle.pe_records_c.specs.Faults.{IsRefusedBy};
+ghost use Rattle.pe_records_c.specs.ObjectHeaderRows.{object_header_record, section_header_row};
+ghost use Rattle.pe_records_c.specs.ObjectRows.{section_text, section_row, relocation_row, relocations_of, TellsRelocations};
+ghost use Rattle.pe_records_c.specs.Rows.{filled, TellsTable};
 
 use coff_object::ObjectFile;
-use pe_rows::fault::{FaultRecord, refuse};
-use pe_rows::object::{
+use pe_records_c::fault::{FaultRecord, refuse};
+use pe_records_c::object::{
     ObjectRelocationRow, ObjectSectionRow, tell_all_relocations, tell_relocations, tell_sections,
 };
-use pe_rows::object_headers::{
+use pe_records_c::object_headers::{
     ObjectHeaderRecord, SectionHeaderRow, object_header_record, put_section_headers,
 };
-use pe_rows::status;
+use pe_records_c::status;
 use std::alloc::Global;
 
 /// Judges an object's file.

@@ -1,12 +1,12 @@
 ghost use Rattle.std.specs.Prelude.{◌≡◌, ◌≢◌, length};
 ghost use Rattle.pe_write.specs.Rebase.{rebased};
 ghost use Rattle.pe_write.specs.RebaseFaults.{rebase_tests};
-ghost use Rattle.pe_rows.specs.Faults.{IsAccepted, IsAnswered};
-ghost use Rattle.pe_rows.specs.Wants.{IsLaidOut};
+ghost use Rattle.pe_records_c.specs.Faults.{IsAccepted, IsAnswered};
+ghost use Rattle.pe_records_c.specs.Wants.{IsLaidOut};
 
-use pe_rows::fault::FaultRecord;
-use pe_rows::rebase::rebase_into;
-use pe_rows::status;
+use pe_records_c::fault::FaultRecord;
+use pe_records_c::rebase::rebase_into;
+use pe_records_c::status;
 use std::alloc::Global;
 
 /// Writes the file of an image that is to stand at another base into a buffer of the file's length: each field of a base

@@ -4,13 +4,13 @@ ghost use Rattle.pe_set.specs.Bindings.{bindings_of};
 ghost use Rattle.pe_set.specs.Set.{modules_of};
 ghost use Rattle.pe_set.specs.SetErrors.{set_error};
 ghost use Rattle.pe_set.specs.SetFaults.{names_tests};
-ghost use Rattle.pe_rows.specs.Faults.{IsAccepted, IsRefused};
-ghost use Rattle.pe_rows.specs.Rows.{TellsTable};
-ghost use Rattle.pe_rows.specs.SetRows.{entry_text, binding_row, policy_of, IsJudged};
+ghost use Rattle.pe_records_c.specs.Faults.{IsAccepted, IsRefused};
+ghost use Rattle.pe_records_c.specs.Rows.{TellsTable};
+ghost use Rattle.pe_records_c.specs.SetRows.{entry_text, binding_row, policy_of, IsJudged};
 
-use pe_rows::fault::FaultRecord;
-use pe_rows::row::put_table;
-use pe_rows::set::{BindingRow, EntryRecord, judged, refuse_set};
+use pe_records_c::fault::FaultRecord;
+use pe_records_c::row::put_table;
+use pe_records_c::set::{BindingRow, EntryRecord, judged, refuse_set};
 use std::alloc::Global;
 
 /// Judges a set of images that are to stand in one address space, and tells what their imports are bound to, image by image and

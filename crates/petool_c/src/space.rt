@@ -3,17 +3,17 @@ ghost use Rattle.pe_view.specs.Faults.{first_standing};
 ghost use Rattle.pe_set.specs.SetErrors.{set_error};
 ghost use Rattle.pe_set.specs.SetFaults.{names_tests};
 ghost use Rattle.pe_space.specs.SpaceOf.{IsSpaceOf};
-ghost use Rattle.pe_rows.specs.Rows.{TellsTable};
-ghost use Rattle.pe_rows.specs.SetRows.{entry_text, binding_row, policy_of, IsJudged};
-ghost use Rattle.pe_rows.specs.Spaces.{IsReadOf, IsMoveOf, base_of, size_of, bindings_of};
+ghost use Rattle.pe_records_c.specs.Rows.{TellsTable};
+ghost use Rattle.pe_records_c.specs.SetRows.{entry_text, binding_row, policy_of, IsJudged};
+ghost use Rattle.pe_records_c.specs.Spaces.{IsReadOf, IsMoveOf, base_of, size_of, bindings_of};
 
 use pe_handle::Handle;
-use pe_rows::fault::FaultRecord;
-use pe_rows::set::{BindingRow, EntryRecord, refuse_set};
-use pe_rows::space::{
+use pe_records_c::fault::FaultRecord;
+use pe_records_c::set::{BindingRow, EntryRecord, refuse_set};
+use pe_records_c::space::{
     MovedRecord, close, map_into, move_image, read_window, tell_bindings, tell_place,
 };
-use pe_rows::status;
+use pe_records_c::status;
 use std::alloc::Global;
 
 /// Maps a set of images into a space: each at its base, with its fields relocated and its imports bound. A space that is open is

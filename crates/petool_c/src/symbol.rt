@@ -1,13 +1,13 @@
 ghost use Rattle.std.specs.Prelude.{◌≡◌, ◌≢◌};
 ghost use Rattle.pe_view.specs.Faults.{first_standing};
 ghost use Rattle.coff_object.specs.ObjectFaults.{object_tests};
-ghost use Rattle.pe_rows.specs.Faults.{IsRefusedBy};
-ghost use Rattle.pe_rows.specs.Rows.{TellsTable};
-ghost use Rattle.pe_rows.specs.SymbolRows.{symbol_row, symbol_text, symbols_of};
+ghost use Rattle.pe_records_c.specs.Faults.{IsRefusedBy};
+ghost use Rattle.pe_records_c.specs.Rows.{TellsTable};
+ghost use Rattle.pe_records_c.specs.SymbolRows.{symbol_row, symbol_text, symbols_of};
 
 use coff_object::ObjectFile;
-use pe_rows::fault::{FaultRecord, refuse};
-use pe_rows::symbol::{ObjectSymbolRow, tell_symbols};
+use pe_records_c::fault::{FaultRecord, refuse};
+use pe_records_c::symbol::{ObjectSymbolRow, tell_symbols};
 use std::alloc::Global;
 
 /// Reads the symbols of an object, in table order, into the caller's rows. It answers as `petool_object_sections` does.

@@ -4,20 +4,20 @@ ghost use Rattle.pe_tables.specs.Exports.{exports_of};
 ghost use Rattle.pe_tables.specs.Fixups.{fixups_of};
 ghost use Rattle.pe_tables.specs.Imports.{imports_of};
 ghost use Rattle.pe_image.specs.ImageTests.{image_tests};
-ghost use Rattle.pe_rows.specs.Counts.{AreCounts, have_room};
-ghost use Rattle.pe_rows.specs.ExportRows.{export_text, export_by_ordinal, export_by_name};
-ghost use Rattle.pe_rows.specs.Faults.{IsAccepted, IsAnswered, IsRefused};
-ghost use Rattle.pe_rows.specs.FixupRows.{fixup_row};
-ghost use Rattle.pe_rows.specs.ImportRows.{import_text, import_row};
-ghost use Rattle.pe_rows.specs.Rows.{filled};
-ghost use Rattle.pe_rows.specs.Wants.{IsLaidOut};
+ghost use Rattle.pe_records_c.specs.Counts.{AreCounts, have_room};
+ghost use Rattle.pe_records_c.specs.ExportRows.{export_text, export_by_ordinal, export_by_name};
+ghost use Rattle.pe_records_c.specs.Faults.{IsAccepted, IsAnswered, IsRefused};
+ghost use Rattle.pe_records_c.specs.FixupRows.{fixup_row};
+ghost use Rattle.pe_records_c.specs.ImportRows.{import_text, import_row};
+ghost use Rattle.pe_records_c.specs.Rows.{filled};
+ghost use Rattle.pe_records_c.specs.Wants.{IsLaidOut};
 
 use pe_image::read_image;
-use pe_rows::export::ExportRow;
-use pe_rows::fault::{FaultRecord, refuse_for};
-use pe_rows::fixup::FixupRow;
-use pe_rows::import::ImportRow;
-use pe_rows::tables::{CountsRecord, put_image};
+use pe_records_c::export::ExportRow;
+use pe_records_c::fault::{FaultRecord, refuse_for};
+use pe_records_c::fixup::FixupRow;
+use pe_records_c::import::ImportRow;
+use pe_records_c::tables::{CountsRecord, put_image};
 use std::alloc::Global;
 
 /// Reads all tables of an image at once into the caller's rows: exports by ordinal and by name, imports and base relocations.

@@ -1,8 +1,8 @@
 ghost use Rattle.std.specs.Prelude.{◌≡◌, ◌≢◌, ◌⊎◌, None, Some};
 ghost use Rattle.pe_text.specs.FaultWords.{rules, words_in};
 
-use pe_rows::status;
-use pe_rows::text::TextRecord;
+use pe_records_c::status;
+use pe_records_c::text::TextRecord;
 use pe_text::fault_words;
 
 /// The version of this library: its first part times 65,536, and its second part. A program that was built for another first

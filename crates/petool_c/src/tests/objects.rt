@@ -6,9 +6,9 @@ use crate::object::{
     petool_object_sections,
 };
 use crate::symbol::petool_object_symbols;
-use pe_rows::object::{ObjectRelocationRow, ObjectSectionRow};
-use pe_rows::symbol::ObjectSymbolRow;
-use pe_vectors::objects::O1;
+use pe_records_c::object::{ObjectRelocationRow, ObjectSectionRow};
+use pe_records_c::symbol::ObjectSymbolRow;
+use pe_samples::objects::O1;
 use std::alloc::Global;
 use std::process::Abort;
 

@@ -1,7 +1,7 @@
 //! One set as both spaces, that in memory and that over files.
 
 use crate::fault_line::FaultLine;
-use pe_slow::slow_first;
+use pe_checker::slow_first;
 use pe_space::{FileSpace, MapError, MappedSpace, Policy, SetEntry, map, open_space};
 use std::alloc::Global;
 

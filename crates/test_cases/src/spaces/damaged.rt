@@ -4,7 +4,7 @@ use crate::edits::edited_file;
 use crate::numbers::number_of;
 use crate::sets::{SetCase, read_set, set_of};
 use crate::spaces::both::{first_error, print_error};
-use pe_slow::slow_first;
+use pe_checker::slow_first;
 use pe_space::{Policy, SetEntry};
 use std::alloc::Global;
 use std::rt::Files;

@@ -2,8 +2,8 @@
 use Rattle.std.proofs.Common.{ap, subst, Err, Option, ◌∙◌}
 use Rattle.pe_tables.specs.Exports.{target_at}
 use Rattle.pe_tables.specs.Key.{Target, Name}
-use Rattle.pe_rows.specs.ExportRows.{TellsTarget}
-use Rattle.pe_rows.proofs.Telling.{refusal_told, told_refuses, target_answered, target_kept}
+use Rattle.pe_records_c.specs.ExportRows.{TellsTarget}
+use Rattle.pe_records_c.proofs.Telling.{refusal_told, told_refuses, target_answered, target_kept}
 use Rattle.petool_c.proofs.export.petool_export_by_name.Goals as goal
 
 pub returns-in-Ok-clause-faults : goal.returns-in-Ok-clause-faults

@@ -1,8 +1,8 @@
 -- The rows tell of the table that the image has.
 use Rattle.std.proofs.Common.{ap, Err, ◌∙◌}
 use Rattle.pe_tables.specs.NameIndex.{export_view}
-use Rattle.pe_rows.specs.ExportRows.{export_text, export_by_name}
-use Rattle.pe_rows.proofs.Telling.{table_read, table_refused}
+use Rattle.pe_records_c.specs.ExportRows.{export_text, export_by_name}
+use Rattle.pe_records_c.proofs.Telling.{table_read, table_refused}
 use Rattle.petool_c.proofs.export.petool_export_names.Goals as goal
 
 pub returns-in-Ok : goal.returns-in-Ok

@@ -1,8 +1,8 @@
 -- The rows tell of the table that the image has.
 use Rattle.std.proofs.Common.{ap, Err, ◌∙◌}
 use Rattle.std.proofs.lemmas.List.{map-id}
-use Rattle.pe_rows.specs.FixupRows.{fixup_row}
-use Rattle.pe_rows.proofs.Telling.{table_read, table_refused}
+use Rattle.pe_records_c.specs.FixupRows.{fixup_row}
+use Rattle.pe_records_c.proofs.Telling.{table_read, table_refused}
 use Rattle.petool_c.proofs.fixup.petool_fixups.Goals as goal
 
 pub returns-in-Ok : goal.returns-in-Ok

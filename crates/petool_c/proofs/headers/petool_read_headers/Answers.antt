@@ -1,4 +1,4 @@
-use Rattle.pe_rows.proofs.Telling.{fault_told, none_refused}
+use Rattle.pe_records_c.proofs.Telling.{fault_told, none_refused}
 use Rattle.petool_c.proofs.headers.petool_read_headers.Goals as goal
 
 pub returns-in-Err-clause-refused : goal.returns-in-Err-clause-refused

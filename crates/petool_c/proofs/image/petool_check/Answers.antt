@@ -1,5 +1,5 @@
 use Rattle.std.proofs.Common.{ap, Err}
-use Rattle.pe_rows.proofs.Telling.{done_told, refusal_told, told_refuses}
+use Rattle.pe_records_c.proofs.Telling.{done_told, refusal_told, told_refuses}
 use Rattle.petool_c.proofs.image.petool_check.Goals as goal
 
 pub returns-in-Ok-clause-faults : goal.returns-in-Ok-clause-faults

@@ -1,4 +1,4 @@
-use Rattle.pe_rows.proofs.Telling.{fault_told}
+use Rattle.pe_records_c.proofs.Telling.{fault_told}
 use Rattle.petool_c.proofs.image.petool_locate.Goals as goal
 
 pub returns-in-Err-clause-refused : goal.returns-in-Err-clause-refused

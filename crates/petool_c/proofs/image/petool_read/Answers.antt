@@ -1,7 +1,7 @@
 -- What `petool_read` leaves: the filled bytes are those of the file's image.
 use Rattle.std.proofs.Common.{◌≡◌, ◌+◌, ◌≤◌, length, subst}
 use Rattle.pe_layout.specs.Image.{LaidOut, bytes_at}
-use Rattle.pe_rows.proofs.Telling.{fault_told, none_refused}
+use Rattle.pe_records_c.proofs.Telling.{fault_told, none_refused}
 use Rattle.petool_c.proofs.image.petool_read.Goals as goal
 
 pub returns-then-fill-clause-done : goal.returns-then-fill-clause-done

@@ -1,7 +1,7 @@
 -- What `petool_read_text` answers: the text of the layout is that of the file's image.
 use Rattle.std.proofs.Common.{◌≡◌, None, Some, subst, sym}
 use Rattle.pe_layout.specs.Image.{LaidOut}
-use Rattle.pe_rows.proofs.Telling.{fault_told, none_refused}
+use Rattle.pe_records_c.proofs.Telling.{fault_told, none_refused}
 use Rattle.petool_c.proofs.image.petool_read_text.Goals as goal
 
 pub returns-in-Some-clause-done : goal.returns-in-Some-clause-done

@@ -2,8 +2,8 @@
 use Rattle.std.proofs.Common.{ap, Err, ◌∙◌}
 use Rattle.std.specs.Prelude.{map}
 use Rattle.pe_tables.specs.ImportView.{import_view}
-use Rattle.pe_rows.specs.ImportRows.{import_text, import_row}
-use Rattle.pe_rows.proofs.Telling.{table_read, table_refused}
+use Rattle.pe_records_c.specs.ImportRows.{import_text, import_row}
+use Rattle.pe_records_c.proofs.Telling.{table_read, table_refused}
 use Rattle.petool_c.proofs.import.petool_imports.Goals as goal
 
 pub returns-in-Ok : goal.returns-in-Ok

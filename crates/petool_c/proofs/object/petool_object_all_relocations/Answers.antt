@@ -1,8 +1,8 @@
 -- The rows tell of the relocations of the file's object, behind the skipped ones.
 use Rattle.std.proofs.Common.{List, ℕ, drop, subst}
-use Rattle.pe_rows.specs.ObjectRows.{relocation_row, relocations_of}
-use Rattle.pe_rows.specs.Rows.{TellsTable}
-use Rattle.pe_rows.proofs.Telling.{fault_told, none_refused, table_no_fault}
+use Rattle.pe_records_c.specs.ObjectRows.{relocation_row, relocations_of}
+use Rattle.pe_records_c.specs.Rows.{TellsTable}
+use Rattle.pe_records_c.proofs.Telling.{fault_told, none_refused, table_no_fault}
 use Rattle.petool_c.proofs.object.petool_object_all_relocations.Goals as goal
 
 pub returns-in-Ok-clause-refused : goal.returns-in-Ok-clause-refused

@@ -2,9 +2,9 @@
 use Rattle.std.proofs.Common.{List, ℕ, subst}
 use Rattle.std.specs.Prelude.{slice_get}
 use Rattle.coff_object.specs.Reading.{object_of}
-use Rattle.pe_rows.specs.ObjectRows.{TellsRelocations}
-use Rattle.pe_rows.proofs.Objects.{relocations_no_fault}
-use Rattle.pe_rows.proofs.Telling.{fault_told, none_refused}
+use Rattle.pe_records_c.specs.ObjectRows.{TellsRelocations}
+use Rattle.pe_records_c.proofs.Objects.{relocations_no_fault}
+use Rattle.pe_records_c.proofs.Telling.{fault_told, none_refused}
 use Rattle.petool_c.proofs.object.petool_object_relocations.Goals as goal
 
 pub returns-in-Ok-clause-refused : goal.returns-in-Ok-clause-refused

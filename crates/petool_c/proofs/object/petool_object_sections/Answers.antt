@@ -1,9 +1,9 @@
 -- The rows tell of the sections of the file's object.
 use Rattle.std.proofs.Common.{List, ℕ, subst}
 use Rattle.coff_object.specs.Reading.{object_of}
-use Rattle.pe_rows.specs.ObjectRows.{section_text, section_row}
-use Rattle.pe_rows.specs.Rows.{TellsTable}
-use Rattle.pe_rows.proofs.Telling.{fault_told, none_refused, table_no_fault}
+use Rattle.pe_records_c.specs.ObjectRows.{section_text, section_row}
+use Rattle.pe_records_c.specs.Rows.{TellsTable}
+use Rattle.pe_records_c.proofs.Telling.{fault_told, none_refused, table_no_fault}
 use Rattle.petool_c.proofs.object.petool_object_sections.Goals as goal
 
 pub returns-in-Ok-clause-refused : goal.returns-in-Ok-clause-refused

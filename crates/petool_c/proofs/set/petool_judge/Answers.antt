@@ -1,10 +1,10 @@
 -- The rows tell of the set's bindings, or its first error is told.
 use Rattle.std.proofs.Common.{◌∙◌}
 use Rattle.std.proofs.lemmas.List.{map-id}
-use Rattle.pe_rows.specs.SetRows.{binding_row}
-use Rattle.pe_rows.proofs.Judging.{error_told, told_not_accepted, none_judged}
-use Rattle.pe_rows.proofs.Rows.{table_told}
-use Rattle.pe_rows.proofs.Telling.{no_refusal, accepted_or_refused}
+use Rattle.pe_records_c.specs.SetRows.{binding_row}
+use Rattle.pe_records_c.proofs.Judging.{error_told, told_not_accepted, none_judged}
+use Rattle.pe_records_c.proofs.Rows.{table_told}
+use Rattle.pe_records_c.proofs.Telling.{no_refusal, accepted_or_refused}
 use Rattle.petool_c.proofs.set.petool_judge.Goals as goal
 
 pub returns-in-Ok-clause-faults : goal.returns-in-Ok-clause-faults

@@ -1,5 +1,5 @@
 -- No error, or the first one, which is told.
-use Rattle.pe_rows.proofs.Judging.{error_told, none_judged}
+use Rattle.pe_records_c.proofs.Judging.{error_told, none_judged}
 use Rattle.petool_c.proofs.space.petool_space_map.Goals as goal
 
 pub returns-in-Ok-clause-faults : goal.returns-in-Ok-clause-faults

@@ -1,8 +1,8 @@
 -- The rows tell of the symbols of the file's object.
 use Rattle.std.proofs.Common.{List, ℕ, subst}
-use Rattle.pe_rows.specs.SymbolRows.{symbol_row, symbol_text, symbols_of}
-use Rattle.pe_rows.specs.Rows.{TellsTable}
-use Rattle.pe_rows.proofs.Telling.{fault_told, none_refused, table_no_fault}
+use Rattle.pe_records_c.specs.SymbolRows.{symbol_row, symbol_text, symbols_of}
+use Rattle.pe_records_c.specs.Rows.{TellsTable}
+use Rattle.pe_records_c.proofs.Telling.{fault_told, none_refused, table_no_fault}
 use Rattle.petool_c.proofs.symbol.petool_object_symbols.Goals as goal
 
 pub returns-in-Ok-clause-refused : goal.returns-in-Ok-clause-refused

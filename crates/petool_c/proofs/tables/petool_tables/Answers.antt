@@ -1,11 +1,11 @@
 -- The rows tell of the tables of the file's image, or a refusal is told.
 use Rattle.std.proofs.Common.{◌∙◌, Err, length, ap}
 use Rattle.std.specs.Prelude.{map}
-use Rattle.pe_rows.specs.ExportRows.{export_text, export_by_ordinal, export_by_name}
-use Rattle.pe_rows.specs.FixupRows.{fixup_row}
-use Rattle.pe_rows.specs.ImportRows.{import_text, import_row}
-use Rattle.pe_rows.specs.Rows.{filled}
-use Rattle.pe_rows.proofs.Telling.{none_told, refusal_told, no_refusal, told_refuses, accepted_or_refused}
+use Rattle.pe_records_c.specs.ExportRows.{export_text, export_by_ordinal, export_by_name}
+use Rattle.pe_records_c.specs.FixupRows.{fixup_row}
+use Rattle.pe_records_c.specs.ImportRows.{import_text, import_row}
+use Rattle.pe_records_c.specs.Rows.{filled}
+use Rattle.pe_records_c.proofs.Telling.{none_told, refusal_told, no_refusal, told_refuses, accepted_or_refused}
 use Rattle.petool_c.proofs.tables.petool_tables.Goals as goal
 
 pub returns-in-Ok-clause-faults : goal.returns-in-Ok-clause-faults

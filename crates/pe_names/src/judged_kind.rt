@@ -1,0 +1,12 @@
+ghost use Rattle.std.specs.Prelude.{◌≡◌};
+ghost use Rattle.pe_text.specs.FileKind.{kind_of};
+ghost use Rattle.pe_names.specs.Judged.{is_object};
+
+use pe_text::{FileKind, file_kind};
+
+/// Whether a file is judged as an object: its first bytes show one. Every other file is judged as an image.
+pub fn is_object(file: &[u8]) -> bool
+    ensures { result ≡ is_object (kind_of file.now) }
+{
+    matches!(file_kind(file), Some(FileKind::Object))
+}

@@ -1,0 +1,16 @@
+use Rattle.std.proofs.Common.{◌≡◌, ◌+◌, ◌*◌, ◌≤◌, drop, length, take}
+use Rattle.std.specs.List.{flat_map}
+use Rattle.coff_object.specs.ObjectFile.{file_of}
+use Rattle.coff_object.specs.Reading.{object_of}
+use Rattle.coff_object.specs.Records.{Section}
+use Rattle.coff_object.specs.SectionsLeft.{each_section_left}
+use Rattle.pe_records_c.specs.ObjectRows.{relocations_of, FillsRelocations}
+use Rattle.pe_records_c.proofs.object.put_all_relocations.Given as goal
+
+abbrev pub invariant-loop-section : goal.invariant-loop-section
+invariant-loop-section l = record {
+  told : FillsRelocations (drop l.skipped (take l.earlier (relocations_of (file_of l.object)))) l.initial.rows l.rows;
+  left : drop l.earlier (relocations_of (file_of l.object)) ≡ flat_map (λ (s : Section). s.relocations) (each_section_left l.section-iterator);
+  within : l.earlier ≤ length (relocations_of (file_of l.object));
+  small : l.earlier + 65536 * length (each_section_left l.section-iterator) ≤ 65536 * length (object_of (file_of l.object)).sections;
+}

@@ -1,0 +1,10 @@
+-- The rows tell of the relocations that the object's sections have, behind the skipped ones.
+use Rattle.std.proofs.Common.{drop}
+use Rattle.coff_object.specs.ObjectFile.{file_of}
+use Rattle.pe_records_c.specs.ObjectRows.{relocation_row, relocations_of}
+use Rattle.pe_records_c.proofs.Rows.{table_of}
+use Rattle.pe_records_c.proofs.object.tell_all_relocations.Goals as goal
+
+pub returns : goal.returns
+returns c =
+    table_of (λ row. row) relocation_row (drop c.args.skipped (relocations_of (file_of c.args.object.now))) _ _ _ _ c.put_all_relocations.ensures.rows c.put_all_relocations.ensures.count c.table_status.ensures

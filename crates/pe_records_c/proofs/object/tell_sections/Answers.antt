@@ -1,0 +1,9 @@
+-- The rows tell of the sections that the object has.
+use Rattle.coff_object.specs.ObjectFile.{file_of}
+use Rattle.coff_object.specs.Reading.{object_of}
+use Rattle.pe_records_c.specs.ObjectRows.{section_text, section_row}
+use Rattle.pe_records_c.proofs.Rows.{table_of}
+use Rattle.pe_records_c.proofs.object.tell_sections.Goals as goal
+
+pub returns : goal.returns
+returns c = table_of section_text section_row (object_of (file_of c.args.object.now)).sections _ _ _ _ c.put_sections.ensures c.section_count.ensures c.table_status.ensures

@@ -1,0 +1,23 @@
+-- Imports as C has them, with texts as their bytes.
+use Rattle.std.specs.Prelude.{ℕ, Bool, true, false, List, []}
+use Rattle.pe_tables.specs.Imports.{Import}
+use Rattle.pe_tables.specs.Key.{Key, Ordinal, Name}
+use Rattle.pe_records_c.specs.declared.import.ImportRow.{ImportRow}
+
+-- an import, of which the name or the ordinal is left empty
+pub record ImportText : Type 0 where
+  pub module_name : List ℕ
+  pub name : List ℕ
+  pub slot : ℕ
+  pub ordinal : ℕ
+  pub by_ordinal : Bool
+
+abbrev pub import_by : List ℕ → ℕ → Key → ImportText
+import_by module_name slot (Ordinal ordinal) = record { module_name = module_name; name = []; slot = slot; ordinal = ordinal; by_ordinal = true }
+import_by module_name slot (Name text) = record { module_name = module_name; name = text; slot = slot; ordinal = 0; by_ordinal = false }
+
+abbrev pub import_row : Import → ImportText
+import_row m = import_by m.module_name m.slot m.key
+
+abbrev pub import_text : ImportRow → ImportText
+import_text row = record { module_name = row.«module».now; name = row.name.now; slot = row.slot; ordinal = row.ordinal; by_ordinal = row.by_ordinal }

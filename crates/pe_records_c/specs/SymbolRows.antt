@@ -1,0 +1,50 @@
+-- Symbols of an object as C has them, with texts as their bytes.
+use Rattle.std.specs.Prelude.{ℕ, List}
+use Rattle.coff_object.specs.Reading.{symbol_indexes}
+use Rattle.coff_object.specs.Records.{Symbol}
+use Rattle.coff_object.specs.SymbolsLeft.{indexed}
+use Rattle.coff_read.specs.declared.symbol.SymbolSection.{SymbolSection}
+use Rattle.coff_read.specs.declared.symbol.SymbolSection.TheVariants.{Undefined, Absolute, Debug, Section}
+use Rattle.pe_records_c.specs.declared.symbol.ObjectSymbolRow.{ObjectSymbolRow}
+
+-- the symbols of an object's file, each with the index of its record
+unfoldable pub symbols_of : List ℕ → List (ℕ × Symbol)
+symbols_of file = indexed file (symbol_indexes file)
+
+-- the field SectionNumber
+abbrev pub section_number : SymbolSection → ℕ
+section_number Undefined = 0
+section_number Absolute = 0xffff
+section_number Debug = 0xfffe
+section_number (Section number) = number
+
+pub record SymbolText : Type 0 where
+  pub name : List ℕ
+  pub aux : List ℕ
+  pub index : ℕ
+  pub value : ℕ
+  pub section_number : ℕ
+  pub kind : ℕ
+  pub class : ℕ
+
+abbrev pub symbol_row : ℕ × Symbol → SymbolText
+symbol_row s = record {
+  name = s.1.name;
+  aux = s.1.aux;
+  index = s.0;
+  value = s.1.value;
+  section_number = section_number s.1.section;
+  kind = s.1.kind;
+  class = s.1.class;
+}
+
+abbrev pub symbol_text : ObjectSymbolRow → SymbolText
+symbol_text row = record {
+  name = row.name.now;
+  aux = row.aux.now;
+  index = row.index;
+  value = row.value;
+  section_number = row.section_number;
+  kind = row.kind;
+  class = row.class;
+}

@@ -1,0 +1,56 @@
+ghost use Rattle.std.specs.Prelude.{◌≡◌};
+ghost use Rattle.pe_records_c.specs.Faults.{fault_record, IsTold};
+
+use crate::status;
+use pe_view::{Fault, Place, Refusal};
+
+/// A rule of the format that does not hold: which, in which image, and where.
+#[repr(C)]
+#[derive(Clone, Copy)]
+pub struct FaultRecord {
+    /// The fault's number in docs/FAULTS.md, from 1 to 85.
+    pub number: u16,
+    /// Of a set the index of the image, else 0.
+    pub image: u16,
+    /// What `at` counts: 0 bytes of the file, 1 bytes of the image, 2 bytes of the address space, 3 items of a list.
+    pub place: u32,
+    /// Where the fault stands.
+    pub at: u64,
+}
+
+/// A fault as C has it.
+pub fn fault_record(fault: Fault) -> FaultRecord
+    ensures { result ≡ fault_record fault }
+{
+    let (place, at) = match fault.place {
+        Place::File(offset) => (0, offset),
+        Place::Rva(rva) => (1, u64::from(rva)),
+        Place::Address(address) => (2, address),
+        Place::Item(index) => (3, u64::from(index)),
+    };
+    FaultRecord {
+        number: fault.number,
+        image: fault.image,
+        place,
+        at,
+    }
+}
+
+/// Tells a fault, and answers its status.
+pub fn refuse(fault: Fault, told: &mut FaultRecord) -> u32
+    ensures status { result ≡ 1 }
+    ensures told { told.new ≡ fault_record fault }
+{
+    *told = fault_record(fault);
+    status::FAULT
+}
+
+/// Tells a fault or want of memory, and answers its status.
+pub fn refuse_for(refusal: Refusal, told: &mut FaultRecord) -> u32
+    ensures { IsTold refusal told.old told.new result }
+{
+    match refusal {
+        Refusal::Fault(fault) => refuse(fault, told),
+        Refusal::Memory => status::MEMORY,
+    }
+}

@@ -1,0 +1,45 @@
+ghost use Rattle.std.specs.Prelude.{◌≡◌};
+ghost use Rattle.pe_tables.specs.ImportView.{import_view};
+ghost use Rattle.pe_records_c.specs.ImportRows.{import_text, import_row};
+
+use crate::row::Row;
+use pe_tables::{Import, Key};
+
+/// An import of an image.
+#[repr(C)]
+#[derive(Clone, Copy)]
+pub struct ImportRow<'a> {
+    /// The name of the module that exports it, as it stands in the image.
+    pub module: &'a [u8],
+    /// Of an import by name its name; else empty.
+    pub name: &'a [u8],
+    /// The RVA of the import's slot in the import address table: 4 bytes in PE32, 8 bytes in PE32+.
+    pub slot: u32,
+    /// Of an import by ordinal its ordinal; else 0.
+    pub ordinal: u16,
+    /// Whether it is one by ordinal.
+    pub by_ordinal: bool,
+}
+
+impl<'a> Row<Import<'a>> for ImportRow<'a> {
+    ghost tells = { λ item row. import_text row ≡ import_row (import_view item) };
+
+    fn of(item: &Import<'a>) -> Self {
+        match item.key {
+            Key::Ordinal(ordinal) => ImportRow {
+                module: item.module,
+                name: &[],
+                slot: item.slot,
+                ordinal,
+                by_ordinal: true,
+            },
+            Key::Name(name) => ImportRow {
+                module: item.module,
+                name,
+                slot: item.slot,
+                ordinal: 0,
+                by_ordinal: false,
+            },
+        }
+    }
+}

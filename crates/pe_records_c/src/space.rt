@@ -1,0 +1,133 @@
+ghost use Rattle.std.specs.Prelude.{◌≡◌, ◌≢◌, ◌⊎◌, IsErrOf, IsSomeAnd, None, Some, false, is_ok, length, map};
+ghost use Rattle.pe_view.specs.Faults.{first_standing};
+ghost use Rattle.pe_set.specs.SetErrors.{SetAnswers, set_error};
+ghost use Rattle.pe_set.specs.SetFaults.{names_tests};
+ghost use Rattle.pe_space.specs.Content.{window_at, base_at, size_at};
+ghost use Rattle.pe_space.specs.Moves.{move_fault};
+ghost use Rattle.pe_space.specs.SpaceOf.{IsSpaceOf};
+ghost use Rattle.pe_records_c.specs.Rows.{TellsTable};
+ghost use Rattle.pe_records_c.specs.SetRows.{entry_text, binding_row, policy_of};
+ghost use Rattle.pe_records_c.specs.Spaces.{IsMoveBy, IsWindow, moved_record};
+
+use crate::fault::{FaultRecord, refuse};
+use crate::mapping::map_entries;
+use crate::row::put_table;
+use crate::set::{BindingRow, EntryRecord, policy_of};
+use crate::status;
+use pe_handle::Handle;
+use pe_set::MapError;
+use pe_space::{MappedSpace, Moved, Space};
+use std::alloc::Global;
+
+/// What a move rewrote.
+#[repr(C)]
+#[derive(Clone, Copy)]
+pub struct MovedRecord {
+    /// How many fields of the image: as many as it has fixups.
+    pub fields: u32,
+    /// How many bound slots, of all images, that end in it.
+    pub slots: u32,
+}
+
+/// What a move rewrote, as C has it.
+fn moved_record(counts: Moved) -> MovedRecord
+    ensures { result ≡ moved_record counts }
+{
+    MovedRecord {
+        fields: counts.fields,
+        slots: counts.slots,
+    }
+}
+
+/// Closes a space, and gives its memory back. One that is closed stays closed.
+pub fn close(alloc: Global, space: &mut Handle)
+    ensures none { space.new.space ≡ None }
+    ensures closed { space.new.is_open ≡ false }
+{
+    *space = Handle::closed(alloc);
+}
+
+/// Maps the images of a set into a space, which is closed first, and is open exactly where no error is answered. With `known`, an
+/// import that leads to a module that is not in the set is no fault. What names are refused for takes no memory.
+pub fn map_into(
+    alloc: Global,
+    space: &mut Handle,
+    set: &[EntryRecord],
+    known: bool,
+) -> Result<(), MapError>
+    ensures exact { SetAnswers (set_error (policy_of known) (map entry_text set.now)) (λ _. IsSomeAnd space.new.space (IsSpaceOf (policy_of known) (map entry_text set.now))) result }
+    ensures open { space.new.is_open ≡ is_ok result }
+    ensures none { is_ok result ≡ false → space.new.space ≡ None }
+    ensures named { IsErrOf result MapError.Memory → first_standing (names_tests (map entry_text set.now)) ≡ None }
+{
+    close(alloc, space);
+    let mapped = map_entries(alloc, set, policy_of(known))?;
+    *space = Handle::of(mapped);
+    Ok(())
+}
+
+/// Fills a buffer with the bytes from an address on, which lie in one image, and answers the status: 0, or 1 with fault 54. The
+/// buffer is left as it was by 1.
+pub fn read_window(
+    space: &MappedSpace<Global>,
+    address: u64,
+    buffer: &mut [u8],
+    fault: &mut FaultRecord,
+) -> u32
+    ensures exact { IsWindow (window_at space.now address (length buffer.old)) buffer.old buffer.new fault.old fault.new result }
+    ensures open { result ≢ 6 }
+{
+    match space.window(address, buffer) {
+        Ok(()) => status::DONE,
+        Err(first) => refuse(first, fault),
+    }
+}
+
+/// Moves an image to another base, tells what that rewrote, and answers the status: 0, or 1 with the first of faults 55 and 44 to
+/// 47, which changes nothing.
+pub fn move_image(
+    space: &mut MappedSpace<Global>,
+    image: u16,
+    base: u64,
+    moved: &mut MovedRecord,
+    fault: &mut FaultRecord,
+) -> u32
+    ensures exact { IsMoveBy (move_fault space.old image base) space.old image base (Some space.new) moved.old moved.new fault.old fault.new result }
+    ensures open { result ≢ 6 }
+{
+    match space.move_image(image, base) {
+        Ok(counts) => {
+            *moved = moved_record(counts);
+            status::DONE
+        }
+        Err(first) => refuse(first, fault),
+    }
+}
+
+/// Tells where an image stands, and how many bytes it has, and answers the status: 0, or 3 past the last image, which leaves both
+/// as they were.
+pub fn tell_place(space: &MappedSpace<Global>, image: u16, base: &mut u64, size: &mut u32) -> u32
+    ensures status { (result ≡ 0) ⊎ (result ≡ 3) }
+    ensures base { result ≡ 0 → base_at space.now image ≡ Some base.new }
+    ensures size { result ≡ 0 → size_at space.now image ≡ Some size.new }
+    ensures absent { result ≡ 3 → base_at space.now image ≡ None }
+    ensures base_kept { result ≢ 0 → base.new ≡ base.old }
+    ensures size_kept { result ≢ 0 → size.new ≡ size.old }
+{
+    match (space.base_of(image), space.size_of(image)) {
+        (Some(first), Some(length)) => {
+            *base = first;
+            *size = length;
+            status::DONE
+        }
+        _ => status::ABSENT,
+    }
+}
+
+/// Tells the slots that are bound: fills the rows, counts the bindings, and answers the status, 0 or 4.
+pub fn tell_bindings(space: &MappedSpace<Global>, rows: &mut [BindingRow], count: &mut usize) -> u32
+    ensures table { TellsTable (λ row. row) binding_row space.now.bindings rows.old rows.new count.new result }
+    ensures open { result ≢ 6 }
+{
+    put_table(rows, space.bindings(), count)
+}

@@ -1,6 +1,0 @@
-use Rattle.pe_rows.proofs.Rows.{rows_made}
-use Rattle.pe_rows.specs.HeaderRows.{section_row}
-use Rattle.pe_rows.proofs.headers.put_sections.Goals as goal
-
-pub returns : goal.returns
-returns c = rows_made section_row _ _ _ c.fill_rows.ensures

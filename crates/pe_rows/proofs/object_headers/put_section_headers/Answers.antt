@@ -1,6 +1,0 @@
-use Rattle.pe_rows.proofs.Rows.{rows_made}
-use Rattle.pe_rows.specs.ObjectHeaderRows.{section_header_row}
-use Rattle.pe_rows.proofs.object_headers.put_section_headers.Goals as goal
-
-pub returns : goal.returns
-returns c = rows_made section_header_row _ _ _ c.fill_headers.ensures

@@ -1,5 +1,0 @@
-use Rattle.std.proofs.Common.{rules}
-use Rattle.pe_rows.proofs.row.table_status.Goals as goal
-
-pub returns-else-items-rows : goal.returns-else-items-rows
-returns-else-items-rows c = search rules

@@ -1,9 +1,0 @@
--- What a refused map leaves is the closed space.
-use Rattle.std.proofs.Common.{rules}
-use Rattle.pe_rows.proofs.space.map_into.Goals as goal
-
-pub returns-in_err-mapped-clause-open : goal.returns-in_err-mapped-clause-open
-returns-in_err-mapped-clause-open c = search rules
-
-pub returns-in_err-mapped-clause-none : goal.returns-in_err-mapped-clause-none
-returns-in_err-mapped-clause-none c = search rules

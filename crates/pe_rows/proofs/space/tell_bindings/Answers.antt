@@ -1,8 +1,0 @@
-use Rattle.std.proofs.Common.{◌∙◌}
-use Rattle.std.proofs.lemmas.List.{map-id}
-use Rattle.pe_rows.specs.SetRows.{binding_row}
-use Rattle.pe_rows.proofs.Rows.{table_told}
-use Rattle.pe_rows.proofs.space.tell_bindings.Goals as goal
-
-pub returns-clause-table : goal.returns-clause-table
-returns-clause-table c = table_told (λ row. row) (λ binding. binding) binding_row _ _ _ _ _ _ (map-id _ ∙ c.bindings.ensures) c.put_table.ensures.rows c.put_table.ensures.count c.put_table.ensures.status

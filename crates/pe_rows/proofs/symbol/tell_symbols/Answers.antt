@@ -1,8 +1,0 @@
--- The rows tell of the symbols that the object has.
-use Rattle.coff_object.specs.ObjectFile.{file_of}
-use Rattle.pe_rows.specs.SymbolRows.{symbol_row, symbol_text, symbols_of}
-use Rattle.pe_rows.proofs.Rows.{table_of}
-use Rattle.pe_rows.proofs.symbol.tell_symbols.Goals as goal
-
-pub returns : goal.returns
-returns c = table_of symbol_text symbol_row (symbols_of (file_of c.args.object.now)) _ _ _ _ c.put_symbols.ensures c.symbol_count.ensures c.table_status.ensures

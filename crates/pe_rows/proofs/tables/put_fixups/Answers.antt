@@ -1,6 +1,0 @@
-use Rattle.pe_rows.specs.FixupRows.{fixup_row}
-use Rattle.pe_rows.proofs.Rows.{rows_made}
-use Rattle.pe_rows.proofs.tables.put_fixups.Goals as goal
-
-pub returns : goal.returns
-returns c = rows_made fixup_row _ _ _ c.fill_rows.ensures

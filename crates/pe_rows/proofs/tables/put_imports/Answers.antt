@@ -1,7 +1,0 @@
-use Rattle.pe_tables.specs.ImportView.{import_view}
-use Rattle.pe_rows.specs.ImportRows.{import_text, import_row}
-use Rattle.pe_rows.proofs.Rows.{rows_filled}
-use Rattle.pe_rows.proofs.tables.put_imports.Goals as goal
-
-pub returns : goal.returns
-returns c = rows_filled import_text import_view import_row _ _ _ c.fill_rows.ensures
