@@ -14,7 +14,8 @@ from petool import _bytes, _library, _records
 
 from . import DATA, PACKAGE, TOP
 
-RECORDS = {name.lower(): it for name, it in vars(_records).items() if hasattr(it, "_fields_")}
+# by their names in C
+RECORDS = {re.sub("(?<=.)(?=[A-Z])", "_", name).lower(): it for name, it in vars(_records).items() if hasattr(it, "_fields_")}
 
 
 def run(code, library):

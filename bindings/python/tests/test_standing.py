@@ -4,7 +4,7 @@ import ctypes
 import unittest
 
 import petool
-from petool import _library
+from petool import _library, _records
 
 from .files import changed
 
@@ -94,7 +94,7 @@ class Standing(unittest.TestCase):
 
     def move(self, image, base):
         """The status of a move, the fault and what was moved: the call itself, which any number may be given."""
-        moved, fault = _library.Moved(), _library.Fault()
+        moved, fault = _records.Moved(), _records.Fault()
         status = _library.library.petool_space_move(
             ctypes.byref(self.space._space), image, base, ctypes.byref(moved), ctypes.byref(fault)
         )

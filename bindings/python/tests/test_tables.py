@@ -6,7 +6,7 @@ import struct
 import unittest
 
 import petool
-from petool import _library
+from petool import _library, _records
 from petool._bytes import FileBytes
 
 from . import data
@@ -316,7 +316,7 @@ COUNTS = [
 class Whole(unittest.TestCase):
     def counts(self, file):
         """The counts of a whole reading, which has room for no row."""
-        held, counts, fault = FileBytes(file), _library.Counts(), _library.Fault()
+        held, counts, fault = FileBytes(file), _records.Counts(), _records.Fault()
         rooms = (_library.NO_BYTES, 0) * 4
         status = _library.library.petool_tables(held.address, held.length, *rooms, ctypes.byref(counts), ctypes.byref(fault))
         self.assertIn(status, (_library.OK, _library.SMALL))

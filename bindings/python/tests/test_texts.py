@@ -116,7 +116,7 @@ class Calls(Cases):
     def faults(self, _):
         lines = []
         for number in range(1 << 16):
-            subject, rule = _library.Text.none(), _library.Text.none()
+            subject, rule = _library.no_text(), _library.no_text()
             if _library.library.petool_fault_words(number, ctypes.byref(subject), ctypes.byref(rule)) == _library.OK:
                 texts = [ctypes.string_at(text.at, text.len).decode() for text in (subject, rule)]
                 lines.append(f"{number} {texts[0]}: {texts[1]}")
