@@ -3,7 +3,7 @@
 
     pages.py [--all] FILE...            prints the pages of images and objects
     pages.py --at RVA FILE              prints what stands at a place of an image; RVA is hexadecimal
-    pages.py --cases FOLDER             compares the cases `show` and `at` of FOLDER/data/views with what FOLDER/stdout has for them
+    pages.py --cases FOLDER DATA        compares the cases `show` and `at` of FOLDER/views, of files in DATA, with FOLDER/views.answers
     pages.py --beside PETOOL FILE...    compares `PETOOL show --all FILE` with the page, file by file
 
 The files are read by docs/FORMAT.md, docs/FAULTS.md and Microsoft's "PE Format", from which the names come; the words of faults come
@@ -367,9 +367,9 @@ def read(path):
         return file.read()
 
 
-def changed(folder, words):
+def changed(data, words):
     """The file of a case, changed as its words say."""
-    file = bytearray(read(os.path.join(folder, "data", words[0])))
+    file = bytearray(read(os.path.join(data, words[0])))
     for place, value in (word.split("=") for word in words[1:]):
         if place == "len":
             length = int(value, 16)
@@ -380,14 +380,14 @@ def changed(folder, words):
     return bytes(file)
 
 
-def case_text(folder, line):
+def case_text(data, line):
     """What a case prints, and the fault."""
     kind, *words = line.split(" ")
     if kind == "at":
-        text, fault = text_at(changed(folder, words[1:]), int(words[0], 16))
+        text, fault = text_at(changed(data, words[1:]), int(words[0], 16))
     else:
         files = words[1:] if words[0] == "--all" else words
-        text, fault = page_of(files[0], changed(folder, files), words[0] == "--all")
+        text, fault = page_of(files[0], changed(data, files), words[0] == "--all")
     return text + f"status {1 if fault else 0}\n", fault
 
 
@@ -399,14 +399,14 @@ def tell(what, theirs, ours):
         print(f"  petool {one!r}\n  script {other!r}")
 
 
-def compare_cases(folder):
-    with open(os.path.join(folder, "stdout"), encoding="utf-8", newline="") as file:
+def compare_cases(folder, data):
+    with open(os.path.join(folder, "views.answers"), encoding="utf-8", newline="") as file:
         stored = dict(block.split("\n", 1) for block in re.split(r"^== ", file.read(), flags=re.M)[1:])
-    with open(os.path.join(folder, "data", "views"), encoding="utf-8") as file:
+    with open(os.path.join(folder, "views"), encoding="utf-8") as file:
         lines = [line for line in file.read().split("\n") if line.startswith(("show ", "at "))]
     differing = lacking = 0
     for line in lines:
-        text, fault = case_text(folder, line)
+        text, fault = case_text(data, line)
         found = stored.get(line, "")
         if found != text and fault and fault.detail and found == text.replace(f": {fault.detail}\n", "\n"):
             lacking += 1
@@ -438,7 +438,7 @@ def write_texts(texts):
 
 def main(words):
     if words[:1] == ["--cases"]:
-        failed = compare_cases(words[1])
+        failed = compare_cases(words[1], words[2])
     elif words[:1] == ["--beside"]:
         failed = compare_files(shlex.split(words[1]), words[2:])
     elif words[:1] == ["--at"]:
