@@ -7,9 +7,31 @@ The commands, their options and what each does are read from the help of the pro
 import re
 import subprocess
 import sys
+from dataclasses import dataclass
+from typing import List, Optional
 
 # the value of an option, or an argument, that is not the name of a file
 NO_FILES = {"HEX", "N", "ADDRESS"}
+
+
+@dataclass
+class Option:
+    name: str
+    short: Optional[str]
+    value: Optional[str]
+    does: str
+
+    def takes_text(self):
+        """Whether it takes a value that is no file."""
+        return self.value in NO_FILES
+
+
+@dataclass
+class Command:
+    name: str
+    does: str
+    options: List[Option]
+    takes_files: bool
 
 
 def help_of(program, *words):
@@ -23,42 +45,56 @@ def rows(text, heading):
 
 
 def options_of(text):
-    """Each long option, its short one, whether it takes a value, and what it does."""
     for words, does in rows(text, "Options"):
         found = re.match(r"(?:-(\w), )?--([\w-]+)(?: <(\w+)>)?$", words)
-        yield found[2], found[1], found[3], does
+        yield Option(found[2], found[1], found[3], does)
+
+
+def takes_files(text):
+    """Whether an argument that the help of a command names is a file, as FILE or HEX=FILE."""
+    arguments = re.findall(r"[A-Z=]+", " ".join(words for words, _ in rows(text, "Arguments")))
+    return not NO_FILES.issuperset(arguments)
 
 
 def commands_of(program):
-    """Each command, what it does, and its options."""
+    """The commands; `help` has neither options nor files."""
     for name, does in rows(help_of(program), "Commands"):
-        options = [] if name == "help" else list(options_of(help_of(program, name)))
-        yield name, does, options
+        text = "" if name == "help" else help_of(program, name)
+        yield Command(name, does, list(options_of(text)), takes_files(text))
 
 
 def words_of(options):
-    return " ".join([f"--{name}" for name, *_ in options] + [f"-{short}" for _, short, *_ in options if short])
+    return " ".join([f"--{it.name}" for it in options] + [f"-{it.short}" for it in options if it.short])
 
 
 def bash(commands, options):
-    names = " ".join(name for name, *_ in commands)
-    cases = "\n".join(f"        {name}) words='{words_of(own)}' ;;" for name, _, own in commands if own)
+    names = " ".join(it.name for it in commands)
+    cases = "\n".join(f"        {it.name}) words='{words_of(it.options)}' ;;" for it in commands if it.options)
+    values = " | ".join(f"'{it.name} --{option.name}'" for it in commands for option in it.options if option.takes_text())
+    without = " | ".join(it.name for it in commands if not it.takes_files)
     return f"""# completion of petool for bash
 _petool() {{
-    local word=${{COMP_WORDS[COMP_CWORD]}} words=
+    local word=${{COMP_WORDS[COMP_CWORD]}} command=${{COMP_WORDS[1]}} words=
+    COMPREPLY=()
     if [ "$COMP_CWORD" -eq 1 ]; then
         COMPREPLY=($(compgen -W '{names} {words_of(options)}' -- "$word"))
         return
     fi
-    case ${{COMP_WORDS[1]}} in
+    case $command in
         help) words='{names}' ;;
 {cases}
     esac
-    case $word in
-        -*) COMPREPLY=($(compgen -W "$words" -- "$word")) ;;
-        *=*) COMPREPLY=($(compgen -f -- "${{word#*=}}")) ;;
-        *) COMPREPLY=($(compgen -f -- "$word")) ;;
+    case "$command ${{COMP_WORDS[COMP_CWORD - 1]}}" in
+        {values}) return ;; # its value is no file
     esac
+    case "$command $word" in
+        'help '* | *' -'*) COMPREPLY=($(compgen -W "$words" -- "$word")); return ;;
+    esac
+    case $command in
+        {without}) return ;;
+    esac
+    # a file behind `=`, where bash splits a word; a name a line, since names have spaces
+    mapfile -t COMPREPLY < <(compgen -f -- "${{word#*=}}")
 }}
 complete -o filenames -F _petool petool
 """
@@ -69,15 +105,18 @@ def quoted(text):
     return text.replace("'", "'\\''")
 
 
+def zsh_words(command):
+    """What zsh's _arguments takes for a command."""
+    for it in command.options:
+        does = quoted(it.does).replace("[", "(").replace("]", ")")
+        yield "'--{}[{}]{}'".format(it.name, does, f":{it.value}:" if it.value else "")
+    if command.takes_files:
+        yield "'*:file:_files'"
+
+
 def zsh(commands, options):
-    names = "\n".join(f"        '{name}:{quoted(does)}'" for name, does, _ in commands)
-    cases = []
-    for name, _, own in commands:
-        rest = " ".join(
-            "'--{}[{}]{}'".format(option, quoted(does).replace("[", "(").replace("]", ")"), f":{value}:" if value else "")
-            for option, _, value, does in own
-        )
-        cases.append(f"        {name}) _arguments {rest} '*:file:_files' ;;")
+    names = "\n".join(f"        '{it.name}:{quoted(it.does)}'" for it in commands)
+    cases = "\n".join(f"        {it.name}) _arguments {' '.join(zsh_words(it))} ;;" for it in commands if it.name != "help")
     return f"""#compdef petool
 # completion of petool for zsh
 _petool() {{
@@ -94,27 +133,33 @@ _petool() {{
     shift words
     (( CURRENT-- ))
     case $command in
-{chr(10).join(cases)}
+        help) _describe 'command' commands ;;
+{cases}
     esac
 }}
 _petool "$@"
 """
 
 
+def fish_lines(commands, options):
+    for it in options:
+        yield f"-n __fish_use_subcommand -s {it.short} -l {it.name} -d '{quoted(it.does)}'"
+    for command in commands:
+        yield f"-n __fish_use_subcommand -f -a {command.name} -d '{quoted(command.does)}'"
+    for command in commands:
+        seen = f"-n '__fish_seen_subcommand_from {command.name}'"
+        if command.name == "help":
+            yield f"{seen} -f -a '{' '.join(it.name for it in commands)}'"
+        elif not command.takes_files:
+            yield f"{seen} -f"
+        for it in command.options:
+            one = f" -s {it.short}" if it.short else ""
+            wants = " -x" if it.takes_text() else " -r" if it.value else ""
+            yield f"{seen}{one} -l {it.name}{wants} -d '{quoted(it.does)}'"
+
+
 def fish(commands, options):
-    lines = ["# completion of petool for fish"]
-    for option, short, _, does in options:
-        lines.append(f"complete -c petool -n __fish_use_subcommand -s {short} -l {option} -d '{quoted(does)}'")
-    for name, does, _ in commands:
-        lines.append(f"complete -c petool -n __fish_use_subcommand -f -a {name} -d '{quoted(does)}'")
-    for name, _, own in commands:
-        for option, short, value, does in own:
-            one = f" -s {short}" if short else ""
-            wants = " -x" if value in NO_FILES else " -r" if value else ""
-            lines.append(
-                f"complete -c petool -n '__fish_seen_subcommand_from {name}'{one} -l {option}{wants} -d '{quoted(does)}'"
-            )
-    return "\n".join(lines) + "\n"
+    return "".join(["# completion of petool for fish\n", *(f"complete -c petool {it}\n" for it in fish_lines(commands, options))])
 
 
 def main(program, shell):
