@@ -26,6 +26,9 @@ PROGRAM := crates/petool/out/petool
 # folders too, whose times tell of a source that was removed
 SOURCES := crates.txt $(shell find crates/*/src crates/*/specs crates/*/proofs)
 SHELLS := bash zsh fish
+# the pages that are installed, in folders as here, so that their links hold; a link to what is not installed leaves its words
+PAGES := README.md $(patsubst %,docs/%.md,C FAULTS FORMAT GUIDE JSON LIBRARIES PROVED)
+NOT_INSTALLED := (\.\./)?((docs/)?(DECISIONS|MAP|PERF|TESTS)\.md|(bindings|crates|describe)/)
 
 .DELETE_ON_ERROR:
 .PHONY: all petool install anew
@@ -50,7 +53,7 @@ $(O)/completions.%: $(PROGRAM) anew
 	python3 scripts/completions.py $(PROGRAM) $* > $@
 
 install: all
-	install -d $(BIN) $(LIB)/pkgconfig $(INCLUDE) $(SHARE)/man/man1 $(SHARE)/man/man3 $(SHARE)/doc/petool \
+	install -d $(BIN) $(LIB)/pkgconfig $(INCLUDE) $(SHARE)/man/man1 $(SHARE)/man/man3 $(SHARE)/doc/petool/docs \
 	    $(SHARE)/bash-completion/completions $(ZSH) $(SHARE)/fish/vendor_completions.d
 	install -m 755 $(PROGRAM) $(BIN)/petool
 	install -m 644 bindings/c/petool.h $(INCLUDE)/petool.h
@@ -59,7 +62,9 @@ install: all
 	install -m 644 $(O)/c/petool.pc $(LIB)/pkgconfig/petool.pc
 	install -m 644 man/petool.1 $(SHARE)/man/man1/petool.1
 	install -m 644 man/petool.h.3 $(SHARE)/man/man3/petool.h.3
-	install -m 644 README.md docs/C.md docs/FAULTS.md docs/FORMAT.md docs/JSON.md $(SHARE)/doc/petool
+	install -m 644 README.md $(SHARE)/doc/petool
+	install -m 644 $(filter docs/%,$(PAGES)) $(SHARE)/doc/petool/docs
+	sed -E -i 's,\[([^]]*)\]\($(NOT_INSTALLED)[^)]*\),\1,g' $(PAGES:%=$(SHARE)/doc/petool/%)
 	install -m 644 $(O)/completions.bash $(SHARE)/bash-completion/completions/petool
 	install -m 644 $(O)/completions.zsh $(ZSH)/_petool
 	install -m 644 $(O)/completions.fish $(SHARE)/fish/vendor_completions.d/petool.fish
