@@ -1,0 +1,397 @@
+#!/usr/bin/env python3
+"""Compares pages with what they tell of, and says what differs: docs_check.py
+
+- PROVED.md: the public functions that have conditions, the tests and the wrong bodies that it names
+- MAP.md: each source and each definition has a row of its crate, and each file that it names is there
+- GUIDE.md and petool(1): the commands, options and arguments of the program that PETOOL_PROGRAM names, and README.md, which may
+  leave out options; without that program this is left out
+- the versions of the library, of its bindings and of its package: that of petool.h. The program has a version of its own, which
+  petool(1) alone tells
+- PROVED.md, README.md and MAP.md: the ported crates of crates.txt, those of tests and of the benchmark apart
+
+Each sentence names the page and the thing; the last line is 'N passed, M failed', and the status is 1 where something differs.
+"""
+
+import os
+import pathlib
+import re
+import shlex
+import subprocess
+import sys
+
+sys.dont_write_bytecode = True
+
+from completions import options_of, rows as help_rows
+
+TOP = pathlib.Path(__file__).resolve().parents[1]
+PROVED, MAP, GUIDE, README, MAN = "docs/PROVED.md", "docs/MAP.md", "docs/GUIDE.md", "README.md", "man/petool.1"
+#: Folders of what is made, which no page tells of.
+MADE = {".git", "out", "target", "__pycache__"}
+#: Where a file stands that PROVED.md names without a folder, by its ending, and the lists of cases that it names by one word.
+TESTS = {
+    ".py": ["bindings/python/tests"],
+    ".rt": ["crates/test_images/src/tests", "crates/test_calls/src/tests/files"],
+}
+LISTS = [
+    "bindings/python/tests/cases/texts",
+    "bindings/python/tests/cases/views",
+    "crates/test_cases/data/sets",
+    "crates/test_cases/data/words",
+]
+#: What the program and the library are made of; all other crates are of tests and of the benchmark.
+MADE_OF = ("petool", "petool_c")
+#: Words beside the names of ported crates.
+PLAIN_WORDS = set("and for views in the benchmark alone".split())
+#: What begins a trait, what belongs to a type, a function, or a condition.
+ITEM = re.compile(
+    r"^(?:(?P<kind>(?:pub )?trait|impl(?:<.*?>)?(?: .* for)?) (?P<owner>\w+)"
+    r'|(?P<indent> *)(?P<before>(?:pub(?:\(\w+\))? )?(?:extern "C" )?)fn (?P<name>\w+)| *requires\b)',
+    re.M,
+)
+HEADER = "bindings/c/petool.h"
+#: Where a version of the library stands; cargo wants a third number.
+VERSIONS = {
+    "bindings/c/Makefile": r"^VERSION := (\S+)$",
+    "bindings/python/pyproject.toml": r'^version = "(.+)"$',
+    "bindings/rust/petool-sys/Cargo.toml": r'^version = "(\d+\.\d+)\.\d+"$',
+    "bindings/rust/petool/Cargo.toml": r'^version = "(\d+\.\d+)\.\d+"$',
+    "packaging/debian/changelog": r"\Apetool \((.+)-\d+\)",
+    "man/petool.h.3": r'^\.TH .* "libpetool (\S+)"',
+}
+
+
+def read(path):
+    return (TOP / path).read_text()
+
+
+def section(text, heading):
+    """What stands below a heading, up to the next one that is no lower."""
+    below = text.partition(f"\n{heading}\n")[2]
+    return re.split(rf"^#{{1,{heading.count('#')}}} ", below, maxsplit=1, flags=re.M)[0]
+
+
+def rows(text):
+    """The cells of each row of the tables in a text."""
+    lines = [line for line in text.splitlines() if line.startswith("| ")]
+    return [[cell.strip() for cell in re.split(r"(?<!\\)\|", line)[1:-1]] for line in lines]
+
+
+def names(text):
+    """What stands in backticks."""
+    return re.findall(r"`([^`]+)`", text)
+
+
+def crates():
+    """The libraries that each crate of crates.txt names."""
+    lines = re.findall(r"^(\w+)(?: \w+)?:(.*)$", read("crates.txt"), re.M)
+    return {name: libraries.split() for name, libraries in lines}
+
+
+def handed_out(crate):
+    """The modules that a crate hands out, and the names that it hands out of others."""
+    text = re.sub(r"//.*", "", read(f"crates/{crate}/src/lib.rt"))
+    uses = re.findall(r"^pub use ([^;]+);", text, re.M)
+    named = {name for use in uses for name in re.findall(r"\w+(?=\s*(?:,|\}|$))", use)}
+    return set(re.findall(r"^pub mod (\w+);", text, re.M)), named
+
+
+def conditioned(text):
+    """Each function of a source that has conditions, and is public if what it belongs to is: its type or trait, and its name."""
+    owner, is_trait, name = "", False, ""
+    for found in ITEM.finditer(text):
+        if found["owner"]:
+            owner, is_trait = found["owner"], found["kind"] == "pub trait"
+        elif found["name"]:
+            owner = owner if found["indent"] else ""
+            is_public = found["before"].startswith("pub ") or (owner and is_trait)
+            name = found["name"] if is_public else ""
+        elif name:
+            yield owner, name
+
+
+def public_conditions():
+    """The public functions that have conditions, each with its source."""
+    found = {}
+    for crate in [it for it in crates() if (TOP / f"crates/{it}/src/lib.rt").is_file()]:
+        modules, named = handed_out(crate)
+        folder = TOP / "crates" / crate / "src"
+        for file in [it for it in folder.rglob("*.rt") if "tests" not in it.relative_to(folder).parts]:
+            module = str(file.relative_to(folder).with_suffix(""))
+            for owner, name in conditioned(file.read_text()):
+                # petool_c hands out to C what no module does
+                if crate == "petool_c" or module in modules or (owner or name) in named:
+                    found[f"{owner}::{name}".lstrip(":")] = file.relative_to(TOP)
+    return found
+
+
+def condition_faults():
+    """Whether PROVED.md names the public functions that have conditions, and no others."""
+    row = next((it for it in rows(read(PROVED)) if it[0].startswith("Of the public functions these have conditions")), [""])
+    # a module is no part of the name
+    named = {re.sub(r"^[a-z]\w*::", "", it) for it in names(row[0])}
+    found = public_conditions()
+    yield from (f"{PROVED}: {it} of {found[it]} has conditions, and is not named" for it in sorted(found.keys() - named))
+    yield from (f"{PROVED}: {it} is named, and is no public function with conditions" for it in sorted(named - found.keys()))
+
+
+def paths_of(cell):
+    """The paths in a cell: a file without a folder stands beside the one before it."""
+    folder = ""
+    for name in names(cell):
+        folder = name[: name.rfind("/") + 1] or folder
+        yield name if "/" in name else folder + name
+
+
+def row_faults(crate):
+    """Whether each source and each definition of a crate has one row of MAP.md, whose rows name what is there."""
+    folder = TOP / "crates" / crate
+    named = [path for row in rows(section(read(MAP), f"### {crate}")) for path in paths_of(row[0])]
+    files = [*sorted((folder / "src").rglob("*.rt")), *sorted((folder / "specs").rglob("*.antt"))]
+    for path in [str(it.relative_to(folder)) for it in files]:
+        count = sum(path == it or (it.endswith("/") and path.startswith(it)) for it in named)
+        if count != 1:
+            yield f"{MAP}: {crate}: {path} has {count} rows"
+    yield from (f"{MAP}: {crate}: there is no {it}" for it in named if not (folder / it).exists())
+
+
+def endings():
+    """Each path of the repository, and each end of one."""
+    found = set()
+    for folder, folders, files in os.walk(TOP):
+        folders[:] = [it for it in folders if it not in MADE]
+        parts = folder[len(str(TOP)) :].split("/")
+        above = ["/".join([*parts[at:], ""]) for at in range(1, len(parts) + 1)]
+        found |= {end + name for end in above for name in [*files, *(f"{it}/" for it in folders)]}
+    return found
+
+
+def file_faults():
+    """Whether each file and each folder is there that MAP.md names anywhere: by its path, by the end of it, or as a link."""
+    text = read(MAP)
+    known = endings()
+    form = re.compile(r"\w[\w./-]*\.(?:rt|antt|edit|py|rs|c|h|md|txt|svg)|\w[\w.-]*/(?:[\w.-]+/)*")
+    yield from (f"{MAP}: there is no {it}" for it in sorted(set(names(text)) - known) if form.fullmatch(it))
+    links = re.findall(r"\]\(([^)#:]+)[^):]*\)", text)
+    yield from (f"{MAP}: there is no {it}" for it in links if not (TOP / "docs" / it).exists())
+    for heading, folder in (("### scripts", TOP / "scripts"), ("### Beside the crates", TOP)):
+        named = [path for row in rows(section(text, heading)) for path in paths_of(row[0])]
+        yield from (f"{MAP}: there is no {it}" for it in named if not (folder / it).exists())
+
+
+def proofs_named(cell):
+    """The functions that a cell names as `function` and `function` of `Type`, in `crate`, each as crate, type and name."""
+    known = crates()
+    found, of_type, loose = [], [], []
+    for name in names(cell):
+        if name in known:
+            found += [(name, *it) for it in of_type + [("", it) for it in loose]]
+            of_type, loose = [], []
+        elif name[0].isupper():
+            of_type += [(name, it) for it in loose]
+            loose = []
+        else:
+            loose.append(name)
+    return set(found)
+
+
+def proof_faults():
+    """Whether the proofs by hand are those that MAP.md names."""
+    cell = next((it[1] for it in rows(read(MAP)) if it[0] == "`<path>/Proof.antt`"), "")
+    named = proofs_named(cell)
+    found = set()
+    for file in TOP.glob("crates/*/proofs/**/Proof.antt"):
+        crate, _, _, *owner, name = file.parent.relative_to(TOP / "crates").parts
+        found.add((crate, "".join(owner), name))
+    yield from (f"{MAP}: the proof by hand of {' '.join(it)} is not named" for it in sorted(found - named))
+    yield from (f"{MAP}: there is no proof by hand of {' '.join(it)}" for it in sorted(named - found))
+
+
+def test_faults():
+    """Whether the tests are there by which PROVED.md says that claims are tested."""
+    text = read(PROVED)
+    cells = [row[1].partition("tested")[2] for row in rows(text) if len(row) == 2 and not row[0].startswith("tested")]
+    form = re.compile(r"(?:bindings|crates|scripts)/.*|\S+\.(?:py|rt|c)")
+    for name in sorted({it for cell in cells for it in names(cell) if form.fullmatch(it)}):
+        folders = [""] if "/" in name else TESTS.get(pathlib.PurePath(name).suffix, [])
+        if not any((TOP / it / name).exists() for it in folders):
+            yield f"{PROVED}: there is no test {name}"
+    yield from (f"{PROVED}: there is no {it}" for it in LISTS if not (TOP / it).is_file())
+
+
+def edit_faults():
+    """Whether the edits are there by which PROVED.md says that wrong bodies are planted."""
+    for row in rows(section(read(PROVED), "## Wrong bodies")):
+        crate = ""
+        for before, name in re.findall(r"(?:(\w+) )?`([a-z]\w*)`", row[1]):
+            crate = before or crate
+            if not (TOP / f"crates/{crate}/must-fail/{name}.edit").is_file():
+                yield f"{PROVED}: there is no edit {name} of {crate}"
+
+
+def said(program, *words):
+    return subprocess.run([program, *words], stdout=subprocess.PIPE, check=True, text=True).stdout
+
+
+def words_of_help(program):
+    """The options and the arguments of each command by its help; those of the program without a command by no name."""
+    helped = {"": said(program, "--help")}
+    helped.update({name: said(program, "help", name) for name, _ in help_rows(helped[""], "Commands")})
+    found = {}
+    for name, text in helped.items():
+        options = {f"--{it.name} {it.value or ''}".strip() for it in options_of(text)}
+        usage = re.search(r"^Usage: petool ?(.*)$", text, re.M)[1].split()
+        arguments = [re.sub("[<>]", "", it) for it in usage if it not in (name, "[OPTIONS]", "<COMMAND>")]
+        # one row of the pages tells of the help that each command has
+        found[name] = (options - {"--help"} if name else options, arguments)
+    return found
+
+
+def words_of_synopses(synopses):
+    """The options and the arguments of each command by synopses such as `petool at [--address | --file] FILE ADDRESS`."""
+    found = {}
+    for synopsis in synopses:
+        command, rest = re.match(r"petool ?([a-z]\w*)? ?(.*)", re.sub(r"\\?\|", " ", synopsis)).groups("")
+        options, arguments = found.setdefault(command, (set(), []))
+        for item in re.findall(r"\[[^\]]*\](?:\.\.\.)?|\S+", rest):
+            told = re.findall(r"--[\w-]+(?: [A-Z]+)?", item)
+            options.update(it for it in told if it != "--help" or not command)
+            arguments += [] if told else [item]
+    return found
+
+
+def shown(line):
+    """What a line of petool(1) shows: a macro of two letters sets its words side by side."""
+    macro, *words = shlex.split(line.replace("\\-", "-"))
+    return ("" if len(macro) == len(".BR") else " ").join(words)
+
+
+def part_of_manual(heading):
+    return re.search(rf"^\.SH {heading}\n(.*?)(?=^\.SH |\Z)", read(MAN), re.M | re.S)[1]
+
+
+def manual_synopses():
+    lines = part_of_manual("SYNOPSIS").split(".br\n")
+    return [" ".join(map(shown, it.splitlines())) for it in lines]
+
+
+def row_synopses(page):
+    """The synopses of the table of commands, each with the options that its row names."""
+    found = [row for row in rows(read(page)) if row[0].startswith("`petool ")]
+    return [(name, names(row[1])) for row in found for name in names(row[0]) if name.startswith("petool ")]
+
+
+def table_faults(page, helped, is_short=False):
+    """Whether a table of commands names those that help has, with their options and arguments; a short one may lack options."""
+    synopses = row_synopses(page)
+    yield from word_faults(page, [it for it, _ in synopses], helped, is_short)
+    for synopsis, told in synopses:
+        command = next(iter(words_of_synopses([synopsis])))
+        known = {it.split()[0] for it in helped.get(command, [()])[0]}
+        yield from (f"{page}: {synopsis} has no {it}" for it in told if it.startswith("--") and it not in known)
+
+
+def word_faults(page, synopses, helped, is_short=False):
+    """Whether synopses name the commands, options and arguments that help has, and no others; short ones may lack options."""
+    told = words_of_synopses(synopses)
+    # `help` says what `--help` says, and may be left out
+    missing = helped.keys() - told.keys() - ({"help", ""} if is_short else {"help"})
+    yield from (f"{page}: petool {it or 'without a command'} is not named" for it in missing)
+    yield from (f"{page}: there is no command {it}" for it in told.keys() - helped.keys())
+    for command in [it for it in helped if it in told]:
+        name = f"petool {command}".rstrip()
+        (options, arguments), (right, takes) = told[command], helped[command]
+        yield from (f"{page}: {name} has {it}, which is not named" for it in sorted(right - options) if not is_short)
+        yield from (f"{page}: {name} has no {it}" for it in sorted(options - right))
+        if arguments != takes:
+            yield f"{page}: {name} takes {' '.join(takes) or 'no argument'}, and not {' '.join(arguments) or 'none'}"
+
+
+def manual_faults(program, helped):
+    """Whether petool(1) has a paragraph for each command, no option that help has not, and the program's version."""
+    named = set(re.findall(r"^\.TP\n\.B (\w+)$", part_of_manual("COMMANDS"), re.M))
+    yield from (f"{MAN}: {it} is no command, or has no paragraph" for it in sorted(named ^ (helped.keys() - {""})))
+    options = {it.split()[0] for options, _ in helped.values() for it in options}
+    told = set(re.findall(r"--[\w-]+", read(MAN).replace("\\-", "-")))
+    yield from (f"{MAN}: there is no option {it}" for it in sorted(told - options))
+    version = said(program, "--version").strip()
+    if f'"{version}"' not in read(MAN).splitlines()[0]:
+        yield f"{MAN}: the program is {version}"
+
+
+def version_faults():
+    """Whether the versions of the library are those of petool.h."""
+    number = int(re.search(r"^#define PETOOL_VERSION (\w+)$", read(HEADER), re.M)[1], 16)
+    version = f"{number >> 16}.{number & 0xFFFF}"
+    for path, form in VERSIONS.items():
+        found = re.search(form, read(path), re.M)
+        if not found or found[1] != version:
+            yield f"{path}: the version is {found[1] if found else 'missing'}, and that of {HEADER} {version}"
+
+
+def ported(all_crates):
+    """The libraries that are no crate of the repository: of the program and the library, and of other crates alone."""
+    below = list(MADE_OF)
+    for crate in below:
+        below += [it for it in all_crates[crate] if it in all_crates and it not in below]
+    used = {it for crate in below for it in all_crates[crate]} - all_crates.keys()
+    return used, {it for libraries in all_crates.values() for it in libraries} - all_crates.keys() - used
+
+
+def trust_faults(page):
+    """Whether a page trusts the ported crates of crates.txt, and tells those apart that tests and the benchmark alone use."""
+    all_crates = crates()
+    told = re.search(r"ported crates[^.:]*:([^.]*)\.", read(page))
+    text = told[1] if told else ""
+    lists = re.sub(r"\(of `\w+`\)", "", text).partition("in tests")[::2]
+    for part, right in zip(lists, ported(all_crates)):
+        named = set(re.findall(r"\w+", part)) - PLAIN_WORDS
+        yield from (f"{page}: {it} is not among the ported crates that are trusted there" for it in sorted(right - named))
+        yield from (f"{page}: {it} is no ported crate of crates.txt, or not used there" for it in sorted(named - right))
+    for name, crate in re.findall(r"(\w+) \(of `(\w+)`\)", text):
+        if name not in all_crates.get(crate, []):
+            yield f"{page}: {name} is not named by {crate}"
+
+
+def column_faults():
+    """Whether MAP.md has a row for each crate, with the ported crates that it names."""
+    all_crates = crates()
+    table = {names(row[0])[0]: row[3] for row in rows(section(read(MAP), "## Crates")) if len(row) == 4 and names(row[0])}
+    yield from (f"{MAP}: {it} is no crate, or has no row" for it in sorted(table.keys() ^ all_crates.keys()))
+    for crate in table.keys() & all_crates.keys():
+        told = set(re.sub(r"`\w+`|in tests|,", " ", table[crate]).split())
+        right = set(all_crates[crate]) - all_crates.keys()
+        yield from (f"{MAP}: {crate}: {it} is a ported crate in one of the table and crates.txt" for it in sorted(told ^ right))
+
+
+def comparisons(program):
+    """Of each comparison what is wrong: nothing where page and source agree."""
+    yield condition_faults()
+    yield from map(row_faults, crates())
+    yield from (file_faults(), proof_faults(), test_faults(), edit_faults(), version_faults(), column_faults())
+    yield from map(trust_faults, (PROVED, README))
+    if program:
+        helped = words_of_help(program)
+        yield table_faults(GUIDE, helped)
+        yield table_faults(README, helped, is_short=True)
+        yield word_faults(MAN, manual_synopses(), helped)
+        yield manual_faults(program, helped)
+
+
+def main():
+    program = os.environ.get("PETOOL_PROGRAM")
+    if not program:
+        print(f"the commands of the program, in {GUIDE}, {README} and {MAN}: left out, there is no PETOOL_PROGRAM")
+    try:
+        found = [list(it) for it in comparisons(program)]
+    except (OSError, subprocess.CalledProcessError) as error:
+        print(f"docs_check.py: {error}\n0 passed, 1 failed")
+        return 1
+    for sentence in [sentence for sentences in found for sentence in sentences]:
+        print(sentence)
+    failed = sum(map(bool, found))
+    print(f"{len(found) - failed} passed, {failed} failed")
+    return 0 if failed == 0 else 1
+
+
+if __name__ == "__main__":
+    sys.exit(main())

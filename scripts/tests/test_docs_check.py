@@ -1,0 +1,147 @@
+"""Tests that scripts/docs_check.py finds each kind of difference: a file is changed in a copy, and what differs has to be named."""
+
+import contextlib
+import functools
+import importlib.util
+import io
+import os
+import pathlib
+import shutil
+import sys
+import tempfile
+import unittest
+import unittest.mock
+
+TOP = pathlib.Path(__file__).resolve().parents[2]
+PROVED, MAP, GUIDE, README, MAN = "docs/PROVED.md", "docs/MAP.md", "docs/GUIDE.md", "README.md", "man/petool.1"
+TABLES, SAMPLES, TEXTS = "crates/pe_tables/src/lib.rt", "crates/pe_samples/src/images.rt", "crates/pe_layout/src/text.rt"
+
+#: What is changed: the file, what stands in it, what takes its place, and what is then told.
+CONDITIONS = [
+    (PROVED, ", `Layout::text_at`. Fewer", ". Fewer", f"{PROVED}: Layout::text_at of {TEXTS} has conditions, and is not named"),
+    (PROVED, "`files::put`", "`files::put`, `files::number`", f"{PROVED}: number is named, and is no public function with conditions"),
+    (SAMPLES, "    requires { forwarders ≤ 65 }\n", "", f"{PROVED}: vf is named, and is no public function with conditions"),
+    (TABLES, "\nmod window;", "\npub mod window;", f"{PROVED}: Window::u16_at of crates/pe_tables/src/window.rt has conditions"),
+    (
+        "crates/pe_space/src/space.rt",
+        "fn byte(&self, address: u64) -> Option<u8>\n",
+        "fn byte(&self, address: u64) -> Option<u8>\n        requires { address < 5 }\n",
+        f"{PROVED}: Space::byte of crates/pe_space/src/space.rt has conditions",
+    ),
+]
+FILES = [
+    ("crates/pe_view/src/more.rt", "", "//! More.\n", f"{MAP}: pe_view: src/more.rt has 0 rows"),
+    (MAP, "| `src/text_ends.rt` |", "| `src/view.rt` |", f"{MAP}: pe_view: src/text_ends.rt has 0 rows"),
+    (MAP, "| `src/text_ends.rt` |", "| `src/view.rt` |", f"{MAP}: pe_view: src/view.rt has 2 rows"),
+    (MAP, "| `specs/FirstStanding.antt` |", "| `specs/First.antt` |", f"{MAP}: pe_view: there is no specs/First.antt"),
+    (MAP, "1. `pe_view/specs/Faults.antt`", "1. `pe_view/specs/AllFaults.antt`", f"{MAP}: there is no pe_view/specs/AllFaults.antt"),
+    (MAP, "](crates.svg)", "](crate.svg)", f"{MAP}: there is no crate.svg"),
+    (MAP, "| `proof_times.py` |", "| `proof_time.py` |", f"{MAP}: there is no proof_time.py"),
+    (MAP, "| `.ci/run` |", "| `.ci/runs` |", f"{MAP}: there is no .ci/runs"),
+    (MAP, "`new` and `add` of `Told`", "`new` of `Told`", f"{MAP}: the proof by hand of pe_text Told add is not named"),
+    (MAP, "`hold` and `release` of", "`hold`, `free` and `release` of", f"{MAP}: there is no proof by hand of pe_handle Handle free"),
+]
+TESTS = [
+    (PROVED, "tested: `outcome.rt`", "tested: `outcomes.rt`", f"{PROVED}: there is no test outcomes.rt"),
+    (PROVED, "`test_long_names.py`", "`test_names.py`", f"{PROVED}: there is no test test_names.py"),
+    (PROVED, "`bindings/c/tests/memory.c`", "`bindings/c/tests/room.c`", f"{PROVED}: there is no test bindings/c/tests/room.c"),
+    (PROVED, "`leaves_the_fields`", "`leaves_each_field`", f"{PROVED}: there is no edit leaves_each_field of pe_write"),
+]
+VERSIONS = [
+    ("bindings/c/petool.h", "PETOOL_VERSION 0x10000", "PETOOL_VERSION 0x10001", "bindings/c/Makefile: the version is 1.0"),
+    ("bindings/c/Makefile", "VERSION := 1.0", "VERSION := 1.1", "bindings/c/Makefile: the version is 1.1"),
+    ("bindings/python/pyproject.toml", 'version = "1.0"', 'version = "1.1"', "bindings/python/pyproject.toml: the version is 1.1"),
+    ("bindings/rust/petool/Cargo.toml", '"1.0.0"', '"1.1.0"', "bindings/rust/petool/Cargo.toml: the version is 1.1"),
+    ("bindings/rust/petool-sys/Cargo.toml", '"1.0.0"', '"1"', "bindings/rust/petool-sys/Cargo.toml: the version is missing"),
+    ("packaging/debian/changelog", "petool (1.0-1)", "petool (1.1-1)", "packaging/debian/changelog: the version is 1.1"),
+    ("man/petool.h.3", "libpetool 1.0", "libpetool 1.1", "man/petool.h.3: the version is 1.1"),
+]
+PORTED = [
+    (PROVED, "itoa, thiserror, clap", "itoa, clap", f"{PROVED}: thiserror is not among the ported crates"),
+    (README, "itoa, thiserror, clap", "itoa, serde, thiserror, clap", f"{README}: serde is no ported crate"),
+    ("crates.txt", "pe_words: pe_view clap", "pe_words: pe_view clap bumpalo", f"{PROVED}: bumpalo is not among the ported crates"),
+    (PROVED, "bumpalo (of `test_calls`)", "bumpalo (of `test_images`)", f"{PROVED}: bumpalo is not named by test_images"),
+    (MAP, "| `pe_view` | clap |", "| `pe_view` | |", f"{MAP}: pe_words: clap is a ported crate"),
+    (MAP, "| `pe_image` | one image, read whole | `pe_tables` | |\n", "", f"{MAP}: pe_image is no crate, or has no row"),
+]
+WORDS = [
+    (GUIDE, "petool show [--exports] ", "petool show ", f"{GUIDE}: petool show has --exports, which is not named"),
+    (GUIDE, "[--count N]", "[--length N]", f"{GUIDE}: petool map has no --length N"),
+    (GUIDE, "`petool rebase HEX IN OUT`", "`petool rebase HEX OUT IN`", f"{GUIDE}: petool rebase takes HEX IN OUT"),
+    (GUIDE, "`petool check FILE...`", "`petool judge FILE...`", f"{GUIDE}: there is no command judge"),
+    (GUIDE, ", `petool --version` |", " |", f"{GUIDE}: petool has --version, which is not named"),
+    (README, "`petool explain [N]`", "`petool show`", f"{README}: petool explain is not named"),
+    (README, "`petool show [--all] FILE...`", "`petool show [--rows] FILE...`", f"{README}: petool show has no --rows"),
+    (README, "(`--file`) |", "(`--offset`) |", f"{README}: petool at FILE ADDRESS has no --offset"),
+    (MAN, ".B petool explain\n.RI [ N ]\n.br\n", "", f"{MAN}: petool explain is not named"),
+    (MAN, '"] [" \\-\\-window', '"] [" \\-\\-range', f"{MAN}: petool map has --window HEX, which is not named"),
+    (MAN, ".IR HEX=FILE ...", ".I HEX=FILE", f"{MAN}: petool map takes HEX=FILE..., and not HEX=FILE"),
+    (MAN, "\n.B rebase\n", "\n.B move\n", f"{MAN}: move is no command, or has no paragraph"),
+    (MAN, "Options add", "\\-\\-more adds", f"{MAN}: there is no option --more"),
+    (MAN, '"petool 0', '"petool 9', f"{MAN}: the program is petool 0"),
+]
+
+
+class TestDocsCheck(unittest.TestCase):
+    @classmethod
+    def setUpClass(cls):
+        cls.room = pathlib.Path(tempfile.mkdtemp())
+        cls.addClassCleanup(shutil.rmtree, cls.room)
+        made = shutil.ignore_patterns(".git", "out", "target", "__pycache__")
+        shutil.copytree(TOP, cls.room, ignore=made, dirs_exist_ok=True)
+        # the script finds the pages beside itself
+        form = importlib.util.spec_from_file_location("docs_check", cls.room / "scripts" / "docs_check.py")
+        cls.script = importlib.util.module_from_spec(form)
+        with unittest.mock.patch.object(sys, "path", [str(cls.room / "scripts"), *sys.path]):
+            form.loader.exec_module(cls.script)
+        # the program is the same in all cases, and asked once
+        cls.script.said = functools.lru_cache(maxsize=None)(cls.script.said)
+
+    def check(self, program=""):
+        """The status and what is printed."""
+        said = io.StringIO()
+        with contextlib.redirect_stdout(said), unittest.mock.patch.dict(os.environ, PETOOL_PROGRAM=program):
+            status = self.script.main()
+        return status, said.getvalue()
+
+    def assert_named(self, changes, program=""):
+        """Each change is told, and nothing once it is undone."""
+        for path, old, new, told in changes:
+            with self.subTest(told):
+                file = self.room / path
+                text = file.read_text() if file.exists() else ""
+                self.assertIn(old, text)
+                file.write_text(text.replace(old, new) if old else new)
+                status, said = self.check(program)
+                file.write_text(text) if old else file.unlink()
+                self.assertEqual((status, told in said), (1, True), said)
+        self.assertEqual(self.check(program)[0], 0)
+
+    def test_conditions_are_those_that_are_named(self):
+        self.assert_named(CONDITIONS)
+
+    def test_each_file_has_a_row_and_is_there(self):
+        self.assert_named(FILES)
+
+    def test_tests_and_edits_are_there(self):
+        self.assert_named(TESTS)
+
+    def test_versions_of_the_library_are_one(self):
+        self.assert_named(VERSIONS)
+
+    def test_ported_crates_are_those_that_are_trusted(self):
+        self.assert_named(PORTED)
+
+    def test_words_are_those_of_help(self):
+        program = os.environ.get("PETOOL_PROGRAM")
+        if not program:
+            self.skipTest("there is no PETOOL_PROGRAM")
+        self.assert_named(WORDS, program)
+
+    def test_words_are_left_out_without_a_program(self):
+        status, said = self.check()
+        self.assertEqual((status, "left out, there is no PETOOL_PROGRAM" in said), (0, True), said)
+
+
+if __name__ == "__main__":
+    unittest.main()
