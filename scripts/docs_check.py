@@ -65,8 +65,10 @@ def read(path):
 
 
 def section(text, heading):
-    """What stands below a heading, up to the next one that is no lower."""
-    below = text.partition(f"\n{heading}\n")[2]
+    """What stands below a heading, up to the next one that is no lower. LookupError where there is no such heading."""
+    _, found, below = text.partition(f"\n{heading}\n")
+    if not found:
+        raise LookupError(f"there is no heading {heading!r}")
     return re.split(rf"^#{{1,{heading.count('#')}}} ", below, maxsplit=1, flags=re.M)[0]
 
 
@@ -383,7 +385,7 @@ def main():
         print(f"the commands of the program, in {GUIDE}, {README} and {MAN}: left out, there is no PETOOL_PROGRAM")
     try:
         found = [list(it) for it in comparisons(program)]
-    except (OSError, subprocess.CalledProcessError) as error:
+    except (LookupError, OSError, subprocess.CalledProcessError) as error:
         print(f"docs_check.py: {error}\n0 passed, 1 failed")
         return 1
     for sentence in [sentence for sentences in found for sentence in sentences]:

@@ -35,6 +35,7 @@ FILES = [
     (MAP, "| `src/text_ends.rt` |", "| `src/view.rt` |", f"{MAP}: pe_view: src/view.rt has 2 rows"),
     (MAP, "| `specs/FirstStanding.antt` |", "| `specs/First.antt` |", f"{MAP}: pe_view: there is no specs/First.antt"),
     (MAP, "1. `pe_view/specs/Faults.antt`", "1. `pe_view/specs/AllFaults.antt`", f"{MAP}: there is no pe_view/specs/AllFaults.antt"),
+    (MAP, "### pe_view\n", "### view\n", "there is no heading '### pe_view'"),
     (MAP, "](crates.svg)", "](crate.svg)", f"{MAP}: there is no crate.svg"),
     (MAP, "| `proof_times.py` |", "| `proof_time.py` |", f"{MAP}: there is no proof_time.py"),
     (MAP, "| `.ci/run` |", "| `.ci/runs` |", f"{MAP}: there is no .ci/runs"),
