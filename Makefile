@@ -2,7 +2,8 @@
 #
 #   make [-j4] petool                      builds the program; with -j, crates are proved side by side
 #   make [-j4]                             builds the program and the library
-#   make install [PREFIX=..] [DESTDIR=..]  installs them, with man pages and completions
+#   make install [PREFIX=..] [DESTDIR=..]  installs them, with man pages, completions and pages
+#   make uninstall [PREFIX=..] ..          removes what was installed
 #
 # LIBDIR and ZSHDIR name other folders for the library and for zsh's completion. What `rt ci` has left is taken where it is newer than
 # the sources. PROGRAM and CALLS may name a program and an archive of the calls that exist already.
@@ -31,7 +32,7 @@ PAGES := README.md $(patsubst %,docs/%.md,C FAULTS FORMAT GUIDE JSON LIBRARIES P
 NOT_INSTALLED := (\.\./)?((docs/)?(DECISIONS|MAP|PERF|TESTS)\.md|(bindings|crates|describe)/)
 
 .DELETE_ON_ERROR:
-.PHONY: all petool install anew
+.PHONY: all petool install uninstall anew
 all: $(PROGRAM) $(SHELLS:%=$(O)/completions.%)
 	$(MAKE) -C bindings/c O=$(O)/c PREFIX=$(PREFIX) LIBDIR=$(LIBDIR)
 
@@ -68,3 +69,10 @@ install: all
 	install -m 644 $(O)/completions.bash $(SHARE)/bash-completion/completions/petool
 	install -m 644 $(O)/completions.zsh $(ZSH)/_petool
 	install -m 644 $(O)/completions.fish $(SHARE)/fish/vendor_completions.d/petool.fish
+
+# what install has put there, but not the folders, which may be others' too
+uninstall:
+	rm -f $(BIN)/petool $(INCLUDE)/petool.h $(LIB)/libpetool.a $(LIB)/libpetool.so.0 $(LIB)/libpetool.so \
+	    $(LIB)/pkgconfig/petool.pc $(SHARE)/man/man1/petool.1 $(SHARE)/man/man3/petool.h.3 \
+	    $(SHARE)/bash-completion/completions/petool $(ZSH)/_petool $(SHARE)/fish/vendor_completions.d/petool.fish
+	rm -rf $(SHARE)/doc/petool
