@@ -90,7 +90,7 @@ def _ordered(description: Description, record: Record) -> List[Field]:
 
 
 def _public_type(it: Field) -> str:
-    return {"text": "bytes", "bool": "bool"}.get(it.type, "int")
+    return "bytes" if it.item() == "u8" and "[" in it.type else {"text": "bytes", "bool": "bool"}.get(it.type, "int")
 
 
 def row_fields(description: Description, what: str) -> List[str]:

@@ -40,7 +40,7 @@ class SectionHeader:
     """A section header of an object, each field as the file has it."""
 
     # from describe/records.txt: section_header
-    name: int  #: the name field, filled up with zero bytes: a name, or where it stands
+    name: bytes  #: the name field, filled up with zero bytes: a name, or where it stands
     virtual_size: int  #: VirtualSize, which is 0 in objects
     virtual_address: int  #: VirtualAddress
     size_of_raw_data: int  #: the size in the file

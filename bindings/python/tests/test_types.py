@@ -1,0 +1,54 @@
+"""The types of the package, which type checkers read: each field of what is answered holds what its class says of it."""
+
+import typing
+import unittest
+
+import petool
+
+from . import data
+
+
+def holds(value, kind):
+    """Whether a value is of a type: one of a union, a tuple of one, or exactly it."""
+    arguments = typing.get_args(kind)
+    if typing.get_origin(kind) is typing.Union:
+        return any(holds(value, it) for it in arguments)
+    if typing.get_origin(kind) is tuple:
+        return type(value) is tuple and all(holds(it, arguments[0]) for it in value)
+    return type(value) is kind
+
+
+def rows_of_images():
+    """Of an image with forwarders and one with imports and base relocations: the headers and each row."""
+    for name in ("va.dll", "vr.dll"):
+        with petool.Image(data(name)) as image:
+            yield from (image.headers, *image.headers.directories, *image.sections, *image.imports, *image.fixups)
+            yield from (*image.exports.names(), *image.exports.ordinals(), *image.exports.values())
+
+
+def rows_of_objects():
+    with petool.Object(data("o1.obj")) as found:
+        yield from (found.header, *found.section_headers, *found.sections, *found.relocations(0), *found.symbols)
+
+
+class Types(unittest.TestCase):
+    def assert_held(self, rows, classes):
+        """Each field holds its type, and no class is without a row."""
+        met = set()
+        for row in rows:
+            met.add(type(row))
+            for name, kind in typing.get_type_hints(type(row)).items():
+                self.assertTrue(holds(getattr(row, name), kind), f"{name} of {row}: {kind}")
+        self.assertEqual(met, classes)
+
+    def test_an_image(self):
+        kinds = {petool.Headers, petool.Directory, petool.Section, petool.Import, petool.Fixup}
+        self.assert_held(rows_of_images(), kinds | {petool.Export, petool.Rva, petool.Forward})
+
+    def test_an_object(self):
+        kinds = {petool.ObjectHeader, petool.SectionHeader, petool.ObjectSection}
+        self.assert_held(rows_of_objects(), kinds | {petool.ObjectRelocation, petool.ObjectSymbol})
+
+
+if __name__ == "__main__":
+    unittest.main()
