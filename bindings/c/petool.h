@@ -112,7 +112,7 @@ uint32_t petool_check(const uint8_t *file, size_t len, petool_fault *fault);
 
 /* from describe/records.txt: directory */
 typedef struct petool_directory {
-    uint32_t rva, size;
+    uint32_t rva, size; /* of the certificate table, directory 4, rva is a file offset */
 } petool_directory;
 /* end of describe/records.txt */
 

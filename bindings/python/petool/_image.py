@@ -22,7 +22,7 @@ class Directory:
     """Where a table of the image stands, and how many bytes it has."""
 
     # from describe/records.txt: directory
-    rva: int  #: where its table begins in the image; 0 where there is none
+    rva: int  #: where its table begins in the image, of the certificate table in the file; 0 where there is none
     size: int  #: how many bytes the table has, as the file says
     # end of describe/records.txt
 

@@ -41,9 +41,9 @@ class SectionHeader:
 
     # from describe/records.txt: section_header
     name: bytes  #: the name field, filled up with zero bytes: a name, or where it stands
-    virtual_size: int  #: VirtualSize, which is 0 in objects
-    virtual_address: int  #: VirtualAddress
-    size_of_raw_data: int  #: the size in the file
+    virtual_size: int  #: VirtualSize, as it is written
+    virtual_address: int  #: VirtualAddress, as it is written
+    size_of_raw_data: int  #: SizeOfRawData, also where no bytes stand in the file
     pointer_to_raw_data: int  #: the file offset of the first byte; 0 where there is none
     pointer_to_relocations: int  #: the file offset of the relocations
     pointer_to_linenumbers: int  #: the file offset of the line numbers

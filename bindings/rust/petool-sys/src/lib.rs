@@ -85,7 +85,7 @@ pub struct Fault {
 #[repr(C)]
 #[derive(Clone, Copy, Debug, Default, PartialEq, Eq, Hash)]
 pub struct Directory {
-    /// Where its table begins in the image; 0 where there is none.
+    /// Where its table begins in the image, of the certificate table in the file; 0 where there is none.
     pub rva: u32,
     /// How many bytes the table has, as the file says.
     pub size: u32,
@@ -367,11 +367,11 @@ pub struct ObjectHeader {
 pub struct SectionHeader {
     /// The name field, filled up with zero bytes: a name, or where it stands.
     pub name: [u8; 8],
-    /// VirtualSize, which is 0 in objects.
+    /// VirtualSize, as it is written.
     pub virtual_size: u32,
-    /// VirtualAddress.
+    /// VirtualAddress, as it is written.
     pub virtual_address: u32,
-    /// The size in the file.
+    /// SizeOfRawData, also where no bytes stand in the file.
     pub size_of_raw_data: u32,
     /// The file offset of the first byte; 0 where there is none.
     pub pointer_to_raw_data: u32,
