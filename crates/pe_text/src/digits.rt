@@ -1,5 +1,5 @@
 ghost use Rattle.std.specs.Prelude.{◌≡◌, ◌-◌, ◌≤◌, ◌<◌, drop};
-ghost use Rattle.pe_text.specs.Text.{glyph, hex, hex_8_width};
+ghost use Rattle.pe_text.specs.Text.{glyph, hex, width_from};
 
 /// The most hexadecimal digits that a number has.
 pub(crate) const DIGITS: usize = 16;
@@ -30,12 +30,13 @@ pub(crate) fn hex_digits(width: usize, number: u64) -> [u8; DIGITS]
     digits
 }
 
-/// How many hexadecimal digits show the number, if there are to be 8 at least.
-pub(crate) fn hex_width(number: u64) -> u8
-    ensures value { result ≡ hex_8_width number }
+/// How many hexadecimal digits show the number, if there are to be so many at least.
+pub(crate) fn hex_width(least: u8, number: u64) -> u8
+    requires { least ≤ 16 }
+    ensures value { result ≡ width_from (16 - least) least number }
     ensures bound { result ≤ 16 }
 {
-    for width in 8..16 {
+    for width in least..16 {
         if number >> (4 * width) == 0 {
             return width;
         }

@@ -1,8 +1,11 @@
 //! Faults in words.
 
-ghost use Rattle.std.specs.Prelude.{◌≡◌, Some, option_map, map};
-ghost use Rattle.pe_text.specs.FaultWords.{rules, rule_view, words_view, words_in, words_of, sentence};
+ghost use Rattle.std.specs.Prelude.{◌≡◌, ◌≤◌, ◌++◌, Some, codes, length, option_map, map, take};
+ghost use Rattle.pe_text.specs.FaultWords.{rules, rule_view, words_view, words_in, words_of, at_words, hex_text, place_number, number_text, sentence};
 
+use crate::digits::{DIGITS, hex_digits, hex_width};
+use arrayvec::ArrayVec;
+use itoa::Buffer;
 use pe_view::{Fault, Place};
 use std::fmt::{self, Display};
 
@@ -328,6 +331,26 @@ fn words_of(number: u16) -> FaultWords
     }
 }
 
+/// The number of a place, as it is shown.
+#[derive(Clone, Copy)]
+enum PlaceNumber {
+    Hex(u64),
+    Decimal(u32),
+}
+
+/// What is before the number of a place, and the number.
+fn place_words(place: Place) -> (&'static str, PlaceNumber)
+    ensures words { result.0.now ≡ at_words place }
+    ensures number { number_text result.1 ≡ place_number place }
+{
+    match place {
+        Place::File(offset) => (" at 0x", PlaceNumber::Hex(offset)),
+        Place::Rva(rva) => (" at RVA 0x", PlaceNumber::Hex(rva as u64)),
+        Place::Address(address) => (" 0x", PlaceNumber::Hex(address)),
+        Place::Item(item) => (" ", PlaceNumber::Decimal(item)),
+    }
+}
+
 /// A fault in words: `section header at 0x138: the section's raw data passes the end of the file`.
 #[derive(Clone, Copy, Debug)]
 pub struct FaultText(pub Fault);
@@ -337,11 +360,55 @@ impl Display for FaultText {
 
     fn fmt<W: fmt::Write>(&self, f: &mut fmt::Formatter<W>) -> fmt::Result {
         let FaultWords { subject, rule } = words_of(self.0.number);
-        match self.0.place {
-            Place::File(offset) => write!(f, "{subject} at 0x{offset:x}: {rule}"),
-            Place::Rva(rva) => write!(f, "{subject} at RVA 0x{rva:x}: {rule}"),
-            Place::Address(address) => write!(f, "{subject} 0x{address:x}: {rule}"),
-            Place::Item(item) => write!(f, "{subject} {item}: {rule}"),
+        let (at, number) = place_words(self.0.place);
+        match number {
+            PlaceNumber::Hex(number) => write!(f, "{subject}{at}{number:x}: {rule}"),
+            PlaceNumber::Decimal(number) => write!(f, "{subject}{at}{number}: {rule}"),
+        }
+    }
+}
+
+/// Adds as many of these bytes as there is room for.
+fn add(text: &mut ArrayVec<u8, 256>, bytes: &[u8])
+    ensures { text.new.items ≡ take 256 (text.old.items ++ bytes.now) }
+{
+    let count = bytes.len().min(text.remaining_capacity());
+    text.try_extend_from_slice(&bytes[..count]).unwrap();
+}
+
+/// The words of a fault with a place between them, as far as there is room.
+fn with_place(words: FaultWords, at: &str, number: &[u8]) -> ArrayVec<u8, 256>
+    ensures { result.items ≡ take 256 (words.subject.now ++ at.now ++ number.now ++ codes ": " ++ words.rule.now) }
+{
+    let mut text = ArrayVec::new();
+    add(&mut text, words.subject.as_bytes());
+    add(&mut text, at.as_bytes());
+    add(&mut text, number);
+    add(&mut text, b": ");
+    add(&mut text, words.rule.as_bytes());
+    text
+}
+
+/// The same with a number in hexadecimal.
+fn with_hex(words: FaultWords, at: &str, number: u64) -> ArrayVec<u8, 256>
+    ensures text { result.items ≡ take 256 (words.subject.now ++ at.now ++ hex_text number ++ codes ": " ++ words.rule.now) }
+    ensures short { length (hex_text number) ≤ 16 }
+{
+    let width = hex_width(1, number);
+    let digits = hex_digits(width as usize, number);
+    with_place(words, at, &digits[DIGITS - width as usize..])
+}
+
+/// The bytes of a fault in words, which are those of [`FaultText`]. No fault has over 256.
+pub fn fault_sentence(fault: &Fault) -> ArrayVec<u8, 256>
+    ensures { result.items ≡ sentence fault.now }
+{
+    let words = words_of(fault.number);
+    let (at, number) = place_words(fault.place);
+    match number {
+        PlaceNumber::Hex(number) => with_hex(words, at, number),
+        PlaceNumber::Decimal(number) => {
+            with_place(words, at, Buffer::new().format(number).as_bytes())
         }
     }
 }

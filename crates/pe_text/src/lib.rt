@@ -34,7 +34,7 @@ pub use counted::Counted;
 pub use device::{Failed, Sink, Source};
 pub use engine::{Report, refuse, run_report};
 pub use fault_line::{write_cycle_line, write_fault_line};
-pub use fault_text::{FaultText, FaultWords, fault_words};
+pub use fault_text::{FaultText, FaultWords, fault_sentence, fault_words};
 pub use field::Field;
 pub use fields::{characteristics, time_date_stamp, write_fields};
 pub use file_beginning::{FileKind, file_kind};

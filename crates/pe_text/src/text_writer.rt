@@ -157,7 +157,7 @@ impl<'w, W: Sink> TextWriter<'w, W> {
         requires { IsReady W.failures self.old }
         ensures { Adds W.taken W.failures self.old self.new (hex_8 number) }
     {
-        self.hex(hex_width(number), number);
+        self.hex(hex_width(8, number), number);
     }
 
     /// Adds a byte of a quoted text that doesn't stand for itself: `\x` and two digits.
