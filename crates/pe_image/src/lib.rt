@@ -17,7 +17,9 @@
 #![tactic(auto)]
 
 mod image;
+mod slots;
 mod tables;
 
 pub use image::{Image, lay_out, read_image};
+pub use slots::import_at;
 pub use tables::{Tables, read_relocations, read_tables};
