@@ -67,7 +67,8 @@ WRITTEN = [
 COMPARED = [
     ("bindings/c/petool.h", "petool_fixup *rows, size_t room", "petool_import *rows, size_t room"),
     ("bindings/c/petool.h", "uint32_t petool_version(void);", "uint32_t petool_version(void);\nuint32_t petool_more(void);"),
-    ("bindings/c/petool.h", "static inline int petool_fault_line(", "static inline int petool_fault_text("),
+    ("bindings/c/petool.h", "int petool_fault_line(", "uint32_t petool_fault_line("),
+    ("crates/petool_c/src/words.rt", "line: &mut [u8]) -> i32", "line: &mut [u8]) -> u32"),
     ("crates/pe_records_c/src/fixup.rt", "pub kind: u32", "pub kind: u16"),
     ("crates/pe_records_c/src/fixup.rt", "pub entry: u32", "pub first: u32"),
     ("crates/pe_records_c/src/fixup.rt", "pub struct FixupRow {", "pub struct RelocationRow {"),

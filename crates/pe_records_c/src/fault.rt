@@ -1,5 +1,5 @@
 ghost use Rattle.std.specs.Prelude.{◌≡◌};
-ghost use Rattle.pe_records_c.specs.Faults.{fault_record, IsTold};
+ghost use Rattle.pe_records_c.specs.Faults.{fault_record, fault_of, IsTold};
 
 use crate::status;
 use pe_view::{Fault, Place, Refusal};
@@ -33,6 +33,24 @@ pub fn fault_record(fault: Fault) -> FaultRecord
         image: fault.image,
         place,
         at,
+    }
+}
+
+/// The fault of a record. A record that no call has filled is read as one: by the last two bits of `place`, and by the last 32 bits
+/// of `at` where the place is an RVA or an item.
+pub fn fault_of(record: &FaultRecord) -> Fault
+    ensures { result ≡ fault_of record.now }
+{
+    let place = match record.place % 4 {
+        0 => Place::File(record.at),
+        1 => Place::Rva((record.at % (1 << 32)) as u32),
+        2 => Place::Address(record.at),
+        _ => Place::Item((record.at % (1 << 32)) as u32),
+    };
+    Fault {
+        number: record.number,
+        image: record.image,
+        place,
     }
 }
 

@@ -14,6 +14,7 @@ pub mod fault;
 pub mod fixup;
 pub mod headers;
 pub mod import;
+pub mod laws;
 pub mod mapping;
 pub mod object;
 pub mod object_headers;
