@@ -5,8 +5,7 @@
 - MAP.md: each source and each definition has a row of its crate, and each file that it names is there
 - GUIDE.md and petool(1): the commands, options and arguments of the program that PETOOL_PROGRAM names, and README.md, which may
   leave out options; without that program this is left out
-- the versions of the library, of its bindings and of its package: that of petool.h. The program has a version of its own, which
-  petool(1) alone tells
+- the versions of the program, of the library, of its bindings and of its package: that of the file VERSION
 - PROVED.md, README.md and MAP.md: the ported crates of crates.txt, those of tests and of the benchmark apart
 
 Each sentence names the page and the thing; the last line is 'N passed, M failed', and the status is 1 where something differs.
@@ -48,15 +47,20 @@ ITEM = re.compile(
     r'|(?P<indent> *)(?P<before>(?:pub(?:\(\w+\))? )?(?:extern "C" )?)fn (?P<name>\w+)| *requires\b)',
     re.M,
 )
-HEADER = "bindings/c/petool.h"
-#: Where a version of the library stands; cargo wants a third number.
+#: Where the version is told besides the file VERSION; cargo wants a third number.
 VERSIONS = {
-    "bindings/c/Makefile": r"^VERSION := (\S+)$",
+    "crates/pe_words/src/commands.rt": r'^const VERSION: &str = "(.+)";$',
     "bindings/python/pyproject.toml": r'^version = "(.+)"$',
     "bindings/rust/petool-sys/Cargo.toml": r'^version = "(\d+\.\d+)\.\d+"$',
     "bindings/rust/petool/Cargo.toml": r'^version = "(\d+\.\d+)\.\d+"$',
     "packaging/debian/changelog": r"\Apetool \((.+)-\d+\)",
+    "man/petool.1": r'^\.TH .* "petool (\S+)"',
     "man/petool.h.3": r'^\.TH .* "libpetool (\S+)"',
+}
+#: Where it is a number: its first part times 65,536, and its second part.
+NUMBERS = {
+    "bindings/c/petool.h": r"^#define PETOOL_VERSION (\w+)$",
+    "crates/petool_c/src/words.rt": r"^    ensures \{ result ≡ (0x\w+) \}$",
 }
 
 
@@ -309,25 +313,29 @@ def word_faults(page, synopses, helped, is_short=False):
 
 
 def manual_faults(program, helped):
-    """Whether petool(1) has a paragraph for each command, no option that help has not, and the program's version."""
+    """Whether petool(1) has a paragraph for each command, no option that help has not; and the program's version."""
     named = set(re.findall(r"^\.TP\n\.B (\w+)$", part_of_manual("COMMANDS"), re.M))
     yield from (f"{MAN}: {it} is no command, or has no paragraph" for it in sorted(named ^ (helped.keys() - {""})))
     options = {it.split()[0] for options, _ in helped.values() for it in options}
     told = set(re.findall(r"--[\w-]+", read(MAN).replace("\\-", "-")))
     yield from (f"{MAN}: there is no option {it}" for it in sorted(told - options))
     version = said(program, "--version").strip()
-    if f'"{version}"' not in read(MAN).splitlines()[0]:
-        yield f"{MAN}: the program is {version}"
+    if version != f"petool {read('VERSION').strip()}":
+        yield f"VERSION: the program is {version}"
 
 
 def version_faults():
-    """Whether the versions of the library are those of petool.h."""
-    number = int(re.search(r"^#define PETOOL_VERSION (\w+)$", read(HEADER), re.M)[1], 16)
-    version = f"{number >> 16}.{number & 0xFFFF}"
+    """Whether the version is told everywhere as the file VERSION has it."""
+    version = read("VERSION").strip()
     for path, form in VERSIONS.items():
         found = re.search(form, read(path), re.M)
         if not found or found[1] != version:
-            yield f"{path}: the version is {found[1] if found else 'missing'}, and that of {HEADER} {version}"
+            yield f"{path}: the version is {found[1] if found else 'missing'}, and that of VERSION {version}"
+    first, second = map(int, version.split("."))
+    for path, form in NUMBERS.items():
+        found = re.search(form, read(path), re.M)
+        if not found or int(found[1].replace("_", ""), 16) != first << 16 | second:
+            yield f"{path}: the version is {found[1] if found else 'missing'}, and that of VERSION {version}"
 
 
 def ported(all_crates):

@@ -49,12 +49,16 @@ TESTS = [
     (PROVED, "`leaves_the_fields`", "`leaves_each_field`", f"{PROVED}: there is no edit leaves_each_field of pe_write"),
 ]
 VERSIONS = [
-    ("bindings/c/petool.h", "PETOOL_VERSION 0x10000", "PETOOL_VERSION 0x10001", "bindings/c/Makefile: the version is 1.0"),
-    ("bindings/c/Makefile", "VERSION := 1.0", "VERSION := 1.1", "bindings/c/Makefile: the version is 1.1"),
+    ("VERSION", "1.0", "1.1", "man/petool.1: the version is 1.0, and that of VERSION 1.1"),
+    ("VERSION", "1.0", "2.0", "bindings/c/petool.h: the version is 0x10000, and that of VERSION 2.0"),
+    ("bindings/c/petool.h", "PETOOL_VERSION 0x10000", "PETOOL_VERSION 0x10001", "bindings/c/petool.h: the version is 0x10001"),
+    ("crates/petool_c/src/words.rt", "result ≡ 0x1_0000", "result ≡ 0x1_0001", "crates/petool_c/src/words.rt: the version is 0x1_0001"),
+    ("crates/pe_words/src/commands.rt", '"1.0"', '"1.1"', "crates/pe_words/src/commands.rt: the version is 1.1"),
     ("bindings/python/pyproject.toml", 'version = "1.0"', 'version = "1.1"', "bindings/python/pyproject.toml: the version is 1.1"),
     ("bindings/rust/petool/Cargo.toml", '"1.0.0"', '"1.1.0"', "bindings/rust/petool/Cargo.toml: the version is 1.1"),
     ("bindings/rust/petool-sys/Cargo.toml", '"1.0.0"', '"1"', "bindings/rust/petool-sys/Cargo.toml: the version is missing"),
     ("packaging/debian/changelog", "petool (1.0-1)", "petool (1.1-1)", "packaging/debian/changelog: the version is 1.1"),
+    ("man/petool.1", "petool 1.0", "petool 1.1", "man/petool.1: the version is 1.1"),
     ("man/petool.h.3", "libpetool 1.0", "libpetool 1.1", "man/petool.h.3: the version is 1.1"),
 ]
 PORTED = [
@@ -127,7 +131,7 @@ class TestDocsCheck(unittest.TestCase):
     def test_tests_and_edits_are_there(self):
         self.assert_named(TESTS)
 
-    def test_versions_of_the_library_are_one(self):
+    def test_versions_are_that_of_the_file(self):
         self.assert_named(VERSIONS)
 
     def test_ported_crates_are_those_that_are_trusted(self):

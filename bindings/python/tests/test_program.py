@@ -275,7 +275,7 @@ REBASE_ENDS = [
 
 #: Words in place of files, the version, and readers that went away.
 DASHES = [
-    replace(SILENT, words=["--version"], file=BROKEN, printed="petool 0.1.0\n"),
+    replace(SILENT, words=["--version"], file=BROKEN, printed="petool 1.0\n"),
     replace(SILENT, words=["check", "-"], printed="accepted PE32 sections 0\n"),
     replace(
         SILENT, words=["map", "10000000=-"], printed='image 0 "-" base 0x0000000010000000 size 0x00001000\nend\n'

@@ -8,8 +8,8 @@ use crate::rebase_words::rebase_command;
 use clap::Command;
 use std::alloc::{AllocError, Global};
 
-/// The program's version, which `--version` prints behind its name.
-const VERSION: &str = "0.1.0";
+/// The program's version, which `--version` prints after its name: that of the file VERSION.
+const VERSION: &str = "1.0";
 
 /// What the program does.
 const ABOUT: &str =
