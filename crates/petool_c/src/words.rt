@@ -1,3 +1,5 @@
+//! The version of the library, and faults in words.
+
 ghost use Rattle.std.specs.Prelude.{◌≡◌, ◌≢◌, ◌⊎◌, None, Some};
 ghost use Rattle.pe_text.specs.FaultWords.{rules, words_in};
 
