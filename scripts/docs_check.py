@@ -2,7 +2,8 @@
 """Compares pages with what they tell of, and says what differs: docs_check.py
 
 - PROVED.md: the public functions that have conditions, the tests and the wrong bodies that it names
-- MAP.md: each source and each definition has a row of its crate, and each file that it names is there
+- MAP.md: each file and each proof by hand that it names is there, and each crate has a row (FILES.md, which has a row for each
+  file, is compared by file_rows.py)
 - GUIDE.md and petool(1): the commands, options and arguments of the program that PETOOL_PROGRAM names, and README.md, which may
   leave out options; without that program this is left out
 - the versions of the program, of the library, of its bindings and of its package: that of the file VERSION
@@ -148,18 +149,6 @@ def paths_of(cell):
         yield name if "/" in name else folder + name
 
 
-def row_faults(crate):
-    """Whether each source and each definition of a crate has one row of MAP.md, whose rows name what is there."""
-    folder = TOP / "crates" / crate
-    named = [path for row in rows(section(read(MAP), f"### {crate}")) for path in paths_of(row[0])]
-    files = [*sorted((folder / "src").rglob("*.rt")), *sorted((folder / "specs").rglob("*.antt"))]
-    for path in [str(it.relative_to(folder)) for it in files]:
-        count = sum(path == it or (it.endswith("/") and path.startswith(it)) for it in named)
-        if count != 1:
-            yield f"{MAP}: {crate}: {path} has {count} rows"
-    yield from (f"{MAP}: {crate}: there is no {it}" for it in named if not (folder / it).exists())
-
-
 def endings():
     """Each path of the repository, and each end of one."""
     found = set()
@@ -179,9 +168,8 @@ def file_faults():
     yield from (f"{MAP}: there is no {it}" for it in sorted(set(names(text)) - known) if form.fullmatch(it))
     links = re.findall(r"\]\(([^)#:]+)[^):]*\)", text)
     yield from (f"{MAP}: there is no {it}" for it in links if not (TOP / "docs" / it).exists())
-    for heading, folder in (("### scripts", TOP / "scripts"), ("### Beside the crates", TOP)):
-        named = [path for row in rows(section(text, heading)) for path in paths_of(row[0])]
-        yield from (f"{MAP}: there is no {it}" for it in named if not (folder / it).exists())
+    named = [path for row in rows(section(text, "## Outside the crates")) for path in paths_of(row[0])]
+    yield from (f"{MAP}: there is no {it}" for it in named if not (TOP / it).exists())
 
 
 def proofs_named(cell):
@@ -376,7 +364,6 @@ def column_faults():
 def comparisons(program):
     """Of each comparison what is wrong: nothing where page and source agree."""
     yield condition_faults()
-    yield from map(row_faults, crates())
     yield from (file_faults(), proof_faults(), test_faults(), edit_faults(), version_faults(), column_faults())
     yield from map(trust_faults, (PROVED, README))
     if program:

@@ -1,3 +1,5 @@
+//! `read_image`: an image read whole, or its first fault; and `lay_out`, which reads its headers and sections alone.
+
 ghost use Rattle.std.specs.Prelude.{◌≡◌, ◌<◌, None, length, IsErrOf};
 ghost use Rattle.pe_view.specs.Faults.{first_standing, Answers, AnswersOrWants};
 ghost use Rattle.pe_layout.specs.SectionFaults.{layout_tests};

@@ -1,4 +1,4 @@
-//! The values of a file beside the limit that a fault names.
+//! `fault_detail`: the values that a fault of a file's size, headers or section headers compares with a limit.
 
 use pe_head::{Magic, SectionHeader};
 use pe_view::{Fault, Place, View};

@@ -1,4 +1,4 @@
-//! The job `rebase`: a file is written at another base.
+//! The command `rebase`: writes the file of an image for another base.
 
 use crate::file_job::{refuse_path, tell};
 use crate::input::open_path;

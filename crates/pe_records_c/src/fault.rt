@@ -1,3 +1,5 @@
+//! `FaultRecord`: how C is told of a fault, or that memory ran out.
+
 ghost use Rattle.std.specs.Prelude.{◌≡◌};
 ghost use Rattle.pe_records_c.specs.Faults.{fault_record, fault_of, IsTold};
 

@@ -1,4 +1,4 @@
-//! Texts: `TextRecord`, and `put_line`, which puts one into a buffer of C.
+//! `TextRecord`: a string, or bytes of a file, as C has them; `put_line` puts a string into a buffer.
 
 ghost use Rattle.std.specs.Prelude.{◌≡◌};
 ghost use Rattle.pe_records_c.specs.Lines.{line_of};

@@ -1,4 +1,4 @@
-//! A fault in words.
+//! The row of a page that states a fault.
 
 ghost use Rattle.pe_text.specs.TextWriter.{IsReady};
 ghost use Rattle.pe_show.specs.Page.{AddsSome};

@@ -1,3 +1,5 @@
+//! `ShowOptions`: which tables a page lists row by row, and whether it has colours.
+
 use crate::cell::Cell;
 
 /// What a page shows beside the headers, the sections and the tables' counts.

@@ -1,3 +1,5 @@
+//! `Space`: the calls of every space, which read bytes, move images and list bindings.
+
 ghost use Rattle.std.specs.Prelude.{◌≡◌, length, None, Some, IfOk, IfErr, OnOk, OnErr, Ok, Err};
 ghost use Rattle.pe_space.specs.Content.{Content, byte_at, image_at, window_at, base_at, size_at};
 ghost use Rattle.pe_space.specs.Moves.{move_fault, moved, moved_counts};

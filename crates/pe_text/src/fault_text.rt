@@ -1,4 +1,4 @@
-//! Faults in words.
+//! Faults in words: `fault_words`, by a fault's number, and `FaultText`, with its place.
 
 ghost use Rattle.std.specs.Prelude.{◌≡◌, ◌≤◌, ◌++◌, Some, codes, length, option_map, map, take};
 ghost use Rattle.pe_text.specs.FaultWords.{rules, rule_view, words_view, words_in, words_of, at_words, hex_text, place_number, number_text, sentence};

@@ -1,3 +1,5 @@
+//! `write_image`: the file that a plan describes, or fault 53.
+
 ghost use Rattle.std.specs.Prelude.{◌≡◌, ℕ, None, Some, Err, [], OnOk, IfOk};
 ghost use Rattle.pe_view.specs.declared.fault.Fault as code_fault;
 ghost use Rattle.pe_view.specs.Faults.{first_standing, AnswersOrWants};

@@ -1,4 +1,4 @@
-//! Calls on faults in words: `petool_fault_words`, `petool_fault_line`; and `petool_version`.
+//! The version of the library, and faults in words: `petool_version`, `petool_fault_words` and `petool_fault_line`.
 
 ghost use Rattle.std.specs.Prelude.{◌≡◌, ◌≢◌, ◌⊎◌, None, Some, length, pos};
 ghost use Rattle.pe_records_c.specs.Faults.{fault_of};

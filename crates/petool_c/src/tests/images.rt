@@ -1,4 +1,4 @@
-//! One image.
+//! Tests of the calls on one image.
 
 use super::{UNTOLD, assert_fault, assert_holds, assert_status, is, told};
 use crate::export::{

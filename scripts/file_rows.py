@@ -1,0 +1,146 @@
+#!/usr/bin/env python3
+"""Writes docs/FILES.md, a row for each file of the crates and each script: file_rows.py [--check]
+
+A row has the comment that the file begins with, and the names that it declares for other files. With --check nothing is written:
+each file is compared with its row, the last line is 'N passed, M failed', and the status is 1 where something differs.
+"""
+
+import ast
+import pathlib
+import re
+import sys
+
+sys.dont_write_bytecode = True
+
+from crates_svg import crates_below, level
+
+TOP = pathlib.Path(__file__).resolve().parents[1]
+PAGE = "docs/FILES.md"
+#: What begins the lines of a file's first comment, by its ending; that of a script is its docstring.
+MARKS = {".rt": "//!", ".antt": "--"}
+#: What a file declares for other crates, and what for its own.
+PUBLIC = {
+    ".rt": re.compile(r'^pub (?:extern "C" )?(?:fn|struct|enum|trait|type|mod|const|static) (\w+)', re.M),
+    ".antt": re.compile(r"^(?:abbrev |unfoldable )?pub (?:record |data )?(?!mod |use )(\S+)", re.M),
+}
+OWN = re.compile(r"^pub\(\w+\) (?:fn|struct|enum|trait|type|const|static) (\w+)", re.M)
+#: The pages of crates, whose first comments stand below headings, and the lists of modules.
+WITHOUT_ROW = {"lib.rt", "main.rt", "Lib.antt"}
+#: The folders of scripts.
+SCRIPTS = ("scripts", "describe")
+HEAD = """# Files
+
+Each file of the crates and each script, with the comment that it begins with. `scripts/file_rows.py` writes this page of the sources. The crates stand in an order in which each comes after those that it uses. Names in parentheses are for the crate's own use. The sentence below a crate's name is the first of its `lib.rt` or `main.rt`; `specs/Lib.antt` lists the modules of a crate's definitions and those that it hands on. [MAP.md](MAP.md) says how the crates and their files work together.
+"""
+
+
+def first_paragraph(path):
+    """The first paragraph of the comment that begins a file. LookupError where none does."""
+    text = path.read_text()
+    if path.suffix == ".py":
+        lines = (ast.get_docstring(ast.parse(text)) or "").split("\n\n")[0].splitlines()
+    else:
+        mark = MARKS[path.suffix]
+        lines = re.match(rf"(?:{mark} .*\n)*", text)[0].replace(f"{mark} ", "").splitlines()
+    if not lines:
+        raise LookupError(f"{path.relative_to(TOP)}: no first line says what the file holds")
+    # a link of documentation is shown as its text
+    return re.sub(r"\[(`[^`]+`)\]", r"\1", " ".join(lines)).replace("|", r"\|")
+
+
+def names_of(path):
+    """The names that a file declares for others, those for its own crate in parentheses."""
+    text = path.read_text()
+    public = ", ".join(f"`{name}`" for name in PUBLIC[path.suffix].findall(text))
+    own = ", ".join(f"`{name}`" for name in OWN.findall(text))
+    return " ".join(filter(None, [public, own and f"({own})"]))
+
+
+def row(path):
+    """The row of a file, in which a path is shown as it is below its folder."""
+    parts = path.relative_to(TOP).parts
+    shown = "/".join(parts[2:] if parts[0] == "crates" else parts[1:])
+    cells = [f"[{shown}](../{'/'.join(parts)})", first_paragraph(path), *([names_of(path)] if path.suffix in PUBLIC else [])]
+    return f"| {' | '.join(cells)} |"
+
+
+def files_of(crate):
+    """The sources of a crate, and then its definitions."""
+    folder = TOP / "crates" / crate
+    found = [*sorted((folder / "src").rglob("*.rt")), *sorted((folder / "specs").rglob("*.antt"))]
+    return [path for path in found if path.name not in WITHOUT_ROW]
+
+
+def lemma_row(crate):
+    """The row that tells of a crate's lemmas, if it has any."""
+    modules = [path for path in sorted((TOP / "crates" / crate / "proofs").glob("*.antt")) if path.name not in WITHOUT_ROW]
+    told = " ".join(f"{path.stem}: {first_paragraph(path)}" for path in modules)
+    return [f"| [proofs](../crates/{crate}/proofs) | Modules of lemmas: {len(modules)}. {told} | |"] if modules else []
+
+
+def crates():
+    """The crates, each behind those that it stands on."""
+    below = crates_below()
+    return sorted(below, key=lambda name: level(name, below))
+
+
+def scripts(folder):
+    return sorted((TOP / folder).rglob("*.py"))
+
+
+def files():
+    """Each file that has a row."""
+    return [path for found in [*map(files_of, crates()), *map(scripts, SCRIPTS)] for path in found]
+
+
+def crate_part(crate):
+    """The heading of a crate, the first paragraph of its page, and its rows."""
+    folder = TOP / "crates" / crate / "src"
+    root = next(it for it in (folder / "lib.rt", folder / "main.rt") if it.is_file())
+    yield from ("", f"## {crate}", "", first_paragraph(root))
+    rows = [*map(row, files_of(crate)), *lemma_row(crate)]
+    if rows:
+        yield from ("", "| File | What it holds | Names |", "|---|---|---|", *rows)
+
+
+def script_part(folder):
+    yield from ("", f"## {folder}/", "", "| File | What it does |", "|---|---|", *map(row, scripts(folder)))
+
+
+def page():
+    parts = [*map(crate_part, crates()), *map(script_part, SCRIPTS)]
+    return HEAD + "".join(f"{line}\n" for part in parts for line in part)
+
+
+def difference(path, lines):
+    """What differs between a file and its row among these lines of the page, or nothing."""
+    try:
+        return "" if row(path) in lines else f"{path.relative_to(TOP)}: {PAGE} has another row, or none"
+    except LookupError as error:
+        return str(error)
+
+
+def whole_difference(text):
+    """What differs between the page and the files as a whole, or nothing."""
+    try:
+        return "" if page() == text else f"{PAGE}: it is not what scripts/file_rows.py writes"
+    except LookupError as error:
+        return f"{PAGE}: it cannot be written: {error}"
+
+
+def main(words):
+    if words != ["--check"]:
+        (TOP / PAGE).write_text(page())
+        return 0
+    text = (TOP / PAGE).read_text()
+    lines = set(text.splitlines())
+    found = [*(difference(path, lines) for path in files()), whole_difference(text)]
+    for sentence in filter(None, found):
+        print(sentence)
+    failed = sum(map(bool, found))
+    print(f"{len(found) - failed} passed, {failed} failed")
+    return 0 if failed == 0 else 1
+
+
+if __name__ == "__main__":
+    sys.exit(main(sys.argv[1:]))
