@@ -92,7 +92,7 @@ uint32_t petool_version(void);
 /* What stands at the place of a fault, and which rule does not hold of it: texts of this library. OK or ABSENT. */
 uint32_t petool_fault_words(uint16_t number, petool_text *subject, petool_text *rule);
 
-/* A fault as one line, for people: "section header at 0x138: the section's raw data passes the end of the file". It is written as
+/* A fault as one line, for people: "section header at 0x138: the section's raw data extends past the end of the file". It is written as
  * snprintf does: cut to the room, of which a zero byte takes one. Answers how many bytes the whole line has without that. */
 int petool_fault_line(const petool_fault *fault, char *line, size_t room);
 

@@ -9,7 +9,7 @@ use std::fmt::{self, Display};
 enum Case {
     /// How many bytes the file has.
     Size,
-    /// That the file has over 2^32 bytes.
+    /// That the file is larger than 2^32 bytes.
     OverLimit,
     /// An offset, and how many bytes the file has.
     Offset,

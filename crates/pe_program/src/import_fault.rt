@@ -34,7 +34,7 @@ pub(crate) fn tell_import_fault(rt: &impl Eprint, subject: &str, fault: Fault, i
     let module = import.module.escape_ascii();
     let text = FaultText(fault);
     let way = if fault.number == NO_MODULE {
-        "; --known leaves such slots as they stand"
+        "; with --known such slots are left as they are"
     } else {
         ""
     };

@@ -67,10 +67,10 @@ unfolding quoted escaped hex
 escapes = refl
 
 -- faults in words
-in_words : sentence (record { number = 13; image = 0; place = File 0x138 }) ≡ codes "section header at 0x138: the section's raw data passes the end of the file"
+in_words : sentence (record { number = 13; image = 0; place = File 0x138 }) ≡ codes "section header at 0x138: the section's raw data extends past the end of the file"
 unfolding rules digits
 in_words = refl
 
-in_words_of_an_item : sentence (record { number = 42; image = 12; place = Item 12 }) ≡ codes "file 12: its module has the name of an earlier one"
+in_words_of_an_item : sentence (record { number = 42; image = 12; place = Item 12 }) ≡ codes "file 12: its module has the same name as an earlier one"
 unfolding rules digits
 in_words_of_an_item = refl

@@ -49,9 +49,9 @@ pub extern "C" fn petool_fault_words(
     }
 }
 
-/// Writes a fault in words as one line for people: `section header at 0x138: the section's raw data passes the end of the file`.
-/// It is written as C's `snprintf` does, cut to the room of `line`, of which a zero byte takes one. The result is how many bytes the
-/// whole line has without that, at most 256.
+/// Writes a fault in words as one line for people: `section header at 0x138: the section's raw data extends past the end of the
+/// file`. It is written as C's `snprintf` does, cut to the room of `line`, of which a zero byte takes one. The result is how many
+/// bytes the whole line has without that, at most 256.
 #[unsafe(no_mangle)]
 pub extern "C" fn petool_fault_line(fault: &FaultRecord, line: &mut [u8]) -> i32
     ensures whole { result ≡ pos (length (sentence (fault_of fault.now))) }

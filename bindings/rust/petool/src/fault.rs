@@ -29,7 +29,7 @@ impl fmt::Display for Place {
 
 /// A rule of the format that does not hold: the first one, in the order of docs/FAULTS.md.
 ///
-/// It is shown in words: `section header at 0x138: the section's raw data passes the end of the file`.
+/// It is shown in words: `section header at 0x138: the section's raw data extends past the end of the file`.
 #[derive(Clone, Copy, Debug, PartialEq, Eq, Hash)]
 pub struct Fault {
     /// Which rule, from 1 to 85.
