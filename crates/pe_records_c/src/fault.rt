@@ -40,18 +40,18 @@ pub fn fault_record(fault: Fault) -> FaultRecord
 
 /// The fault of a record. A record that no call has filled is read as one: by the last two bits of `place`, and by the last 32 bits
 /// of `at` where the place is an RVA or an item.
-pub fn fault_of(record: &FaultRecord) -> Fault
-    ensures { result ≡ fault_of record.now }
+pub fn fault_of(told: &FaultRecord) -> Fault
+    ensures { result ≡ fault_of told.now }
 {
-    let place = match record.place % 4 {
-        0 => Place::File(record.at),
-        1 => Place::Rva((record.at % (1 << 32)) as u32),
-        2 => Place::Address(record.at),
-        _ => Place::Item((record.at % (1 << 32)) as u32),
+    let place = match told.place % 4 {
+        0 => Place::File(told.at),
+        1 => Place::Rva((told.at % (1 << 32)) as u32),
+        2 => Place::Address(told.at),
+        _ => Place::Item((told.at % (1 << 32)) as u32),
     };
     Fault {
-        number: record.number,
-        image: record.image,
+        number: told.number,
+        image: told.image,
         place,
     }
 }
