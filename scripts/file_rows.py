@@ -1,5 +1,5 @@
 #!/usr/bin/env python3
-"""Writes docs/FILES.md, a row for each file of the crates and each script: file_rows.py [--check]
+"""Writes docs/FILES.md, a row for each source of the crates, the bindings and the scripts: file_rows.py [--check]
 
 A row has the comment that the file begins with, and the names that it declares for other files. With --check nothing is written:
 each file is compared with its row, the last line is 'N passed, M failed', and the status is 1 where something differs.
@@ -16,8 +16,12 @@ from crates_svg import crates_below, level
 
 TOP = pathlib.Path(__file__).resolve().parents[1]
 PAGE = "docs/FILES.md"
-#: What begins the lines of a file's first comment, by its ending; that of a script is its docstring.
-MARKS = {".rt": "//!", ".antt": "--"}
+#: What begins the lines of a file's first comment, by its ending.
+MARKS = {".rt": "//!", ".rs": "//!", ".antt": "--"}
+#: The sources beside the crates: by folder, and their endings. None of what is made there is one.
+OTHERS = ("bindings", "describe", "scripts")
+ENDINGS = {".c", ".h", ".py", ".rs"}
+MADE = {"build", "out", "target", "__pycache__"}
 #: What a file declares for other crates, and what for its own.
 PUBLIC = {
     ".rt": re.compile(r'^pub (?:extern "C" )?(?:fn|struct|enum|trait|type|mod|const|static) (\w+)', re.M),
@@ -26,11 +30,9 @@ PUBLIC = {
 OWN = re.compile(r"^pub\(\w+\) (?:fn|struct|enum|trait|type|const|static) (\w+)", re.M)
 #: The pages of crates, whose first comments stand below headings, and the lists of modules.
 WITHOUT_ROW = {"lib.rt", "main.rt", "Lib.antt"}
-#: The folders of scripts.
-SCRIPTS = ("scripts", "describe")
 HEAD = """# Files
 
-Each file of the crates and each script, with the comment that it begins with. `scripts/file_rows.py` writes this page of the sources. The crates stand in an order in which each comes after those that it uses. Names in parentheses are for the crate's own use. The sentence below a crate's name is the first of its `lib.rt` or `main.rt`; `specs/Lib.antt` lists the modules of a crate's definitions and those that it hands on. [MAP.md](MAP.md) says how the crates and their files work together.
+Each source of the crates, the bindings and the scripts, with the comment that it begins with. `scripts/file_rows.py` writes this page. Each crate comes after those that it uses. The sentence below its name is the first of its `lib.rt` or `main.rt`; its `specs/Lib.antt` lists the modules of definitions, and those that it hands on. Names in parentheses are for the crate's own use. [MAP.md](MAP.md) says how the files work together.
 """
 
 
@@ -39,6 +41,9 @@ def first_paragraph(path):
     text = path.read_text()
     if path.suffix == ".py":
         lines = (ast.get_docstring(ast.parse(text)) or "").split("\n\n")[0].splitlines()
+    elif path.suffix in (".c", ".h"):
+        comment = re.match(r"/\*(?: \*|\s)*(.*?)\s*(?:\n \*\n|\*/)", text, re.S)
+        lines = re.split(r"\s*\n \* ", comment[1]) if comment else []
     else:
         mark = MARKS[path.suffix]
         lines = re.match(rf"(?:{mark} .*\n)*", text)[0].replace(f"{mark} ", "").splitlines()
@@ -84,13 +89,15 @@ def crates():
     return sorted(below, key=lambda name: level(name, below))
 
 
-def scripts(folder):
-    return sorted((TOP / folder).rglob("*.py"))
+def others(folder):
+    """The sources of a folder beside the crates."""
+    found = [path for path in sorted((TOP / folder).rglob("*")) if path.suffix in ENDINGS]
+    return [path for path in found if not MADE.intersection(path.relative_to(TOP).parts)]
 
 
 def files():
     """Each file that has a row."""
-    return [path for found in [*map(files_of, crates()), *map(scripts, SCRIPTS)] for path in found]
+    return [path for found in [*map(files_of, crates()), *map(others, OTHERS)] for path in found]
 
 
 def crate_part(crate):
@@ -103,12 +110,12 @@ def crate_part(crate):
         yield from ("", "| File | What it holds | Names |", "|---|---|---|", *rows)
 
 
-def script_part(folder):
-    yield from ("", f"## {folder}/", "", "| File | What it does |", "|---|---|", *map(row, scripts(folder)))
+def other_part(folder):
+    yield from ("", f"## {folder}/", "", "| File | What it holds or does |", "|---|---|", *map(row, others(folder)))
 
 
 def page():
-    parts = [*map(crate_part, crates()), *map(script_part, SCRIPTS)]
+    parts = [*map(crate_part, crates()), *map(other_part, OTHERS)]
     return HEAD + "".join(f"{line}\n" for part in parts for line in part)
 
 

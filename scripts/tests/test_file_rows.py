@@ -18,12 +18,19 @@ FILES = {
     "crates/low/proofs/Lemmas.antt": "-- Lemmas on views.\n",
     "crates/low/proofs/view/Answers.antt": "",
     "crates/high/src/main.rt": "//! The program.\n\nfn main() {}\n",
+    "bindings/rust/src/lib.rs": "//! All\n//! calls.\n//!\n//! More.\n",
+    "bindings/rust/target/made.rs": "",
+    "bindings/c/calls.c": "/*\n * Each\n * call.\n *\n * More.\n */\nint x;\n",
+    "bindings/c/calls.h": "/* What is\n * shared. */\nint x;\n",
 }
 VIEW, SPEC, LEMMAS = "crates/low/src/view.rt", "crates/low/specs/View.antt", "crates/low/proofs/Lemmas.antt"
 ROWS = [
     r"| [src/view.rt](../crates/low/src/view.rt) | `View`: one\|another. | `View` (`inside`) |",
     "| [specs/View.antt](../crates/low/specs/View.antt) | What a view shows. | `bytes`, `IsHere` |",
     "| [proofs](../crates/low/proofs) | Modules of lemmas: 1. Lemmas: Lemmas on views. | |",
+    "| [rust/src/lib.rs](../bindings/rust/src/lib.rs) | All calls. |",
+    "| [c/calls.c](../bindings/c/calls.c) | Each call. |",
+    "| [c/calls.h](../bindings/c/calls.h) | What is shared. |",
 ]
 WHOLE = "docs/FILES.md: it is not what scripts/file_rows.py writes"
 #: What is changed: the file, its new text, or none where it is taken away, and what is then said.
@@ -37,6 +44,8 @@ CHANGES = [
     ("crates/low/specs/More.antt", "-- More.\n", "crates/low/specs/More.antt: docs/FILES.md has another row, or none"),
     ("scripts/more.py", '"""More."""\n', "scripts/more.py: docs/FILES.md has another row, or none"),
     ("scripts/more.py", "import sys\n", "scripts/more.py: no first line says what the file holds"),
+    ("bindings/c/calls.c", "int x;\n", "bindings/c/calls.c: no first line says what the file holds"),
+    ("bindings/rust/src/lib.rs", "//! No call.\n", "bindings/rust/src/lib.rs: docs/FILES.md has another row, or none"),
     (VIEW, None, WHOLE),
     ("crates/low/src/lib.rt", "//! Other.\n", WHOLE),
     ("crates.txt", "high: bytes\nlow: high\n", WHOLE),
@@ -75,7 +84,7 @@ class Rows(unittest.TestCase):
         self.assertLess(self.page().index("## low"), self.page().index("## high"))
 
     def test_a_page_that_was_just_written_passes(self):
-        self.assertEqual(self.run_script("--check"), (0, "5 passed, 0 failed\n"))
+        self.assertEqual(self.run_script("--check"), (0, "8 passed, 0 failed\n"))
 
     def test_each_difference_is_said(self):
         for path, text, said in CHANGES:
@@ -92,7 +101,7 @@ class Rows(unittest.TestCase):
     def test_a_row_too_many_is_said(self):
         (self.top / "docs/FILES.md").write_text(self.page() + "| [src/gone.rt](../crates/low/src/gone.rt) | Gone. | |\n")
         status, output = self.run_script("--check")
-        self.assertEqual((status, output), (1, f"{WHOLE}\n4 passed, 1 failed\n"))
+        self.assertEqual((status, output), (1, f"{WHOLE}\n7 passed, 1 failed\n"))
 
 
 if __name__ == "__main__":
