@@ -2,13 +2,12 @@
 """Compares pages with what they tell of, and says what differs: docs_check.py
 
 - PROVED.md: the public functions that have conditions, and the tests that it names; TESTS.md: its tests and wrong bodies
-- MAP.md: each file and each proof by hand that it names is there, and each crate has a row (FILES.md, which has a row for each
-  file, is compared by file_rows.py)
+- MAP.md: each file and each proof by hand that it names is there (its crates, and FILES.md, are compared by file_rows.py)
 - GUIDE.md and petool(1): the commands, options and arguments of the program that PETOOL_PROGRAM names, and README.md, which may
   leave out options; without that program this is left out
 - the versions of the library, of its bindings and of its package: that of petool.h. The program has a version of its own, which
   petool(1) alone tells
-- PROVED.md, README.md and MAP.md: the ported crates of crates.txt, those of tests and of the benchmark apart
+- PROVED.md and README.md: the ported crates of crates.txt, those of tests and of the benchmark apart
 
 Each sentence names the page and the thing; the last line is 'N passed, M failed', and the status is 1 where something differs.
 """
@@ -345,21 +344,10 @@ def trust_faults(page):
             yield f"{page}: {name} is not named by {crate}"
 
 
-def column_faults():
-    """Whether MAP.md has a row for each crate, with the ported crates that it names."""
-    all_crates = crates()
-    table = {names(row[0])[0]: row[3] for row in rows(section(read(MAP), "## Crates")) if len(row) == 4 and names(row[0])}
-    yield from (f"{MAP}: {it} is no crate, or has no row" for it in sorted(table.keys() ^ all_crates.keys()))
-    for crate in table.keys() & all_crates.keys():
-        told = set(re.sub(r"`\w+`|in tests|,", " ", table[crate]).split())
-        right = set(all_crates[crate]) - all_crates.keys()
-        yield from (f"{MAP}: {crate}: {it} is a ported crate in one of the table and crates.txt" for it in sorted(told ^ right))
-
-
 def comparisons(program):
     """Of each comparison what is wrong: nothing where page and source agree."""
     yield condition_faults()
-    yield from (file_faults(), proof_faults(), list_faults(), edit_faults(), version_faults(), column_faults())
+    yield from (file_faults(), proof_faults(), list_faults(), edit_faults(), version_faults())
     yield from map(test_faults, (PROVED, TESTS))
     yield from map(trust_faults, (PROVED, README))
     if program:

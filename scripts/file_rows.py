@@ -1,8 +1,10 @@
 #!/usr/bin/env python3
-"""Writes docs/FILES.md, a row for each source of the crates, the bindings and the scripts: file_rows.py [--check]
+"""Writes docs/FILES.md, a row for each source of the crates, the bindings and the scripts, and the crates in docs/MAP.md:
+file_rows.py [--check]
 
-A row has the comment that the file begins with, and the names that it declares for other files. With --check nothing is written:
-each file is compared with its row, the last line is 'N passed, M failed', and the status is 1 where something differs.
+A row has the comment that the file begins with, and the names that it declares for other files. That of a crate has what its first
+page says, and what it names in crates.txt. With --check nothing is written: each file is compared with its row, and MAP.md; the last
+line is 'N passed, M failed', and the status is 1 where something differs.
 """
 
 import ast
@@ -12,10 +14,12 @@ import sys
 
 sys.dont_write_bytecode = True
 
-from crates_svg import crates_below, level
+from crates_svg import all_named, crates_below, direct, level
 
 TOP = pathlib.Path(__file__).resolve().parents[1]
-PAGE = "docs/FILES.md"
+PAGE, MAP = "docs/FILES.md", "docs/MAP.md"
+#: Between which lines the crates stand in MAP.md.
+REGION = re.compile(r"(?<=<!-- from crates.txt -->\n).*(?=<!-- end of crates.txt -->\n)", re.S)
 #: What begins the lines of a file's first comment, by its ending.
 MARKS = {".rt": "//!", ".rs": "//!", ".antt": "--"}
 #: The sources beside the crates: by folder, and their endings. None of what is made there is one.
@@ -100,11 +104,32 @@ def files():
     return [path for found in [*map(files_of, crates()), *map(others, OTHERS)] for path in found]
 
 
+def purpose(crate):
+    """The first paragraph of a crate's page."""
+    folder = TOP / "crates" / crate / "src"
+    return first_paragraph(next(it for it in (folder / "lib.rt", folder / "main.rt") if it.is_file()))
+
+
+def crate_rows():
+    """The table of the crates: what each is for, the crates that it uses, without those that these use, and the ported ones."""
+    below, named = crates_below(), all_named()
+    yield from ("| Crate | What it is for | Uses | Ported crates |", "|---|---|---|---|")
+    for crate in crates():
+        used = ", ".join(f"`{it}`" for it in direct(crate, below))
+        ported = ", ".join(it for it in named[crate] if it not in below)
+        yield f"| `{crate}` | {purpose(crate).removesuffix('.')} | {used} | {ported} |"
+
+
+def map_page(text):
+    """MAP.md with the crates as they are. LookupError where it has no place for them."""
+    if not REGION.search(text):
+        raise LookupError(f"{MAP}: there are no two comments between which the crates stand")
+    return REGION.sub(lambda _: "".join(f"{line}\n" for line in crate_rows()), text)
+
+
 def crate_part(crate):
     """The heading of a crate, the first paragraph of its page, and its rows."""
-    folder = TOP / "crates" / crate / "src"
-    root = next(it for it in (folder / "lib.rt", folder / "main.rt") if it.is_file())
-    yield from ("", f"## {crate}", "", first_paragraph(root))
+    yield from ("", f"## {crate}", "", purpose(crate))
     rows = [*map(row, files_of(crate)), *lemma_row(crate)]
     if rows:
         yield from ("", "| File | What it holds | Names |", "|---|---|---|", *rows)
@@ -127,21 +152,23 @@ def difference(path, lines):
         return str(error)
 
 
-def whole_difference(text):
-    """What differs between the page and the files as a whole, or nothing."""
+def whole_difference(path, write):
+    """What differs between a page and what is written of the files, or nothing."""
     try:
-        return "" if page() == text else f"{PAGE}: it is not what scripts/file_rows.py writes"
+        text = (TOP / path).read_text()
+        return "" if write(text) == text else f"{path}: it is not what scripts/file_rows.py writes"
     except LookupError as error:
-        return f"{PAGE}: it cannot be written: {error}"
+        return f"{path}: it cannot be written: {error}"
 
 
 def main(words):
     if words != ["--check"]:
         (TOP / PAGE).write_text(page())
+        (TOP / MAP).write_text(map_page((TOP / MAP).read_text()))
         return 0
-    text = (TOP / PAGE).read_text()
-    lines = set(text.splitlines())
-    found = [*(difference(path, lines) for path in files()), whole_difference(text)]
+    lines = set((TOP / PAGE).read_text().splitlines())
+    found = [difference(path, lines) for path in files()]
+    found += [whole_difference(PAGE, lambda _: page()), whole_difference(MAP, map_page)]
     for sentence in filter(None, found):
         print(sentence)
     failed = sum(map(bool, found))

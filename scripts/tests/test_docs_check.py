@@ -61,8 +61,6 @@ PORTED = [
     (README, "itoa, thiserror, clap", "itoa, serde, thiserror, clap", f"{README}: serde is no ported crate"),
     ("crates.txt", "pe_words: pe_view clap", "pe_words: pe_view clap bumpalo", f"{PROVED}: bumpalo is not among the ported crates"),
     (PROVED, "bumpalo (of `test_calls`)", "bumpalo (of `test_images`)", f"{PROVED}: bumpalo is not named by test_images"),
-    (MAP, "| `pe_view` | clap |", "| `pe_view` | |", f"{MAP}: pe_words: clap is a ported crate"),
-    (MAP, "| `pe_image` | one image, read whole | `pe_tables` | |\n", "", f"{MAP}: pe_image is no crate, or has no row"),
 ]
 WORDS = [
     (GUIDE, "petool show [--exports] ", "petool show ", f"{GUIDE}: petool show has --exports, which is not named"),

@@ -10,7 +10,7 @@ import unittest
 SCRIPTS = pathlib.Path(__file__).resolve().parents[1]
 FILES = {
     "crates.txt": "high: low bytes\nlow: bytes\n",
-    "docs/MAP.md": "# Map\n",
+    "docs/MAP.md": "# Map\n\n<!-- from crates.txt -->\n<!-- end of crates.txt -->\nMore.\n",
     "crates/low/src/lib.rt": "//! Bytes of\n//! a file.\n//!\n//! More.\n\nmod view;\npub use view::View;\n",
     "crates/low/src/view.rt": "//! [`View`]: one|another.\n\npub struct View {}\n\npub(crate) fn inside() {}\n\nfn own() {}\n",
     "crates/low/specs/Lib.antt": "pub mod View\n",
@@ -32,7 +32,15 @@ ROWS = [
     "| [c/calls.c](../bindings/c/calls.c) | Each call. |",
     "| [c/calls.h](../bindings/c/calls.h) | What is shared. |",
 ]
+CRATES = """<!-- from crates.txt -->
+| Crate | What it is for | Uses | Ported crates |
+|---|---|---|---|
+| `low` | Bytes of a file |  | bytes |
+| `high` | The program | `low` | bytes |
+<!-- end of crates.txt -->
+"""
 WHOLE = "docs/FILES.md: it is not what scripts/file_rows.py writes"
+MAP = "docs/MAP.md: it is not what scripts/file_rows.py writes"
 #: What is changed: the file, its new text, or none where it is taken away, and what is then said.
 CHANGES = [
     (VIEW, "//! Other bytes.\n\npub struct View {}\n", f"{VIEW}: docs/FILES.md has another row, or none"),
@@ -49,6 +57,10 @@ CHANGES = [
     (VIEW, None, WHOLE),
     ("crates/low/src/lib.rt", "//! Other.\n", WHOLE),
     ("crates.txt", "high: bytes\nlow: high\n", WHOLE),
+    ("crates.txt", "high: low\nlow: bytes\n", MAP),
+    ("crates/low/src/lib.rt", "//! Other.\n", MAP),
+    ("docs/MAP.md", CRATES.replace("`low` | bytes", "`low` | "), MAP),
+    ("docs/MAP.md", "# Map\n", "docs/MAP.md: it cannot be written: docs/MAP.md: there are no two comments"),
 ]
 
 
@@ -79,12 +91,15 @@ class Rows(unittest.TestCase):
         for row in ROWS:
             self.assertIn(f"\n{row}\n", self.page())
 
+    def test_the_map_has_the_crates(self):
+        self.assertEqual((self.top / "docs/MAP.md").read_text(), f"# Map\n\n{CRATES}More.\n")
+
     def test_crates_stand_behind_those_that_they_use(self):
         self.assertIn("\n## low\n\nBytes of a file.\n", self.page())
         self.assertLess(self.page().index("## low"), self.page().index("## high"))
 
     def test_a_page_that_was_just_written_passes(self):
-        self.assertEqual(self.run_script("--check"), (0, "8 passed, 0 failed\n"))
+        self.assertEqual(self.run_script("--check"), (0, "9 passed, 0 failed\n"))
 
     def test_each_difference_is_said(self):
         for path, text, said in CHANGES:
@@ -95,13 +110,13 @@ class Rows(unittest.TestCase):
                 status, output = self.run_script("--check")
                 file.unlink() if before is None else self.put(path, before)
                 self.assertEqual((status, said in output), (1, True), output)
-                self.assertRegex(output, r"\n\d+ passed, [12] failed\n\Z")
+                self.assertRegex(output, r"\n\d+ passed, [123] failed\n\Z")
         self.assertEqual(self.run_script("--check")[0], 0)
 
     def test_a_row_too_many_is_said(self):
         (self.top / "docs/FILES.md").write_text(self.page() + "| [src/gone.rt](../crates/low/src/gone.rt) | Gone. | |\n")
         status, output = self.run_script("--check")
-        self.assertEqual((status, output), (1, f"{WHOLE}\n7 passed, 1 failed\n"))
+        self.assertEqual((status, output), (1, f"{WHOLE}\n8 passed, 1 failed\n"))
 
 
 if __name__ == "__main__":
