@@ -1,10 +1,10 @@
 #!/usr/bin/env python3
-"""Writes docs/FILES.md, a row for each source of the crates, the bindings and the scripts, and the crates in docs/MAP.md:
-file_rows.py [--check]
+"""Writes docs/FILES.md, a row for each source of the crates, the bindings and the scripts; the crates in docs/MAP.md; and the laws in
+docs/PROVED.md: file_rows.py [--check]
 
 A row has the comment that the file begins with, and the names that it declares for other files. That of a crate has what its first
-page says, and what it names in crates.txt. With --check nothing is written: each file is compared with its row, and MAP.md; the last
-line is 'N passed, M failed', and the status is 1 where something differs.
+page says, and what it names in crates.txt; a law has its comment. With --check nothing is written: each file is compared with its
+row, and the other pages; the last line is 'N passed, M failed', and the status is 1 where something differs.
 """
 
 import ast
@@ -17,9 +17,10 @@ sys.dont_write_bytecode = True
 from crates_svg import all_named, crates_below, direct, level
 
 TOP = pathlib.Path(__file__).resolve().parents[1]
-PAGE, MAP = "docs/FILES.md", "docs/MAP.md"
-#: Between which lines the crates stand in MAP.md.
-REGION = re.compile(r"(?<=<!-- from crates.txt -->\n).*(?=<!-- end of crates.txt -->\n)", re.S)
+PAGE, MAP, PROVED = "docs/FILES.md", "docs/MAP.md", "docs/PROVED.md"
+#: A law with its comment, and any public function.
+LAW = re.compile(r"((?:^/// .*\n)+)pub fn (\w+)", re.M)
+FUNCTION = re.compile(r"^pub fn (\w+)", re.M)
 #: What begins the lines of a file's first comment, by its ending.
 MARKS = {".rt": "//!", ".rs": "//!", ".antt": "--"}
 #: The sources beside the crates: by folder, and their endings. None of what is made there is one.
@@ -120,11 +121,27 @@ def crate_rows():
         yield f"| `{crate}` | {purpose(crate).removesuffix('.')} | {used} | {ported} |"
 
 
-def map_page(text):
-    """MAP.md with the crates as they are. LookupError where it has no place for them."""
-    if not REGION.search(text):
-        raise LookupError(f"{MAP}: there are no two comments between which the crates stand")
-    return REGION.sub(lambda _: "".join(f"{line}\n" for line in crate_rows()), text)
+def law_lines():
+    """The laws by their crates, each with its comment. LookupError where one has none."""
+    for crate in crates():
+        path = TOP / "crates" / crate / "src" / "laws.rt"
+        text = path.read_text() if path.is_file() else ""
+        laws = {name: comment.replace("/// ", "").split("\n") for comment, name in LAW.findall(text)}
+        for name in FUNCTION.findall(text):
+            if name not in laws:
+                raise LookupError(f"{path.relative_to(TOP)}: no comment says what {name} means")
+        if laws:
+            yield from ("", f"Of `{crate}`:", "", *(f"- `{name}`: {' '.join(lines).strip()}" for name, lines in laws.items()))
+    yield ""
+
+
+def filled(path, name, lines):
+    """A page with lines between the two comments that name what is between them. LookupError where they are not there."""
+    text = (TOP / path).read_text()
+    region = re.compile(rf"(?<=<!-- from {name} -->\n).*(?=<!-- end of {name} -->\n)", re.S)
+    if not region.search(text):
+        raise LookupError(f"there are no two comments with {name}")
+    return region.sub(lambda _: "".join(f"{line}\n" for line in lines), text)
 
 
 def crate_part(crate):
@@ -152,23 +169,29 @@ def difference(path, lines):
         return str(error)
 
 
-def whole_difference(path, write):
+#: What is written of each page.
+PAGES = {
+    PAGE: page,
+    MAP: lambda: filled(MAP, "crates.txt", crate_rows()),
+    PROVED: lambda: filled(PROVED, "the laws of the crates", law_lines()),
+}
+
+
+def whole_difference(path):
     """What differs between a page and what is written of the files, or nothing."""
     try:
-        text = (TOP / path).read_text()
-        return "" if write(text) == text else f"{path}: it is not what scripts/file_rows.py writes"
+        return "" if PAGES[path]() == (TOP / path).read_text() else f"{path}: it is not what scripts/file_rows.py writes"
     except LookupError as error:
         return f"{path}: it cannot be written: {error}"
 
 
 def main(words):
     if words != ["--check"]:
-        (TOP / PAGE).write_text(page())
-        (TOP / MAP).write_text(map_page((TOP / MAP).read_text()))
+        for path, write in PAGES.items():
+            (TOP / path).write_text(write())
         return 0
     lines = set((TOP / PAGE).read_text().splitlines())
-    found = [difference(path, lines) for path in files()]
-    found += [whole_difference(PAGE, lambda _: page()), whole_difference(MAP, map_page)]
+    found = [*(difference(path, lines) for path in files()), *map(whole_difference, PAGES)]
     for sentence in filter(None, found):
         print(sentence)
     failed = sum(map(bool, found))

@@ -11,6 +11,8 @@ SCRIPTS = pathlib.Path(__file__).resolve().parents[1]
 FILES = {
     "crates.txt": "high: low bytes\nlow: bytes\n",
     "docs/MAP.md": "# Map\n\n<!-- from crates.txt -->\n<!-- end of crates.txt -->\nMore.\n",
+    "docs/PROVED.md": "# Proved\n\n<!-- from the laws of the crates -->\n<!-- end of the laws of the crates -->\n",
+    "crates/low/src/laws.rt": "//! Laws.\n\n/// Bytes\n/// last.\npub fn bytes_last()\n{}\n",
     "crates/low/src/lib.rt": "//! Bytes of\n//! a file.\n//!\n//! More.\n\nmod view;\npub use view::View;\n",
     "crates/low/src/view.rt": "//! [`View`]: one|another.\n\npub struct View {}\n\npub(crate) fn inside() {}\n\nfn own() {}\n",
     "crates/low/specs/Lib.antt": "pub mod View\n",
@@ -39,8 +41,17 @@ CRATES = """<!-- from crates.txt -->
 | `high` | The program | `low` | bytes |
 <!-- end of crates.txt -->
 """
+LAWS = """<!-- from the laws of the crates -->
+
+Of `low`:
+
+- `bytes_last`: Bytes last.
+
+<!-- end of the laws of the crates -->
+"""
 WHOLE = "docs/FILES.md: it is not what scripts/file_rows.py writes"
 MAP = "docs/MAP.md: it is not what scripts/file_rows.py writes"
+PROVED = "docs/PROVED.md: it is not what scripts/file_rows.py writes"
 #: What is changed: the file, its new text, or none where it is taken away, and what is then said.
 CHANGES = [
     (VIEW, "//! Other bytes.\n\npub struct View {}\n", f"{VIEW}: docs/FILES.md has another row, or none"),
@@ -60,7 +71,10 @@ CHANGES = [
     ("crates.txt", "high: low\nlow: bytes\n", MAP),
     ("crates/low/src/lib.rt", "//! Other.\n", MAP),
     ("docs/MAP.md", CRATES.replace("`low` | bytes", "`low` | "), MAP),
-    ("docs/MAP.md", "# Map\n", "docs/MAP.md: it cannot be written: docs/MAP.md: there are no two comments"),
+    ("docs/MAP.md", "# Map\n", "docs/MAP.md: it cannot be written: there are no two comments with crates.txt"),
+    ("crates/low/src/laws.rt", "//! Laws.\n\n/// Bytes stay.\npub fn bytes_last()\n{}\n", PROVED),
+    ("crates/low/src/laws.rt", "//! Laws.\n\npub fn bytes_last()\n{}\n", "no comment says what bytes_last means"),
+    ("docs/PROVED.md", LAWS.replace("last.", "stay."), PROVED),
 ]
 
 
@@ -91,15 +105,16 @@ class Rows(unittest.TestCase):
         for row in ROWS:
             self.assertIn(f"\n{row}\n", self.page())
 
-    def test_the_map_has_the_crates(self):
+    def test_pages_have_the_crates_and_the_laws(self):
         self.assertEqual((self.top / "docs/MAP.md").read_text(), f"# Map\n\n{CRATES}More.\n")
+        self.assertEqual((self.top / "docs/PROVED.md").read_text(), f"# Proved\n\n{LAWS}")
 
     def test_crates_stand_behind_those_that_they_use(self):
         self.assertIn("\n## low\n\nBytes of a file.\n", self.page())
         self.assertLess(self.page().index("## low"), self.page().index("## high"))
 
     def test_a_page_that_was_just_written_passes(self):
-        self.assertEqual(self.run_script("--check"), (0, "9 passed, 0 failed\n"))
+        self.assertEqual(self.run_script("--check"), (0, "11 passed, 0 failed\n"))
 
     def test_each_difference_is_said(self):
         for path, text, said in CHANGES:
@@ -116,7 +131,7 @@ class Rows(unittest.TestCase):
     def test_a_row_too_many_is_said(self):
         (self.top / "docs/FILES.md").write_text(self.page() + "| [src/gone.rt](../crates/low/src/gone.rt) | Gone. | |\n")
         status, output = self.run_script("--check")
-        self.assertEqual((status, output), (1, f"{WHOLE}\n8 passed, 1 failed\n"))
+        self.assertEqual((status, output), (1, f"{WHOLE}\n10 passed, 1 failed\n"))
 
 
 if __name__ == "__main__":
