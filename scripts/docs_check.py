@@ -1,13 +1,12 @@
 #!/usr/bin/env python3
 """Compares pages with what they tell of, and says what differs: docs_check.py
 
-- PROVED.md: the public functions that have conditions, the tests and the wrong bodies that it names
-- MAP.md: each file and each proof by hand that it names is there, and each crate has a row (FILES.md, which has a row for each
-  file, is compared by file_rows.py)
+- PROVED.md: the public functions that have conditions, and the tests that it names; TESTS.md: its tests and wrong bodies
+- MAP.md: each file and each proof by hand that it names is there (its crates, and FILES.md, are compared by file_rows.py)
 - GUIDE.md and petool(1): the commands, options and arguments of the program that PETOOL_PROGRAM names, and README.md, which may
   leave out options; without that program this is left out
 - the versions of the program, of the library, of its bindings and of its package: that of the file VERSION
-- PROVED.md, README.md and MAP.md: the ported crates of crates.txt, those of tests and of the benchmark apart
+- PROVED.md and README.md: the ported crates of crates.txt, those of tests and of the benchmark apart
 
 Each sentence names the page and the thing; the last line is 'N passed, M failed', and the status is 1 where something differs.
 """
@@ -24,11 +23,12 @@ sys.dont_write_bytecode = True
 from completions import options_of, rows as help_rows
 
 TOP = pathlib.Path(__file__).resolve().parents[1]
-PROVED, MAP, GUIDE, README, MAN = "docs/PROVED.md", "docs/MAP.md", "docs/GUIDE.md", "README.md", "man/petool.1"
+PROVED, TESTS, MAP = "docs/PROVED.md", "docs/TESTS.md", "docs/MAP.md"
+GUIDE, README, MAN = "docs/GUIDE.md", "README.md", "man/petool.1"
 #: Folders of what is made, which no page tells of.
 MADE = {".git", "out", "target", "__pycache__"}
-#: Where a file stands that PROVED.md names without a folder, by its ending, and the lists of cases that it names by one word.
-TESTS = {
+#: Where a test stands that a page names without a folder, by its ending, and the lists of cases that PROVED.md names by one word.
+FOLDERS = {
     ".py": ["bindings/python/tests"],
     ".rt": ["crates/test_images/src/tests", "crates/test_calls/src/tests/files"],
 }
@@ -133,9 +133,9 @@ def public_conditions():
 
 def condition_faults():
     """Whether PROVED.md names the public functions that have conditions, and no others."""
-    row = next((it for it in rows(read(PROVED)) if it[0].startswith("Of the public functions these have conditions")), [""])
+    cells = [row[1] for row in rows(section(read(PROVED), "## Every function"))]
     # a module is no part of the name
-    named = {re.sub(r"^[a-z]\w*::", "", it) for it in names(row[0])}
+    named = {re.sub(r"^[a-z]\w*::", "", it) for cell in cells for it in names(cell)}
     found = public_conditions()
     yield from (f"{PROVED}: {it} of {found[it]} has conditions, and is not named" for it in sorted(found.keys() - named))
     yield from (f"{PROVED}: {it} is named, and is no public function with conditions" for it in sorted(named - found.keys()))
@@ -200,26 +200,28 @@ def proof_faults():
     yield from (f"{MAP}: there is no proof by hand of {' '.join(it)}" for it in sorted(named - found))
 
 
-def test_faults():
-    """Whether the tests are there by which PROVED.md says that claims are tested."""
-    text = read(PROVED)
-    cells = [row[1].partition("tested")[2] for row in rows(text) if len(row) == 2 and not row[0].startswith("tested")]
-    form = re.compile(r"(?:bindings|crates|scripts)/.*|\S+\.(?:py|rt|c)")
-    for name in sorted({it for cell in cells for it in names(cell) if form.fullmatch(it)}):
-        folders = [""] if "/" in name else TESTS.get(pathlib.PurePath(name).suffix, [])
+def test_faults(page):
+    """Whether the tests are there that a page names: by their paths, or without a folder."""
+    form = re.compile(r"(?:bindings|crates|scripts)/[\w./-]+|\w+\.(?:py|rt|c)")
+    for name in sorted({it for it in names(read(page)) if form.fullmatch(it)}):
+        folders = [""] if "/" in name else FOLDERS.get(pathlib.PurePath(name).suffix, [])
         if not any((TOP / it / name).exists() for it in folders):
-            yield f"{PROVED}: there is no test {name}"
+            yield f"{page}: there is no test {name}"
+
+
+def list_faults():
+    """Whether the lists of cases are there that PROVED.md names by one word."""
     yield from (f"{PROVED}: there is no {it}" for it in LISTS if not (TOP / it).is_file())
 
 
 def edit_faults():
-    """Whether the edits are there by which PROVED.md says that wrong bodies are planted."""
-    for row in rows(section(read(PROVED), "## Wrong bodies")):
+    """Whether the edits are there by which TESTS.md says that wrong bodies are planted."""
+    for row in rows(section(read(TESTS), "## Wrong bodies")):
         crate = ""
         for before, name in re.findall(r"(?:(\w+) )?`([a-z]\w*)`", row[1]):
             crate = before or crate
             if not (TOP / f"crates/{crate}/must-fail/{name}.edit").is_file():
-                yield f"{PROVED}: there is no edit {name} of {crate}"
+                yield f"{TESTS}: there is no edit {name} of {crate}"
 
 
 def said(program, *words):
@@ -350,21 +352,11 @@ def trust_faults(page):
             yield f"{page}: {name} is not named by {crate}"
 
 
-def column_faults():
-    """Whether MAP.md has a row for each crate, with the ported crates that it names."""
-    all_crates = crates()
-    table = {names(row[0])[0]: row[3] for row in rows(section(read(MAP), "## Crates")) if len(row) == 4 and names(row[0])}
-    yield from (f"{MAP}: {it} is no crate, or has no row" for it in sorted(table.keys() ^ all_crates.keys()))
-    for crate in table.keys() & all_crates.keys():
-        told = set(re.sub(r"`\w+`|in tests|,", " ", table[crate]).split())
-        right = set(all_crates[crate]) - all_crates.keys()
-        yield from (f"{MAP}: {crate}: {it} is a ported crate in one of the table and crates.txt" for it in sorted(told ^ right))
-
-
 def comparisons(program):
     """Of each comparison what is wrong: nothing where page and source agree."""
     yield condition_faults()
-    yield from (file_faults(), proof_faults(), test_faults(), edit_faults(), version_faults(), column_faults())
+    yield from (file_faults(), proof_faults(), list_faults(), edit_faults(), version_faults())
+    yield from map(test_faults, (PROVED, TESTS))
     yield from map(trust_faults, (PROVED, README))
     if program:
         helped = words_of_help(program)

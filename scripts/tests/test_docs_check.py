@@ -13,13 +13,14 @@ import unittest
 import unittest.mock
 
 TOP = pathlib.Path(__file__).resolve().parents[2]
-PROVED, MAP, GUIDE, README, MAN = "docs/PROVED.md", "docs/MAP.md", "docs/GUIDE.md", "README.md", "man/petool.1"
+PROVED, TESTS, MAP = "docs/PROVED.md", "docs/TESTS.md", "docs/MAP.md"
+GUIDE, README, MAN = "docs/GUIDE.md", "README.md", "man/petool.1"
 TABLES, SAMPLES, TEXTS = "crates/pe_tables/src/lib.rt", "crates/pe_samples/src/images.rt", "crates/pe_layout/src/text.rt"
 
 #: What is changed: the file, what stands in it, what takes its place, and what is then told.
 CONDITIONS = [
-    (PROVED, ", `Layout::text_at`. Fewer", ". Fewer", f"{PROVED}: Layout::text_at of {TEXTS} has conditions, and is not named"),
-    (PROVED, "`files::put`", "`files::put`, `files::number`", f"{PROVED}: number is named, and is no public function with conditions"),
+    (PROVED, "`TextEnds::until_zero`, `Layout::text_at` |", "`TextEnds::until_zero` |", f"{PROVED}: Layout::text_at of {TEXTS} has conditions, and is not named"),
+    (PROVED, "`files::put` |", "`files::put`, `files::number` |", f"{PROVED}: number is named, and is no public function with conditions"),
     (SAMPLES, "    requires { forwarders ≤ 65 }\n", "", f"{PROVED}: vf is named, and is no public function with conditions"),
     (TABLES, "\nmod window;", "\npub mod window;", f"{PROVED}: Window::u16_at of crates/pe_tables/src/window.rt has conditions"),
     (
@@ -38,11 +39,13 @@ FILES = [
     (MAP, "`new` and `add` of `Told`", "`new` of `Told`", f"{MAP}: the proof by hand of pe_text Told add is not named"),
     (MAP, "`hold` and `release` of", "`hold`, `free` and `release` of", f"{MAP}: there is no proof by hand of pe_handle Handle free"),
 ]
-TESTS = [
-    (PROVED, "tested: `outcome.rt`", "tested: `outcomes.rt`", f"{PROVED}: there is no test outcomes.rt"),
-    (PROVED, "`test_long_names.py`", "`test_names.py`", f"{PROVED}: there is no test test_names.py"),
+NAMED = [
+    (PROVED, "`outcome.rt`", "`outcomes.rt`", f"{PROVED}: there is no test outcomes.rt"),
+    (PROVED, "`test_headers.py`", "`test_header.py`", f"{PROVED}: there is no test test_header.py"),
     (PROVED, "`bindings/c/tests/memory.c`", "`bindings/c/tests/room.c`", f"{PROVED}: there is no test bindings/c/tests/room.c"),
-    (PROVED, "`leaves_the_fields`", "`leaves_each_field`", f"{PROVED}: there is no edit leaves_each_field of pe_write"),
+    (TESTS, "`refusals.rt` | `rt ci`", "`refusal.rt` | `rt ci`", f"{TESTS}: there is no test refusal.rt"),
+    (TESTS, "`bindings/rust` |", "`bindings/rusts` |", f"{TESTS}: there is no test bindings/rusts"),
+    (TESTS, "`leaves_the_fields`", "`leaves_each_field`", f"{TESTS}: there is no edit leaves_each_field of pe_write"),
 ]
 VERSIONS = [
     ("VERSION", "1.0", "1.1", "man/petool.1: the version is 1.0, and that of VERSION 1.1"),
@@ -62,8 +65,6 @@ PORTED = [
     (README, "itoa, thiserror, clap", "itoa, serde, thiserror, clap", f"{README}: serde is no ported crate"),
     ("crates.txt", "pe_words: pe_view clap", "pe_words: pe_view clap bumpalo", f"{PROVED}: bumpalo is not among the ported crates"),
     (PROVED, "bumpalo (of `test_calls`)", "bumpalo (of `test_images`)", f"{PROVED}: bumpalo is not named by test_images"),
-    (MAP, "| `pe_view` | clap |", "| `pe_view` | |", f"{MAP}: pe_words: clap is a ported crate"),
-    (MAP, "| `pe_image` | one image, read whole | `pe_tables` | |\n", "", f"{MAP}: pe_image is no crate, or has no row"),
 ]
 WORDS = [
     (GUIDE, "petool show [--exports] ", "petool show ", f"{GUIDE}: petool show has --exports, which is not named"),
@@ -125,7 +126,15 @@ class TestDocsCheck(unittest.TestCase):
         self.assert_named(FILES)
 
     def test_tests_and_edits_are_there(self):
-        self.assert_named(TESTS)
+        self.assert_named(NAMED)
+
+    def test_lists_of_cases_are_there(self):
+        file = self.room / "crates/test_cases/data/words"
+        text = file.read_text()
+        file.unlink()
+        status, said = self.check()
+        file.write_text(text)
+        self.assertEqual((status, f"{PROVED}: there is no crates/test_cases/data/words" in said), (1, True), said)
 
     def test_versions_are_that_of_the_file(self):
         self.assert_named(VERSIONS)

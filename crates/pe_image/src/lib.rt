@@ -1,4 +1,4 @@
-//! One reader of a whole image: its headers and sections, its exports, imports and base relocations.
+//! One image, read whole: its headers and sections, its exports, imports and base relocations.
 //!
 //! [`read_image`] asks a file for each fault that this library knows, in the one order in which they count, and keeps what it
 //! read where none stands. All callers that need an image whole read it by this call, so that they agree on what is accepted:

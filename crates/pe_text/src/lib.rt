@@ -1,4 +1,4 @@
-//! Texts of what files hold: the devices that they are read from and written to, and the lines that all of them share.
+//! What all texts share: the devices that files are read from and texts are written to, the writer of lines, and faults in words.
 //!
 //! A [`Report`] says of a file's bytes which text they have, and [`run_report`] reads the file from any [`Source`] and writes the
 //! text to any [`Sink`]; [`Counted`] makes one of any reader or writer of std. Lines are written part by part:
