@@ -1,5 +1,5 @@
 ghost use Rattle.std.specs.Prelude.{◌≡◌, ◌-◌, ◌≤◌, ◌<◌, drop};
-ghost use Rattle.pe_text.specs.Text.{glyph, hex, hex_8_width};
+ghost use Rattle.pe_text.specs.Text.{glyph, hex, hex_width};
 
 /// The most hexadecimal digits that a number has.
 pub(crate) const DIGITS: usize = 16;
@@ -30,15 +30,13 @@ pub(crate) fn hex_digits(width: usize, number: u64) -> [u8; DIGITS]
     digits
 }
 
-/// How many hexadecimal digits show the number, if there are to be 8 at least.
-pub(crate) fn hex_width(number: u64) -> u8
-    ensures value { result ≡ hex_8_width number }
+/// How many hexadecimal digits a number has.
+pub fn hex_width(number: u64) -> u8
+    ensures value { result ≡ hex_width number }
     ensures bound { result ≤ 16 }
 {
-    for width in 8..16 {
-        if number >> (4 * width) == 0 {
-            return width;
-        }
+    match number.checked_ilog2() {
+        Some(bit) => (bit / 4 + 1) as u8,
+        None => 1,
     }
-    16
 }
