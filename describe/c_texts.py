@@ -101,7 +101,7 @@ def linker_map(description: Description) -> str:
 def debian_symbols(description: Description) -> str:
     """libpetool0.symbols: each name with the release that it came with."""
     library = description.library
-    since = {call.name: call.since for call in description.calls if not call.is_inline}
+    since = {call.name: call.since for call in description.calls}
     rows = {library.symbols: library.release, **since}
     lines = [f"{library.soname} {library.package} #MINVER#", "* Build-Depends-Package: libpetool-dev"]
     lines += [f" {name}@{library.symbols} {rows[name]}" for name in sorted(rows)]

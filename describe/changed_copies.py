@@ -67,7 +67,8 @@ WRITTEN = [
 COMPARED = [
     ("bindings/c/petool.h", "petool_fixup *rows, size_t room", "petool_import *rows, size_t room"),
     ("bindings/c/petool.h", "uint32_t petool_version(void);", "uint32_t petool_version(void);\nuint32_t petool_more(void);"),
-    ("bindings/c/petool.h", "static inline int petool_fault_line(", "static inline int petool_fault_text("),
+    ("bindings/c/petool.h", "int petool_fault_line(", "uint32_t petool_fault_line("),
+    ("crates/petool_c/src/words.rt", "line: &mut [u8]) -> i32", "line: &mut [u8]) -> u32"),
     ("crates/pe_records_c/src/fixup.rt", "pub kind: u32", "pub kind: u16"),
     ("crates/pe_records_c/src/fixup.rt", "pub entry: u32", "pub first: u32"),
     ("crates/pe_records_c/src/fixup.rt", "pub struct FixupRow {", "pub struct RelocationRow {"),
@@ -106,23 +107,23 @@ RULES = "crates/pe_text/src/fault_text.rt"
 EXPLAINED = "crates/pe_program/src/explain.rt"
 FAULTS = "docs/FAULTS.md"
 FAULTS_WRITTEN = [
-    (RULES, "the file has over 2^32 bytes", "the file has over 2^31 bytes"),
+    (RULES, "the file is larger than 2^32 bytes", "the file has over 2^31 bytes"),
     (RULES, '(9, "NumberOfSections"', '(9, "NumberOfSymbols"'),
-    (RULES, '    (41, "file", "the set has over 256 files"),\n', ""),
+    (RULES, '    (41, "file", "the set has more than 256 files"),\n', ""),
     (RULES, '    (83, "section",', '    (82, "section",'),
     (RULES, "; 69] = [", "; 68] = ["),
     (RULES, "static RULES", "static WORDS"),
     (EXPLAINED, "an MS-DOS, NE, LE or LX program", "an MS-DOS program"),
-    (EXPLAINED, '"SizeOfImage is 0 or over 2^31"', '"SizeOfImage is over 2^31"'),
-    (EXPLAINED, '    (11, "SizeOfImage is 0 or over 2^31", "a damaged header"),\n', ""),
+    (EXPLAINED, '"SizeOfImage is 0 or more than 2^31"', '"SizeOfImage is over 2^31"'),
+    (EXPLAINED, '    (11, "SizeOfImage is 0 or more than 2^31", "a damaged header"),\n', ""),
     (EXPLAINED, '    (\n        12,\n        "SizeOfHeaders', '    (\n        11,\n        "SizeOfHeaders'),
     (FAULTS, "| n is under 64 |", "| n is at most 64 |"),
     (FAULTS, "`Rva(slot)`, the importing image", "`Rva(slot)`, image 0"),
-    (FAULTS, "its Magic is not that of file 0", "its Magic differs"),
+    (FAULTS, "its Magic differs from that of file 0", "its Magic differs"),
     (FAULTS, "`pe_set/src/placing.rt` |", "`pe_set/src/names.rt` |"),
     (FAULTS, "| 84 | the file would", "| 86 | the file would"),
     (FAULTS, "| image faults | 1 to 38 |", "| image faults | 1 to 32 |"),
-    (FAULTS, "| 1 | n is over 2^32 | `File(2^32)` | byte: the file has over 2^32 bytes | `pe_head/src/reading.rt` |\n", ""),
+    (FAULTS, "| 1 | n is over 2^32 | `File(2^32)` | byte: the file is larger than 2^32 bytes | `pe_head/src/reading.rt` |\n", ""),
 ]
 FAULTS_PARTS = [
     (FAULTS, "<!-- from describe/faults.txt: sections -->\n", ""),

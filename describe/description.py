@@ -74,7 +74,6 @@ class Call:
     group: str
     parameters: List[Parameter]
     result: str
-    is_inline: bool
     since: str
     faults: str = ""  #: which it may tell, in order
     memory: str = ""  #: where it is taken
@@ -228,10 +227,10 @@ class Description:
             self._add_call(line.strip())
 
     def _add_call(self, line: str) -> None:
-        form = r"(inline )?(petool_\w+)\((.*)\)(?: -> (\w+))?(?: since ([\d.]+))?$"
-        inline, name, words, result, since = _matched(form, line)
+        form = r"(petool_\w+)\((.*)\)(?: -> (\w+))?(?: since ([\d.]+))?$"
+        name, words, result, since = _matched(form, line)
         parameters = [self._parameter(word) for word in words.split(", ") if word]
-        self.calls.append(Call(name, self._group, parameters, result or "u32", bool(inline), since or self.library.release))
+        self.calls.append(Call(name, self._group, parameters, result or "u32", since or self.library.release))
 
     def _parameter(self, word: str) -> Parameter:
         name, _, kind = word.partition(": ")

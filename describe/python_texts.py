@@ -5,14 +5,14 @@ from typing import List
 from description import Call, Description, Field, Mistake, Parameter, Record
 
 WIDTH = 120
-NUMBERS = {"bool": "c_bool", "usize": "c_size_t", **{f"u{bits}": f"c_uint{bits}" for bits in (8, 16, 32, 64)}}
+NUMBERS = {"bool": "c_bool", "char": "c_char", "int": "c_int", "usize": "c_size_t", **{f"u{bits}": f"c_uint{bits}" for bits in (8, 16, 32, 64)}}
 #: The letters of `struct`.
 LETTERS = {"u8": "B", "u16": "H", "u32": "I", "u64": "Q", "bool": "?", "text": "PN"}
 
 HEAD = '''\
 """The records and calls of the shared library, as petool.h declares them. scripts/describe.py writes this module."""
 
-from ctypes import POINTER, Structure, c_bool, c_size_t, c_uint8, c_uint16, c_uint32, c_uint64, c_void_p
+from ctypes import POINTER, Structure, c_bool, c_char, c_int, c_size_t, c_uint8, c_uint16, c_uint32, c_uint64, c_void_p
 from typing import Any, Dict, List, Tuple
 '''
 
@@ -48,7 +48,7 @@ def _parameters(description: Description, it: Parameter) -> List[str]:
         return [NUMBERS[it.type]]
     record = description.records.get(it.type)
     named = record.camel() if record and not record.is_row else NUMBERS.get(it.type, "")
-    is_bytes = not named or it.length and it.type == "u8"
+    is_bytes = not named or it.length and it.type in ("u8", "char")
     return ["c_void_p" if is_bytes else f"POINTER({named})"] + (["c_size_t"] if it.length else [])
 
 
@@ -73,7 +73,7 @@ def records_module(description: Description) -> str:
     lines += [f'    "{record.name}": "{_form(description, record)}",' for record in records if record.is_row]
     lines.append("}")
     lines += ["", "#: What each call answers, and what it takes.", "CALLS: Dict[str, Tuple[Any, List[Any]]] = {"]
-    lines += [line for call in description.calls if not call.is_inline for line in _call(description, call)]
+    lines += [line for call in description.calls for line in _call(description, call)]
     return "\n".join([*lines, "}", ""])
 
 

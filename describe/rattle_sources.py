@@ -23,6 +23,8 @@ KEY = re.compile(
 #: A key in the texts of the beginning of a line, which are bytes.
 TEXT_KEY = re.compile(r'(?:b|\\)"([a-z]\w*)(?:\\":|")')
 VALUES = {"true", "false"}
+#: What Rattle has for numbers of C whose names have no width.
+NUMBERS = {"char": "u8", "int": "i32"}
 
 
 def _without_comments(text: str) -> str:
@@ -85,10 +87,10 @@ def _shown(call: Call, description: Description) -> str:
     """A call as Rattle declares it, without lifetimes."""
     words = []
     for it in call.parameters:
-        item = description.records[it.type].struct if it.type in description.records else it.type
+        item = description.records[it.type].struct if it.type in description.records else NUMBERS.get(it.type, it.type)
         reference = ("&mut " if it.is_mutable else "&") if it.is_reference else ""
         words.append(f"{it.name}: {reference}" + (f"[{item}]" if it.length else item))
-    return f"({', '.join(words)}) -> {call.result}"
+    return f"({', '.join(words)}) -> {NUMBERS.get(call.result, call.result)}"
 
 
 def _plain(parameters: str, result: str) -> str:
@@ -101,7 +103,7 @@ def _plain(parameters: str, result: str) -> str:
 def call_faults(description: Description, sources: Dict[str, str]) -> List[str]:
     """Whether the calls are those that the sources export, parameter by parameter."""
     found = _calls_in(sources)
-    described = {call.name: call for call in description.calls if not call.is_inline}
+    described = {call.name: call for call in description.calls}
     faults = [f"{file}: {name} is not described" for name, (file, _, _) in found.items() if name not in described]
     for name, call in described.items():
         if name not in found:
@@ -166,10 +168,8 @@ def key_faults(description: Description, sources: Dict[str, str]) -> List[str]:
 def prototype_faults(description: Description, file: str, header: str) -> List[str]:
     """Whether the header declares the calls that are described, and no others."""
     text = re.sub(r"/\*.*?\*/", "", header, flags=re.S)
-    found = re.findall(r"^(?:static inline )?(\w+ petool_\w+\([^()]*\))\s*;", text, re.M)
-    described = [prototype(call).rstrip(";") for call in description.calls if not call.is_inline]
-    inline = [f"static inline {prototype(call).rstrip(';')}" for call in description.calls if call.is_inline]
+    found = re.findall(r"^(\w+ petool_\w+\([^()]*\))\s*;", text, re.M)
+    described = [prototype(call).rstrip(";") for call in description.calls]
     declared = {" ".join(it.split()) for it in found}
     faults = [f"{file}: {it} is not described" for it in sorted(declared - set(described))]
-    faults += [f"{file}: there is no {it}" for it in described if it not in declared]
-    return faults + [f"{file}: there is no {it}" for it in inline if it not in text]
+    return faults + [f"{file}: there is no {it}" for it in described if it not in declared]

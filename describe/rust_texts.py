@@ -8,7 +8,7 @@ from description import Call, Description, Field, Parameter, Record
 from regions import wrapped
 
 WIDTH = 120
-POINTERS = {"bytes": "*const u8", "state": "*mut c_void"}
+ITEMS = {"bytes": "*const u8", "state": "*mut c_void", "char": "c_char", "int": "c_int"}
 
 LAYOUT = """\
 //! Each record has the size and the places of fields that the library's have, on a machine of 64 bits; `layout.c`
@@ -48,7 +48,7 @@ def _sentence(text: str) -> str:
 def _item(description: Description, kind: str) -> str:
     if kind in description.records:
         return description.records[kind].camel()
-    return POINTERS.get(kind, kind)
+    return ITEMS.get(kind, kind)
 
 
 def _type(description: Description, it: Field) -> str:
@@ -117,7 +117,7 @@ def _parameters(description: Description, it: Parameter) -> List[str]:
 def _call(description: Description, call: Call) -> List[str]:
     """A call, on one line where it fits, as rustfmt has it."""
     words = [word for it in call.parameters for word in _parameters(description, it)]
-    result = "" if RESULTS[call.result] == "void" else f" -> {call.result}"
+    result = "" if RESULTS[call.result] == "void" else f" -> {ITEMS.get(call.result, call.result)}"
     line = f"pub fn {call.name}({', '.join(words)}){result};"
     if len(line) + 4 <= WIDTH:
         return [line]
@@ -129,7 +129,7 @@ def calls(description: Description) -> List[str]:
     lines: List[str] = []
     for group in description.call_groups().values():
         lines += [""] if lines else []
-        lines += [line for call in group if not call.is_inline for line in _call(description, call)]
+        lines += [line for call in group for line in _call(description, call)]
     return lines
 
 

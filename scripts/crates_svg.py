@@ -20,10 +20,15 @@ COLOURS = {"coff": "#eef7ee", "test": "#f4f4f4", "petool": "#fdf6e3"}
 STYLE = "font-family=\"system-ui, -apple-system, 'Segoe UI', Helvetica, Arial, sans-serif\" fill=\"#1a1a1a\" text-anchor=\"middle\""
 
 
+def all_named():
+    """Each crate of crates.txt with the libraries that it names."""
+    lines = (line.partition("#")[0].partition(":") for line in (TOP / "crates.txt").read_text().splitlines())
+    return {head.split()[0]: libraries.split() for head, colon, libraries in lines if colon}
+
+
 def crates_below():
     """Each crate of crates.txt with the crates of this repository that it names."""
-    lines = (line.partition("#")[0].partition(":") for line in (TOP / "crates.txt").read_text().splitlines())
-    named = {head.split()[0]: libraries.split() for head, colon, libraries in lines if colon}
+    named = all_named()
     return {name: [it for it in libraries if it in named] for name, libraries in named.items()}
 
 

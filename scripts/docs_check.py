@@ -1,13 +1,12 @@
 #!/usr/bin/env python3
 """Compares pages with what they tell of, and says what differs: docs_check.py
 
-- PROVED.md: the public functions that have conditions, the tests and the wrong bodies that it names
-- MAP.md: each source and each definition has a row of its crate, and each file that it names is there
+- PROVED.md: the public functions that have conditions, and the tests that it names; TESTS.md: its tests and wrong bodies
+- MAP.md: each file and each proof by hand that it names is there (its crates, and FILES.md, are compared by file_rows.py)
 - GUIDE.md and petool(1): the commands, options and arguments of the program that PETOOL_PROGRAM names, and README.md, which may
   leave out options; without that program this is left out
-- the versions of the library, of its bindings and of its package: that of petool.h. The program has a version of its own, which
-  petool(1) alone tells
-- PROVED.md, README.md and MAP.md: the ported crates of crates.txt, those of tests and of the benchmark apart
+- the versions of the program, of the library, of its bindings and of its package: that of the file VERSION
+- PROVED.md and README.md: the ported crates of crates.txt, those of tests and of the benchmark apart
 
 Each sentence names the page and the thing; the last line is 'N passed, M failed', and the status is 1 where something differs.
 """
@@ -24,11 +23,12 @@ sys.dont_write_bytecode = True
 from completions import options_of, rows as help_rows
 
 TOP = pathlib.Path(__file__).resolve().parents[1]
-PROVED, MAP, GUIDE, README, MAN = "docs/PROVED.md", "docs/MAP.md", "docs/GUIDE.md", "README.md", "man/petool.1"
+PROVED, TESTS, MAP = "docs/PROVED.md", "docs/TESTS.md", "docs/MAP.md"
+GUIDE, README, MAN = "docs/GUIDE.md", "README.md", "man/petool.1"
 #: Folders of what is made, which no page tells of.
 MADE = {".git", "out", "target", "__pycache__"}
-#: Where a file stands that PROVED.md names without a folder, by its ending, and the lists of cases that it names by one word.
-TESTS = {
+#: Where a test stands that a page names without a folder, by its ending, and the lists of cases that PROVED.md names by one word.
+FOLDERS = {
     ".py": ["bindings/python/tests"],
     ".rt": ["crates/test_images/src/tests", "crates/test_calls/src/tests/files"],
 }
@@ -48,15 +48,20 @@ ITEM = re.compile(
     r'|(?P<indent> *)(?P<before>(?:pub(?:\(\w+\))? )?(?:extern "C" )?)fn (?P<name>\w+)| *requires\b)',
     re.M,
 )
-HEADER = "bindings/c/petool.h"
-#: Where a version of the library stands; cargo wants a third number.
+#: Where the version is told besides the file VERSION; cargo wants a third number.
 VERSIONS = {
-    "bindings/c/Makefile": r"^VERSION := (\S+)$",
+    "crates/pe_words/src/commands.rt": r'^const VERSION: &str = "(.+)";$',
     "bindings/python/pyproject.toml": r'^version = "(.+)"$',
     "bindings/rust/petool-sys/Cargo.toml": r'^version = "(\d+\.\d+)\.\d+"$',
     "bindings/rust/petool/Cargo.toml": r'^version = "(\d+\.\d+)\.\d+"$',
     "packaging/debian/changelog": r"\Apetool \((.+)-\d+\)",
+    "man/petool.1": r'^\.TH .* "petool (\S+)"',
     "man/petool.h.3": r'^\.TH .* "libpetool (\S+)"',
+}
+#: Where it is a number: its first part times 65,536, and its second part.
+NUMBERS = {
+    "bindings/c/petool.h": r"^#define PETOOL_VERSION (\w+)$",
+    "crates/petool_c/src/words.rt": r"^    ensures \{ result ≡ (0x\w+) \}$",
 }
 
 
@@ -128,9 +133,9 @@ def public_conditions():
 
 def condition_faults():
     """Whether PROVED.md names the public functions that have conditions, and no others."""
-    row = next((it for it in rows(read(PROVED)) if it[0].startswith("Of the public functions these have conditions")), [""])
+    cells = [row[1] for row in rows(section(read(PROVED), "## Every function"))]
     # a module is no part of the name
-    named = {re.sub(r"^[a-z]\w*::", "", it) for it in names(row[0])}
+    named = {re.sub(r"^[a-z]\w*::", "", it) for cell in cells for it in names(cell)}
     found = public_conditions()
     yield from (f"{PROVED}: {it} of {found[it]} has conditions, and is not named" for it in sorted(found.keys() - named))
     yield from (f"{PROVED}: {it} is named, and is no public function with conditions" for it in sorted(named - found.keys()))
@@ -142,18 +147,6 @@ def paths_of(cell):
     for name in names(cell):
         folder = name[: name.rfind("/") + 1] or folder
         yield name if "/" in name else folder + name
-
-
-def row_faults(crate):
-    """Whether each source and each definition of a crate has one row of MAP.md, whose rows name what is there."""
-    folder = TOP / "crates" / crate
-    named = [path for row in rows(section(read(MAP), f"### {crate}")) for path in paths_of(row[0])]
-    files = [*sorted((folder / "src").rglob("*.rt")), *sorted((folder / "specs").rglob("*.antt"))]
-    for path in [str(it.relative_to(folder)) for it in files]:
-        count = sum(path == it or (it.endswith("/") and path.startswith(it)) for it in named)
-        if count != 1:
-            yield f"{MAP}: {crate}: {path} has {count} rows"
-    yield from (f"{MAP}: {crate}: there is no {it}" for it in named if not (folder / it).exists())
 
 
 def endings():
@@ -175,9 +168,8 @@ def file_faults():
     yield from (f"{MAP}: there is no {it}" for it in sorted(set(names(text)) - known) if form.fullmatch(it))
     links = re.findall(r"\]\(([^)#:]+)[^):]*\)", text)
     yield from (f"{MAP}: there is no {it}" for it in links if not (TOP / "docs" / it).exists())
-    for heading, folder in (("### scripts", TOP / "scripts"), ("### Beside the crates", TOP)):
-        named = [path for row in rows(section(text, heading)) for path in paths_of(row[0])]
-        yield from (f"{MAP}: there is no {it}" for it in named if not (folder / it).exists())
+    named = [path for row in rows(section(text, "## Outside the crates")) for path in paths_of(row[0])]
+    yield from (f"{MAP}: there is no {it}" for it in named if not (TOP / it).exists())
 
 
 def proofs_named(cell):
@@ -208,26 +200,28 @@ def proof_faults():
     yield from (f"{MAP}: there is no proof by hand of {' '.join(it)}" for it in sorted(named - found))
 
 
-def test_faults():
-    """Whether the tests are there by which PROVED.md says that claims are tested."""
-    text = read(PROVED)
-    cells = [row[1].partition("tested")[2] for row in rows(text) if len(row) == 2 and not row[0].startswith("tested")]
-    form = re.compile(r"(?:bindings|crates|scripts)/.*|\S+\.(?:py|rt|c)")
-    for name in sorted({it for cell in cells for it in names(cell) if form.fullmatch(it)}):
-        folders = [""] if "/" in name else TESTS.get(pathlib.PurePath(name).suffix, [])
+def test_faults(page):
+    """Whether the tests are there that a page names: by their paths, or without a folder."""
+    form = re.compile(r"(?:bindings|crates|scripts)/[\w./-]+|\w+\.(?:py|rt|c)")
+    for name in sorted({it for it in names(read(page)) if form.fullmatch(it)}):
+        folders = [""] if "/" in name else FOLDERS.get(pathlib.PurePath(name).suffix, [])
         if not any((TOP / it / name).exists() for it in folders):
-            yield f"{PROVED}: there is no test {name}"
+            yield f"{page}: there is no test {name}"
+
+
+def list_faults():
+    """Whether the lists of cases are there that PROVED.md names by one word."""
     yield from (f"{PROVED}: there is no {it}" for it in LISTS if not (TOP / it).is_file())
 
 
 def edit_faults():
-    """Whether the edits are there by which PROVED.md says that wrong bodies are planted."""
-    for row in rows(section(read(PROVED), "## Wrong bodies")):
+    """Whether the edits are there by which TESTS.md says that wrong bodies are planted."""
+    for row in rows(section(read(TESTS), "## Wrong bodies")):
         crate = ""
         for before, name in re.findall(r"(?:(\w+) )?`([a-z]\w*)`", row[1]):
             crate = before or crate
             if not (TOP / f"crates/{crate}/must-fail/{name}.edit").is_file():
-                yield f"{PROVED}: there is no edit {name} of {crate}"
+                yield f"{TESTS}: there is no edit {name} of {crate}"
 
 
 def said(program, *words):
@@ -309,25 +303,29 @@ def word_faults(page, synopses, helped, is_short=False):
 
 
 def manual_faults(program, helped):
-    """Whether petool(1) has a paragraph for each command, no option that help has not, and the program's version."""
+    """Whether petool(1) has a paragraph for each command, no option that help has not; and the program's version."""
     named = set(re.findall(r"^\.TP\n\.B (\w+)$", part_of_manual("COMMANDS"), re.M))
     yield from (f"{MAN}: {it} is no command, or has no paragraph" for it in sorted(named ^ (helped.keys() - {""})))
     options = {it.split()[0] for options, _ in helped.values() for it in options}
     told = set(re.findall(r"--[\w-]+", read(MAN).replace("\\-", "-")))
     yield from (f"{MAN}: there is no option {it}" for it in sorted(told - options))
     version = said(program, "--version").strip()
-    if f'"{version}"' not in read(MAN).splitlines()[0]:
-        yield f"{MAN}: the program is {version}"
+    if version != f"petool {read('VERSION').strip()}":
+        yield f"VERSION: the program is {version}"
 
 
 def version_faults():
-    """Whether the versions of the library are those of petool.h."""
-    number = int(re.search(r"^#define PETOOL_VERSION (\w+)$", read(HEADER), re.M)[1], 16)
-    version = f"{number >> 16}.{number & 0xFFFF}"
+    """Whether the version is told everywhere as the file VERSION has it."""
+    version = read("VERSION").strip()
     for path, form in VERSIONS.items():
         found = re.search(form, read(path), re.M)
         if not found or found[1] != version:
-            yield f"{path}: the version is {found[1] if found else 'missing'}, and that of {HEADER} {version}"
+            yield f"{path}: the version is {found[1] if found else 'missing'}, and that of VERSION {version}"
+    first, second = map(int, version.split("."))
+    for path, form in NUMBERS.items():
+        found = re.search(form, read(path), re.M)
+        if not found or int(found[1].replace("_", ""), 16) != first << 16 | second:
+            yield f"{path}: the version is {found[1] if found else 'missing'}, and that of VERSION {version}"
 
 
 def ported(all_crates):
@@ -354,22 +352,11 @@ def trust_faults(page):
             yield f"{page}: {name} is not named by {crate}"
 
 
-def column_faults():
-    """Whether MAP.md has a row for each crate, with the ported crates that it names."""
-    all_crates = crates()
-    table = {names(row[0])[0]: row[3] for row in rows(section(read(MAP), "## Crates")) if len(row) == 4 and names(row[0])}
-    yield from (f"{MAP}: {it} is no crate, or has no row" for it in sorted(table.keys() ^ all_crates.keys()))
-    for crate in table.keys() & all_crates.keys():
-        told = set(re.sub(r"`\w+`|in tests|,", " ", table[crate]).split())
-        right = set(all_crates[crate]) - all_crates.keys()
-        yield from (f"{MAP}: {crate}: {it} is a ported crate in one of the table and crates.txt" for it in sorted(told ^ right))
-
-
 def comparisons(program):
     """Of each comparison what is wrong: nothing where page and source agree."""
     yield condition_faults()
-    yield from map(row_faults, crates())
-    yield from (file_faults(), proof_faults(), test_faults(), edit_faults(), version_faults(), column_faults())
+    yield from (file_faults(), proof_faults(), list_faults(), edit_faults(), version_faults())
+    yield from map(test_faults, (PROVED, TESTS))
     yield from map(trust_faults, (PROVED, README))
     if program:
         helped = words_of_help(program)

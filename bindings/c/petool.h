@@ -92,17 +92,9 @@ uint32_t petool_version(void);
 /* What stands at the place of a fault, and which rule does not hold of it: texts of this library. OK or ABSENT. */
 uint32_t petool_fault_words(uint16_t number, petool_text *subject, petool_text *rule);
 
-/* A fault as one line, for people: "section header at 0x138: the section's raw data passes the end of the file". It is written as
+/* A fault as one line, for people: "section header at 0x138: the section's raw data extends past the end of the file". It is written as
  * snprintf does: cut to the room, of which a zero byte takes one. Answers how many bytes the whole line has without that. */
-static inline int petool_fault_line(const petool_fault *fault, char *line, size_t room)
-{
-    static const char *const forms[4] = {"%.*s at 0x%" PRIx64 ": %.*s", "%.*s at RVA 0x%" PRIx64 ": %.*s",
-                                         "%.*s 0x%" PRIx64 ": %.*s", "%.*s %" PRIu64 ": %.*s"};
-    petool_text subject = petool_text_of("place"), rule = petool_text_of("no fault has this number");
-    petool_fault_words(fault->number, &subject, &rule);
-    return snprintf(line, room, forms[fault->place & 3], (int)subject.len, (const char *)subject.at, fault->at, (int)rule.len,
-                    (const char *)rule.at);
-}
+int petool_fault_line(const petool_fault *fault, char *line, size_t room);
 
 /* ---- an image: its headers and its bytes ---- */
 

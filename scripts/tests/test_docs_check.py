@@ -13,13 +13,14 @@ import unittest
 import unittest.mock
 
 TOP = pathlib.Path(__file__).resolve().parents[2]
-PROVED, MAP, GUIDE, README, MAN = "docs/PROVED.md", "docs/MAP.md", "docs/GUIDE.md", "README.md", "man/petool.1"
+PROVED, TESTS, MAP = "docs/PROVED.md", "docs/TESTS.md", "docs/MAP.md"
+GUIDE, README, MAN = "docs/GUIDE.md", "README.md", "man/petool.1"
 TABLES, SAMPLES, TEXTS = "crates/pe_tables/src/lib.rt", "crates/pe_samples/src/images.rt", "crates/pe_layout/src/text.rt"
 
 #: What is changed: the file, what stands in it, what takes its place, and what is then told.
 CONDITIONS = [
-    (PROVED, ", `Layout::text_at`. Fewer", ". Fewer", f"{PROVED}: Layout::text_at of {TEXTS} has conditions, and is not named"),
-    (PROVED, "`files::put`", "`files::put`, `files::number`", f"{PROVED}: number is named, and is no public function with conditions"),
+    (PROVED, "`TextEnds::until_zero`, `Layout::text_at` |", "`TextEnds::until_zero` |", f"{PROVED}: Layout::text_at of {TEXTS} has conditions, and is not named"),
+    (PROVED, "`files::put` |", "`files::put`, `files::number` |", f"{PROVED}: number is named, and is no public function with conditions"),
     (SAMPLES, "    requires { forwarders ≤ 65 }\n", "", f"{PROVED}: vf is named, and is no public function with conditions"),
     (TABLES, "\nmod window;", "\npub mod window;", f"{PROVED}: Window::u16_at of crates/pe_tables/src/window.rt has conditions"),
     (
@@ -30,31 +31,33 @@ CONDITIONS = [
     ),
 ]
 FILES = [
-    ("crates/pe_view/src/more.rt", "", "//! More.\n", f"{MAP}: pe_view: src/more.rt has 0 rows"),
-    (MAP, "| `src/text_ends.rt` |", "| `src/view.rt` |", f"{MAP}: pe_view: src/text_ends.rt has 0 rows"),
-    (MAP, "| `src/text_ends.rt` |", "| `src/view.rt` |", f"{MAP}: pe_view: src/view.rt has 2 rows"),
-    (MAP, "| `specs/FirstStanding.antt` |", "| `specs/First.antt` |", f"{MAP}: pe_view: there is no specs/First.antt"),
     (MAP, "1. `pe_view/specs/Faults.antt`", "1. `pe_view/specs/AllFaults.antt`", f"{MAP}: there is no pe_view/specs/AllFaults.antt"),
-    (MAP, "### pe_view\n", "### view\n", "there is no heading '### pe_view'"),
     (MAP, "](crates.svg)", "](crate.svg)", f"{MAP}: there is no crate.svg"),
-    (MAP, "| `proof_times.py` |", "| `proof_time.py` |", f"{MAP}: there is no proof_time.py"),
     (MAP, "| `.ci/run` |", "| `.ci/runs` |", f"{MAP}: there is no .ci/runs"),
+    (MAP, "`packaging/debian/build`, `test`", "`packaging/debian/build`, `tests`", f"{MAP}: there is no packaging/debian/tests"),
+    (MAP, "## Outside the crates\n", "## Other folders\n", "there is no heading '## Outside the crates'"),
     (MAP, "`new` and `add` of `Told`", "`new` of `Told`", f"{MAP}: the proof by hand of pe_text Told add is not named"),
     (MAP, "`hold` and `release` of", "`hold`, `free` and `release` of", f"{MAP}: there is no proof by hand of pe_handle Handle free"),
 ]
-TESTS = [
-    (PROVED, "tested: `outcome.rt`", "tested: `outcomes.rt`", f"{PROVED}: there is no test outcomes.rt"),
-    (PROVED, "`test_long_names.py`", "`test_names.py`", f"{PROVED}: there is no test test_names.py"),
+NAMED = [
+    (PROVED, "`outcome.rt`", "`outcomes.rt`", f"{PROVED}: there is no test outcomes.rt"),
+    (PROVED, "`test_headers.py`", "`test_header.py`", f"{PROVED}: there is no test test_header.py"),
     (PROVED, "`bindings/c/tests/memory.c`", "`bindings/c/tests/room.c`", f"{PROVED}: there is no test bindings/c/tests/room.c"),
-    (PROVED, "`leaves_the_fields`", "`leaves_each_field`", f"{PROVED}: there is no edit leaves_each_field of pe_write"),
+    (TESTS, "`refusals.rt` | `rt ci`", "`refusal.rt` | `rt ci`", f"{TESTS}: there is no test refusal.rt"),
+    (TESTS, "`bindings/rust` |", "`bindings/rusts` |", f"{TESTS}: there is no test bindings/rusts"),
+    (TESTS, "`leaves_the_fields`", "`leaves_each_field`", f"{TESTS}: there is no edit leaves_each_field of pe_write"),
 ]
 VERSIONS = [
-    ("bindings/c/petool.h", "PETOOL_VERSION 0x10000", "PETOOL_VERSION 0x10001", "bindings/c/Makefile: the version is 1.0"),
-    ("bindings/c/Makefile", "VERSION := 1.0", "VERSION := 1.1", "bindings/c/Makefile: the version is 1.1"),
+    ("VERSION", "1.0", "1.1", "man/petool.1: the version is 1.0, and that of VERSION 1.1"),
+    ("VERSION", "1.0", "2.0", "bindings/c/petool.h: the version is 0x10000, and that of VERSION 2.0"),
+    ("bindings/c/petool.h", "PETOOL_VERSION 0x10000", "PETOOL_VERSION 0x10001", "bindings/c/petool.h: the version is 0x10001"),
+    ("crates/petool_c/src/words.rt", "result ≡ 0x1_0000", "result ≡ 0x1_0001", "crates/petool_c/src/words.rt: the version is 0x1_0001"),
+    ("crates/pe_words/src/commands.rt", '"1.0"', '"1.1"', "crates/pe_words/src/commands.rt: the version is 1.1"),
     ("bindings/python/pyproject.toml", 'version = "1.0"', 'version = "1.1"', "bindings/python/pyproject.toml: the version is 1.1"),
     ("bindings/rust/petool/Cargo.toml", '"1.0.0"', '"1.1.0"', "bindings/rust/petool/Cargo.toml: the version is 1.1"),
     ("bindings/rust/petool-sys/Cargo.toml", '"1.0.0"', '"1"', "bindings/rust/petool-sys/Cargo.toml: the version is missing"),
     ("packaging/debian/changelog", "petool (1.0-1)", "petool (1.1-1)", "packaging/debian/changelog: the version is 1.1"),
+    ("man/petool.1", "petool 1.0", "petool 1.1", "man/petool.1: the version is 1.1"),
     ("man/petool.h.3", "libpetool 1.0", "libpetool 1.1", "man/petool.h.3: the version is 1.1"),
 ]
 PORTED = [
@@ -62,8 +65,6 @@ PORTED = [
     (README, "itoa, thiserror, clap", "itoa, serde, thiserror, clap", f"{README}: serde is no ported crate"),
     ("crates.txt", "pe_words: pe_view pe_text clap", "pe_words: pe_view pe_text clap bumpalo", f"{PROVED}: bumpalo is not among the ported crates"),
     (PROVED, "bumpalo (of `test_calls`)", "bumpalo (of `test_images`)", f"{PROVED}: bumpalo is not named by test_images"),
-    (MAP, "| `pe_text` | clap |", "| `pe_text` | |", f"{MAP}: pe_words: clap is a ported crate"),
-    (MAP, "| `pe_image` | one image, read whole | `pe_tables` | |\n", "", f"{MAP}: pe_image is no crate, or has no row"),
 ]
 WORDS = [
     (GUIDE, "petool show [--exports] ", "petool show ", f"{GUIDE}: petool show has --exports, which is not named"),
@@ -121,13 +122,21 @@ class TestDocsCheck(unittest.TestCase):
     def test_conditions_are_those_that_are_named(self):
         self.assert_named(CONDITIONS)
 
-    def test_each_file_has_a_row_and_is_there(self):
+    def test_files_and_proofs_by_hand_are_there(self):
         self.assert_named(FILES)
 
     def test_tests_and_edits_are_there(self):
-        self.assert_named(TESTS)
+        self.assert_named(NAMED)
 
-    def test_versions_of_the_library_are_one(self):
+    def test_lists_of_cases_are_there(self):
+        file = self.room / "crates/test_cases/data/words"
+        text = file.read_text()
+        file.unlink()
+        status, said = self.check()
+        file.write_text(text)
+        self.assertEqual((status, f"{PROVED}: there is no crates/test_cases/data/words" in said), (1, True), said)
+
+    def test_versions_are_that_of_the_file(self):
         self.assert_named(VERSIONS)
 
     def test_ported_crates_are_those_that_are_trusted(self):

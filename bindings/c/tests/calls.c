@@ -370,12 +370,12 @@ static void check_words(void)
     petool_text subject = PETOOL_NONE, rule = PETOOL_NONE;
     CHECK(petool_fault_words(13, &subject, &rule) == PETOOL_OK);
     CHECK(is_text(subject, "section header", 14));
-    CHECK(is_text(rule, "the section's raw data passes the end of the file", 49));
+    CHECK(is_text(rule, "the section's raw data extends past the end of the file", 55));
     CHECK(petool_fault_words(86, &subject, &rule) == PETOOL_ABSENT);
-    check_line(13, PETOOL_PLACE_FILE, 0x138, "section header at 0x138: the section's raw data passes the end of the file");
-    check_line(34, PETOOL_PLACE_RVA, 0x2000, "base relocation table at RVA 0x2000: the table passes the end of the image");
-    check_line(44, PETOOL_PLACE_ADDRESS, 0x20000001, "base 0x20000001: the base is no multiple of 65,536");
-    check_line(41, PETOOL_PLACE_ITEM, 256, "file 256: the set has over 256 files");
+    check_line(13, PETOOL_PLACE_FILE, 0x138, "section header at 0x138: the section's raw data extends past the end of the file");
+    check_line(34, PETOOL_PLACE_RVA, 0x2000, "base relocation table at RVA 0x2000: the table extends past the end of the image");
+    check_line(44, PETOOL_PLACE_ADDRESS, 0x20000001, "base 0x20000001: the base is not a multiple of 65,536");
+    check_line(41, PETOOL_PLACE_ITEM, 256, "file 256: the set has more than 256 files");
     check_line(86, PETOOL_PLACE_FILE, 10, "place at 0xa: no fault has this number");
     CHECK(petool_version() == (PETOOL_VERSION));
 }

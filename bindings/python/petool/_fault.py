@@ -19,12 +19,8 @@ class Place(enum.IntEnum):
     ITEM = 3  #: items of a list
 
 
-_FORMS = {
-    Place.FILE: "{} at 0x{:x}",
-    Place.RVA: "{} at RVA 0x{:x}",
-    Place.ADDRESS: "{} 0x{:x}",
-    Place.ITEM: "{} {}",
-}
+#: How many bytes the longest line has, with the zero byte that ends it.
+_LINE = 257
 
 
 def _words(number: int) -> Tuple[str, str]:
@@ -34,6 +30,14 @@ def _words(number: int) -> Tuple[str, str]:
         return "place", "no fault has this number"
     # these texts are the library's own, and live as long as it does
     return tuple(ctypes.string_at(text.at, text.len).decode() for text in (subject, rule))  # type: ignore[return-value]
+
+
+def _line(fault: FormatFault) -> str:
+    """A fault as one line, without its number."""
+    record = _records.Fault(fault.number, fault.image, fault.place, fault.at)
+    room = ctypes.create_string_buffer(_LINE)
+    library.petool_fault_line(ctypes.byref(record), room, _LINE)
+    return room.value.decode()
 
 
 class FormatFault(ValueError):
@@ -57,7 +61,7 @@ class FormatFault(ValueError):
         self.cycle = cycle
 
     def __str__(self) -> str:
-        return f"fault {self.number}: {_FORMS[self.place].format(self.subject, self.at)}: {self.rule}"
+        return f"fault {self.number}: {_line(self)}"
 
 
 def raise_for(status: int) -> None:

@@ -1,6 +1,6 @@
 """The records and calls of the shared library, as petool.h declares them. scripts/describe.py writes this module."""
 
-from ctypes import POINTER, Structure, c_bool, c_size_t, c_uint8, c_uint16, c_uint32, c_uint64, c_void_p
+from ctypes import POINTER, Structure, c_bool, c_char, c_int, c_size_t, c_uint8, c_uint16, c_uint32, c_uint64, c_void_p
 from typing import Any, Dict, List, Tuple
 
 
@@ -194,5 +194,6 @@ CALLS: Dict[str, Tuple[Any, List[Any]]] = {
     ),
     "petool_object_symbols": (c_uint32, [c_void_p, c_size_t, c_void_p, c_size_t, POINTER(c_size_t), POINTER(Fault)]),
     "petool_fault_words": (c_uint32, [c_uint16, POINTER(Text), POINTER(Text)]),
+    "petool_fault_line": (c_int, [POINTER(Fault), c_void_p, c_size_t]),
     "petool_version": (c_uint32, []),
 }

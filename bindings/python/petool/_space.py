@@ -102,7 +102,7 @@ class Space:
         IndexError where there is no such image. FormatFault of 44 to 47, and then nothing is changed.
         """
         if not 0 <= image < self._count:
-            raise IndexError("there is no image of this index")
+            raise IndexError("there is no image with this index")
         moved, to = _records.Moved(), unsigned(base, 64, "a base")
         with self._lock:
             ask(library.petool_space_move, byref(self._space), image, to, byref(moved))

@@ -157,14 +157,14 @@ class Bytes(unittest.TestCase):
         with self.assertRaises(petool.FormatFault) as caught:
             petool.rebase(data("v2.dll"), 0x20000001)
         self.assertEqual((caught.exception.number, caught.exception.at), (44, 0x20000001))
-        self.assertEqual(str(caught.exception), "fault 44: base 0x20000001: the base is no multiple of 65,536")
+        self.assertEqual(str(caught.exception), "fault 44: base 0x20000001: the base is not a multiple of 65,536")
 
 
 class Faults(unittest.TestCase):
     def test_a_fault_has_its_parts_and_words(self):
         fault = petool.check(data("v1.dll")[:520])
         self.assertEqual((fault.number, fault.image, fault.place, fault.at), (13, 0, petool.Place.FILE, 0x138))
-        words = "fault 13: section header at 0x138: the section's raw data passes the end of the file"
+        words = "fault 13: section header at 0x138: the section's raw data extends past the end of the file"
         self.assertEqual(str(fault), words)
         self.assertEqual(str(pickle.loads(pickle.dumps(fault))), words)
         self.assertIsInstance(fault, ValueError)

@@ -68,7 +68,7 @@ NO_SUCH_FILE = f"petool: b.dll: cannot be opened: {told(errno.ENOENT)}\n"
 READING_FAILED = f"petool: a.dll: reading failed: {told(errno.EIO)}\n"
 OUTPUT_IS_FULL = f"petool: standard output: writing failed: {told(errno.ENOSPC)}\n"
 
-NO_BYTES = "petool: a.dll: end of the file at 0x0: the file has under 64 bytes, which an MS-DOS header takes: it has 0\n"
+NO_BYTES = "petool: a.dll: end of the file at 0x0: the file has fewer than the 64 bytes of an MS-DOS header: it has 0\n"
 
 NO_FILE_GIVEN = """\
 error: the following required arguments were not provided:
@@ -80,7 +80,7 @@ For more information, try '--help'.
 """
 
 NO_BASE = """\
-error: invalid value 'a.dll' for '<HEX=FILE>...': no '=' after a base
+error: invalid value 'a.dll' for '<HEX=FILE>...': no '=' after the base
 
 Usage: petool map [OPTIONS] <HEX=FILE>...
 
@@ -91,16 +91,16 @@ For more information, try '--help'.
 EMPTY_PAGES = """\
 a.dll: refused: 0 bytes
 
-Fault 2: end of the file at 0x0: the file has under 64 bytes, which an MS-DOS header takes: it has 0
+Fault 2: end of the file at 0x0: the file has fewer than the 64 bytes of an MS-DOS header: it has 0
 
 standard input: refused: 0 bytes
 
-Fault 2: end of the file at 0x0: the file has under 64 bytes, which an MS-DOS header takes: it has 0
+Fault 2: end of the file at 0x0: the file has fewer than the 64 bytes of an MS-DOS header: it has 0
 """
 
 EMPTY_JSON = (
     '{"schema":1,"file":"a.dll","accepted":false,"fault":{"number":2,"image":0,"place":{"file":0},"subject":"end of the file",'
-    '"rule":"the file has under 64 bytes, which an MS-DOS header takes"}}\n'
+    '"rule":"the file has fewer than the 64 bytes of an MS-DOS header"}}\n'
 )
 
 AT_SIGNATURE = """\
@@ -109,16 +109,16 @@ RVA 0x40  address 0x10000040  file 0x40  headers+0x40
 """
 
 EXPLAINED = """\
-fault 13: section header: the section's raw data passes the end of the file
-  It stands where the bytes that the file is to give the section, from PointerToRawData on, pass the end of the file.
-  Met by: an image that was cut off behind its headers, as a broken download is.
+fault 13: section header: the section's raw data extends past the end of the file
+  Reported when the bytes that the file holds for the section, from PointerToRawData on, extend past the end of the file.
+  Typical case: an image that was cut off after its headers, like a broken download.
 """
 
 #: What help says of the exit statuses.
 STATUSES = """
 Exit statuses:
   0  done
-  1  refused by a fault
+  1  a file was refused
   2  bad command line
   3  reading or writing failed
   4  out of memory
@@ -162,7 +162,7 @@ ENDS = [
         words=OBJECT,
         status=1,
         printed="fault 62 image 0 file 0x00000000\n",
-        complained="petool: a.dll: COFF file header at 0x0: the file begins as an image, an archive or an import object does; it is an image\n",
+        complained="petool: a.dll: COFF file header at 0x0: the file begins like an image, an archive or an import object; it is an image\n",
     ),
     replace(SILENT, words=["check"], status=2, complained=NO_FILE_GIVEN),
     replace(SILENT, words=["check", b"\xff"], status=2, complained="petool: word 2 of the command line is not UTF-8\n"),
@@ -209,7 +209,7 @@ VIEW_ENDS = [
         SILENT, words=["at", "a.dll", "40"], file=b"", status=1, printed="fault 2 image 0 file 0x00000000\n", complained=NO_BYTES
     ),
     replace(SILENT, words=["explain", "13"], printed=EXPLAINED),
-    replace(SILENT, words=["explain", "23"], status=2, complained="petool: no fault has the number 23\n"),
+    replace(SILENT, words=["explain", "23"], status=2, complained="petool: there is no fault 23\n"),
     replace(FULL, words=["explain"]),
 ]
 
@@ -235,7 +235,7 @@ REBASE_ENDS = [
     replace(
         REBASED,
         file=SIGNED,
-        complained="petool: new.dll: CheckSum is now 0\npetool: new.dll: the certificate is that of the old file, and no longer fits\n",
+        complained="petool: new.dll: CheckSum is now 0\npetool: new.dll: the certificate is that of the old file and no longer fits\n",
     ),
     # a refused file leaves the target unmade
     replace(
@@ -243,7 +243,7 @@ REBASE_ENDS = [
         words=["rebase", "20000001", "a.dll", "new.dll"],
         status=1,
         printed="fault 44 image 0 address 0x0000000020000001\n",
-        complained="petool: a.dll: base 0x20000001: the base is no multiple of 65,536\n",
+        complained="petool: a.dll: base 0x20000001: the base is not a multiple of 65,536\n",
         is_made=False,
     ),
     replace(
@@ -266,7 +266,7 @@ REBASE_ENDS = [
         words=["rebase", "20000000", "a.dll", "a.dll"],
         status=3,
         printed="",
-        complained="petool: a.dll: is the file that is read\n",
+        complained="petool: a.dll: is the input file\n",
         is_made=False,
     ),
     # the line comes after the file
@@ -275,7 +275,7 @@ REBASE_ENDS = [
 
 #: Words in place of files, the version, and readers that went away.
 DASHES = [
-    replace(SILENT, words=["--version"], file=BROKEN, printed="petool 0.1.0\n"),
+    replace(SILENT, words=["--version"], file=BROKEN, printed="petool 1.0\n"),
     replace(SILENT, words=["check", "-"], printed="accepted PE32 sections 0\n"),
     replace(
         SILENT, words=["map", "10000000=-"], printed='image 0 "-" base 0x0000000010000000 size 0x00001000\nend\n'
@@ -299,31 +299,31 @@ FILES = [
         CHECK,
         b"MZ",
         "fault 2 image 0 file 0x00000002\n",
-        "petool: a.dll: end of the file at 0x2: the file has under 64 bytes, which an MS-DOS header takes: it has 2\n",
+        "petool: a.dll: end of the file at 0x2: the file has fewer than the 64 bytes of an MS-DOS header: it has 2\n",
     ),
     (
         DUMP,
         SECTION,
         "fault 15 image 0 file 0x000000b8\n",
-        "petool: a.dll: section header at 0xb8: the section begins before the headers or the section before it end: it begins at RVA 0x20, and the headers end at 0xe0\n",
+        "petool: a.dll: section header at 0xb8: the section begins before the end of the headers or of the previous section: it begins at RVA 0x20, and the headers end at 0xe0\n",
     ),
     (
         DUMP,
         IMPORTS,
         "fault 24 image 0 rva 0x00000ff0\n",
-        "petool: a.dll: import directory entry at RVA 0xff0: the entry is not wholly in the image\n",
+        "petool: a.dll: import directory entry at RVA 0xff0: the entry is not entirely inside the image\n",
     ),
     (
         OBJECT,
         b"\x4c\x01\x01".ljust(20, b"\0"),
         "fault 63 image 0 file 0x00000002\n",
-        "petool: a.dll: NumberOfSections at 0x2: the section table passes the end of the file\n",
+        "petool: a.dll: NumberOfSections at 0x2: the section table extends past the end of the file\n",
     ),
     (
         REBASE,
         SHARED,
         "fault 52 image 0 file 0x000000b8\n",
-        "petool: a.dll: section header at 0xb8: the section's raw data begins in the headers, or has a byte in common with that of an earlier section\n",
+        "petool: a.dll: section header at 0xb8: the section's raw data begins in the headers, or overlaps that of an earlier section\n",
     ),
 ]
 
@@ -333,39 +333,39 @@ SETS = [
         ["map", "10000000=a.dll", "20000000=A.DLL"],
         HEADERS,
         "fault 42 image 1 item 1\n",
-        "petool: A.DLL: file 1: its module has the name of an earlier one\n",
+        "petool: A.DLL: file 1: its module has the same name as an earlier one\n",
     ),
     (
         ["map", "10008000=a.dll"],
         HEADERS,
         "fault 44 image 0 address 0x0000000010008000\n",
-        "petool: a.dll: base 0x10008000: the base is no multiple of 65,536\n",
+        "petool: a.dll: base 0x10008000: the base is not a multiple of 65,536\n",
     ),
     (
         ["map", "--window", "10000ff8", "10000000=a.dll"],
         HEADERS,
         "fault 54 image 0 address 0x0000000010000ff8\n",
-        "petool: a.dll: window 0x10000ff8: the window does not lie in one image\n",
+        "petool: a.dll: window 0x10000ff8: the window is not inside one image\n",
     ),
     # the import is named
     (
         MAP,
         NAMED,
         "fault 48 image 0 rva 0x00000140\n",
-        "petool: a.dll: import address table slot at RVA 0x140: the import leads to a module that is not in the set: K.dll Sleep; --known leaves such slots as they stand\n",
+        "petool: a.dll: import address table slot at RVA 0x140: the import leads to a module that is not in the set: K.dll Sleep; with --known such slots are left as they are\n",
     ),
     (
         MAP,
         NUMBERED,
         "fault 48 image 0 rva 0x00000140\n",
-        "petool: a.dll: import address table slot at RVA 0x140: the import leads to a module that is not in the set: K.dll #7; --known leaves such slots as they stand\n",
+        "petool: a.dll: import address table slot at RVA 0x140: the import leads to a module that is not in the set: K.dll #7; with --known such slots are left as they are\n",
     ),
     # no image holds the window's first address
     (
         ["map", "--window", "0", "10000000=a.dll"],
         HEADERS,
         "fault 54 image 65535 address 0x0000000000000000\n",
-        "petool: map: window 0x0: the window does not lie in one image\n",
+        "petool: map: window 0x0: the window is not inside one image\n",
     ),
 ]
 
@@ -375,7 +375,7 @@ KINDS = [
         DUMP,
         b"\x7fELF\x02\x01\x01\0\0\0\0\0\0\0\0\0\x03\0\x3e\0",
         "fault 2 image 0 file 0x00000014\n",
-        "petool: a.dll: end of the file at 0x14: the file has under 64 bytes, which an MS-DOS header takes: it has 20; it is an ELF file\n",
+        "petool: a.dll: end of the file at 0x14: the file has fewer than the 64 bytes of an MS-DOS header: it has 20; it is an ELF file\n",
     ),
     (
         CHECK,
@@ -393,13 +393,13 @@ KINDS = [
         ["dump", "-"],
         b"\x64\x86".ljust(20, b"\0"),
         "fault 2 image 0 file 0x00000014\n",
-        "petool: standard input: end of the file at 0x14: the file has under 64 bytes, which an MS-DOS header takes: it has 20; it is a COFF object\n",
+        "petool: standard input: end of the file at 0x14: the file has fewer than the 64 bytes of an MS-DOS header: it has 20; it is a COFF object\n",
     ),
     (
         OBJECT,
         HEADERS,
         "fault 62 image 0 file 0x00000000\n",
-        "petool: a.dll: COFF file header at 0x0: the file begins as an image, an archive or an import object does; it is an image\n",
+        "petool: a.dll: COFF file header at 0x0: the file begins like an image, an archive or an import object; it is an image\n",
     ),
 ]
 
@@ -412,7 +412,7 @@ NAMED_LINE = (
     r"\u0016\u0017\u0018\u0019\u001a\u001b\u001c\u001d\u001e\u001f !\"#$%&'()*+,-./0123456789:;<=>?@ABCDEFGHIJKLMNOPQRSTUVWXYZ[\\]^_"
     "`abcdefghijklmnopqrstuvwxyz{|}~\x7f"
     r'","accepted":false,"fault":{"number":2,"image":0,"place":{"file":0},"subject":"end of the file",'
-    r'"rule":"the file has under 64 bytes, which an MS-DOS header takes"}}'
+    r'"rule":"the file has fewer than the 64 bytes of an MS-DOS header"}}'
     "\n"
 )
 

@@ -1,4 +1,4 @@
-//! The engine that writes an object's dump.
+//! `dump_object`: the engine of `petool object`, which writes an object's dump.
 
 ghost use Rattle.std.specs.Prelude.{◌-◌, ◌^◌, ◌<◌, ◌↔◌, IsErrOf};
 ghost use Rattle.pe_text.specs.Engine.{Ran};

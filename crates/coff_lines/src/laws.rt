@@ -7,8 +7,8 @@ ghost use Rattle.coff_object.specs.Reading.{object_of, symbol_indexes};
 ghost use Rattle.coff_lines.specs.ObjectLines.{symbol_lines};
 ghost use Rattle.coff_lines.specs.ObjectPlaces.{record_lines};
 
-/// In the dump of an object that is not refused, each record of the file's symbol table stands under its own index: as a symbol
-/// where it begins one, else in the shape of the symbol before it.
+/// In the dump of an accepted object each record of the symbol table has its own index: as a symbol if it begins one, and
+/// otherwise in the shape of the symbol before it.
 pub fn records_are_shown_under_their_indexes()
     ensures { (file : List ℕ) → first_standing (object_tests file) ≡ None → symbol_lines 0 (object_of file).symbols ≡ flat_map (record_lines file) (symbol_indexes file) }
 {}

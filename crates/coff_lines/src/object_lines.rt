@@ -1,4 +1,4 @@
-//! The dump of an object: what it holds, a line each.
+//! The lines of an object's dump: its sections, relocations, symbols and auxiliary records.
 
 ghost use Rattle.std.specs.Prelude.{◌≡◌, ◌+◌, ◌^◌, ◌≤◌, ◌∷◌, [], codes, decimal, flat_map, option_map};
 ghost use Rattle.coff_object.specs.Auxiliary.{Function, Section as SectionRecord};

@@ -1,4 +1,4 @@
--- Where the names of an object stand in its string table.
+-- Where the names of an object stand in its string table. No contract of a public function cites it.
 use Rattle.std.specs.Prelude.{◌≡◌, ℕ, Bool, List, map, if◌then◌else◌}
 use Rattle.coff_read.specs.Names.{is_long, is_long_section_name}
 use Rattle.coff_read.specs.Records.{Section, Symbol, Object}

@@ -11,7 +11,7 @@ pub use coff_read::laws::{
     strings_stand_at_their_offsets, symbols_fill_the_table, symbols_stand_behind_auxiliary_records,
 };
 
-/// An object that is not refused is read back from its written form.
+/// An object that none of faults 81 to 85 refuses is read back from its written form.
 pub fn written_is_read_back()
     ensures { (o : Object) → Fits o → first_standing (write_tests o) ≡ None → IsObjectOf (canon o) o }
 {}

@@ -1,3 +1,5 @@
+//! The bytes of an object's records: section headers, the bodies of sections with their relocations, and symbols.
+
 ghost use Rattle.std.specs.Prelude.{◌≡◌, ◌+◌, ◌*◌, ◌≤◌, ◌<◌, ◌^◌, ◌++◌, ◌∷◌, length, replicate, IsTrue, OnOk};
 ghost use Rattle.std.specs.List.{flat_map, AllByRecursion};
 ghost use Rattle.coff_read.specs.Names.{decimal_digits, padded, is_long, is_long_section_name};

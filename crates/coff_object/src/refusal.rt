@@ -1,3 +1,5 @@
+//! What faults 81 to 83 look for in an object to be written: zero bytes in names, far names and too many relocations.
+
 ghost use Rattle.std.specs.Prelude.{◌≡◌, map, nat_lt, position};
 ghost use Rattle.coff_read.specs.ObjectView.{section_view, symbol_view};
 ghost use Rattle.coff_read.specs.Records as format;

@@ -1,3 +1,5 @@
+//! `write_object`: the bytes of an object file, or the least of faults 81 to 85.
+
 ghost use Rattle.std.specs.Prelude.{◌≡◌, ◌+◌, ◌-◌, ◌<◌, ◌^◌, ◌++◌, false, if◌then◌else◌, length, map, min, ⊤, Some, Err, OnOk, IfOk};
 ghost use Rattle.std.specs.List.{flat_map, AllByRecursion};
 ghost use Rattle.pe_view.specs.Faults.{Answers, first_standing, AnswersOrWants};

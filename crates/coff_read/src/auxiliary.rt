@@ -1,3 +1,5 @@
+//! Auxiliary symbol records: `Aux`, whose shape depends on the symbol before them.
+
 ghost use Rattle.std.specs.Prelude.{◌≡◌, ◌≤◌, ◌&&◌, ◌==◌, length, option_map};
 ghost use Rattle.pe_view.specs.View.{bytes_of, size_of};
 ghost use Rattle.coff_read.specs.Auxiliary.{aux_in, aux_of, aux_record, defines_function, function_of, section_of};

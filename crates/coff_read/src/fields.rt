@@ -1,4 +1,4 @@
-//! The fields of a file's records, each at an offset of the record that stands at a place of the file.
+//! The fields of an object's records: numbers at an offset of a record.
 
 ghost use Rattle.std.specs.Prelude.{◌≡◌, ◌+◌, ◌≤◌};
 ghost use Rattle.pe_view.specs.View.{bytes_of, size_of};

@@ -1,3 +1,5 @@
+//! `ObjectFile`: an object file without faults 61 to 72, which decodes sections, relocations and symbols on demand.
+
 ghost use Rattle.std.specs.Prelude.{◌≡◌, None, length, ⊤};
 ghost use Rattle.std.specs.List.{flat_map};
 ghost use Rattle.pe_view.specs.Faults.{Answers, first_standing};

@@ -1,4 +1,4 @@
-//! Whether parts of an object have a form: what they hold fits the fields of their records, and is read as it is.
+//! `has_bad_part`: whether a section or a symbol of an object does not fit the format, which is fault 85.
 
 ghost use Rattle.std.specs.Prelude.{◌≡◌, ◌||◌, length, map, nat_le};
 ghost use Rattle.std.specs.List.{list_any};

@@ -1,4 +1,4 @@
-//! The headers of an object's file, with every field as it is written.
+//! `FileHeader`: the COFF file header of an object; and its section headers. Each field is as the file has it.
 
 ghost use Rattle.std.specs.Prelude.{◌≡◌, ◌+◌, ◌≤◌};
 ghost use Rattle.pe_view.specs.View.{bytes_of, size_of};

@@ -9,19 +9,18 @@ ghost use Rattle.coff_read.specs.Records.{records_of};
 ghost use Rattle.coff_read.specs.StringPlaces.{IsString};
 ghost use Rattle.coff_read.specs.Strings.{record_count, string_at};
 
-/// Record 0 begins a symbol, and where record k begins one with z auxiliary records, record k + 1 + z begins the next.
+/// Record 0 begins a symbol, and if record k begins one with z auxiliary records, record k + 1 + z begins the next.
 pub fn symbols_stand_behind_auxiliary_records()
     ensures { (file : List ℕ) → SymbolsBegin file }
 {}
 
-/// A text of the string table is one that stands at an offset behind the size field, with a zero byte behind it inside the
-/// table, and no zero byte in it.
+/// A string of the string table is at its offset, after the size field, has no zero byte in it, and a zero byte follows it inside
+/// the table.
 pub fn strings_stand_at_their_offsets()
     ensures { (file : List ℕ) (offset : ℕ) (text : List ℕ) → (string_at file offset ≡ Some text) ↔ IsString file offset text }
 {}
 
-/// The symbols of a file that is not refused, with their auxiliary records, are the records of its symbol table, and fewer
-/// than 2^32.
+/// The symbols of an accepted file, with their auxiliary records, are all records of its symbol table, and fewer than 2^32.
 pub fn symbols_fill_the_table()
     ensures whole { (file : List ℕ) → first_standing (object_tests file) ≡ None → records_of (object_of file).symbols ≡ record_count file }
     ensures few { (file : List ℕ) → first_standing (object_tests file) ≡ None → records_of (object_of file).symbols < 2 ^ 32 }

@@ -1,4 +1,4 @@
-//! COFF object files, judged and read.
+//! COFF object files, judged and read, with and without allocating.
 //!
 //! [`ObjectFile::new`] judges an object's file, or answers the first of faults 61 to 72 that stands, and then decodes sections,
 //! relocations and symbols where they are asked. It takes no memory, but for two walks, [`ObjectFile::each_section`] and

@@ -1,3 +1,5 @@
+//! `read_object`: reads an object file into lists, or returns the first of faults 61 to 72.
+
 ghost use Rattle.std.specs.Prelude.{◌≡◌, None, IsErrOf};
 ghost use Rattle.pe_view.specs.Faults.{first_standing, AnswersOrWants};
 ghost use Rattle.coff_read.specs.ObjectFaults.{header_tests, object_tests};

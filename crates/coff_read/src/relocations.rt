@@ -1,3 +1,5 @@
+//! `Relocations`: the relocations of a section, each decoded on demand.
+
 ghost use Rattle.std.specs.Prelude.{◌+◌, ◌*◌, ◌≤◌, ◌<◌, ◌^◌};
 ghost use Rattle.pe_view.specs.View.{size_of};
 

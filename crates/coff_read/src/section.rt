@@ -1,3 +1,5 @@
+//! `FileSection` and `ObjSection`: a section of an object and its raw data; and faults 64, 65, 66 and 69 of sections.
+
 ghost use Rattle.std.specs.Prelude.{◌≡◌, ◌+◌, ◌≤◌, ◌<◌, ◌&&◌, [], map, not, nat_lt, is_none, None, IfOk, IfSome, ⊤};
 ghost use Rattle.std.specs.List.{flat_map};
 ghost use Rattle.std.specs.Option.{unwrap_or};

@@ -1,3 +1,5 @@
+//! `EachSection`: an iterator over the sections of an object file that remembers where strings end.
+
 ghost use Rattle.std.specs.Prelude.{◌≡◌, ◌≤◌, None};
 ghost use Rattle.std.specs.List.{flat_map};
 ghost use Rattle.pe_view.specs.Faults.{first_standing};

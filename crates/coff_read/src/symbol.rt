@@ -1,3 +1,5 @@
+//! `Symbol`: a symbol of an object with its auxiliary records; and faults 69 to 71 of symbols.
+
 ghost use Rattle.std.specs.Prelude.{◌≡◌, ◌+◌, ◌*◌, ◌≤◌, ◌<◌, ◌^◌, [], map, length, None, IfOk};
 ghost use Rattle.std.specs.List.{flat_map};
 ghost use Rattle.std.specs.Option.{unwrap_or};

@@ -1,3 +1,5 @@
+//! `Symbols` and `EachSymbol`: iterators over the symbols of an object file. `EachSymbol` remembers where strings end.
+
 ghost use Rattle.std.specs.Prelude.{◌≡◌, ◌≤◌, ◌-◌, None};
 ghost use Rattle.std.specs.List.{flat_map};
 ghost use Rattle.pe_view.specs.Faults.{first_standing};

@@ -1,3 +1,5 @@
+//! Where the symbol table and the string table of an object file are; and faults 61 to 63, 67 and 68.
+
 ghost use Rattle.std.specs.Prelude.{◌≡◌, ◌+◌, ◌*◌, ◌≤◌, ◌<◌, ◌^◌, ℕ, is_none, nat_le, OnOk, ⊤};
 ghost use Rattle.pe_view.specs.View.{bytes_of, size_of};
 ghost use Rattle.pe_view.specs.Faults.{Answers};

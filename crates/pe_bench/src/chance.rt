@@ -1,4 +1,4 @@
-//! Numbers and names by chance: the same for the same seed.
+//! Pseudo-random numbers and names: the same for the same seed.
 
 ghost use Rattle.std.specs.Prelude.{◌<◌};
 

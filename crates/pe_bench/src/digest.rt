@@ -1,4 +1,4 @@
-//! What all answers of a workload come to, as one number.
+//! `Digest`: everything that a workload returns, as one number.
 
 /// A number that each answer changes. It tells apart what differs by chance, not what was made to collide.
 #[derive(Clone, Copy)]

@@ -1,4 +1,4 @@
-//! The export table of a module that is made up ("PE Format", The .edata Section).
+//! The export table of a synthetic module ("PE Format", The .edata Section).
 
 use crate::chance::{Chance, push_name};
 use crate::module_names::push_module;

@@ -1,4 +1,4 @@
-//! The import table of a module that is made up ("PE Format", The .idata Section).
+//! The import table of a synthetic module ("PE Format", The .idata Section).
 
 use crate::chance::{Chance, push_name};
 use crate::module_names::push_module;

@@ -1,4 +1,4 @@
-//! The file of a module that is made up: code, exports, imports, data and base relocations, as a linker lays them out.
+//! The file of a synthetic module: code, exports, imports, data and base relocations, as a linker lays them out.
 
 use crate::awkward::{awkward_exports, awkward_fixups, awkward_imports};
 use crate::chance::{Chance, push_bytes};

@@ -1,4 +1,4 @@
-//! Runs a workload of the benchmark and prints what all its answers come to, as one number.
+//! Runs a workload of the benchmark, and prints all its results as one number.
 //!
 //! The words of its command line are the workload's name, how many rounds it has, and the seed of its inputs; without words each
 //! workload has one round. `bench/run` compares two builds of it.

@@ -1,4 +1,4 @@
-//! The file of an object that is made up, as a compiler writes it: sections of functions, their relocations, and symbols.
+//! The file of a synthetic object, as a compiler writes it: sections of functions, their relocations, and symbols.
 
 use crate::chance::{Chance, push_bytes, push_name};
 use coff_object::{ObjSection, Object, RawData, Relocation, Symbol, SymbolSection, write_object};

@@ -1,4 +1,4 @@
-//! Sets of modules that are made up.
+//! Sets of synthetic modules.
 
 use crate::library::{library, preferred_base};
 use crate::module_names::file_name;

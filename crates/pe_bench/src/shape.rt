@@ -1,4 +1,4 @@
-//! How large a module that is made up is, and which of a set it is.
+//! How large a synthetic module is, and which module of a set it is.
 
 /// The seed of a round: no other round has files of the same names and bytes.
 pub(crate) fn round_seed(seed: u64, round: u32) -> u64 {

@@ -1,4 +1,4 @@
-//! What is asked of a space of images.
+//! What a workload does with a space: it reads bytes and bindings, and moves images.
 
 use crate::chance::Chance;
 use crate::digest::Digest;

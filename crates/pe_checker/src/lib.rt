@@ -1,5 +1,4 @@
-//! A checker of sets, [`slow_first`], that judges files by plain scans, with nothing of what the other crates read and search by: its
-//! answers are compared with those of `map` and `open_space`, over malicious files and sets.
+//! A slow checker of sets, [`slow_first`], which shares no reader and no search with the crates that it is compared with.
 //!
 //! ```text
 //! let first = slow_first(alloc, &set, Policy::Strict)?;

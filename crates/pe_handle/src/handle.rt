@@ -1,3 +1,5 @@
+//! `Handle`: a space that a C program keeps, or none where the handle is closed.
+
 ghost use Rattle.std.specs.Prelude.{◌≡◌, true, false, None, Some, is_some, option_map};
 ghost use Rattle.std.specs.declared.option.Option.{Option};
 ghost use Rattle.pe_space.specs.Content.{Content};

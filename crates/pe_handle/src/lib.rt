@@ -1,4 +1,4 @@
-//! A space of images as a program in another language keeps it: as one pointer, with a flag that tells whether it is there.
+//! A space of images as a program in another language keeps it: a pointer, and a flag that says whether the space is there.
 //!
 //! [`Handle::of`] puts a space into a handle, and [`Handle::take`] takes that very space out again. A closed handle has none.
 //!

@@ -1,3 +1,5 @@
+//! Values of the COFF header's fields: `machine` for Machine, `characteristic` for Characteristics.
+
 /// Values of the COFF header's Machine field ("PE Format", Machine Types).
 pub mod machine {
     /// Intel 386 and later.

@@ -1,3 +1,5 @@
+//! `Directory`: the RVA and size of a table; and `directory_index`, the index of each table's directory.
+
 /// Where a table lies in the laid-out image ("PE Format", Optional Header Data Directories).
 #[derive(Clone, Copy, Debug, Default, PartialEq, Eq)]
 pub struct Directory {

@@ -1,3 +1,5 @@
+//! `Fields`: the fields of an image's headers, each read at its offset and width.
+
 ghost use Rattle.std.specs.Prelude.{◌≡◌, ℕ, ◌+◌, ◌≤◌, ◌*◌, ◌^◌, ◌<◌, if◌then◌else◌, map};
 ghost use Rattle.std.specs.List.{range_with_len};
 ghost use Rattle.pe_view.specs.View.{bytes_of, size_of};

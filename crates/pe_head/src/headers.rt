@@ -1,3 +1,5 @@
+//! `Headers`: every field of an image's headers, with the data directories and the section table.
+
 ghost use Rattle.std.specs.Prelude.{◌≡◌, ◌+◌, ◌*◌};
 
 use crate::directory::Directory;

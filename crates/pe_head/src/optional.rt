@@ -1,3 +1,5 @@
+//! `Magic`: the two forms of the optional header; and values of its Subsystem and DllCharacteristics fields.
+
 /// Which of the two forms the optional header has ("PE Format", Optional Header).
 #[derive(Clone, Copy, Debug, PartialEq, Eq)]
 pub enum Magic {

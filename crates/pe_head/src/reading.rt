@@ -1,3 +1,5 @@
+//! `read_headers`: the headers of an image, or the least of faults 1 to 12.
+
 ghost use Rattle.std.specs.Prelude.{◌≡◌, ◌+◌, ◌≤◌, ◌*◌, take, drop, slice_range, OnOk, ⊤};
 ghost use Rattle.pe_view.specs.View.{bytes_of, size_of};
 ghost use Rattle.pe_view.specs.Faults.{Answers};

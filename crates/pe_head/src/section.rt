@@ -1,3 +1,5 @@
+//! `SectionHeader`: a row of the section table, with how many bytes it takes in the image and in the file; and its flags.
+
 /// A row of the section table ("PE Format", Section Table). Sizes count bytes.
 #[derive(Clone, Copy, Debug, Default, PartialEq, Eq)]
 pub struct SectionHeader {

@@ -1,2 +1,3 @@
+pub mod ImportSlots
 pub mod Phases
 pub mod Whole

@@ -1,12 +1,14 @@
+//! `read_image`: an image read whole, or its first fault; and `lay_out`, which reads its headers and sections alone.
+
 ghost use Rattle.std.specs.Prelude.{◌≡◌, ◌<◌, None, length, IsErrOf};
 ghost use Rattle.pe_view.specs.Faults.{first_standing, Answers, AnswersOrWants};
 ghost use Rattle.pe_layout.specs.SectionFaults.{layout_tests};
-ghost use Rattle.pe_layout.specs.Layout.{image_of, IsLayoutOf};
-ghost use Rattle.pe_image.specs.ImageTests.{table_tests, image_tests};
-ghost use Rattle.pe_image.specs.ImageOf.{AreTablesOf, HoldsTablesOf, IsImageOf};
+ghost use Rattle.pe_layout.specs.Layout.{IsLayoutOf};
+ghost use Rattle.pe_image.specs.ImageTests.{image_tests};
+ghost use Rattle.pe_image.specs.ImageOf.{IsImageOf};
 ghost use Rattle.pe_view.specs.declared.refusal.Refusal.{Refusal};
 
-use crate::tables::{Tables, read_tables};
+use crate::tables::read_tables;
 use pe_layout::Layout;
 use pe_tables::{Exports, Fixup, Import, TableError};
 use pe_view::{Fault, View};
@@ -33,25 +35,6 @@ pub fn lay_out(file: &[u8], number: u16) -> Result<Layout<'_>, Fault>
     Layout::new(View::new(file), number)
 }
 
-/// The image whose tables are whole, or their first fault.
-fn image_of_tables<'a, A: Allocator>(
-    layout: Layout<'a>,
-    tables: Tables<'a, A>,
-) -> Result<Image<'a, A>, Fault>
-    requires { AreTablesOf (image_of layout) tables }
-    ensures { Answers (table_tests (image_of layout.entry)) (HoldsTablesOf layout.entry) result }
-{
-    match tables.fault {
-        Some(fault) => Err(fault),
-        None => Ok(Image {
-            layout,
-            exports: tables.exports.unwrap(),
-            imports: tables.imports.unwrap(),
-            fixups: tables.fixups.unwrap(),
-        }),
-    }
-}
-
 /// Reads an image whole: `file` is all of its file, and faults name the image by `number`.
 ///
 /// Faults are asked phase by phase: headers and sections (1 to 15), exports (16 to 22), imports (24 to 32), base relocations
@@ -71,6 +54,13 @@ pub fn read_image<A: Allocator + Copy>(
 {
     let layout = lay_out(file, number)?;
     let tables = read_tables(alloc, &layout)?;
-    let image = image_of_tables(layout, tables)?;
-    Ok(image)
+    match tables.fault {
+        Some(fault) => Err(TableError::Fault(fault)),
+        None => Ok(Image {
+            layout,
+            exports: tables.exports.unwrap(),
+            imports: tables.imports.unwrap(),
+            fixups: tables.fixups.unwrap(),
+        }),
+    }
 }

@@ -1,4 +1,4 @@
-//! One reader of a whole image: its headers and sections, its exports, imports and base relocations.
+//! One image, read whole: its headers and sections, its exports, imports and base relocations.
 //!
 //! [`read_image`] asks a file for each fault that this library knows, in the one order in which they count, and keeps what it
 //! read where none stands. All callers that need an image whole read it by this call, so that they agree on what is accepted:
@@ -17,7 +17,9 @@
 #![tactic(auto)]
 
 mod image;
+mod slots;
 mod tables;
 
 pub use image::{Image, lay_out, read_image};
+pub use slots::import_at;
 pub use tables::{Tables, read_relocations, read_tables};

@@ -1,3 +1,5 @@
+//! `read_tables`: an image's tables up to the first with a fault; and `read_relocations`, its base relocations alone.
+
 ghost use Rattle.std.specs.Prelude.{◌≡◌, None, Some, option_map, IsErrOf, IfOk};
 ghost use Rattle.pe_view.specs.Faults.{AnswersOrWants};
 ghost use Rattle.pe_view.specs.declared.refusal.Refusal.{Refusal};

@@ -1,4 +1,4 @@
-//! The engine that writes a file's line.
+//! `json`: the engine of `petool json`, which judges a file as an image or an object and writes its line.
 
 ghost use Rattle.std.specs.Prelude.{◌-◌, ◌^◌, ◌<◌, ◌↔◌, length, IfOk, OnErr, IsErrOf};
 ghost use Rattle.coff_object.specs.ObjectFaults.{object_tests};

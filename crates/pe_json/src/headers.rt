@@ -1,4 +1,4 @@
-//! The members of headers.
+//! The JSON members of an image's headers and data directories.
 
 use crate::value::Value::{Absent, Flags, Number, Wide};
 use crate::value::{Member, text_if};

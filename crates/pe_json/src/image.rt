@@ -1,4 +1,4 @@
-//! The members of an accepted image.
+//! The JSON members of an accepted image.
 
 ghost use Rattle.pe_json.specs.Growing.{Grows};
 ghost use Rattle.pe_text.specs.TextWriter.{IsReady};

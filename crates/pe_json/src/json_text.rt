@@ -1,4 +1,4 @@
-//! JSON text, of the kit's crate `json`, that streams.
+//! `JsonText`: JSON text, written row by row with the ported crate `json`, and whether memory ran out.
 
 ghost use Rattle.json.specs.Print.{IsPrintable};
 ghost use Rattle.json.specs.Reads.{token_of};

@@ -1,4 +1,4 @@
-//! The members of an accepted object.
+//! The JSON members of an accepted object.
 
 ghost use Rattle.pe_json.specs.Growing.{Grows};
 ghost use Rattle.pe_text.specs.TextWriter.{IsReady};

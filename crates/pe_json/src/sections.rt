@@ -1,4 +1,4 @@
-//! The members of section headers.
+//! The JSON members of section headers.
 
 use crate::value::Member;
 use crate::value::Value::{Absent, Flags, Name, Number};

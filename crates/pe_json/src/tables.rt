@@ -1,4 +1,4 @@
-//! The lists of an image's imports and base relocations.
+//! The JSON lists of an image's imports and base relocations.
 
 ghost use Rattle.pe_json.specs.Growing.{Grows};
 ghost use Rattle.pe_text.specs.TextWriter.{IsReady};

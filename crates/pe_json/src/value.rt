@@ -1,4 +1,4 @@
-//! The members of a JSON object.
+//! `Value` and `Member`: a member of a JSON object, as data.
 
 use pe_names::FlagKind;
 

@@ -1,4 +1,4 @@
--- Runs: bytes of an image that come from one place.
+-- Runs: bytes of an image that come from one place. No contract of a public function cites it.
 use Rattle.std.specs.Prelude.{◌≡◌, ℕ, ◌+◌, ◌-◌, ◌<◌, ◌≤◌, nat_lt, List, length, replicate, if◌then◌else◌}
 use Rattle.pe_view.specs.Number.{part}
 use Rattle.pe_head.specs.declared.section.SectionHeader.{SectionHeader}

@@ -1,4 +1,5 @@
 -- How the sections of an image lie: what a search among them rests on, and what it finds.
+-- No contract of a public function cites it.
 use Rattle.std.specs.Prelude.{◌≡◌, ℕ, ◌+◌, ◌<◌, ◌≤◌, List, length, slice_index_or, None, Some}
 use Rattle.pe_head.specs.declared.section.SectionHeader.{SectionHeader}
 use Rattle.pe_head.specs.declared.headers.Headers.{Headers}

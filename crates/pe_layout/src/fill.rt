@@ -1,3 +1,5 @@
+//! The bytes of a laid-out image, run by run: `Layout::fill`, `byte`, `u16_at`, `u32_at`, `u64_at` and `bytes`.
+
 ghost use Rattle.std.specs.Prelude.{◌≡◌, ◌+◌, ◌<◌, ◌≤◌, ◌↔◌, IsTrue, SomeIff, IfOk, OnOk, length, drop, ◌++◌};
 ghost use Rattle.std.specs.Bool.{OnTrue, OnFalse};
 ghost use Rattle.pe_layout.specs.Piece.{end_of};

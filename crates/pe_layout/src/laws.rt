@@ -12,12 +12,12 @@ ghost use Rattle.pe_layout.specs.SectionFaults.{layout_tests};
 ghost use Rattle.pe_layout.specs.Plain.{plain, IsLaidOut};
 ghost use Rattle.pe_layout.specs.Locating.{located, located_byte};
 
-/// The bytes of an image without a fault, piece by piece.
+/// The bytes of an image without a fault, piece by piece: headers, raw data, zero fill and gaps.
 pub fn bytes_by_pieces()
     ensures { (image : ℕ) (file : List ℕ) → first_standing (layout_tests image file) ≡ None → IsLaidOut (head_of file) file }
 {}
 
-/// What stands at an RVA of an image says which byte it is.
+/// What `locate` finds at an RVA says which byte is there.
 pub fn located_is_plain()
     ensures { (h : Headers) (file : List ℕ) (r : ℕ) → r < h.size_of_image → located_byte file (located h r) ≡ Some (plain h file r) }
 {}
@@ -27,8 +27,7 @@ pub fn images_are_small()
     ensures { (image : ℕ) (file : List ℕ) → first_standing (layout_tests image file) ≡ None → (image_of_file image file).size ≤ 2 ^ 31 }
 {}
 
-/// The sections of an image without a fault lie behind its headers and in the image, each ends where a later one begins at
-/// the latest, and the file holds their raw data.
+/// The sections of an image without a fault lie after its headers, in the image and apart, and the file holds their raw data.
 pub fn sections_are_apart()
     ensures behind { (image : ℕ) (file : List ℕ) → first_standing (layout_tests image file) ≡ None → let h = head_of file in
         All (λ (s : SectionHeader). h.size_of_headers ≤ s.virtual_address) h.sections.items }

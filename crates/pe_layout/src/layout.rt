@@ -1,3 +1,5 @@
+//! `Layout`: an image as its headers and sections lay it out, or the first of faults 1 to 15.
+
 ghost use Rattle.std.specs.Prelude.{◌≡◌, ◌+◌, ◌≤◌, ◌^◌, ◌⊎◌, ◌==◌, ◌&&◌, ◌||◌, None, IsTrue};
 ghost use Rattle.pe_view.specs.View.{size_of};
 ghost use Rattle.pe_view.specs.Faults.{first_standing};

@@ -1,4 +1,4 @@
-//! An image laid out in memory: which byte stands at which RVA, and which zero-ended text.
+//! An image laid out in memory: the byte, and the zero-terminated string, at each RVA.
 //!
 //! A [`Layout`] borrows the file and holds its headers. It copies nothing and takes no memory, but for what
 //! [`Layout::text_at`] remembers of texts:

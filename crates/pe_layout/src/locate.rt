@@ -1,3 +1,5 @@
+//! `Layout::locate`: what is at an RVA of the image, found by a binary search among the sections.
+
 ghost use Rattle.std.specs.Prelude.{◌≡◌, ◌≤◌, ◌<◌, ℕ, length, slice_index_or};
 ghost use Rattle.pe_view.specs.View.{size_of};
 ghost use Rattle.pe_head.specs.declared.section.SectionHeader.{SectionHeader};

@@ -1,3 +1,5 @@
+//! Faults 13 to 15: where the sections of an image lie, section by section.
+
 ghost use Rattle.std.specs.Prelude.{◌≡◌, ⊤};
 ghost use Rattle.pe_view.specs.Faults.{Answers};
 ghost use Rattle.pe_layout.specs.Piece.{end_of};

@@ -1,3 +1,5 @@
+//! `Layout::name_at` and `Layout::text_at`: the zero-terminated string at an RVA, which ends inside its piece.
+
 ghost use Rattle.std.specs.Prelude.{◌≡◌, ◌+◌, ◌≤◌, ℕ, IfSome, length, option_map, option_and_then, Some};
 ghost use Rattle.pe_view.specs.View.{size_of};
 ghost use Rattle.pe_view.specs.Text.{text_between};

@@ -1,4 +1,4 @@
-//! The engines that judge an image, and that write its dump.
+//! `check` and `dump`: the engines that judge an image, and that write its dump.
 
 ghost use Rattle.std.specs.Prelude.{◌-◌, ◌^◌, ◌<◌, ◌↔◌, IsErrOf};
 ghost use Rattle.pe_text.specs.Engine.{Ran};

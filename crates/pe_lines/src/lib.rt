@@ -1,5 +1,4 @@
-//! What is told of an image: that it is accepted, or what it holds, a line for each field of its headers, directory, section,
-//! export, import and base relocation.
+//! The lines of an image: that it is accepted, or one for each header field, directory, section, export, import and fixup.
 //!
 //! [`check`] and [`dump`] read the image's file, judge it and write their texts:
 //!

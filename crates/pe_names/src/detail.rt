@@ -1,4 +1,4 @@
-//! The values of a file beside the limit that a fault names.
+//! `fault_detail`: the values that a fault of a file's size, headers or section headers compares with a limit.
 
 use pe_head::{Magic, SectionHeader};
 use pe_view::{Fault, Place, View};
@@ -9,7 +9,7 @@ use std::fmt::{self, Display};
 enum Case {
     /// How many bytes the file has.
     Size,
-    /// That the file has over 2^32 bytes.
+    /// That the file is larger than 2^32 bytes.
     OverLimit,
     /// An offset, and how many bytes the file has.
     Offset,

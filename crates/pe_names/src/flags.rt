@@ -1,4 +1,4 @@
-//! Flags by their names.
+//! `flag_name`: the names of flags.
 
 use pe_head::{characteristic_name, dll_characteristic_name, section_flag_name};
 

@@ -1,3 +1,5 @@
+//! `is_object`: whether a file is judged as an object or as an image.
+
 ghost use Rattle.std.specs.Prelude.{◌≡◌};
 ghost use Rattle.pe_text.specs.FileKind.{kind_of};
 ghost use Rattle.pe_names.specs.Judged.{is_object};

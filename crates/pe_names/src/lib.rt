@@ -1,5 +1,4 @@
-//! What the views of an image or an object have in common: by which faults a file of either kind is judged, the values that a
-//! fault tells of, and the names of flags, sections and exports.
+//! What views of images and objects share: the faults by which a file is judged, the values that a fault compares, and names.
 //!
 //! ```text
 //! let table = string_table(View::new(file), headers);

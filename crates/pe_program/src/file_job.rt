@@ -1,4 +1,4 @@
-//! The jobs of one file: `check`, `dump` and `object`.
+//! The commands that read files one by one: `run_file` and `run_files`.
 
 use crate::input::{InputFile, name_of, open_file};
 use crate::messages::{STANDARD_OUTPUT, tell_failure, tell_fault};

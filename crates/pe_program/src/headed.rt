@@ -1,4 +1,4 @@
-//! A text with a heading.
+//! `Headed`: a writer that writes a heading before the first byte.
 
 use std::io::{self, Write};
 use std::mem;

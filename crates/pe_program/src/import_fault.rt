@@ -1,6 +1,6 @@
 //! The faults of what an import is bound to, which name it.
 
-use pe_image::read_image;
+use pe_image::{import_at, lay_out};
 use pe_tables::{Import, Key};
 use pe_tool::FaultText;
 use pe_view::{Fault, Place};
@@ -17,20 +17,16 @@ fn slot_of(fault: &Fault) -> Option<u32> {
     }
 }
 
-/// The import with a slot.
-fn with_slot<'a>(imports: &[Import<'a>], slot: u32) -> Option<Import<'a>> {
-    imports.iter().find(|import| import.slot == slot).copied()
-}
-
-/// The import of an image whose slot a fault names, where it names one, and where there is memory to look it up.
+/// The import of an image whose slot a fault names, where it names one, and where there is memory to look it up. Of the file the
+/// headers and the import table are read once more: a refused set has kept nothing of them.
 pub(crate) fn import_of<'a, A: Allocator + Copy>(
     alloc: A,
     file: &'a [u8],
     fault: &Fault,
 ) -> Option<Import<'a>> {
     let slot = slot_of(fault)?;
-    let image = read_image(alloc, file, fault.image).ok()?;
-    with_slot(image.imports.as_slice(), slot)
+    let layout = lay_out(file, fault.image).ok()?;
+    import_at(alloc, &layout, slot).ok()?
 }
 
 /// Tells a fault of what an import is bound to, with the import's module and its name there, or its ordinal behind `#`.
@@ -38,7 +34,7 @@ pub(crate) fn tell_import_fault(rt: &impl Eprint, subject: &str, fault: Fault, i
     let module = import.module.escape_ascii();
     let text = FaultText(fault);
     let way = if fault.number == NO_MODULE {
-        "; --known leaves such slots as they stand"
+        "; with --known such slots are left as they are"
     } else {
         ""
     };

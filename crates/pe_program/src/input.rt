@@ -1,4 +1,4 @@
-//! The files that are read: at paths, or standard input.
+//! `InputFile`: a file that is read, at a path or from standard input.
 
 ghost use Rattle.std.specs.Prelude.{◌≤◌, length, IfOk};
 

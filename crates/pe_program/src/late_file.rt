@@ -1,4 +1,4 @@
-//! A file that is made when it is first written to.
+//! `LateFile`: a file that is created, or emptied, when it is first written to.
 
 use std::fs;
 use std::io::{self, Error, ErrorKind, Write};

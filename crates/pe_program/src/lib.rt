@@ -1,5 +1,4 @@
-//! The program `petool`, over any runtime: it opens the files that its words name, has the engines of `pe_tool` write their texts
-//! on standard output, tells of what fails on standard error, and answers the exit status.
+//! The program `petool`, over any runtime: it opens files, has the engines write, reports errors and returns the exit status.
 //!
 //! ```text
 //! fn main(rt: HostRuntime) -> ExitCode {

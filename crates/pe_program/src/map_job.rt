@@ -1,4 +1,4 @@
-//! The job `map`: files are read whole, mapped, and told of.
+//! The command `map`: reads files whole, maps them and prints the report.
 
 use crate::file_job::refuse_path;
 use crate::import_fault::{import_of, tell_import_fault};

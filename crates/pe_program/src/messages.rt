@@ -1,4 +1,4 @@
-//! What is told on standard error.
+//! The messages on standard error.
 
 use pe_tool::{FaultDetail, FaultText, FileKind, ToolError, fault_detail, file_kind};
 use pe_view::{Fault, View};

@@ -1,4 +1,4 @@
-//! An output whose failure is kept.
+//! `Output`: a writer that keeps the error of the call that failed.
 
 use std::io::{self, Error, ErrorKind, Write};
 

@@ -1,4 +1,4 @@
-//! What the program does.
+//! `run`: does what the command line asks for, and returns the exit status.
 
 use crate::command_line::{refuse_command_line, refuse_words, words_of};
 use crate::explain::run_explain;

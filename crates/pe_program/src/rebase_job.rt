@@ -1,4 +1,4 @@
-//! The job `rebase`: a file is written at another base.
+//! The command `rebase`: writes the file of an image for another base.
 
 use crate::file_job::{refuse_path, tell};
 use crate::input::open_path;
@@ -68,7 +68,7 @@ fn tell_changes(rt: &impl Eprint, target: &str, first: View) {
     }
     if certificate_size(first).unwrap_or(0) != 0 {
         let _ = eprintln!(rt;
-            "petool: {target}: the certificate is that of the old file, and no longer fits"
+            "petool: {target}: the certificate is that of the old file and no longer fits"
         );
     }
 }
@@ -88,7 +88,7 @@ where
         Err(error) => return refuse_path(rt, source, error),
     };
     if is_same_file(rt, source, target) {
-        let _ = eprintln!(rt; "petool: {target}: is the file that is read");
+        let _ = eprintln!(rt; "petool: {target}: is the input file");
         return DEVICE_FAILED;
     }
     let mut late = Output::new(LateFile::new(rt, target));

@@ -1,4 +1,4 @@
-//! Exit statuses that no engine answers.
+//! Exit statuses that no engine returns.
 
 /// The exit status where help or the version was printed.
 pub(crate) const DONE: u8 = 0;

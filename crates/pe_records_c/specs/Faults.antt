@@ -1,5 +1,5 @@
 -- Faults as C has them.
-use Rattle.std.specs.Prelude.{◌≡◌, ◌≢◌, ◌⊎◌, ℕ, List, Option, None, Some, option_map}
+use Rattle.std.specs.Prelude.{◌≡◌, ◌≢◌, ◌⊎◌, ℕ, ◌%◌, ◌^◌, ◌==◌, if◌then◌else◌, List, Option, None, Some, option_map}
 use Rattle.pe_view.specs.Faults.{Test, first_standing}
 use Rattle.pe_view.specs.declared.fault.Fault.{Fault}
 use Rattle.pe_view.specs.declared.fault.Place.{Place}
@@ -24,6 +24,14 @@ place_at (Item index) = index
 -- a fault as the caller's record holds it
 abbrev pub fault_record : Fault → FaultRecord
 fault_record f = record { number = f.number; image = f.image; place = place_kind f.place; at = place_at f.place }
+
+-- a place of this kind
+abbrev pub place_of : ℕ → ℕ → Place
+place_of kind at = if kind == 0 then File at else (if kind == 1 then Rva (at % 2 ^ 32) else (if kind == 2 then Address at else Item (at % 2 ^ 32)))
+
+-- the fault of a record
+abbrev pub fault_of : FaultRecord → Fault
+fault_of r = record { number = r.number; image = r.image; place = place_of (r.place % 4) r.at }
 
 -- how a refusal is told: status 1 and the fault, or status 2 and the record as it was
 abbrev pub IsTold : Refusal → FaultRecord → FaultRecord → ℕ → Type 0

@@ -4,6 +4,7 @@ pub mod Faults
 pub mod FixupRows
 pub mod HeaderRows
 pub mod ImportRows
+pub mod Lines
 pub mod ObjectHeaderRows
 pub mod ObjectRows
 pub mod Rows

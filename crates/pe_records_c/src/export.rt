@@ -1,3 +1,5 @@
+//! Exports as C has them: `ExportRow`, and `TargetRecord`, an RVA or a forwarder.
+
 ghost use Rattle.std.specs.Prelude.{◌≡◌, option_map};
 ghost use Rattle.pe_tables.specs.ExportsView.{ordinal_view};
 ghost use Rattle.pe_tables.specs.Key.{target_view};

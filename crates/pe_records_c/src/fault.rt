@@ -1,5 +1,7 @@
+//! `FaultRecord`: how C is told of a fault, or that memory ran out.
+
 ghost use Rattle.std.specs.Prelude.{◌≡◌};
-ghost use Rattle.pe_records_c.specs.Faults.{fault_record, IsTold};
+ghost use Rattle.pe_records_c.specs.Faults.{fault_record, fault_of, IsTold};
 
 use crate::status;
 use pe_view::{Fault, Place, Refusal};
@@ -33,6 +35,24 @@ pub fn fault_record(fault: Fault) -> FaultRecord
         image: fault.image,
         place,
         at,
+    }
+}
+
+/// The fault of a record. A record that no call has filled is read as one: by the last two bits of `place`, and by the last 32 bits
+/// of `at` where the place is an RVA or an item.
+pub fn fault_of(told: &FaultRecord) -> Fault
+    ensures { result ≡ fault_of told.now }
+{
+    let place = match told.place % 4 {
+        0 => Place::File(told.at),
+        1 => Place::Rva((told.at % (1 << 32)) as u32),
+        2 => Place::Address(told.at),
+        _ => Place::Item((told.at % (1 << 32)) as u32),
+    };
+    Fault {
+        number: told.number,
+        image: told.image,
+        place,
     }
 }
 

@@ -1,3 +1,5 @@
+//! `FixupRow`: a base relocation as C has it.
+
 ghost use Rattle.std.specs.Prelude.{◌≡◌};
 ghost use Rattle.pe_tables.specs.Encoded.{type_of};
 ghost use Rattle.pe_records_c.specs.FixupRows.{fixup_row};

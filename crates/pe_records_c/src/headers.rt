@@ -1,3 +1,5 @@
+//! The headers of an image as C has them: `HeadersRecord`, `DirectoryRow` and `SectionRow`.
+
 ghost use Rattle.std.specs.Prelude.{◌≡◌};
 ghost use Rattle.pe_records_c.specs.HeaderRows.{directory_row, directory_rows, section_row, headers_record};
 ghost use Rattle.pe_records_c.specs.Rows.{filled};

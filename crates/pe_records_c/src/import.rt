@@ -1,3 +1,5 @@
+//! `ImportRow`: an import as C has it.
+
 ghost use Rattle.std.specs.Prelude.{◌≡◌};
 ghost use Rattle.pe_tables.specs.ImportView.{import_view};
 ghost use Rattle.pe_records_c.specs.ImportRows.{import_text, import_row};

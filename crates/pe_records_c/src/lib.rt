@@ -1,5 +1,4 @@
-//! What the calls of libpetool answer with, and the work that they do: records and rows in C's order of fields, statuses, and how a
-//! table, a fault or a space is told in what the caller handed in.
+//! The work of the calls of libpetool: records and rows as C has them, statuses, and how tables, faults and spaces are reported.
 //!
 //! ```text
 //! let mut rows = [row; 4];
@@ -14,6 +13,7 @@ pub mod fault;
 pub mod fixup;
 pub mod headers;
 pub mod import;
+pub mod laws;
 pub mod mapping;
 pub mod object;
 pub mod object_headers;

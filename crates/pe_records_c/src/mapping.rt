@@ -1,3 +1,5 @@
+//! `map_entries`: maps the images of a set that C describes into a boxed space.
+
 ghost use Rattle.std.specs.Prelude.{◌≡◌, IsErrOf, None, map};
 ghost use Rattle.pe_view.specs.Faults.{first_standing};
 ghost use Rattle.pe_set.specs.SetErrors.{SetAnswers, set_error};

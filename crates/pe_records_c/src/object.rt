@@ -1,3 +1,5 @@
+//! Sections and relocations of an object as C has them: `ObjectSectionRow` and `ObjectRelocationRow`.
+
 ghost use Rattle.std.specs.Prelude.{◌≡◌, ◌++◌, drop, length, slice_get};
 ghost use Rattle.coff_object.specs.FileView.{file_section_view, relocations_view};
 ghost use Rattle.coff_object.specs.ObjectFile.{file_of};

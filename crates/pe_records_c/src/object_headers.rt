@@ -1,3 +1,5 @@
+//! The headers of an object as C has them: `ObjectHeaderRecord` and `SectionHeaderRow`.
+
 ghost use Rattle.std.specs.Prelude.{◌≡◌};
 ghost use Rattle.coff_object.specs.Headers.{file_header, section_headers};
 ghost use Rattle.coff_object.specs.ObjectFile.{file_of};

@@ -1,3 +1,5 @@
+//! One table of an image's file: `exports_in`, `imports_in` and `fixups_in`.
+
 ghost use Rattle.std.specs.Prelude.{◌≡◌, IsErrOf, map};
 ghost use Rattle.pe_view.specs.Faults.{AnswersOrWants};
 ghost use Rattle.pe_view.specs.declared.refusal.Refusal.{Refusal};

@@ -1,3 +1,5 @@
+//! `rebase_into`: the file of an image for another base, written into the caller's buffer.
+
 ghost use Rattle.std.specs.Prelude.{◌≡◌, ◌≢◌, length};
 ghost use Rattle.pe_write.specs.Rebase.{rebased};
 ghost use Rattle.pe_write.specs.RebaseFaults.{rebase_tests};

@@ -1,3 +1,5 @@
+//! `put_table`: a table written into the caller's rows, with its count and the status.
+
 ghost use Rattle.std.specs.Prelude.{◌≡◌, length, nat_le, if◌then◌else◌};
 ghost use Rattle.pe_records_c.specs.Rows.{Fills};
 

@@ -1,3 +1,5 @@
+//! Sets of images as C has them: `EntryRecord` and `BindingRow`; and `judged`, which reads and judges a set.
+
 ghost use Rattle.std.specs.Prelude.{◌≡◌, ◌<◌, IsErrOf, None, length, map};
 ghost use Rattle.pe_view.specs.Faults.{first_standing};
 ghost use Rattle.pe_set.specs.Bindings.{bindings_of};

@@ -1,3 +1,5 @@
+//! What the calls of a space do: map, close, read a window, move an image, and list images and bindings.
+
 ghost use Rattle.std.specs.Prelude.{◌≡◌, ◌≢◌, ◌⊎◌, IsErrOf, IsSomeAnd, None, Some, false, is_ok, length, map};
 ghost use Rattle.pe_view.specs.Faults.{first_standing};
 ghost use Rattle.pe_set.specs.SetErrors.{SetAnswers, set_error};

@@ -1,3 +1,5 @@
+//! The statuses that the calls of libpetool return.
+
 /// All was done.
 pub const DONE: u32 = 0;
 /// A rule of the format does not hold: the fault tells which, and where.

@@ -1,3 +1,5 @@
+//! `ObjectSymbolRow`: a symbol of an object as C has it.
+
 ghost use Rattle.std.specs.Prelude.{◌≡◌, length};
 ghost use Rattle.coff_object.specs.ObjectFile.{file_of};
 ghost use Rattle.coff_object.specs.ObjectView.{symbol_view};

@@ -1,3 +1,5 @@
+//! `put_image`: all tables of an image at once, and `CountsRecord`, how many items each of them has.
+
 ghost use Rattle.std.specs.Prelude.{◌≡◌, length, map, if◌then◌else◌};
 ghost use Rattle.pe_tables.specs.ExportsView.{exports_view};
 ghost use Rattle.pe_tables.specs.ImportView.{import_view};

@@ -1,4 +1,4 @@
-//! What tests of several crates share.
+//! What tests of several crates share: small files, sets of them, and devices that fail.
 //!
 //! Small image files with known bytes are written down piece by piece at the offsets of "PE Format". One of them, VR, is rich: each
 //! field that its dump shows has a value of its own, and each kind of text bytes that are escaped. So a dump that shows one value

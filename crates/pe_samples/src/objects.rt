@@ -1,4 +1,4 @@
-//! The object file O1.
+//! The object file O1, byte by byte.
 
 /// O1: for AMD64, a section `.text$long` with one relocation, and four symbols.
 pub const O1: &[u8; 191] = &[

@@ -1,4 +1,4 @@
--- What is known of how searches end.
+-- What is known of how searches end. No contract of a public function cites it.
 use Rattle.std.specs.Prelude.{◌≡◌, ℕ, List, Some, slice_get}
 use Rattle.pe_tables.specs.Key.{Key}
 use Rattle.pe_set.specs.Set.{Module}

@@ -1,4 +1,4 @@
--- How long names are.
+-- How long names are. No contract of a public function cites it.
 use Rattle.std.specs.Prelude.{◌≤◌, ℕ, List, length, All}
 
 -- none of these names has more bytes

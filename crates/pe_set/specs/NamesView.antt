@@ -1,4 +1,4 @@
--- The names by which images are found.
+-- The names by which images are found. No contract of a public function cites it.
 use Rattle.std.specs.Prelude.{◌≡◌, ℕ, List, map, take, position, slice_get, Option, Some, false}
 use Rattle.std.specs.List.{list_any}
 use Rattle.std.specs.Str.{bytes_eq, str_to_ascii_lowercase}

@@ -1,4 +1,4 @@
--- The path of a search.
+-- The path of a search. No contract of a public function cites it.
 use Rattle.std.specs.Prelude.{◌≡◌, ◌≢◌, ◌-◌, ◌++◌, ℕ, List, ◌∷◌, [], Option, Some, length, map, slice_get, MatchOption}
 use Rattle.pe_tables.specs.Key.{Key}
 use Rattle.pe_set.specs.Set.{Module}

@@ -1,3 +1,5 @@
+//! `Binding`: a slot and the export that it is bound to; and faults 48 to 50 of imports.
+
 ghost use Rattle.std.specs.Prelude.{◌≡◌, ◌++◌, ◌≤◌, ◌^◌, length, IsOk, OnOk};
 ghost use Rattle.std.specs.List.{flat_map, filter_map};
 ghost use Rattle.pe_tables.specs.ImportView.{import_view};

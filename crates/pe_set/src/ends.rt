@@ -1,3 +1,5 @@
+//! `Ends`: where the searches end that come to forwarders already met, so that none is followed twice.
+
 ghost use Rattle.std.specs.Prelude.{◌≡◌, ℕ, List, IfSome, OnOk};
 ghost use Rattle.pe_tables.specs.Key.{Key};
 ghost use Rattle.pe_set.specs.Set.{Module};

@@ -1,3 +1,5 @@
+//! `SetEntry`: an image of a set with its name and base; and `Policy`, how imports from missing modules are judged.
+
 /// An image of a set: its file, the name by which others import from it, and its base.
 #[derive(Clone, Copy, Debug)]
 pub struct SetEntry<'a> {

@@ -1,3 +1,5 @@
+//! `MapError`: why a set is refused: a fault, a cycle of forwarders and its length, or out of memory.
+
 ghost use Rattle.std.specs.Prelude.{◌≡◌};
 
 use pe_tables::TableError;

@@ -1,3 +1,5 @@
+//! `judge`: reads the files of a set, and returns its images and bindings or its first fault.
+
 ghost use Rattle.std.specs.Prelude.{◌≡◌, ◌≢◌, ◌<◌, ◌⊎◌, Err, None, IsErrOf, length};
 ghost use Rattle.pe_view.specs.Faults.{first_standing};
 ghost use Rattle.pe_set.specs.SetView.{entries_of, IsAcceptedFrom};

@@ -20,22 +20,23 @@ ghost use Rattle.pe_set.specs.declared.error.MapError.TheVariants as errors;
 ghost use Rattle.pe_set.specs.Sound.{IsSound};
 ghost use Rattle.pe_set.specs.declared.entry.Policy.{Policy};
 
-/// Each search ends in exactly one way: bound to an RVA of an image, at a module that is not in the set, at an export that is
-/// not there, or never, in a cycle of so many hops.
+/// Each search ends in exactly one way, after any number of hops: at an RVA of an image, at a module that is not in the set, at
+/// an export that does not exist; or it never ends, and runs in a cycle. The length of the cycle is the least number above 0 such
+/// that the search, from some hop on, is at the same image and key again that many hops later.
 pub fn searches_end_in_one_way()
     ensures ends { (s : List Module) (name : List ℕ) (key : Key) → EndsAs s (name, key) (resolve s name key) }
     ensures one { (s : List Module) (name : List ℕ) (key : Key) (end : Resolution) → EndsAs s (name, key) end → end ≡ resolve s name key }
 {}
 
-/// A search that ends does so after at most as many hops as the exports of the set's images have pairs together, and so does one
-/// that is not endless.
+/// A search that ends, or does not run in a cycle, ends after at most as many hops as the exports of the set's images have pairs
+/// together.
 pub fn searches_end_soon()
     ensures within { (s : List Module) (start : List ℕ × Key) (hops : ℕ) (end : Resolution) → EndsAfter s start hops end → hops ≤ pairs_of s }
     ensures ends { (s : List Module) (start : List ℕ × Key) → (IsEndless s start → ⊥)
         → (hops : ℕ) × (end : Resolution) × (hops ≤ pairs_of s) × EndsAfter s start hops end }
 {}
 
-/// The slot of an import is bound exactly where its search ends at an RVA of an image, and then to that RVA of that image.
+/// The slot of an import is bound exactly if its search ends at an RVA of an image, and then to that.
 pub fn slots_are_bound_to_their_exports()
     ensures { (s : List Module) (i : ℕ) (x : Import) (b : Binding) → (binding_of s i x ≡ Some b) ↔ IsBindingOf s i x b }
 {
@@ -54,7 +55,7 @@ pub fn errors_count_class_by_class()
         → first_standing (places_tests (modules_of es)) ≡ None → set_error policy es ≡ first_error (imports_errors policy (modules_of es)) }
 {}
 
-/// The names of a set that is accepted, its files and its places have no fault, and its imports no error.
+/// An accepted set has no fault of its names, files or places, and no error of an import.
 pub fn accepted_sets_have_no_fault()
     ensures names { (policy : Policy) (es : List Entry) → set_error policy es ≡ None → first_standing (names_tests es) ≡ None }
     ensures files { (policy : Policy) (es : List Entry) → set_error policy es ≡ None → first_standing (files_tests es) ≡ None }
@@ -62,13 +63,13 @@ pub fn accepted_sets_have_no_fault()
     ensures imports { (policy : Policy) (es : List Entry) → set_error policy es ≡ None → imports_errors policy (modules_of es) ≡ [] }
 {}
 
-/// The error of a set is a cycle only where the search for one of its imports never ends and runs in a cycle of this length: its
-/// fault is 50, at the slot of that import.
+/// The error of a set is a cycle only if the search for one of its imports runs in a cycle of this length: its fault is 50, at
+/// the slot of that import.
 pub fn cycles_are_of_endless_searches()
     ensures { (policy : Policy) (es : List Entry) (fault : Fault) (length : ℕ) → set_error policy es ≡ Some (errors.Cycle fault length) → IsCycleOf (modules_of es) fault length }
 {}
 
-/// The fields and bound slots of an accepted set lie in its images and share no byte, the exports to which they are bound lie in
+/// The fields and bound slots of an accepted set lie in its images and share no byte, the exports that slots are bound to lie in
 /// its images, and its images share no address.
 pub fn accepted_sets_are_sound()
     ensures { (policy : Policy) (es : List Entry) → set_error policy es ≡ None → IsSound (modules_of es) }
@@ -79,32 +80,31 @@ pub fn accepted_sets_are_sound()
     pe_tables::laws::targets_are_inside();
 }
 
-/// The exports of the images of a set have at most 2^25 pairs together, where the names and the files of the set have no fault.
+/// The exports of the images of a set have at most 2^25 pairs together, if names and files of the set have no fault.
 pub fn sets_export_little()
     ensures { (es : List Entry) → first_standing (names_tests es) ≡ None → first_standing (files_tests es) ≡ None → pairs_of (modules_of es) ≤ 2 ^ 25 }
 {
     pe_tables::laws::exports_are_few();
 }
 
-/// What slots are bound to depends on the names of the images, on their exports and on their imports, and on nothing else of them.
+/// What slots are bound to depends on the names, exports and imports of the images alone.
 pub fn tables_decide_bindings()
     ensures { (s t : List Module) → AreAlike s t → bindings_of s ≡ bindings_of t }
 {}
 
-/// Other bases change where images stand and nothing else: what a slot is bound to does not depend on them.
+/// What slots are bound to does not depend on bases, which change only where images are.
 pub fn bases_change_no_binding()
     ensures images { (bases : List ℕ) (es : List Entry) → modules_of (at_bases bases es) ≡ rebased bases (modules_of es) }
     ensures bindings { (bases : List ℕ) (es : List Entry) → bindings_of (modules_of (at_bases bases es)) ≡ bindings_of (modules_of es) }
 {}
 
-/// The bases of a set bear on faults 44 to 47 alone: a set that is accepted at some bases is accepted at all others at which its
-/// images may stand.
+/// Bases decide faults 44 to 47 alone: a set that is accepted at some bases is accepted at all others at which its images may be.
 pub fn accepted_where_placed()
     ensures { (policy : Policy) (es : List Entry) (bases : List ℕ) → set_error policy es ≡ None
         → first_standing (places_tests (modules_of (at_bases bases es))) ≡ None → set_error policy (at_bases bases es) ≡ None }
 {}
 
-/// A set that is accepted is still accepted after a move of one of its images, where the move has no fault.
+/// An accepted set stays accepted after a move of one of its images, if the move has no fault.
 pub fn moves_keep_acceptance()
     ensures { (policy : Policy) (es : List Entry) (i base : ℕ) → set_error policy es ≡ None
         → first_standing (move_tests (map placement_of (modules_of es)) i base) ≡ None

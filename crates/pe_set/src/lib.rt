@@ -1,5 +1,4 @@
-//! Sets of images that are to stand in one address space: whether a set has a fault, and which is the first; what each image
-//! holds, and what each import is bound to.
+//! Sets of images in one address space: the first fault of a set, what each image holds, and what each import is bound to.
 //!
 //! [`judge`] reads all files of a set and looks for faults in the one order in which they count: names, files, places, imports.
 //! It is the ground of every space of images: `pe_space` maps what it accepts.

@@ -1,3 +1,5 @@
+//! `Names`: the names of a set's images in lower case, by which the module of an import is found.
+
 ghost use Rattle.std.specs.Prelude.{◌≡◌, ◌+◌, ◌<◌, length, bytes_eq, map, position, IsOk, IfOk, OnOk, take};
 ghost use Rattle.std.specs.Str.{str_to_ascii_lowercase};
 ghost use Rattle.pe_set.specs.Set.{forwarded_name};

@@ -1,3 +1,5 @@
+//! Faults 41 and 42: too many entries, and names that match.
+
 ghost use Rattle.std.specs.Prelude.{◌≡◌, ◌≢◌, Err};
 ghost use Rattle.std.specs.List.{list_any};
 ghost use Rattle.pe_set.specs.Set.{same_name};

@@ -1,3 +1,5 @@
+//! `Path`: the forwarders that one search came to, in order, by which a cycle is noticed.
+
 ghost use Rattle.std.specs.Prelude.{◌≡◌, ◌<◌, ◌-◌, ◌^◌, ◌≤◌, [], length, OnOk, IfOk};
 ghost use Rattle.pe_set.specs.StandView.{stand_view};
 

@@ -1,3 +1,5 @@
+//! `Placed`: an image at a base, however its bytes are kept; and `base_fault`, the first of faults 44 to 47.
+
 ghost use Rattle.std.specs.Prelude.{◌≡◌, ◌++◌, map};
 ghost use Rattle.std.specs.List.{list_any};
 ghost use Rattle.pe_view.specs.Faults.{first_standing};

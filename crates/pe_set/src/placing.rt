@@ -1,3 +1,5 @@
+//! Faults 43 to 47 of a set, image by image.
+
 ghost use Rattle.std.specs.Prelude.{◌≤◌, ◌≢◌, Err, length};
 ghost use Rattle.pe_set.specs.SetView.{modules_view};
 ghost use Rattle.pe_set.specs.SetFaults.{ClassAnswers, places_tests};

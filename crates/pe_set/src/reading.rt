@@ -1,3 +1,5 @@
+//! `Module`: an image of a set with its name and base; and the reading of all files of a set.
+
 ghost use Rattle.std.specs.Prelude.{◌≡◌, ◌≤◌, length, map, IsOk};
 ghost use Rattle.pe_view.specs.Faults.{AnswersOrWants};
 ghost use Rattle.pe_image.specs.ImageTests.{image_tests};

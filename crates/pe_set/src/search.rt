@@ -1,3 +1,5 @@
+//! The search from an import through forwarders: where it ends, or the length of the cycle that it runs in.
+
 ghost use Rattle.std.specs.Prelude.{◌≡◌, ◌^◌, ◌≤◌, [], length, option_map, IfOk, OnOk};
 ghost use Rattle.pe_tables.specs.Key.{key_view, target_view};
 ghost use Rattle.pe_tables.specs.Exports.{target_at};

@@ -1,3 +1,5 @@
+//! `Standing`: where a search is, at a key of an image, in an order by which it is looked up.
+
 ghost use Rattle.std.specs.Prelude.{◌≡◌};
 ghost use Rattle.pe_tables.specs.Key.{key_view};
 ghost use Rattle.pe_set.specs.StandView.{stand_view, stand_of};

@@ -1,4 +1,4 @@
--- What is said of the texts of a page: that they are added, and not what they are.
+-- What is said of the texts of a page: that they are added, and not what they are. No contract of a public function cites it.
 use Rattle.std.specs.Prelude.{ℕ, List}
 use Rattle.pe_text.specs.declared.text_writer.TextWriter.{TextWriter}
 use Rattle.pe_text.specs.TextWriter.{Adds}

@@ -1,4 +1,4 @@
-//! What stands at one place of an image.
+//! `at`: the engine of `petool at`, which shows what is at one place of an image.
 
 ghost use Rattle.std.specs.Prelude.{◌-◌, ◌^◌, ◌<◌, ◌↔◌, IsErrOf};
 ghost use Rattle.pe_text.specs.Engine.{Ran};

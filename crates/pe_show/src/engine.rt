@@ -1,4 +1,4 @@
-//! The engine that shows an image or an object.
+//! `show`: the engine of `petool show`, which writes the page of an image or an object.
 
 ghost use Rattle.std.specs.Prelude.{◌-◌, ◌^◌, ◌<◌, ◌↔◌, IsErrOf};
 ghost use Rattle.pe_text.specs.Engine.{Ran};

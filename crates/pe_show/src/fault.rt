@@ -1,4 +1,4 @@
-//! A fault in words.
+//! The row of a page that states a fault.
 
 ghost use Rattle.pe_text.specs.TextWriter.{IsReady};
 ghost use Rattle.pe_show.specs.Page.{AddsSome};
@@ -6,8 +6,8 @@ ghost use Rattle.pe_show.specs.Page.{AddsSome};
 use crate::style::{end_style, refusal_style};
 use pe_names::{Amount, fault_detail};
 use pe_text::Part::{self, Decimal, Hex, Text};
-use pe_text::{FaultWords, Outcome, ShowOptions, Sink, TextWriter, fault_words, write_parts};
-use pe_view::{Fault, Place, View};
+use pe_text::{Outcome, ShowOptions, Sink, TextWriter, fault_sentence, write_parts};
+use pe_view::{Fault, View};
 
 /// Words, and the number behind them.
 fn amount_parts(words: &'static str, amount: Amount) -> [Part<'static>; 3] {
@@ -48,16 +48,7 @@ pub(crate) fn write_refusal<W: Sink>(
     let Outcome::Refused(fault) = outcome else {
         return;
     };
-    let FaultWords { subject, rule } = fault_words(fault.number).unwrap_or(FaultWords {
-        subject: "place",
-        rule: "no fault has this number",
-    });
-    let (at, place) = match fault.place {
-        Place::File(offset) => (Text(b" at 0x"), Hex(offset, 1)),
-        Place::Rva(rva) => (Text(b" at RVA 0x"), Hex(u64::from(rva), 1)),
-        Place::Address(address) => (Text(b" 0x"), Hex(address, 1)),
-        Place::Item(item) => (Text(b" "), Decimal(u64::from(item))),
-    };
+    let sentence = fault_sentence(&fault);
     write_parts(
         text,
         &[
@@ -66,11 +57,7 @@ pub(crate) fn write_refusal<W: Sink>(
             Text(b"Fault "),
             Decimal(u64::from(fault.number)),
             Text(b": "),
-            Text(subject.as_bytes()),
-            at,
-            place,
-            Text(b": "),
-            Text(rule.as_bytes()),
+            Text(sentence.as_slice()),
         ],
     );
     write_detail(text, file, &fault);

@@ -1,4 +1,4 @@
-//! The headings of a page.
+//! `Page`: the first row of a page, and the headings of its tables.
 
 ghost use Rattle.pe_text.specs.TextWriter.{IsReady};
 ghost use Rattle.pe_show.specs.Page.{AddsSome};

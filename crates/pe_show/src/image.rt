@@ -1,4 +1,4 @@
-//! What is read of an image, and its page.
+//! The page of an image, which keeps what was read before the image's first fault.
 
 ghost use Rattle.std.specs.Prelude.{◌≡◌, ◌<◌, List, length, IfOk, OnErr};
 ghost use Rattle.pe_view.specs.Faults.{Test, first_standing};

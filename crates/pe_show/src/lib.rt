@@ -1,4 +1,4 @@
-//! The page for people of an image or an object: its headers, sections and tables, with names beside numbers.
+//! The readable page of an image or an object: its headers, sections and tables, with names next to numbers.
 //!
 //! [`show`] reads the file, judges it and writes the page:
 //!

@@ -1,4 +1,4 @@
-//! Where an RVA lies, in the words of a page.
+//! `SectionNames`: the long names of sections, and where an RVA lies among them.
 
 ghost use Rattle.pe_text.specs.TextWriter.{IsReady, Adds};
 ghost use Rattle.pe_show.specs.Rows.{place_text};

@@ -1,4 +1,4 @@
--- The images of a space in the order of their bases.
+-- The images of a space in the order of their bases. No contract of a public function cites it.
 use Rattle.std.specs.Prelude.{ℕ, ◌≡◌, ◌<◌, ◌≤◌, ◌==◌, if◌then◌else◌, List, length}
 use Rattle.std.specs.List.{Contains}
 use Rattle.std.specs.List.Sorted.{IsNonDecreasingBy}

@@ -1,4 +1,4 @@
--- What holds of each content that was accepted, and of the memory that keeps it.
+-- What holds of each content that was accepted, and of the memory that keeps it. No contract of a public function cites it.
 use Rattle.std.specs.Prelude.{ℕ, ◌+◌, ◌≡◌, ◌<◌, ◌≤◌, ◌⊎◌, List, [], ◌∷◌, length, slice_index}
 use Rattle.pe_tables.specs.declared.fixups.Fixup.{Fixup}
 use Rattle.pe_set.specs.declared.binding.Binding.{Binding}

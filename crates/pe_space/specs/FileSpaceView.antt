@@ -1,4 +1,4 @@
--- What the fields of a space over files keep.
+-- What the fields of a space over files keep. No contract of a public function cites it.
 use Rattle.std.specs.Prelude.{ℕ, List, ◌≡◌, ◌<◌, ◌≤◌, ◌^◌, length, map, count_by, slice_index}
 use Rattle.pe_set.specs.declared.binding.Binding.{Binding}
 use Rattle.pe_space.specs.ByBase.{IsByBase}

@@ -1,4 +1,4 @@
--- The images of a space share no address.
+-- The images of a space share no address. No contract of a public function cites it.
 use Rattle.std.specs.Prelude.{ℕ, ◌+◌, ◌%◌, ◌^◌, ◌≡◌, ◌<◌, ◌≤◌, length}
 use Rattle.pe_set.specs.Placement.{address_limit}
 use Rattle.pe_space.specs.Content.{Content, nth_image}

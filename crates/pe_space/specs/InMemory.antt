@@ -1,4 +1,4 @@
--- An image with the memory that holds it.
+-- An image with the memory that holds it. No contract of a public function cites it.
 use Rattle.std.specs.Prelude.{ℕ, pos, ◌-ℤ◌, List, map, Bool, length}
 use Rattle.pe_head.specs.declared.optional.Magic.{Magic}
 use Rattle.pe_tables.specs.declared.fixups.Fixup.{Fixup}

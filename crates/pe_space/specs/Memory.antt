@@ -1,4 +1,4 @@
--- Writes into the memory of images.
+-- Writes into the memory of images. No contract of a public function cites it.
 use Rattle.std.specs.Prelude.{ℕ, ◌+◌, ◌==◌, Bool, ℤ, List, [], ◌∷◌, slice_set, slice_index_or}
 use Rattle.pe_tables.specs.Patch.{shifted_at}
 pub use Rattle.pe_tables.specs.Patch.{bytes}

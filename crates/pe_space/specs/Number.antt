@@ -1,4 +1,4 @@
--- Numbers in the bytes of an image, the lowest byte first.
+-- Numbers in the bytes of an image, the lowest byte first. No contract of a public function cites it.
 use Rattle.std.specs.Prelude.{ℕ, List}
 use Rattle.pe_view.specs.Number.{num, byte_of}
 pub use Rattle.pe_view.specs.Number.{digit}

@@ -1,4 +1,4 @@
--- Images in memory, before their slots are bound.
+-- Images in memory, before their slots are bound. No contract of a public function cites it.
 use Rattle.std.specs.Prelude.{◌+◌, ◌<◌, ◌≤◌, ◌^◌, length}
 use Rattle.pe_layout.specs.Image.{bytes_at}
 use Rattle.pe_tables.specs.Fixups.{width_of}

@@ -1,4 +1,4 @@
--- What a window of an image holds, and what is laid on it.
+-- What a window of an image holds, and what is laid on it. No contract of a public function cites it.
 use Rattle.std.specs.Prelude.{ℕ, ◌+◌, ◌-◌, List, [], ◌∷◌, map, if◌then◌else◌}
 use Rattle.std.specs.List.{find, range_with_len}
 use Rattle.pe_space.specs.Number.{digit}

@@ -1,3 +1,5 @@
+//! `run`: carries out a list of commands on a space, and returns their replies.
+
 ghost use Rattle.std.specs.Prelude.{◌≡◌, ◌<◌, length, take, IsOk, IfOk, IfErr, OnOk, OnErr};
 ghost use Rattle.pe_space.specs.Commands.{reply_to, after, replies_of, after_all};
 

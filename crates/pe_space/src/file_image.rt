@@ -1,3 +1,5 @@
+//! `FileImage`: an image whose bytes stay in its file, with its fixups in the order of their fields.
+
 ghost use Rattle.std.specs.Prelude.{◌≡◌, ◌+◌, ◌≤◌, ◌<◌, length, pos, ◌-ℤ◌, Contains};
 ghost use Rattle.pe_set.specs.SetView.{module_view};
 ghost use Rattle.pe_tables.specs.Fixups.{width_of};

@@ -1,3 +1,5 @@
+//! `FileSpace`: a space whose bytes stay in the files, which it borrows.
+
 ghost use Rattle.std.specs.Prelude.{◌≡◌, ◌+◌, ◌≤◌, ◌<◌, ◌^◌, ℕ, [], Contains, length, IsOk, IfOk};
 ghost use Rattle.pe_set.specs.declared.binding.Binding.{Binding};
 ghost use Rattle.pe_space.specs.Unbound.{unbound};

@@ -1,3 +1,5 @@
+//! `MappedImage`: an image in memory, with its fields relocated for its base.
+
 ghost use Rattle.std.specs.Prelude.{◌≡◌, ◌+◌, ◌≤◌, ◌<◌, ◌^◌, length, slice_index, slice_range, vec_len};
 ghost use Rattle.pe_layout.specs.Image.{slot_width_of};
 ghost use Rattle.pe_tables.specs.Fixups.{width_of};

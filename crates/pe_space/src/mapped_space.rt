@@ -1,3 +1,5 @@
+//! `MappedSpace`: a space whose images are in memory.
+
 ghost use Rattle.std.specs.Prelude.{◌≡◌, ◌+◌, ◌≤◌, ◌^◌, ℕ, Contains, IfOk, IsOk, length, count_by};
 ghost use Rattle.std.specs.List.Sorted.{IsNonDecreasingBy};
 ghost use Rattle.pe_set.specs.declared.binding.Binding.{Binding};

@@ -1,3 +1,5 @@
+//! `map`: the images of a set in memory, or the set's first fault.
+
 ghost use Rattle.std.specs.Prelude.{◌≡◌, ◌≢◌, ◌<◌, ◌⊎◌, None, IfOk, Err, length, IsErrOf};
 ghost use Rattle.pe_view.specs.Faults.{first_standing};
 ghost use Rattle.pe_set.specs.SetView.{entries_of, module_view};

@@ -1,3 +1,5 @@
+//! `open_space`: the images of a set over their files, or the set's first fault.
+
 ghost use Rattle.std.specs.Prelude.{◌≡◌, ◌≢◌, ◌<◌, ◌⊎◌, None, Err, length, IsErrOf};
 ghost use Rattle.pe_view.specs.Faults.{first_standing};
 ghost use Rattle.pe_set.specs.SetView.{entries_of};

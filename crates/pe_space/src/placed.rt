@@ -1,4 +1,4 @@
-//! Images at their bases, whatever keeps their bytes: which one holds an address, where each stands.
+//! Images at their bases: which one holds an address or a window, and the faults of a move.
 
 ghost use Rattle.std.specs.Prelude.{◌≡◌, ◌+◌, ◌<◌, ◌≤◌, ◌^◌, length, map, IfSome, IfOk};
 ghost use Rattle.std.specs.List.{list_any};

@@ -1,4 +1,4 @@
-//! What may be asked of a space, and what it answers.
+//! `Command` and `Reply`: what a list of commands may ask of a space, and what it gets.
 
 ghost use Rattle.std.specs.Prelude.{◌≡◌, List, ℕ};
 

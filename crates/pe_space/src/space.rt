@@ -1,3 +1,5 @@
+//! `Space`: the calls of every space, which read bytes, move images and list bindings.
+
 ghost use Rattle.std.specs.Prelude.{◌≡◌, length, None, Some, IfOk, IfErr, OnOk, OnErr, Ok, Err};
 ghost use Rattle.pe_space.specs.Content.{Content, byte_at, image_at, window_at, base_at, size_at};
 ghost use Rattle.pe_space.specs.Moves.{move_fault, moved, moved_counts};
@@ -40,7 +42,7 @@ pub trait Space {
     /// Moves an image to another base: its fields are moved on, and the slots of all images that end in it are bound anew.
     ///
     /// It is refused by the first of these faults that stands: there is no such image (55, at [`pe_view::Place::Item`] of the
-    /// number); the base is no multiple of 65,536 (44); the image would pass the end of the addresses (45); its relocations were
+    /// number); the base is not a multiple of 65,536 (44); the image would pass the end of the addresses (45); its relocations were
     /// stripped and the base is not its ImageBase (46); it would have an address in common with another image (47): where it
     /// stood itself does not count. A refused move changes nothing.
     fn move_image(&mut self, image: u16, base: u64) -> Result<Moved, Fault>

@@ -1,4 +1,4 @@
--- Whether a base relocation table has a block.
+-- Whether a base relocation table has a block. No contract of a public function cites it.
 use Rattle.std.specs.Prelude.{◌≡◌, ◌+◌, Bool, true, false, Result, Ok, Err}
 use Rattle.pe_head.specs.declared.directory.Directory.{Directory}
 use Rattle.pe_layout.specs.Image.{LaidOut, fault_at}

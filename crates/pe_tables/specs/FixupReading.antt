@@ -1,4 +1,4 @@
--- What has been read of a base relocation table.
+-- What has been read of a base relocation table. No contract of a public function cites it.
 use Rattle.std.specs.Prelude.{◌≡◌, ℕ, ◌+◌, ◌<◌, ◌≤◌, false, List, ◌++◌, Option, None, Some, map, drop, All, AllPairs, MatchOption, ⊤}
 use Rattle.std.specs.List.{filter_map}
 use Rattle.pe_view.specs.Faults.{first_standing}

@@ -1,4 +1,4 @@
--- What has been read of an import table.
+-- What has been read of an import table. No contract of a public function cites it.
 use Rattle.std.specs.Prelude.{◌≡◌, ℕ, List, ◌++◌, map}
 use Rattle.pe_tables.specs.Ranges.{SameRanges}
 use Rattle.pe_tables.specs.RangesView.{ranges_in}

@@ -1,4 +1,4 @@
--- Long texts by their blocks of 256 bytes, counted from their ends.
+-- Long texts by their blocks of 256 bytes, counted from their ends. No contract of a public function cites it.
 use Rattle.std.specs.Prelude.{◌≡◌, ℕ, zero, suc, ◌-◌, ◌*◌, ◌/◌, ◌%◌, ◌≤◌, ◌<◌, List, [], ◌∷◌, ◌++◌, slice_index_or, length, take, slice_range, slice_get, Option, Some, option_and_then, ◌⊎◌}
 use Rattle.std.specs.Ordering.{nat_cmp}
 use Rattle.std.specs.BTreeMap.{get}

@@ -1,4 +1,4 @@
--- Texts in the order of their bytes, each with something.
+-- Texts in the order of their bytes, each with something. No contract of a public function cites it.
 use Rattle.std.specs.Prelude.{◌≡◌, ℕ, List, Option, AllPairs}
 use Rattle.std.specs.Borrow.{Bor}
 use Rattle.std.specs.Ordering.{nat_cmp}

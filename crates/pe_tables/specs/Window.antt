@@ -1,4 +1,4 @@
--- The bytes of an image that were read at once.
+-- The bytes of an image that were read at once. No contract of a public function cites it.
 use Rattle.std.specs.Prelude.{◌≡◌, ℕ, ◌+◌, ◌≤◌, take}
 use Rattle.pe_layout.specs.Image.{LaidOut, bytes_at}
 use Rattle.pe_tables.specs.declared.window.Window.{Window}

@@ -1,4 +1,4 @@
-//! Numbers written into bytes, the lowest byte first.
+//! `shift_field` and the like: numbers relocated from one base to another; and `write_low`, which writes their bytes.
 
 ghost use Rattle.std.specs.Prelude.{◌≡◌, ◌+◌, ◌≤◌, length, pos, ◌-ℤ◌};
 ghost use Rattle.pe_tables.specs.Fixups.{width_of};

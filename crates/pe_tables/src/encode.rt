@@ -1,3 +1,5 @@
+//! `encode_fixups`: the base relocation table that has given fixups, whose fields ascend.
+
 ghost use Rattle.std.specs.Prelude.{◌≡◌, ◌≢◌, ℕ, ◌+◌, ◌*◌, ◌<◌, ◌≤◌, ◌^◌, ◌↔◌, ◌++◌, [], IsTrue, IsOk, IfOk, OnOk, length, slice_index_or};
 ghost use Rattle.std.specs.List.{flat_map};
 ghost use Rattle.pe_tables.specs.Encoded.{FieldsAscend, page_of, entry_bytes, block_bytes, encoded};

@@ -1,3 +1,5 @@
+//! `TableError`: why a table is not read.
+
 ghost use Rattle.std.specs.Prelude.{◌≡◌};
 ghost use Rattle.pe_view.specs.declared.refusal.Refusal.{Refusal};
 ghost use Rattle.pe_layout.specs.Layout.{image_of};

@@ -1,3 +1,5 @@
+//! `Exports`: the exports of an image, looked up by ordinal and by name.
+
 ghost use Rattle.std.specs.Prelude.{◌≡◌, ◌<◌, ◌≤◌, ◌==◌, ℕ, [], Some, length, slice_index_or, IfSome, IsTrue, option_map, map, AllPairs};
 ghost use Rattle.std.specs.List.{find};
 ghost use Rattle.std.specs.Str.{bytes_eq};

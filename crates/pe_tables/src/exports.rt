@@ -1,3 +1,5 @@
+//! `read_exports`: the exports of an image, or the first of faults 16 to 22.
+
 ghost use Rattle.std.specs.Prelude.{◌≡◌, ◌<◌, None, Some, IsOk, IsErrOf, option_map, map, All, AllPairs};
 ghost use Rattle.std.specs.List.{filter_map, range_with_len};
 ghost use Rattle.pe_layout.specs.Layout.{file_of, image_of};

@@ -1,3 +1,5 @@
+//! `read_fixups`: the base relocations of an image, or the first of faults 33 to 38; `Fixup` and `FixupKind`.
+
 ghost use Rattle.std.specs.Prelude.{◌≡◌, ◌+◌, ◌*◌, ◌/◌, ◌<◌, ◌≤◌, ◌^◌, [], None, Some, IsOk, IsErrOf, IsTrue, IfOk, map, option_to_list, true, false, ◌||◌};
 ghost use Rattle.std.specs.List.{filter_map};
 ghost use Rattle.pe_layout.specs.Layout.{image_of};

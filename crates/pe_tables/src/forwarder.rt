@@ -1,3 +1,5 @@
+//! The forwarder that a string names: a module and a key, on the two sides of the last dot.
+
 ghost use Rattle.std.specs.Prelude.{◌≡◌, option_map};
 ghost use Rattle.pe_tables.specs.Key.{Ordinal, key_view, target_view};
 ghost use Rattle.pe_tables.specs.Forwarder.{is_forwarder, ordinal_key, key_of, at_last_dot, forwarder_of};

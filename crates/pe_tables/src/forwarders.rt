@@ -1,3 +1,5 @@
+//! `Forwarders`: the forwarders of an export table. Long strings that share bytes are searched once.
+
 ghost use Rattle.std.specs.Prelude.{◌≡◌, ◌≤◌, ℕ, List, length, Some, option_map};
 ghost use Rattle.pe_layout.specs.Layout.{file_of, image_of};
 ghost use Rattle.pe_layout.specs.Span.{IsTextOf};

@@ -1,3 +1,5 @@
+//! `FoundFixups`: the fixups read so far, and whether a field shares a byte with one of theirs.
+
 ghost use Rattle.std.specs.Prelude.{◌≡◌, ◌+◌, ◌≤◌, ◌<◌, ◌^◌, [], ◌∷◌, None, OnOk, IfOk, map, false, nat_le};
 ghost use Rattle.pe_tables.specs.Ranges.{SameRanges, meets_any};
 ghost use Rattle.pe_tables.specs.RangesView.{ranges_in};

@@ -1,3 +1,5 @@
+//! `Import`: the module, the key and the slot of an import.
+
 use crate::key::Key;
 
 /// An import of an image ("PE Format", The .idata Section).

@@ -1,3 +1,5 @@
+//! `read_imports`: the imports of an image, or the first of faults 24 to 32.
+
 ghost use Rattle.std.specs.Prelude.{◌≡◌, ◌≢◌, ◌+◌, ◌≤◌, ◌^◌, ◌<◌, [], ◌∷◌, None, IsTrue, IsOk, IsErrOf, OnOk, map, not, option_to_list};
 ghost use Rattle.std.specs.List.{filter_map, flat_map};
 ghost use Rattle.pe_layout.specs.Layout.{file_of, image_of};

@@ -1,3 +1,5 @@
+//! `Key`: an ordinal or a name; and `Target`, an RVA or a forwarder.
+
 /// By what an export is looked up.
 #[derive(Clone, Copy, Debug, PartialEq, Eq)]
 pub enum Key<'a> {

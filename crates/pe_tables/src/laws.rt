@@ -25,18 +25,18 @@ ghost use Rattle.pe_tables.specs.Imports.{Import, imports_at, imports_of};
 ghost use Rattle.pe_tables.specs.ImportFaults.{import_tests, import_tests_at};
 ghost use Rattle.pe_tables.specs.ImportPlaces.{IsInList, IsInTable, IsImported, IsApart, HasTexts, HasDescriptors, HasEntries, imports_in_order, table_rva, descriptor_rva};
 
-/// The fixups of a table are exactly the entries of types 3 and 10 of the blocks to which its start leads.
+/// The fixups of a table are exactly the entries of types 1, 2, 3 and 10 of the blocks that are reached from its start.
 pub fn fixups_are_named()
     ensures { (i : LaidOut) (d : Directory) (f : Fixup) → Contains (fixups_at i (Some d)) f ↔ IsNamed i d f }
 {}
 
-/// The fixups of a table ascend by where their entries stand.
+/// The fixups of a table are in the order of their entries.
 pub fn entries_ascend()
     ensures { (i : LaidOut) (d : Directory) → AllPairs (λ (f g : Fixup). f.entry < g.entry) (fixups_at i (Some d)) }
 {}
 
-/// The blocks of an encoded table are one for each page that has a field, pages ascending, each with that page's fixups, and
-/// they keep the fixups' order.
+/// An encoded table has one block for each page with a field, in ascending order, each with the fixups of that page, and keeps
+/// the order of the fixups.
 pub fn pages_ascend()
     ensures ascend { (fixups : List Fixup) → FieldsAscend fixups
         → AllPairs (λ (p q : Page). p.page < q.page) (pages_of fixups) }
@@ -44,13 +44,14 @@ pub fn pages_ascend()
     ensures order { (fixups : List Fixup) → flat_map (λ (p : Page). p.fixups) (pages_of fixups) ≡ fixups }
 {}
 
-/// An encoded table that stands in an image as a whole directory is read back: the same fields and kinds in the same order.
+/// An encoded table that is in an image as a whole directory, anywhere, is read back as the same fields and kinds in the same
+/// order.
 pub fn encoded_is_read_back()
     ensures { (i : LaidOut) (d : Directory) (fixups : List Fixup) → StandsWhole i d fixups
         → map view (fixups_at i (Some d)) ≡ map view fixups }
 {}
 
-/// A name exports what the entry of the first name with its text does, and nothing where no name has its text.
+/// A name exports what the entry of the first name with its text does, and nothing if no name has its text.
 pub fn first_names_export()
     ensures first { (i : LaidOut) (d : Directory) (text : List ℕ) (k : ℕ) → let t = table_at i d.rva in
         IsFirstName i t text k → target_at (exports_at i (Some d)) (Name text) ≡ exported_at i d t (name_entry i t k) }
@@ -58,7 +59,7 @@ pub fn first_names_export()
         → target_at (exports_at i (Some d)) (Name text) ≡ None }
 {}
 
-/// An ordinal exports what its entry of the address table does, and nothing where the table has no such entry.
+/// An ordinal exports what its entry of the address table does, and nothing if there is no such entry.
 pub fn entries_export()
     ensures entry { (i : LaidOut) (d : Directory) (k : ℕ) → let t = table_at i d.rva in
         k < t.entry_count → target_at (exports_at i (Some d)) (Ordinal (t.ordinal_base + k)) ≡ exported_at i d t k }
@@ -66,7 +67,7 @@ pub fn entries_export()
         → target_at (exports_at i (Some d)) (Ordinal ordinal) ≡ None }
 {}
 
-/// No ordinal and no name is listed twice: the ordinals ascend, and the names differ.
+/// No ordinal and no name is listed twice: ordinals ascend, and names differ.
 pub fn keys_export_once()
     ensures ordinals { (i : LaidOut) (d : Directory)
         → AllPairs (λ (export later : ℕ × Target). export.0 < later.0) (exports_at i (Some d)).ordinals }
@@ -74,14 +75,14 @@ pub fn keys_export_once()
         → AllPairs (λ (export later : List ℕ × Target). export.0 ≢ later.0) (exports_at i (Some d)).names }
 {}
 
-/// The imports of a table are exactly what the lookup entries of its descriptors import: entry k of descriptor j, where no
-/// entry up to it and no descriptor up to j ends its table or the list.
+/// The imports of a table are exactly what the lookup entries of its descriptors import: entry k of descriptor j, if no
+/// descriptor up to j and no entry up to k is the one that ends its list. The slots of the image have a width, as those of every
+/// layout do.
 pub fn imports_are_named()
     ensures { (i : LaidOut) (d : Directory) (import : Import) → 0 < i.slot_width → Contains (imports_at i (Some d)) import ↔ IsImported i d import }
 {}
 
-/// The slots of the imports of an image without a fault of its import table are in the image, share no byte with one another,
-/// and are at most 1,048,576.
+/// The slots of the imports of an image without an import fault lie in the image, share no byte, and are at most 1,048,576.
 pub fn slots_are_apart()
     ensures inside { (i : LaidOut) → first_standing (import_tests i) ≡ None
         → All (λ (import : Import). import.slot + i.slot_width ≤ i.size) (imports_of i) }
@@ -89,15 +90,15 @@ pub fn slots_are_apart()
     ensures few { (i : LaidOut) → first_standing (import_tests i) ≡ None → length (imports_of i) ≤ 1048576 }
 {}
 
-/// Each text that an import table without a fault names is there: no import has an empty name for want of one.
+/// Each string that an import table without a fault names is there, in an image whose slots have a width.
 pub fn names_are_there()
     ensures { (i : LaidOut) (d : Directory) (j k : ℕ) → let descriptor = descriptor_rva d.rva j in
         0 < i.slot_width → first_standing (import_tests_at i (Some d)) ≡ None
         → IsInList i d.rva j → IsInTable i (table_rva i descriptor) k → HasTexts i descriptor k }
 {}
 
-/// The fields of the fixups of an image without a fault of its base relocation table, which is asked beside these slots, are
-/// in the image, share no byte with one another or with a slot, and are fewer than 2^31.
+/// The fields of the fixups of an image without a base relocation fault, checked with these slots, lie in the image, share no
+/// byte with one another or with a slot, and are fewer than 2^31, if the image has at most 2^31 bytes, as every layout does.
 pub fn fields_are_apart()
     ensures inside { (i : LaidOut) (slots : List ℕ) → first_standing (fixup_tests i slots) ≡ None
         → All (λ (f : Fixup). f.field + width_of f.kind ≤ i.size) (fixups_of i) }
@@ -109,20 +110,20 @@ pub fn fields_are_apart()
         → length (fixups_of i) < 2 ^ 31 }
 {}
 
-/// Each RVA that an image without a fault of its export table exports is in the image.
+/// Each RVA that an image without an export fault exports lies in the image.
 pub fn targets_are_inside()
     ensures { (i : LaidOut) (key : Key) (rva : ℕ) → first_standing (export_tests i) ≡ None
         → target_at (exports_of i) key ≡ Some (Rva rva) → rva < i.size }
 {}
 
-/// An image without a fault of its export table exports at most 65,536 ordinals and at most 65,536 names.
+/// An image without an export fault exports at most 65,536 ordinals and at most 65,536 names.
 pub fn exports_are_few()
     ensures ordinals { (i : LaidOut) → first_standing (export_tests i) ≡ None → length (exports_of i).ordinals ≤ 65536 }
     ensures names { (i : LaidOut) → first_standing (export_tests i) ≡ None → length (exports_of i).names ≤ 65536 }
 {}
 
-/// A field that is moved on by one difference of bases and then by another is moved on by their sum, modulo what it holds: a
-/// HIGH field where the second is a multiple of 65,536, as that of two chosen bases is, and every other field in any case.
+/// Relocating a field by one difference of bases and then by another relocates it by their sum, modulo what it holds: a HIGH
+/// field if the second is a multiple of 65,536, as the difference of two chosen bases is, and every other field in any case.
 pub fn shifts_compose()
     ensures whole { (kind : FixupKind) (v : ℕ) (d n : ℤ) → shift kind (shift kind v d) (pos 65536 *ℤ n) ≡ shift kind v (d +ℤ pos 65536 *ℤ n) }
     ensures others { (kind : FixupKind) (v : ℕ) (d e : ℤ) → kind ≢ High → shift kind (shift kind v d) e ≡ shift kind v (d +ℤ e) }
@@ -133,9 +134,8 @@ pub fn high_amounts_are_greatest()
     ensures { (d n : ℤ) → ((pos 65536 *ℤ n) ≤ℤ d) ↔ (n ≤ℤ amount High d) }
 {}
 
-/// A range meets some others, of which none is empty, exactly where one of them has an RVA in common with it. So fault 30
-/// stands of a slot, and faults 37 and 38 of a field, exactly where an earlier slot, an earlier field or a slot has a byte of
-/// it.
+/// If none of them is empty, a range meets some others exactly if one of them has an RVA in common with it. So fault 30 holds for
+/// a slot, and 37 and 38 for a field, exactly if an earlier slot, an earlier field or a slot has a byte of it.
 pub fn meeting_ranges_have_an_rva_in_common()
     ensures { (start len : ℕ) (ranges : List (ℕ × ℕ)) → 0 < len → All (λ (range : ℕ × ℕ). 0 < range.1) ranges
         → (meets_any start len ranges ≡ true) ↔ HasCommon (start, len) ranges }
@@ -147,22 +147,22 @@ pub fn forwarders_are_texts()
         → IsForwarderText text module_name key }
 {}
 
-/// The imports of a table stand by descriptor, and those of a descriptor by entry, up to the descriptor that ends the list and
-/// the entry that ends each table.
+/// The imports of a table are ordered by descriptor, and those of a descriptor by entry, up to the ones that end the lists. The
+/// slots of the image have a width.
 pub fn imports_keep_their_order()
     ensures { (i : LaidOut) (d : Directory) (count : ℕ) (counts : ℕ → ℕ) → 0 < i.slot_width → HasDescriptors i d.rva count
         → ((j : ℕ) → j < count → HasEntries i (table_rva i (descriptor_rva d.rva j)) (counts j))
         → imports_at i (Some d) ≡ imports_in_order i d.rva count counts }
 {}
 
-/// The exports by name keep the order of the name pointer table: each text stands where it stands there first.
+/// The exports by name keep the order of the name pointer table: each text is where it first occurs there.
 pub fn names_keep_their_order()
     ensures { (i : LaidOut) (d : Directory) → let t = table_at i d.rva in
         AllPairs (λ (export later : List ℕ × Target). StandsBefore i t export.0 later.0) (exports_at i (Some d)).names }
 {}
 
-/// Where an encoded table stands in an image as a whole directory, neither fault 33 nor fault 35 stands: its first fault is
-/// 34, 36, 37 or 38, if it has one. So where none of these stands it is read, and read back.
+/// If an encoded table is in an image as a whole directory, neither fault 33 nor 35 holds for it. So if none of 34, 36, 37 and 38
+/// holds it is read, and read back.
 pub fn encoded_has_field_faults_alone()
     ensures { (i : LaidOut) (d : Directory) (slots : List (ℕ × ℕ)) (fixups : List Fixup) (fault : Fault) → StandsWhole i d fixups
         → first_standing (fixup_tests_at i slots (Some d)) ≡ Some fault → IsFieldFault fault.number }

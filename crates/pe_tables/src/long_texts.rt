@@ -1,3 +1,5 @@
+//! `LongTexts`: what each name of 256 bytes or more exports, by its blocks of 256 bytes from its end.
+
 ghost use Rattle.std.specs.Prelude.{◌≡◌, ◌+◌, ◌-◌, ◌*◌, ◌/◌, ◌≤◌, ◌<◌, ℕ, List, None, Some, length, OnOk, IfOk, slice_index_or, max, is_none, ◌∷◌, ◌++◌, ◌==◌, ◌&&◌, [], if◌then◌else◌};
 ghost use Rattle.std.specs.Str.{bytes_eq};
 ghost use Rattle.pe_layout.specs.Layout.{file_of};

@@ -1,3 +1,5 @@
+//! `NameIndex`: the exports by name, where each name counts the first time it occurs.
+
 ghost use Rattle.std.specs.Prelude.{◌≡◌, ◌<◌, ◌&&◌, ℕ, List, length, [], None, Some, OnOk, IfOk, is_none, if◌then◌else◌};
 ghost use Rattle.std.specs.Str.{bytes_eq};
 ghost use Rattle.pe_layout.specs.Layout.{file_of};

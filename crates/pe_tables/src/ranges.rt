@@ -1,3 +1,5 @@
+//! `Ranges`: ranges of RVAs, and whether another range has an RVA in common with one of them.
+
 ghost use Rattle.std.specs.Prelude.{◌≡◌, ℕ, ◌+◌, ◌<◌, ◌≤◌, ◌^◌, ◌↔◌, All, IsTrue, OnOk, [], length, take, filter, nat_lt, slice_index_or};
 ghost use Rattle.pe_tables.specs.Ranges.{IsAscending, meets_any, range_end};
 

@@ -1,3 +1,5 @@
+//! `TextMap`: what each name of under 256 bytes exports, in the order of the names' bytes.
+
 ghost use Rattle.std.specs.Prelude.{◌≡◌, ◌↔◌, ◌&&◌, ℕ, List, [], None, Some, All, IsTrue, OnOk, IfOk, is_none, if◌then◌else◌};
 ghost use Rattle.std.specs.Str.{bytes_eq};
 ghost use Rattle.pe_tables.specs.TextMap.{IsBefore, TextsAscend, found};

@@ -1,3 +1,5 @@
+//! `Window`: up to 512 bytes of an image, read at once for numbers that follow each other.
+
 ghost use Rattle.std.specs.Prelude.{◌≡◌, ◌+◌, ◌-◌, ◌≤◌, IsTrue, min};
 ghost use Rattle.pe_view.specs.View.{bytes_of, size_of};
 ghost use Rattle.pe_layout.specs.Image.{LaidOut, bytes_at, number_at};

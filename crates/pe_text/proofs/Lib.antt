@@ -1,10 +1,13 @@
 pub mod Adding
+pub mod HexDigits
 pub mod Numbering
 pub mod Pieces
 pub mod Plain
+pub mod Room
 pub mod Reports
 pub mod Rows
 pub mod RuleWords
+pub mod Sentences
 pub mod Tested
 pub mod Token
 pub mod Widths

@@ -3,6 +3,7 @@ use Rattle.std.proofs.Common.{◌≡◌, [], ◌∷◌, refl, codes}
 use Rattle.std.specs.Fmt.{digits}
 use Rattle.pe_view.specs.declared.fault.Place.TheVariants.{File, Rva, Address, Item}
 use Rattle.pe_text.specs.FaultLine.{place_text, fault_words, fault_line, cycle_line}
+use Rattle.pe_text.specs.FaultWords.{rules, sentence}
 use Rattle.pe_text.specs.Field.{field, field_line}
 use Rattle.pe_text.specs.MachineLine.{machine_line}
 use Rattle.pe_head.specs.Names.{machine_names}
@@ -64,3 +65,12 @@ wide_field = refl
 escapes : quoted (0x41 ∷ 0x22 ∷ 0x5c ∷ 0x1f ∷ 0x20 ∷ 0x7e ∷ 0x7f ∷ 0xff ∷ []) ≡ codes "\"A\\x22\\x5c\\x1f ~\\x7f\\xff\""
 unfolding quoted escaped hex
 escapes = refl
+
+-- faults in words
+in_words : sentence (record { number = 13; image = 0; place = File 0x138 }) ≡ codes "section header at 0x138: the section's raw data extends past the end of the file"
+unfolding rules digits
+in_words = refl
+
+in_words_of_an_item : sentence (record { number = 42; image = 12; place = Item 12 }) ≡ codes "file 12: its module has the same name as an earlier one"
+unfolding rules digits
+in_words_of_an_item = refl

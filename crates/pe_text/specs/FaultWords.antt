@@ -4,6 +4,8 @@ use Rattle.std.specs.Fmt.{digits}
 use denote.Bor.{Bor}
 use Rattle.pe_text.specs.declared.fault_text.TheConstants.{RULES}
 use Rattle.pe_text.specs.declared.fault_text.FaultWords.{FaultWords}
+use Rattle.pe_text.specs.declared.fault_text.PlaceNumber.{PlaceNumber}
+use Rattle.pe_text.specs.declared.fault_text.PlaceNumber.TheVariants.{Hex, Decimal}
 use Rattle.pe_view.specs.declared.fault.Place.{Place}
 use Rattle.pe_view.specs.declared.fault.Place.TheVariants.{File, Rva, Address, Item}
 use Rattle.pe_view.specs.declared.fault.Fault.{Fault}
@@ -36,12 +38,28 @@ words_of number = unwrap_or (words_in rules number) (codes "place", codes "no fa
 abbrev pub hex_text : ℕ → List ℕ
 hex_text = digits 16 false
 
+-- what is before the number of a place
+abbrev pub at_words : Place → List ℕ
+at_words (File offset) = codes " at 0x"
+at_words (Rva rva) = codes " at RVA 0x"
+at_words (Address address) = codes " 0x"
+at_words (Item item) = codes " "
+
+-- the number of a place: of an item in decimal, else in hexadecimal
+abbrev pub place_number : Place → List ℕ
+place_number (File offset) = hex_text offset
+place_number (Rva rva) = hex_text rva
+place_number (Address address) = hex_text address
+place_number (Item item) = decimal item
+
+-- a number as the code holds it, in digits
+abbrev pub number_text : PlaceNumber → List ℕ
+number_text (Hex number) = hex_text number
+number_text (Decimal number) = decimal number
+
 -- the words with the place between them
 abbrev pub with_place : Words → Place → List ℕ
-with_place words (File offset) = words.0 ++ codes " at 0x" ++ hex_text offset ++ codes ": " ++ words.1
-with_place words (Rva rva) = words.0 ++ codes " at RVA 0x" ++ hex_text rva ++ codes ": " ++ words.1
-with_place words (Address address) = words.0 ++ codes " 0x" ++ hex_text address ++ codes ": " ++ words.1
-with_place words (Item item) = words.0 ++ codes " " ++ decimal item ++ codes ": " ++ words.1
+with_place words place = words.0 ++ at_words place ++ place_number place ++ codes ": " ++ words.1
 
 -- the fault in words
 abbrev pub sentence : Fault → List ℕ

@@ -1,4 +1,4 @@
--- How a file is read, a piece after the other.
+-- How a file is read, a piece after the other. No contract of a public function cites it.
 use Rattle.std.specs.Prelude.{ℕ, ◌≡◌, ◌+◌, ◌≤◌, ◌^◌, Bool, true, List, ◌++◌, length, take, Result, MatchResult}
 use Rattle.pe_text.specs.declared.outcome.ToolError.{ToolError}
 use Rattle.pe_text.specs.Engine.{FailsAfter}

@@ -1,3 +1,5 @@
+//! `Counted`: a reader or a writer of std as a `Source` or a `Sink`.
+
 ghost use Rattle.std.specs.Prelude.{◌≡◌, [], false};
 
 use crate::device::{Failed, Sink, Source};

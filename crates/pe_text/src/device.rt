@@ -1,3 +1,5 @@
+//! `Source` and `Sink`: what engines read from and write to.
+
 ghost use Rattle.std.specs.Prelude.{◌≡◌, ◌-◌, ◌^◌, ◌<◌, ◌≤◌, ℕ, Bool, ◌||◌, List, length, IfOk};
 
 use thiserror::Error;

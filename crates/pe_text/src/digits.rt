@@ -1,3 +1,5 @@
+//! Hexadecimal digits, and how many of them a number needs.
+
 ghost use Rattle.std.specs.Prelude.{◌≡◌, ◌-◌, ◌≤◌, ◌<◌, drop};
 ghost use Rattle.pe_text.specs.Text.{glyph, hex, hex_width};
 

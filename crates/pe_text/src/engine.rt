@@ -1,4 +1,4 @@
-//! How a file is read whole, judged, and told of in a text.
+//! `run_report`: reads a file whole, judges it and writes its text, as a `Report` says.
 
 ghost use Rattle.std.specs.Prelude.{◌≡◌, ◌-◌, ◌^◌, ◌<◌, ◌↔◌, ℕ, List, length, IfOk, OnErr, IsErrOf};
 ghost use Rattle.pe_text.specs.declared.outcome.Outcome.{Outcome};

@@ -1,4 +1,4 @@
-//! The line that tells of a fault.
+//! The line of a fault, and of a cycle of forwarders.
 
 ghost use Rattle.pe_text.specs.TextWriter.{IsReady, Adds};
 ghost use Rattle.pe_text.specs.FaultLine.{place_text, fault_words, fault_line, cycle_line};

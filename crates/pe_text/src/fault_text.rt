@@ -1,8 +1,11 @@
-//! Faults in words.
+//! Faults in words: `fault_words`, by a fault's number, and `FaultText`, with its place.
 
-ghost use Rattle.std.specs.Prelude.{◌≡◌, Some, option_map, map};
-ghost use Rattle.pe_text.specs.FaultWords.{rules, rule_view, words_view, words_in, words_of, sentence};
+ghost use Rattle.std.specs.Prelude.{◌≡◌, ◌≤◌, ◌++◌, Some, codes, length, option_map, map, take};
+ghost use Rattle.pe_text.specs.FaultWords.{rules, rule_view, words_view, words_in, words_of, at_words, hex_text, place_number, number_text, sentence};
 
+use crate::digits::{DIGITS, hex_digits, hex_width};
+use arrayvec::ArrayVec;
+use itoa::Buffer;
 use pe_view::{Fault, Place};
 use std::fmt::{self, Display};
 
@@ -17,85 +20,85 @@ pub struct FaultWords {
 
 /// The words of each fault: its number, what stands at its place, and which rule does not hold of it.
 static RULES: [(u16, &str, &str); 69] = [
-    (1, "byte", "the file has over 2^32 bytes"),
+    (1, "byte", "the file is larger than 2^32 bytes"),
     (
         2,
         "end of the file",
-        "the file has under 64 bytes, which an MS-DOS header takes",
+        "the file has fewer than the 64 bytes of an MS-DOS header",
     ),
     (3, "MS-DOS header", "the file does not begin with MZ"),
     (
         4,
         "offset of the signature",
-        "the signature and the COFF file header behind it pass the end of the file",
+        "the signature and the COFF file header after it extend past the end of the file",
     ),
     (5, "signature", "the bytes are not PE and two zero bytes"),
     (
         6,
         "Magic",
-        "the field is neither 0x10b (PE32) nor 0x20b (PE32+), or passes the end of the file",
+        "the field is neither 0x10b (PE32) nor 0x20b (PE32+), or extends past the end of the file",
     ),
     (
         7,
         "SizeOfOptionalHeader",
-        "the size is under that of the optional header's fixed fields and data directories",
+        "the size is too small for the optional header's fixed fields and data directories",
     ),
     (
         8,
         "SizeOfOptionalHeader",
-        "the optional header passes the end of the file",
+        "the optional header extends past the end of the file",
     ),
-    (9, "NumberOfSections", "the image has over 96 sections"),
+    (9, "NumberOfSections", "the image has more than 96 sections"),
     (
         10,
         "NumberOfSections",
-        "the section table passes the end of the file",
+        "the section table extends past the end of the file",
     ),
-    (11, "SizeOfImage", "the size is 0 or over 2^31"),
+    (11, "SizeOfImage", "the size is 0 or more than 2^31"),
     (
         12,
         "SizeOfHeaders",
-        "the headers end before the section table does, or pass the end of the file or of the image",
+        "the headers end before the section table does, or extend past the end of the file or of the image",
     ),
     (
         13,
         "section header",
-        "the section's raw data passes the end of the file",
+        "the section's raw data extends past the end of the file",
     ),
     (
         14,
         "section header",
-        "the section passes the end of the image",
+        "the section extends past the end of the image",
     ),
     (
         15,
         "section header",
-        "the section begins before the headers or the section before it end",
+        "the section begins before the end of the headers or of the previous section",
     ),
     (
         16,
         "export directory table",
-        "the table is not wholly in the image",
+        "the table is not entirely inside the image",
     ),
     (
         17,
         "RVA in the export directory table",
-        "the table at this RVA is not wholly in the image",
+        "the table at this RVA is not entirely inside the image",
     ),
     (
         18,
         "count in the export directory table",
-        "the table has over 65,536 entries",
+        "the table has more than 65,536 entries",
     ),
     (
         19,
         "export name pointer",
-        "the pointer leads to no text that a zero byte ends",
+        "the pointer does not point to a null-terminated string",
     ),
     (
         20,
         "export ordinal",
-        "the ordinal is the index of no entry of the export address table",
+        "the ordinal is not a valid index into the export address table",
     ),
     (
         21,
@@ -105,98 +108,98 @@ static RULES: [(u16, &str, &str); 69] = [
     (
         22,
         "export address",
-        "the forwarder is no text of a module, a dot, and a name or an ordinal",
+        "the forwarder is not of the form MODULE.NAME or MODULE.#ORDINAL",
     ),
     (
         24,
         "import directory entry",
-        "the entry is not wholly in the image",
+        "the entry is not entirely inside the image",
     ),
     (
         25,
         "name RVA of an import directory entry",
-        "the RVA leads to no text that a zero byte ends",
+        "the RVA does not point to a null-terminated string",
     ),
     (
         26,
         "import lookup entry",
-        "the entry is not wholly in the image",
+        "the entry is not entirely inside the image",
     ),
     (
         27,
         "import lookup entry",
-        "the entry leads to no name that a zero byte ends",
+        "the entry does not point to a null-terminated name",
     ),
     (
         28,
         "import lookup entry",
-        "the entry is that of a name, and its bits 62 to 31 are not 0",
+        "the entry imports by name, but its bits 62 to 31 are not 0",
     ),
     (
         29,
         "import lookup entry",
-        "its slot of the import address table is not wholly in the image",
+        "its slot in the import address table is not entirely inside the image",
     ),
     (
         30,
         "import lookup entry",
-        "its slot of the import address table has a byte in common with that of an earlier entry",
+        "its slot in the import address table overlaps that of an earlier entry",
     ),
     (
         31,
         "import lookup entry",
-        "the image has over 1,048,576 imports",
+        "the image has more than 1,048,576 imports",
     ),
     (
         32,
         "import directory entry",
-        "the RVA of the import lookup table is 0, and the time stamp is not",
+        "the RVA of the import lookup table is 0, but the time stamp is not",
     ),
     (
         33,
         "base relocation block",
-        "the block's size is odd, is under 8, or passes the end of the directory",
+        "the block's size is odd or less than 8, or the block extends past the end of the directory",
     ),
     (
         34,
         "base relocation table",
-        "the table passes the end of the image",
+        "the table extends past the end of the image",
     ),
     (
         35,
         "base relocation",
-        "the type is none of ABSOLUTE, HIGH, LOW, HIGHLOW and DIR64",
+        "the type is not ABSOLUTE, HIGH, LOW, HIGHLOW or DIR64",
     ),
     (
         36,
         "base relocation",
-        "its field is not wholly in the image",
+        "its field is not entirely inside the image",
     ),
     (
         37,
         "base relocation",
-        "its field has a byte in common with that of an earlier base relocation",
+        "its field overlaps that of an earlier base relocation",
     ),
     (
         38,
         "base relocation",
-        "its field has a byte in common with the import address table",
+        "its field overlaps the import address table",
     ),
-    (41, "file", "the set has over 256 files"),
-    (42, "file", "its module has the name of an earlier one"),
-    (43, "file", "its Magic is not that of file 0"),
-    (44, "base", "the base is no multiple of 65,536"),
-    (45, "base", "the image passes the end of the address space"),
+    (41, "file", "the set has more than 256 files"),
+    (42, "file", "its module has the same name as an earlier one"),
+    (43, "file", "its Magic differs from that of file 0"),
+    (44, "base", "the base is not a multiple of 65,536"),
+    (
+        45,
+        "base",
+        "the image extends past the end of the address space",
+    ),
     (
         46,
         "base",
-        "its base relocations were stripped, and the base is not its ImageBase",
+        "its base relocations were stripped, but the base is not its ImageBase",
     ),
-    (
-        47,
-        "base",
-        "the image has an address in common with another one",
-    ),
+    (47, "base", "the image overlaps another image"),
     (
         48,
         "import address table slot",
@@ -215,84 +218,88 @@ static RULES: [(u16, &str, &str); 69] = [
     (
         51,
         "field of a base relocation",
-        "the field is not wholly in the raw data of one section",
+        "the field is not entirely inside the raw data of one section",
     ),
     (
         52,
         "section header",
-        "the section's raw data begins in the headers, or has a byte in common with that of an earlier section",
+        "the section's raw data begins in the headers, or overlaps that of an earlier section",
     ),
     (53, "image", "its plan does not fit the format"),
-    (54, "window", "the window does not lie in one image"),
-    (55, "image", "there is no image of this index"),
+    (54, "window", "the window is not inside one image"),
+    (55, "image", "there is no image with this index"),
     (
         61,
         "end of the file",
-        "the file has under 20 bytes, which a COFF file header takes, or over 2^32",
+        "the file has fewer than the 20 bytes of a COFF file header, or more than 2^32",
     ),
     (
         62,
         "COFF file header",
-        "the file begins as an image, an archive or an import object does",
+        "the file begins like an image, an archive or an import object",
     ),
     (
         63,
         "NumberOfSections",
-        "the section table passes the end of the file",
+        "the section table extends past the end of the file",
     ),
     (
         64,
         "section header",
-        "the section's raw data passes the end of the file",
+        "the section's raw data extends past the end of the file",
     ),
     (
         65,
         "section header",
-        "the count of relocations is an extended one, which is not read",
+        "the count of relocations is an extended count, which is not supported",
     ),
     (
         66,
         "section header",
-        "the section's relocations pass the end of the file",
+        "the section's relocations extend past the end of the file",
     ),
     (
         67,
         "PointerToSymbolTable",
-        "the symbol table passes the end of the file",
+        "the symbol table extends past the end of the file",
     ),
     (
         68,
         "string table",
-        "the table's size is cut off, is 1 to 3, or passes the end of the file",
+        "the table's size is cut off or 1 to 3, or the table extends past the end of the file",
     ),
     (
         69,
         "name",
-        "its offset leads to no text of the string table that a zero byte ends",
+        "its offset does not point to a null-terminated string in the string table",
     ),
     (
         70,
         "symbol",
-        "its auxiliary symbol records pass the end of the symbol table",
+        "its auxiliary symbol records extend past the end of the symbol table",
     ),
     (
         71,
         "symbol",
-        "its section number is that of no section, nor ABSOLUTE or DEBUG",
+        "its section number is neither that of a section nor ABSOLUTE or DEBUG",
     ),
     (
         72,
         "relocation",
-        "its index is that of no record of the symbol table",
+        "its index is not that of a record in the symbol table",
     ),
-    (81, "name", "the name has a zero byte in it"),
+    (81, "name", "the name contains a zero byte"),
     (
         82,
         "section",
-        "the offset of its name in the string table is over 9,999,999",
+        "the offset of its name in the string table is more than 9,999,999",
     ),
-    (83, "section", "the section has over 65,534 relocations"),
-    (84, "object", "its file would have over 2^32 - 1 bytes"),
+    (
+        83,
+        "section",
+        "the section has more than 65,534 relocations",
+    ),
+    (84, "object", "its file would have more than 2^32 - 1 bytes"),
     (85, "object", "a part of it does not fit the format"),
 ];
 
@@ -328,6 +335,26 @@ fn words_of(number: u16) -> FaultWords
     }
 }
 
+/// The number of a place, as it is shown.
+#[derive(Clone, Copy)]
+enum PlaceNumber {
+    Hex(u64),
+    Decimal(u32),
+}
+
+/// What is before the number of a place, and the number.
+fn place_words(place: Place) -> (&'static str, PlaceNumber)
+    ensures words { result.0.now ≡ at_words place }
+    ensures number { number_text result.1 ≡ place_number place }
+{
+    match place {
+        Place::File(offset) => (" at 0x", PlaceNumber::Hex(offset)),
+        Place::Rva(rva) => (" at RVA 0x", PlaceNumber::Hex(rva as u64)),
+        Place::Address(address) => (" 0x", PlaceNumber::Hex(address)),
+        Place::Item(item) => (" ", PlaceNumber::Decimal(item)),
+    }
+}
+
 /// A fault in words: `section header at 0x138: the section's raw data passes the end of the file`.
 #[derive(Clone, Copy, Debug)]
 pub struct FaultText(pub Fault);
@@ -337,11 +364,55 @@ impl Display for FaultText {
 
     fn fmt<W: fmt::Write>(&self, f: &mut fmt::Formatter<W>) -> fmt::Result {
         let FaultWords { subject, rule } = words_of(self.0.number);
-        match self.0.place {
-            Place::File(offset) => write!(f, "{subject} at 0x{offset:x}: {rule}"),
-            Place::Rva(rva) => write!(f, "{subject} at RVA 0x{rva:x}: {rule}"),
-            Place::Address(address) => write!(f, "{subject} 0x{address:x}: {rule}"),
-            Place::Item(item) => write!(f, "{subject} {item}: {rule}"),
+        let (at, number) = place_words(self.0.place);
+        match number {
+            PlaceNumber::Hex(number) => write!(f, "{subject}{at}{number:x}: {rule}"),
+            PlaceNumber::Decimal(number) => write!(f, "{subject}{at}{number}: {rule}"),
+        }
+    }
+}
+
+/// Adds as many of these bytes as there is room for.
+fn add(text: &mut ArrayVec<u8, 256>, bytes: &[u8])
+    ensures { text.new.items ≡ take 256 (text.old.items ++ bytes.now) }
+{
+    let count = bytes.len().min(text.remaining_capacity());
+    text.try_extend_from_slice(&bytes[..count]).unwrap();
+}
+
+/// The words of a fault with a place between them, as far as there is room.
+fn with_place(words: FaultWords, at: &str, number: &[u8]) -> ArrayVec<u8, 256>
+    ensures { result.items ≡ take 256 (words.subject.now ++ at.now ++ number.now ++ codes ": " ++ words.rule.now) }
+{
+    let mut text = ArrayVec::new();
+    add(&mut text, words.subject.as_bytes());
+    add(&mut text, at.as_bytes());
+    add(&mut text, number);
+    add(&mut text, b": ");
+    add(&mut text, words.rule.as_bytes());
+    text
+}
+
+/// The same with a number in hexadecimal.
+fn with_hex(words: FaultWords, at: &str, number: u64) -> ArrayVec<u8, 256>
+    ensures text { result.items ≡ take 256 (words.subject.now ++ at.now ++ hex_text number ++ codes ": " ++ words.rule.now) }
+    ensures short { length (hex_text number) ≤ 16 }
+{
+    let width = hex_width(number);
+    let digits = hex_digits(width as usize, number);
+    with_place(words, at, &digits[DIGITS - width as usize..])
+}
+
+/// The bytes of a fault in words, which are those of [`FaultText`]. No fault has over 256.
+pub fn fault_sentence(fault: &Fault) -> ArrayVec<u8, 256>
+    ensures { result.items ≡ sentence fault.now }
+{
+    let words = words_of(fault.number);
+    let (at, number) = place_words(fault.place);
+    match number {
+        PlaceNumber::Hex(number) => with_hex(words, at, number),
+        PlaceNumber::Decimal(number) => {
+            with_place(words, at, Buffer::new().format(number).as_bytes())
         }
     }
 }

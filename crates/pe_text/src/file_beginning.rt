@@ -1,4 +1,4 @@
-//! What a file is by its first bytes.
+//! `file_kind`: what kind of file the first bytes of a file show.
 
 ghost use Rattle.std.specs.Prelude.{◌≡◌, Some};
 ghost use Rattle.std.specs.List.{list_all};

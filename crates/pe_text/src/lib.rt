@@ -1,4 +1,4 @@
-//! Texts of what files hold: the devices that they are read from and written to, and the lines that all of them share.
+//! What all texts share: the devices that files are read from and texts are written to, the writer of lines, and faults in words.
 //!
 //! A [`Report`] says of a file's bytes which text they have, and [`run_report`] reads the file from any [`Source`] and writes the
 //! text to any [`Sink`]; [`Counted`] makes one of any reader or writer of std. Lines are written part by part:
@@ -36,7 +36,7 @@ pub use device::{Failed, Sink, Source};
 pub use digits::hex_width;
 pub use engine::{Report, refuse, run_report};
 pub use fault_line::{write_cycle_line, write_fault_line};
-pub use fault_text::{FaultText, FaultWords, fault_words};
+pub use fault_text::{FaultText, FaultWords, fault_sentence, fault_words};
 pub use field::Field;
 pub use fields::{characteristics, time_date_stamp, write_fields};
 pub use file_beginning::{FileKind, file_kind};

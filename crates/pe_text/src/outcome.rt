@@ -1,3 +1,5 @@
+//! `Outcome` and `ToolError`: what an engine returns; and `status`, the exit status for it.
+
 ghost use Rattle.std.specs.Prelude.{◌≡◌};
 ghost use Rattle.pe_text.specs.Outcome.{status_of};
 

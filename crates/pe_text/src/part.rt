@@ -1,4 +1,4 @@
-//! The parts of a line.
+//! `Part`, `write_part` and `write_parts`: the parts of a line.
 
 ghost use Rattle.std.specs.Prelude.{flat_map};
 ghost use Rattle.pe_text.specs.TextWriter.{IsReady, Adds};

@@ -1,3 +1,5 @@
+//! `is_printable`: whether all bytes of a string are printable ASCII.
+
 ghost use Rattle.std.specs.Prelude.{◌≡◌};
 ghost use Rattle.std.specs.List.{list_all};
 ghost use Rattle.pe_text.specs.Text.{is_printable};

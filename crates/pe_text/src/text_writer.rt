@@ -1,3 +1,5 @@
+//! `TextWriter`: writes numbers and quoted strings to a sink, in pieces of at most 256 bytes.
+
 ghost use Rattle.std.specs.Prelude.{◌≡◌, ◌-◌, ◌^◌, ◌<◌, ◌≤◌, length, take, slice_index_or, [], decimal, flat_map, ℕ, List, true, false};
 ghost use Rattle.pe_text.specs.TextWriter.{WritesAll, Finishes};
 ghost use Rattle.pe_text.specs.Text.{hex, hex_at_least, is_plain, escaped, quoted};

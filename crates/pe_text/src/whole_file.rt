@@ -1,3 +1,5 @@
+//! `read_whole`: all bytes of a source up to its end, or 2^32 + 1 of them.
+
 ghost use Rattle.std.specs.Prelude.{◌≡◌, ◌+◌, ◌-◌, ◌^◌, ◌<◌, ◌≤◌, ℕ, List, [], ◌++◌, length, take, vec_len, OnOk, OnErr};
 ghost use Rattle.pe_text.specs.Engine.{Collects};
 ghost use Rattle.pe_text.specs.WholeFile.{ReadsPiece};

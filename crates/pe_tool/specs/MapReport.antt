@@ -70,7 +70,7 @@ abbrev pub refusal_of : {X : Type 0} → Result X Fault → Option Fault
 refusal_of (Ok x) = None
 refusal_of (Err fault) = Some fault
 
--- fault 54, where the window does not lie in one image
+-- fault 54, where the window is not inside one image
 abbrev pub window_fault : List Module → Option (ℕ × ℕ) → Option Fault
 window_fault s None = None
 window_fault s (Some w) = refusal_of (window_at (content_of s) w.0 w.1)

@@ -8,9 +8,9 @@ ghost use Rattle.pe_tool.specs.RebasedSet.{IsRebasedSet, IsElsewhere};
 
 pub use coff_lines::laws::records_are_shown_under_their_indexes;
 
-/// Where two sets differ only in that an image of one has its file rebased, and the new file's tables read as before, each address
-/// holds the same byte in both, outside the fields ImageBase and CheckSum of that image, whose base is a multiple of 65,536.
-/// Neither set has to be accepted: this says of accepted sets which bytes their spaces hold.
+/// If two sets differ only in that the file of one image, whose signature is not in the first 16 bytes and whose base is a
+/// multiple of 65,536, is rebased, and its tables read as before, each address outside ImageBase and CheckSum of that image holds
+/// the same byte in both. Neither set has to be accepted.
 pub fn rebased_files_map_alike()
     ensures { (es es' : List Entry) (k : ℕ) (e : Entry) (base a : ℕ) → IsRebasedSet es es' k e base → IsElsewhere e a
         → defined_byte (modules_of es') a ≡ defined_byte (modules_of es) a }

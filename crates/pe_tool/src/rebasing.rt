@@ -1,4 +1,4 @@
-//! A file at another base, to one output, and a line that tells of it, to another.
+//! `rebase`: writes the file of an image for another base to one output, and a line about it to another.
 
 ghost use Rattle.std.specs.Prelude.{◌-◌, ◌^◌, ◌<◌, ◌⊎◌, ◌↔◌, IsErrOf};
 ghost use Rattle.pe_text.specs.TextWriter.{IsReady, Adds};

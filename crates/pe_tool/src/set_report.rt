@@ -1,4 +1,4 @@
-//! The report of a mapped set.
+//! `map_report`: the report of a mapped set, or the line of its first fault.
 
 ghost use Rattle.std.specs.Prelude.{◌≡◌, ◌≢◌, ◌-◌, ◌^◌, ◌<◌, ◌⊎◌, ◌↔◌, ℕ, List, None, Err, length, IfOk, OnErr, IsOk, IsErrOf};
 ghost use Rattle.pe_view.specs.Faults.{first_standing};

@@ -1,4 +1,4 @@
-//! Whether a window lies in one image of a space.
+//! Fault 54: whether a window lies in one image of a space.
 
 ghost use Rattle.std.specs.Prelude.{◌≡◌};
 ghost use Rattle.pe_space.specs.Content.{window_at};

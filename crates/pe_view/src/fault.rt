@@ -1,3 +1,5 @@
+//! `Fault`: which rule of the format a file breaks, in which image and where; and `Place`.
+
 /// Where a fault stands.
 #[derive(Clone, Copy, Debug, PartialEq, Eq)]
 pub enum Place {

@@ -17,17 +17,17 @@ pub fn digits_are_bytes()
     ensures { (byte : ℕ → ℕ) (place width k : ℕ) → ((i : ℕ) → byte i < 256) → k < width → digit (num byte place width) k ≡ byte (place + k) }
 {}
 
-/// The text between two offsets of a file ends before the second one, and has the file's bytes from the first one on.
+/// The text between two offsets of a file ends before the second, and has the file's bytes from the first on.
 pub fn texts_are_parts()
     ensures { (file : List ℕ) (offset end : ℕ) (text : List ℕ) → text_between file offset end ≡ Some text → (offset + length text < end) × (text ≡ part file offset (length text)) }
 {}
 
-/// The first fault of a table is that of a test that stands, and none before it does.
+/// The first fault of a table is that of a test that holds, and no test before it holds.
 pub fn first_standing_is_first()
     ensures { (tests : List Test) (fault : Fault) → first_standing tests ≡ Some fault → IsFirstStanding tests fault }
 {}
 
-/// A table has no first fault exactly where none of its tests stands.
+/// A table has no first fault exactly if none of its tests holds.
 pub fn no_first_where_none_stands()
     ensures { (tests : List Test) → (first_standing tests ≡ None) ↔ NoneStands tests }
 {}

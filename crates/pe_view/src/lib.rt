@@ -1,4 +1,4 @@
-//! Bounded views of a file's bytes, and the faults by which a file is refused.
+//! The bytes of a file by offset, never past its end, and the faults by which a file is refused.
 //!
 //! A [`View`] reads numbers, byte ranges and zero-ended texts at file offsets and answers `None` for whatever passes the
 //! end of the file; [`TextEnds`] remembers where texts end, for many that may share their bytes; a [`Fault`] says which rule

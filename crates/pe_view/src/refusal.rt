@@ -1,3 +1,5 @@
+//! `Refusal`: a fault or out of memory, which is the error of calls that take memory.
+
 ghost use Rattle.std.specs.Prelude.{◌≡◌};
 
 use crate::fault::Fault;

@@ -1,3 +1,5 @@
+//! `View`: the bytes of a file, read by offset and never past their end.
+
 ghost use Rattle.std.specs.Prelude.{◌≡◌, ◌+◌, ◌≤◌, ◌↔◌, IsSome, IfSome, SomeIff, IsTrue, option_map};
 ghost use Rattle.pe_view.specs.View.{bytes_of, size_of};
 ghost use Rattle.pe_view.specs.Number.{num, byte_of, part};

@@ -8,16 +8,16 @@ use std::alloc::{AllocError, Global};
 
 /// What `at` does.
 const AT_ABOUT: &str =
-    "Tells what stands at an RVA of an image: its address and file offset, its section, and the export, slot, field or header there";
+    "Prints what is at an RVA of an image: its address and file offset, its section, and the export, slot, field or header there";
 
 /// What help says of the address.
-const PLACE: &str = "Where, in hexadecimal digits: an RVA, where no option says otherwise";
+const PLACE: &str = "Where, in hexadecimal: an RVA, unless an option says otherwise";
 
 /// What help says of `--address`.
-const ADDRESS: &str = "ADDRESS is one of the address space, with the image at its ImageBase";
+const ADDRESS: &str = "ADDRESS is a virtual address, with the image at its ImageBase";
 
 /// What help says of `--file`.
-const OFFSET: &str = "ADDRESS is an offset in the file";
+const OFFSET: &str = "ADDRESS is a file offset";
 
 /// What `explain` does.
 const EXPLAIN_ABOUT: &str = "Explains a fault by its number, or lists all faults";
@@ -28,7 +28,7 @@ pub(crate) fn at_command<'a>(alloc: Global) -> Result<Command<'a>, AllocError> {
     let command = Ok(new_command(alloc, "at", AT_ABOUT));
     let command = with_argument(command, flag(alloc, "address", ADDRESS));
     let command = with_argument(command, offset);
-    let file = required_argument(alloc, "FILE", "The image's file, or - for standard input");
+    let file = required_argument(alloc, "FILE", "An image, or - for standard input");
     let command = with_argument(command, file);
     with_argument(command, required_argument(alloc, "ADDRESS", PLACE))
 }
@@ -43,7 +43,7 @@ pub(crate) fn place_of<'a>(found: &ArgMatches<'a>) -> Result<Place, BadValue<'a>
         None => Err(BadValue {
             value,
             argument: "<ADDRESS>",
-            reason: "no address of 1 to 16 hexadecimal digits",
+            reason: "not an address of 1 to 16 hexadecimal digits",
         }),
     }
 }
@@ -66,7 +66,7 @@ pub(crate) fn number_of<'a>(found: &ArgMatches<'a>) -> Result<Option<u16>, BadVa
         Err(_) => Err(BadValue {
             value,
             argument: "[N]",
-            reason: "no number of a fault",
+            reason: "not the number of a fault",
         }),
     }
 }

@@ -8,26 +8,26 @@ use crate::rebase_words::rebase_command;
 use clap::Command;
 use std::alloc::{AllocError, Global};
 
-/// The program's version, which `--version` prints behind its name.
-const VERSION: &str = "0.1.0";
+/// The program's version, which `--version` prints after its name: that of the file VERSION.
+const VERSION: &str = "1.0";
 
 /// What the program does.
 const ABOUT: &str =
-    "Reads PE images and COFF objects: shows what they hold, judges them, maps images, and writes them at other bases";
+    "Reads PE images and COFF objects: shows and checks them, maps images together, and writes an image's file for another base";
 
 /// What `--help` says behind the commands and the options.
 const NOTES: &str = "\
-A FILE that is - is standard input.
+If FILE is -, standard input is read.
 
 Exit statuses:
   0  done
-  1  refused by a fault
+  1  a file was refused
   2  bad command line
   3  reading or writing failed
   4  out of memory
 
-A fault is a line on standard output, and on standard error it is told in words.
-petool explain N explains fault N.";
+check, dump, object, at, map and rebase print a fault as a line, and explain it on standard error;
+show and json print it in words. petool explain N explains fault N.";
 
 /// The program, with what help says of it.
 fn described<'a>(alloc: Global) -> Command<'a> {

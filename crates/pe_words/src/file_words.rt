@@ -22,7 +22,7 @@ pub(crate) struct FileCommand {
 pub(crate) const SHOW: FileCommand = FileCommand {
     name: "show",
     about: "Prints a page on each image or object: what it is, its sections and its tables, or its first fault",
-    file: "Files of images or objects, or - for standard input",
+    file: "Images or objects, or - for standard input",
     takes_several: true,
 };
 
@@ -30,26 +30,26 @@ pub(crate) const SHOW: FileCommand = FileCommand {
 pub(crate) const FILE_COMMANDS: [FileCommand; 4] = [
     FileCommand {
         name: "check",
-        about: "Prints one line of each image: that it is accepted, with its form and its number of sections, or its first fault",
-        file: "Files of images, or - for standard input",
+        about: "Prints one line for each image: accepted, with its format and number of sections, or its first fault",
+        file: "Images, or - for standard input",
         takes_several: true,
     },
     FileCommand {
         name: "dump",
-        about: "Prints the fields of the image's headers, its directories, sections, exports, imports and base relocations, a line each, or its first fault",
-        file: "The image's file, or - for standard input",
+        about: "Prints an image's header fields, directories, sections, exports, imports and base relocations, one per line, or its first fault",
+        file: "An image, or - for standard input",
         takes_several: false,
     },
     FileCommand {
         name: "object",
-        about: "Prints what a COFF object holds, a line for each section, relocation, symbol and auxiliary record, or its first fault",
-        file: "The object's file, or - for standard input",
+        about: "Prints a COFF object's sections, relocations, symbols and auxiliary records, one per line, or its first fault",
+        file: "An object, or - for standard input",
         takes_several: false,
     },
     FileCommand {
         name: "json",
-        about: "Prints what each image or object holds, or its first fault, as one line of JSON",
-        file: "Files of images or objects, or - for standard input",
+        about: "Prints each image or object, or its first fault, as one line of JSON",
+        file: "Images or objects, or - for standard input",
         takes_several: true,
     },
 ];

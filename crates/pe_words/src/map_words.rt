@@ -11,7 +11,7 @@ const MAX_COUNT: u32 = 4096;
 
 /// What `map` does.
 const ABOUT: &str =
-    "Maps images, binds their imports, and prints where each stands, what each bound slot holds and the bytes of a window, or the first fault";
+    "Maps images together, binds their imports, and prints where each image is, what each bound slot holds and the bytes of a window, or the first fault";
 
 /// What `map --help` says behind the options.
 const EXAMPLE: &str = "\
@@ -25,14 +25,14 @@ Example:
 
 /// What help says of `--known`.
 const KNOWN: &str =
-    "Leaves the slot of an import whose module is not among the files as it stands in its file";
+    "Leaves the slot of an import as it is in its file if the import's module is not among the files";
 
 /// What help says of `--window`.
-const WINDOW: &str = "Prints the bytes from this address on, 16 a line";
+const WINDOW: &str = "Prints the bytes from this address on, 16 per line";
 
 /// What help says of the files.
 const FILES: &str =
-    "The base of an image and its file, or - for standard input; the file's name is the module's";
+    "An image's base and its file, or - for standard input; the file's name is the module's name";
 
 /// What `map` is asked for.
 #[derive(Drop)]
@@ -108,7 +108,7 @@ fn window_of<'a>(found: &ArgMatches<'a>) -> Result<Option<(u64, u32)>, BadValue<
         return Err(BadValue {
             value,
             argument: "--count <N>",
-            reason: "no number from 1 to 4096",
+            reason: "not a number from 1 to 4096",
         });
     };
     let Some(value) = found.get_str("window") else {
@@ -119,7 +119,7 @@ fn window_of<'a>(found: &ArgMatches<'a>) -> Result<Option<(u64, u32)>, BadValue<
         None => Err(BadValue {
             value,
             argument: "--window <HEX>",
-            reason: "no address of 1 to 16 hexadecimal digits",
+            reason: "not an address of 1 to 16 hexadecimal digits",
         }),
     }
 }
@@ -127,17 +127,17 @@ fn window_of<'a>(found: &ArgMatches<'a>) -> Result<Option<(u64, u32)>, BadValue<
 /// The base and the path of a file that is to be mapped, and its module's name.
 fn parts_of(value: &str) -> Result<(u64, &str, &str), &'static str> {
     let Some((base, path)) = value.split_once('=') else {
-        return Err("no '=' after a base");
+        return Err("no '=' after the base");
     };
     let Some(base) = address_of(base) else {
-        return Err("no base of 1 to 16 hexadecimal digits");
+        return Err("not a base of 1 to 16 hexadecimal digits");
     };
     let name = match path.rsplit_once('/') {
         Some((_, name)) => name,
         None => path,
     };
     if name.is_empty() {
-        return Err("no name of a file");
+        return Err("no file name");
     }
     Ok((base, path, name))
 }

@@ -7,17 +7,17 @@ use std::alloc::{AllocError, Global};
 
 /// What `rebase` does.
 const ABOUT: &str =
-    "Writes the file of an image that is to stand at another base, and prints the base, or the first fault";
+    "Writes an image's file for another base, and prints that base, or the first fault";
 
 /// What help says of the base.
-const BASE: &str = "The base at which the image is to stand";
+const BASE: &str = "The image's new base";
 
 /// What help says of the file that is read.
 const SOURCE: &str = "The image's file";
 
 /// What help says of the file that is written.
 const TARGET: &str =
-    "The file to be written, which may not be IN; it is left alone where IN is refused";
+    "The file to write, which may not be IN; it is left alone if IN is refused";
 
 /// The subcommand `rebase`.
 pub(crate) fn rebase_command<'a>(alloc: Global) -> Result<Command<'a>, AllocError> {
@@ -35,7 +35,7 @@ pub(crate) fn base_of<'a>(found: &ArgMatches<'a>) -> Result<u64, BadValue<'a>> {
         None => Err(BadValue {
             value,
             argument: "<HEX>",
-            reason: "no base of 1 to 16 hexadecimal digits",
+            reason: "not a base of 1 to 16 hexadecimal digits",
         }),
     }
 }

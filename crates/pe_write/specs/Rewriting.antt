@@ -1,4 +1,4 @@
--- What the code that writes the fields of a file rests on.
+-- What the code that writes the fields of a file rests on. No contract of a public function cites it.
 use Rattle.std.specs.Prelude.{◌≡◌, ℕ, ◌+◌, ◌<◌, ◌≤◌, true, Some, All, AllPairs}
 use Rattle.pe_head.specs.declared.section.SectionHeader.{SectionHeader}
 use Rattle.pe_head.specs.declared.headers.Headers.{Headers}

@@ -22,8 +22,8 @@ ghost use Rattle.pe_write.specs.RebaseFaults.{rebase_tests};
 use crate::plan::Plan;
 use std::alloc::Allocator;
 
-/// Byte by byte, the new file holds the base in ImageBase, 0 in CheckSum, in each fixup's field what the image holds there at
-/// the base, and everywhere else what the file held.
+/// Byte by byte, the new file has the base in ImageBase, 0 in CheckSum, in the field of each fixup what the image holds there at
+/// the base, and everywhere else what the file had.
 pub fn rebased_bytes()
     ensures { (file : List ℕ) (base : ℕ) → first_standing (rebase_tests file base) ≡ None → IsRebased file base (rebased file base) }
 {
@@ -31,7 +31,7 @@ pub fn rebased_bytes()
     pe_tables::laws::fields_are_apart();
 }
 
-/// With the old headers, the new file lays out the old image as it is at the base, outside ImageBase and CheckSum.
+/// Laid out by the old headers, the new file gives the old image as it is at the base, outside ImageBase and CheckSum.
 pub fn rebased_is_relocated()
     ensures { (file : List ℕ) (base r : ℕ) → first_standing (rebase_tests file base) ≡ None → IsFree (head_of file) r
         → plain (head_of file) (rebased file base) r ≡ relocated (image_of_file 0 file) base r }
@@ -40,8 +40,8 @@ pub fn rebased_is_relocated()
     pe_tables::laws::fields_are_apart();
 }
 
-/// Where the signature does not stand in the first 16 bytes, the new file has the old headers but for ImageBase and CheckSum, and
-/// none of faults 1 to 15: none of them stands of it under a number under which none stands of the old file.
+/// If the signature is not in the first 16 bytes, the new file has the old headers but for ImageBase and CheckSum, and none of
+/// faults 1 to 15, under any number under which the old file has none.
 pub fn rebased_headers()
     ensures head { (file : List ℕ) (base : ℕ) → first_standing (rebase_tests file base) ≡ None → 16 ≤ (head_of file).pe_offset
         → head_of (rebased file base) ≡ rebased_head (head_of file) base }
@@ -54,8 +54,8 @@ pub fn rebased_headers()
     pe_tables::laws::fields_are_apart();
 }
 
-/// A file that is rebased and then stands at any base, which is a multiple of 65,536, under any number, has there the bytes that
-/// the file itself has, outside ImageBase and CheckSum, where its fixups read as before.
+/// If the signature is not in the first 16 bytes, and the fixups read as before, a rebased file at any base that is a multiple of
+/// 65,536, under any number, has there the bytes that the old file has, outside ImageBase and CheckSum.
 pub fn rebased_again()
     ensures { (file : List ℕ) (base image at r : ℕ) → first_standing (rebase_tests file base) ≡ None → 16 ≤ (head_of file).pe_offset
         → fixups_of (image_of_file image (rebased file base)) ≡ fixups_of (image_of_file image file) → at % 65536 ≡ 0 → IsFree (head_of file) r
@@ -65,9 +65,9 @@ pub fn rebased_again()
     pe_tables::laws::fields_are_apart();
 }
 
-/// The file of a plan against which nothing stands has the plan's headers and none of faults 1 to 15, and lays out what was
-/// planned. The other way round, a plan with a FileAlignment whose file has none of faults 1 to 15 is not refused. Both are said
-/// of plans whose values fit their fields.
+/// If fault 53 does not hold for a plan whose values fit their fields, its file has the plan's headers and none of faults 1 to
+/// 15, and lays out what was planned. Conversely, a plan with a FileAlignment whose file has none of faults 1 to 15 is not
+/// refused.
 pub fn file_is_planned<A: Allocator>(plan: &Plan<'_, A>)
     ensures head { IsPlan plan.now → first_standing (plan_tests plan.now) ≡ None → head_of (plan_file plan.now) ≡ plan_headers plan.now }
     ensures accepted { IsPlan plan.now → first_standing (plan_tests plan.now) ≡ None → first_standing (layout_tests 0 (plan_file plan.now)) ≡ None }
@@ -77,8 +77,8 @@ pub fn file_is_planned<A: Allocator>(plan: &Plan<'_, A>)
         → first_standing (plan_tests plan.now) ≡ None }
 {}
 
-/// What a plan against which nothing stands lays out: below SizeOfHeaders the headers, in each section the bytes that the plan
-/// gives it, and 0 behind them and in no section. Whichever section an RVA lies in, it is the only one.
+/// If fault 53 does not hold for a plan, it lays out the headers below SizeOfHeaders, in each section the bytes that the plan
+/// gives it, and 0 after them and outside sections. Whichever section an RVA lies in, it is the only one.
 pub fn planned_by_places<A: Allocator>(plan: &Plan<'_, A>)
     ensures headers { (r : ℕ) → r < plan.now.size_of_headers → planned plan.now r ≡ byte_of (header_bytes plan.now) r }
     ensures sections { (r k : ℕ) (section : PlanSection) (header : SectionHeader) → first_standing (plan_tests plan.now) ≡ None

@@ -1,4 +1,4 @@
-//! Images written to files.
+//! Files of images: for another base, and from a plan.
 //!
 //! [`write_image`] makes the file of an image that a [`Plan`] describes: headers, section table and the sections' raw data. It is
 //! accepted by those that read it, and lays out what was planned.

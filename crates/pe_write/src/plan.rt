@@ -1,3 +1,5 @@
+//! `Plan` and `PlanSection`: an image that is to be written.
+
 use pe_head::{Directory, Magic};
 use std::alloc::{Allocator, Global};
 

@@ -1,3 +1,5 @@
+//! `rebase_file`: the file of an image for another base, or the first fault that forbids it.
+
 ghost use Rattle.std.specs.Prelude.{◌≡◌, ◌≤◌, ◌+◌, ⊤, length, pos, ◌-ℤ◌, Some, Err, IfOk};
 ghost use Rattle.pe_view.specs.declared.fault.Fault as code_fault;
 ghost use Rattle.pe_view.specs.Faults.{Answers, first_standing, AnswersOrWants};

@@ -1,3 +1,5 @@
+//! `write_image`: the file that a plan describes, or fault 53.
+
 ghost use Rattle.std.specs.Prelude.{◌≡◌, ℕ, None, Some, Err, [], OnOk, IfOk};
 ghost use Rattle.pe_view.specs.declared.fault.Fault as code_fault;
 ghost use Rattle.pe_view.specs.Faults.{first_standing, AnswersOrWants};
@@ -42,7 +44,7 @@ fn push_file<A: Allocator, P: Allocator>(
 /// PointerToRawData are 0. Fields that the plan does not name are 0. The file is accepted: none of faults 1 to 15 stands in it.
 ///
 /// The answer is [`WriteError::Fault`] with fault 53 where FileAlignment is 0; where ImageBase does not fit the four bytes that
-/// PE32 has for it; of over 96 sections; where the file would have over 2^32 bytes; where SizeOfImage is 0 or over 2^31; where
+/// PE32 has for it; of over 96 sections; where the file would have over 2^32 bytes; where SizeOfImage is 0 or more than 2^31; where
 /// SizeOfHeaders is under the section table's end or over SizeOfImage; and where a section passes SizeOfImage, or begins in the
 /// headers or before the end of the section before it. It is [`WriteError::Memory`] where a growth was refused, which never
 /// comes where fault 53 stands.

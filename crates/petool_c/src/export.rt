@@ -1,3 +1,5 @@
+//! Exports: `petool_exports`, `petool_export_names`, `petool_export_by_name` and `petool_export_by_ordinal`.
+
 ghost use Rattle.std.specs.Prelude.{◌≡◌};
 ghost use Rattle.pe_layout.specs.Image.{image_of_file};
 ghost use Rattle.pe_tables.specs.Exports.{exports_of, target_at};

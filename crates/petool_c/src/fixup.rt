@@ -1,3 +1,5 @@
+//! Base relocations: `petool_fixups`.
+
 ghost use Rattle.pe_layout.specs.Image.{image_of_file};
 ghost use Rattle.pe_tables.specs.Fixups.{fixups_of};
 ghost use Rattle.pe_records_c.specs.FixupRows.{fixup_row};

@@ -1,3 +1,5 @@
+//! The headers of an image: `petool_read_headers`.
+
 ghost use Rattle.std.specs.Prelude.{◌≡◌, ◌≢◌, ◌⊎◌};
 ghost use Rattle.pe_view.specs.Faults.{first_standing};
 ghost use Rattle.pe_head.specs.Head.{head_of};

@@ -1,3 +1,5 @@
+//! One image: `petool_check`, `petool_read`, `petool_read_text` and `petool_locate`.
+
 ghost use Rattle.std.specs.Prelude.{◌≡◌, ◌≢◌, ◌+◌, ◌<◌, ◌≤◌, ◌⊎◌, None, Some, length};
 ghost use Rattle.pe_view.specs.Faults.{first_standing};
 ghost use Rattle.pe_head.specs.Head.{head_of};

@@ -1,3 +1,5 @@
+//! Imports: `petool_imports`.
+
 ghost use Rattle.pe_layout.specs.Image.{image_of_file};
 ghost use Rattle.pe_tables.specs.Imports.{imports_of};
 ghost use Rattle.pe_records_c.specs.ImportRows.{import_text, import_row};

@@ -1,4 +1,4 @@
-//! The libraries for programs that are not written in Rattle, under C's rules of calling; bindings/c/petool.h declares them.
+//! The calls of libpetool, for programs that are not written in Rattle; bindings/c/petool.h declares them.
 //!
 //! Nothing is kept between calls but in a space, which its caller owns and closes; nothing else has to be freed. A number says how
 //! a call ended:

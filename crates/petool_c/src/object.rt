@@ -1,3 +1,5 @@
+//! Objects: `petool_object_check`, `_headers`, `_sections`, `_relocations` and `_all_relocations`.
+
 ghost use Rattle.std.specs.Prelude.{◌≡◌, ◌≢◌, ◌⊎◌, drop, slice_get};
 ghost use Rattle.pe_view.specs.Faults.{first_standing};
 ghost use Rattle.coff_object.specs.ObjectFaults.{object_tests};

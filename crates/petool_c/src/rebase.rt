@@ -1,3 +1,5 @@
+//! The file of an image for another base: `petool_rebase`.
+
 ghost use Rattle.std.specs.Prelude.{◌≡◌, ◌≢◌, length};
 ghost use Rattle.pe_write.specs.Rebase.{rebased};
 ghost use Rattle.pe_write.specs.RebaseFaults.{rebase_tests};

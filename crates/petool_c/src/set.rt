@@ -1,3 +1,5 @@
+//! Sets of images: `petool_judge`.
+
 ghost use Rattle.std.specs.Prelude.{◌≡◌, ◌<◌, None, length, map};
 ghost use Rattle.pe_view.specs.Faults.{first_standing};
 ghost use Rattle.pe_set.specs.Bindings.{bindings_of};

@@ -1,3 +1,5 @@
+//! Spaces: `petool_space_map`, `_close`, `_read`, `_move`, `_image` and `_bindings`.
+
 ghost use Rattle.std.specs.Prelude.{◌≡◌, map, ◌≢◌, ◌⊎◌, ◌↔◌, true, false, None, Some, IsSomeAnd, length};
 ghost use Rattle.pe_view.specs.Faults.{first_standing};
 ghost use Rattle.pe_set.specs.SetErrors.{set_error};

@@ -1,3 +1,5 @@
+//! Symbols of an object: `petool_object_symbols`.
+
 ghost use Rattle.std.specs.Prelude.{◌≡◌, ◌≢◌};
 ghost use Rattle.pe_view.specs.Faults.{first_standing};
 ghost use Rattle.coff_object.specs.ObjectFaults.{object_tests};

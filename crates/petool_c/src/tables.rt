@@ -1,3 +1,5 @@
+//! All tables of an image at once: `petool_tables`.
+
 ghost use Rattle.std.specs.Prelude.{◌≡◌, length, map, if◌then◌else◌};
 ghost use Rattle.pe_layout.specs.Image.{image_of_file};
 ghost use Rattle.pe_tables.specs.Exports.{exports_of};

@@ -1,9 +1,14 @@
-ghost use Rattle.std.specs.Prelude.{◌≡◌, ◌≢◌, ◌⊎◌, None, Some};
-ghost use Rattle.pe_text.specs.FaultWords.{rules, words_in};
+//! The version of the library, and faults in words: `petool_version`, `petool_fault_words` and `petool_fault_line`.
 
+ghost use Rattle.std.specs.Prelude.{◌≡◌, ◌≢◌, ◌⊎◌, None, Some, length, pos};
+ghost use Rattle.pe_records_c.specs.Faults.{fault_of};
+ghost use Rattle.pe_records_c.specs.Lines.{line_of};
+ghost use Rattle.pe_text.specs.FaultWords.{rules, words_in, sentence};
+
+use pe_records_c::fault::{FaultRecord, fault_of};
 use pe_records_c::status;
-use pe_records_c::text::TextRecord;
-use pe_text::fault_words;
+use pe_records_c::text::{TextRecord, put_line};
+use pe_text::{fault_sentence, fault_words};
 
 /// The version of this library: its first part times 65,536, and its second part. A program that was built for another first
 /// part must not call it.
@@ -42,4 +47,17 @@ pub extern "C" fn petool_fault_words(
         }
         None => status::ABSENT,
     }
+}
+
+/// Writes a fault in words as one line for people: `section header at 0x138: the section's raw data extends past the end of the
+/// file`. It is written as C's `snprintf` does, cut to the room of `line`, of which a zero byte takes one. The result is how many
+/// bytes the whole line has without that, at most 256.
+#[unsafe(no_mangle)]
+pub extern "C" fn petool_fault_line(fault: &FaultRecord, line: &mut [u8]) -> i32
+    ensures whole { result ≡ pos (length (sentence (fault_of fault.now))) }
+    ensures line { line.new ≡ line_of (sentence (fault_of fault.now)) line.old }
+{
+    let sentence = fault_sentence(&fault_of(fault));
+    put_line(sentence.as_slice(), line);
+    sentence.len() as i32
 }

@@ -1,4 +1,4 @@
-//! Faults as lines.
+//! `FaultLine`: a fault as a line, written apart from `pe_text`.
 
 use pe_view::{Fault, Place};
 use std::fmt::{self, Display};

@@ -1,4 +1,4 @@
-//! Runs the cases that the files `words` and `sets` list, and prints what each comes to: the stored output says what that has to be.
+//! Runs the cases that the files `words` and `sets` list, and prints what each returns, which has to be the stored output.
 //!
 //! A line is a case: a word, and what it is to be run on. Those of `words` are faults in words and command lines; those of `sets` are
 //! run over a set, by both spaces and by the slow checker. Empty lines and those that begin with `#` are for the reader. What the

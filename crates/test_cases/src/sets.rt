@@ -1,4 +1,4 @@
-//! Sets of files.
+//! The set that the words of a case describe.
 
 use crate::edits::edit;
 use crate::numbers::{name_of, number_of};

@@ -1,3 +1,5 @@
+//! The tests of one image, and what they share.
+
 mod asserts;
 mod cases;
 mod chains;

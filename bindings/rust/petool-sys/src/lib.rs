@@ -7,7 +7,7 @@
 #![no_std]
 #![deny(missing_docs)]
 
-use core::ffi::c_void;
+use core::ffi::{c_char, c_int, c_void};
 
 /// The call did what it is for.
 pub const PETOOL_OK: u32 = 0;
@@ -648,6 +648,7 @@ extern "C" {
     ) -> u32;
 
     pub fn petool_fault_words(number: u16, subject: *mut Text, rule: *mut Text) -> u32;
+    pub fn petool_fault_line(fault: *const Fault, line: *mut c_char, room: usize) -> c_int;
     pub fn petool_version() -> u32;
 
     // end of describe/records.txt

@@ -29,7 +29,7 @@ impl fmt::Display for Place {
 
 /// A rule of the format that does not hold: the first one, in the order of docs/FAULTS.md.
 ///
-/// It is shown in words: `section header at 0x138: the section's raw data passes the end of the file`.
+/// It is shown in words: `section header at 0x138: the section's raw data extends past the end of the file`.
 #[derive(Clone, Copy, Debug, PartialEq, Eq, Hash)]
 pub struct Fault {
     /// Which rule, from 1 to 85.
@@ -62,6 +62,22 @@ impl Fault {
         unsafe { (library_text(subject), library_text(rule)) }
     }
 
+    /// The fault as a call takes it.
+    fn raw(&self) -> sys::Fault {
+        let (place, at) = match self.place {
+            Place::File(at) => (sys::PETOOL_PLACE_FILE, at),
+            Place::Rva(at) => (sys::PETOOL_PLACE_RVA, at.into()),
+            Place::Address(at) => (sys::PETOOL_PLACE_ADDRESS, at),
+            Place::Item(at) => (sys::PETOOL_PLACE_ITEM, at.into()),
+        };
+        sys::Fault {
+            number: self.number,
+            image: self.image,
+            place,
+            at,
+        }
+    }
+
     /// The fault that a call filled in.
     pub(crate) fn of(raw: sys::Fault) -> Fault {
         // a place of the image or a list fits 32 bits
@@ -80,6 +96,9 @@ impl Fault {
     }
 }
 
+/// How many bytes the longest line of a fault has, with the zero byte that ends it.
+const LINE: usize = 257;
+
 /// # Safety
 ///
 /// The text is one of the library, and not of a file.
@@ -91,13 +110,11 @@ unsafe fn library_text(text: sys::Text) -> &'static str {
 
 impl fmt::Display for Fault {
     fn fmt(&self, out: &mut fmt::Formatter<'_>) -> fmt::Result {
-        let (subject, rule) = self.words();
-        match self.place {
-            Place::File(at) => write!(out, "{subject} at 0x{at:x}: {rule}"),
-            Place::Rva(at) => write!(out, "{subject} at RVA 0x{at:x}: {rule}"),
-            Place::Address(at) => write!(out, "{subject} 0x{at:x}: {rule}"),
-            Place::Item(at) => write!(out, "{subject} {at}: {rule}"),
-        }
+        let mut line = [0; LINE];
+        // SAFETY: the record is set, and the line stands apart and has the room that is told
+        let whole = unsafe { sys::petool_fault_line(&self.raw(), line.as_mut_ptr().cast(), line.len()) };
+        let text = usize::try_from(whole).ok().and_then(|len| line.get(..len));
+        out.write_str(text.and_then(|text| std::str::from_utf8(text).ok()).unwrap_or(""))
     }
 }
 

@@ -49,20 +49,20 @@ fn an_image_is_judged_once() {
 
 #[test]
 fn a_fault_is_told_in_words() {
-    let words = "section header at 0x138: the section's raw data passes the end of the file";
+    let words = "section header at 0x138: the section's raw data extends past the end of the file";
     assert_eq!(Image::new(&V1[..520]).unwrap_err().to_string(), words);
     let lines = [
         (
             34,
             Place::Rva(0x2000),
-            "base relocation table at RVA 0x2000: the table passes the end of the image",
+            "base relocation table at RVA 0x2000: the table extends past the end of the image",
         ),
         (
             44,
             Place::Address(0x2000_0001),
-            "base 0x20000001: the base is no multiple of 65,536",
+            "base 0x20000001: the base is not a multiple of 65,536",
         ),
-        (41, Place::Item(256), "file 256: the set has over 256 files"),
+        (41, Place::Item(256), "file 256: the set has more than 256 files"),
         (86, Place::File(10), "place at 0xa: no fault has this number"),
     ];
     for (number, place, line) in lines {

@@ -110,7 +110,7 @@ fn a_set_is_refused_by_its_first_fault() {
         Policy::Strict,
     )
     .unwrap_err();
-    let line = "image 1: section header at 0x138: the section's raw data passes the end of the file";
+    let line = "image 1: section header at 0x138: the section's raw data extends past the end of the file";
     assert_eq!(error.to_string(), line);
     assert_eq!(SetError::Memory.to_string(), "out of memory");
 }

@@ -1,3 +1,5 @@
+//! The workload `awkward`: libraries whose names are ends of one string, mapped, moved and checked.
+
 use crate::digest::Digest;
 use crate::sets::files_of;
 use crate::shape::{Shape, round_seed};

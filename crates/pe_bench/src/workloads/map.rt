@@ -1,3 +1,5 @@
+//! The workload `map`: sets of twelve libraries, mapped into memory, moved and read.
+
 use crate::digest::Digest;
 use crate::sets::files_of;
 use crate::shape::{Shape, round_seed};

@@ -1,3 +1,5 @@
+//! The workload `objects`: objects written, read back, and shown by each engine.
+
 use crate::digest::Digest;
 use crate::object::{ObjectShape, object};
 use crate::shape::round_seed;

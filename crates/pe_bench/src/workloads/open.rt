@@ -1,3 +1,5 @@
+//! The workload `open`: sets of sixteen libraries, opened over their files, read here and there, and moved.
+
 use crate::chance::Chance;
 use crate::digest::Digest;
 use crate::sets::files_of;

@@ -1,3 +1,5 @@
+//! The workload `rebase`: the files of large libraries for eight other bases each.
+
 use crate::digest::Digest;
 use crate::library::library;
 use crate::shape::{Module, Shape, round_seed};

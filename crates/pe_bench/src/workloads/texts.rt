@@ -1,3 +1,5 @@
+//! The workload `texts`: what each engine writes of the libraries of a set.
+
 use crate::digest::Digest;
 use crate::sets::files_of;
 use crate::shape::{Shape, round_seed};

@@ -1,4 +1,4 @@
-//! Objects.
+//! Tests of the calls on objects.
 
 use super::{UNTOLD, assert_fault, assert_holds, assert_status, is};
 use crate::object::{

@@ -1,4 +1,4 @@
-//! Sets and spaces.
+//! Tests of the calls on sets and spaces.
 
 use super::{UNTOLD, assert_holds, assert_status, told};
 use crate::set::petool_judge;

@@ -1,4 +1,4 @@
-//! What commands answer of a set.
+//! Commands on a set: bindings, bytes, windows and moves, with faults 54 and 55.
 
 use crate::fault_line::FaultLine;
 use crate::numbers::number_of;

@@ -1,4 +1,4 @@
-//! Faults in words.
+//! Faults in words, at places of each kind.
 
 use crate::numbers::number_of;
 use pe_tool::FaultText;

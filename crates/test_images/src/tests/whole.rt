@@ -1,4 +1,4 @@
-//! The number that an image bears.
+//! `read_image`: the number that an image and its fault have.
 
 use crate::tests::asserts::assert_holds;
 use pe_image::read_image;

@@ -801,11 +801,11 @@ const EMPTY_FILES: &[(Engine, &str)] = &[
     (Engine::At, "fault 2 image 0 file 0x00000000\n"),
     (
         Engine::Show,
-        "a.dll: refused: 0 bytes\n\nFault 2: end of the file at 0x0: the file has under 64 bytes, which an MS-DOS header takes: it has 0\n",
+        "a.dll: refused: 0 bytes\n\nFault 2: end of the file at 0x0: the file has fewer than the 64 bytes of an MS-DOS header: it has 0\n",
     ),
     (
         Engine::Json,
-        "{\"schema\":1,\"file\":\"a.dll\",\"accepted\":false,\"fault\":{\"number\":2,\"image\":0,\"place\":{\"file\":0},\"subject\":\"end of the file\",\"rule\":\"the file has under 64 bytes, which an MS-DOS header takes\"}}\n",
+        "{\"schema\":1,\"file\":\"a.dll\",\"accepted\":false,\"fault\":{\"number\":2,\"image\":0,\"place\":{\"file\":0},\"subject\":\"end of the file\",\"rule\":\"the file has fewer than the 64 bytes of an MS-DOS header\"}}\n",
     ),
 ];
 

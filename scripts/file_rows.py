@@ -1,0 +1,203 @@
+#!/usr/bin/env python3
+"""Writes docs/FILES.md, a row for each source of the crates, the bindings and the scripts; the crates in docs/MAP.md; and the laws in
+docs/PROVED.md: file_rows.py [--check]
+
+A row has the comment that the file begins with, and the names that it declares for other files. That of a crate has what its first
+page says, and what it names in crates.txt; a law has its comment. With --check nothing is written: each file is compared with its
+row, and the other pages; the last line is 'N passed, M failed', and the status is 1 where something differs.
+"""
+
+import ast
+import pathlib
+import re
+import sys
+
+sys.dont_write_bytecode = True
+
+from crates_svg import all_named, crates_below, direct, level
+
+TOP = pathlib.Path(__file__).resolve().parents[1]
+PAGE, MAP, PROVED = "docs/FILES.md", "docs/MAP.md", "docs/PROVED.md"
+#: A law with its comment, and any public function.
+LAW = re.compile(r"((?:^/// .*\n)+)pub fn (\w+)", re.M)
+FUNCTION = re.compile(r"^pub fn (\w+)", re.M)
+#: What begins the lines of a file's first comment, by its ending.
+MARKS = {".rt": "//!", ".rs": "//!", ".antt": "--"}
+#: The sources beside the crates: by folder, and their endings. None of what is made there is one.
+OTHERS = ("bindings", "describe", "scripts")
+ENDINGS = {".c", ".h", ".py", ".rs"}
+MADE = {"build", "out", "target", "__pycache__"}
+#: What a file declares for other crates, and what for its own.
+PUBLIC = {
+    ".rt": re.compile(r'^pub (?:extern "C" )?(?:fn|struct|enum|trait|type|mod|const|static) (\w+)', re.M),
+    ".antt": re.compile(r"^(?:abbrev |unfoldable )?pub (?:record |data )?(?!mod |use )(\S+)", re.M),
+}
+OWN = re.compile(r"^pub\(\w+\) (?:fn|struct|enum|trait|type|const|static) (\w+)", re.M)
+#: The pages of crates, whose first comments stand below headings, and the lists of modules.
+WITHOUT_ROW = {"lib.rt", "main.rt", "Lib.antt"}
+HEAD = """# Files
+
+Each source of the crates, the bindings and the scripts, with the comment that it begins with. `scripts/file_rows.py` writes this page. Each crate comes after those that it uses. The sentence below its name is the first of its `lib.rt` or `main.rt`; its `specs/Lib.antt` lists the modules of definitions, and those that it hands on. Names in parentheses are for the crate's own use. [MAP.md](MAP.md) says how the files work together.
+"""
+
+
+def first_paragraph(path):
+    """The first paragraph of the comment that begins a file. LookupError where none does."""
+    text = path.read_text()
+    if path.suffix == ".py":
+        lines = (ast.get_docstring(ast.parse(text)) or "").split("\n\n")[0].splitlines()
+    elif path.suffix in (".c", ".h"):
+        comment = re.match(r"/\*(?: \*|\s)*(.*?)\s*(?:\n \*\n|\*/)", text, re.S)
+        lines = re.split(r"\s*\n \* ", comment[1]) if comment else []
+    else:
+        mark = MARKS[path.suffix]
+        lines = re.match(rf"(?:{mark} .*\n)*", text)[0].replace(f"{mark} ", "").splitlines()
+    if not lines:
+        raise LookupError(f"{path.relative_to(TOP)}: no first line says what the file holds")
+    # a link of documentation is shown as its text
+    return re.sub(r"\[(`[^`]+`)\]", r"\1", " ".join(lines)).replace("|", r"\|")
+
+
+def names_of(path):
+    """The names that a file declares for others, those for its own crate in parentheses."""
+    text = path.read_text()
+    public = ", ".join(f"`{name}`" for name in PUBLIC[path.suffix].findall(text))
+    own = ", ".join(f"`{name}`" for name in OWN.findall(text))
+    return " ".join(filter(None, [public, own and f"({own})"]))
+
+
+def row(path):
+    """The row of a file, in which a path is shown as it is below its folder."""
+    parts = path.relative_to(TOP).parts
+    shown = "/".join(parts[2:] if parts[0] == "crates" else parts[1:])
+    cells = [f"[{shown}](../{'/'.join(parts)})", first_paragraph(path), *([names_of(path)] if path.suffix in PUBLIC else [])]
+    return f"| {' | '.join(cells)} |"
+
+
+def files_of(crate):
+    """The sources of a crate, and then its definitions."""
+    folder = TOP / "crates" / crate
+    found = [*sorted((folder / "src").rglob("*.rt")), *sorted((folder / "specs").rglob("*.antt"))]
+    return [path for path in found if path.name not in WITHOUT_ROW]
+
+
+def lemma_row(crate):
+    """The row that tells of a crate's lemmas, if it has any."""
+    modules = [path for path in sorted((TOP / "crates" / crate / "proofs").glob("*.antt")) if path.name not in WITHOUT_ROW]
+    told = " ".join(f"{path.stem}: {first_paragraph(path)}" for path in modules)
+    return [f"| [proofs](../crates/{crate}/proofs) | Modules of lemmas: {len(modules)}. {told} | |"] if modules else []
+
+
+def crates():
+    """The crates, each behind those that it stands on."""
+    below = crates_below()
+    return sorted(below, key=lambda name: level(name, below))
+
+
+def others(folder):
+    """The sources of a folder beside the crates."""
+    found = [path for path in sorted((TOP / folder).rglob("*")) if path.suffix in ENDINGS]
+    return [path for path in found if not MADE.intersection(path.relative_to(TOP).parts)]
+
+
+def files():
+    """Each file that has a row."""
+    return [path for found in [*map(files_of, crates()), *map(others, OTHERS)] for path in found]
+
+
+def purpose(crate):
+    """The first paragraph of a crate's page."""
+    folder = TOP / "crates" / crate / "src"
+    return first_paragraph(next(it for it in (folder / "lib.rt", folder / "main.rt") if it.is_file()))
+
+
+def crate_rows():
+    """The table of the crates: what each is for, the crates that it uses, without those that these use, and the ported ones."""
+    below, named = crates_below(), all_named()
+    yield from ("| Crate | What it is for | Uses | Ported crates |", "|---|---|---|---|")
+    for crate in crates():
+        used = ", ".join(f"`{it}`" for it in direct(crate, below))
+        ported = ", ".join(it for it in named[crate] if it not in below)
+        yield f"| `{crate}` | {purpose(crate).removesuffix('.')} | {used} | {ported} |"
+
+
+def law_lines():
+    """The laws by their crates, each with its comment. LookupError where one has none."""
+    for crate in crates():
+        path = TOP / "crates" / crate / "src" / "laws.rt"
+        text = path.read_text() if path.is_file() else ""
+        laws = {name: comment.replace("/// ", "").split("\n") for comment, name in LAW.findall(text)}
+        for name in FUNCTION.findall(text):
+            if name not in laws:
+                raise LookupError(f"{path.relative_to(TOP)}: no comment says what {name} means")
+        if laws:
+            yield from ("", f"Of `{crate}`:", "", *(f"- `{name}`: {' '.join(lines).strip()}" for name, lines in laws.items()))
+    yield ""
+
+
+def filled(path, name, lines):
+    """A page with lines between the two comments that name what is between them. LookupError where they are not there."""
+    text = (TOP / path).read_text()
+    region = re.compile(rf"(?<=<!-- from {name} -->\n).*(?=<!-- end of {name} -->\n)", re.S)
+    if not region.search(text):
+        raise LookupError(f"there are no two comments with {name}")
+    return region.sub(lambda _: "".join(f"{line}\n" for line in lines), text)
+
+
+def crate_part(crate):
+    """The heading of a crate, the first paragraph of its page, and its rows."""
+    yield from ("", f"## {crate}", "", purpose(crate))
+    rows = [*map(row, files_of(crate)), *lemma_row(crate)]
+    if rows:
+        yield from ("", "| File | What it holds | Names |", "|---|---|---|", *rows)
+
+
+def other_part(folder):
+    yield from ("", f"## {folder}/", "", "| File | What it holds or does |", "|---|---|", *map(row, others(folder)))
+
+
+def page():
+    parts = [*map(crate_part, crates()), *map(other_part, OTHERS)]
+    return HEAD + "".join(f"{line}\n" for part in parts for line in part)
+
+
+def difference(path, lines):
+    """What differs between a file and its row among these lines of the page, or nothing."""
+    try:
+        return "" if row(path) in lines else f"{path.relative_to(TOP)}: {PAGE} has another row, or none"
+    except LookupError as error:
+        return str(error)
+
+
+#: What is written of each page.
+PAGES = {
+    PAGE: page,
+    MAP: lambda: filled(MAP, "crates.txt", crate_rows()),
+    PROVED: lambda: filled(PROVED, "the laws of the crates", law_lines()),
+}
+
+
+def whole_difference(path):
+    """What differs between a page and what is written of the files, or nothing."""
+    try:
+        return "" if PAGES[path]() == (TOP / path).read_text() else f"{path}: it is not what scripts/file_rows.py writes"
+    except LookupError as error:
+        return f"{path}: it cannot be written: {error}"
+
+
+def main(words):
+    if words != ["--check"]:
+        for path, write in PAGES.items():
+            (TOP / path).write_text(write())
+        return 0
+    lines = set((TOP / PAGE).read_text().splitlines())
+    found = [*(difference(path, lines) for path in files()), *map(whole_difference, PAGES)]
+    for sentence in filter(None, found):
+        print(sentence)
+    failed = sum(map(bool, found))
+    print(f"{len(found) - failed} passed, {failed} failed")
+    return 0 if failed == 0 else 1
+
+
+if __name__ == "__main__":
+    sys.exit(main(sys.argv[1:]))

@@ -1,0 +1,138 @@
+"""Tests scripts/file_rows.py over a small repository: each kind of difference is named, and nothing once it is undone."""
+
+import pathlib
+import shutil
+import subprocess
+import sys
+import tempfile
+import unittest
+
+SCRIPTS = pathlib.Path(__file__).resolve().parents[1]
+FILES = {
+    "crates.txt": "high: low bytes\nlow: bytes\n",
+    "docs/MAP.md": "# Map\n\n<!-- from crates.txt -->\n<!-- end of crates.txt -->\nMore.\n",
+    "docs/PROVED.md": "# Proved\n\n<!-- from the laws of the crates -->\n<!-- end of the laws of the crates -->\n",
+    "crates/low/src/laws.rt": "//! Laws.\n\n/// Bytes\n/// last.\npub fn bytes_last()\n{}\n",
+    "crates/low/src/lib.rt": "//! Bytes of\n//! a file.\n//!\n//! More.\n\nmod view;\npub use view::View;\n",
+    "crates/low/src/view.rt": "//! [`View`]: one|another.\n\npub struct View {}\n\npub(crate) fn inside() {}\n\nfn own() {}\n",
+    "crates/low/specs/Lib.antt": "pub mod View\n",
+    "crates/low/specs/View.antt": "-- What a view\n-- shows.\nuse X\n\nabbrev pub bytes : N\n\n-- whether it is there\npub record IsHere : T where\n",
+    "crates/low/proofs/Lemmas.antt": "-- Lemmas on views.\n",
+    "crates/low/proofs/view/Answers.antt": "",
+    "crates/high/src/main.rt": "//! The program.\n\nfn main() {}\n",
+    "bindings/rust/src/lib.rs": "//! All\n//! calls.\n//!\n//! More.\n",
+    "bindings/rust/target/made.rs": "",
+    "bindings/c/calls.c": "/*\n * Each\n * call.\n *\n * More.\n */\nint x;\n",
+    "bindings/c/calls.h": "/* What is\n * shared. */\nint x;\n",
+}
+VIEW, SPEC, LEMMAS = "crates/low/src/view.rt", "crates/low/specs/View.antt", "crates/low/proofs/Lemmas.antt"
+ROWS = [
+    r"| [src/view.rt](../crates/low/src/view.rt) | `View`: one\|another. | `View` (`inside`) |",
+    "| [specs/View.antt](../crates/low/specs/View.antt) | What a view shows. | `bytes`, `IsHere` |",
+    "| [proofs](../crates/low/proofs) | Modules of lemmas: 1. Lemmas: Lemmas on views. | |",
+    "| [rust/src/lib.rs](../bindings/rust/src/lib.rs) | All calls. |",
+    "| [c/calls.c](../bindings/c/calls.c) | Each call. |",
+    "| [c/calls.h](../bindings/c/calls.h) | What is shared. |",
+]
+CRATES = """<!-- from crates.txt -->
+| Crate | What it is for | Uses | Ported crates |
+|---|---|---|---|
+| `low` | Bytes of a file |  | bytes |
+| `high` | The program | `low` | bytes |
+<!-- end of crates.txt -->
+"""
+LAWS = """<!-- from the laws of the crates -->
+
+Of `low`:
+
+- `bytes_last`: Bytes last.
+
+<!-- end of the laws of the crates -->
+"""
+WHOLE = "docs/FILES.md: it is not what scripts/file_rows.py writes"
+MAP = "docs/MAP.md: it is not what scripts/file_rows.py writes"
+PROVED = "docs/PROVED.md: it is not what scripts/file_rows.py writes"
+#: What is changed: the file, its new text, or none where it is taken away, and what is then said.
+CHANGES = [
+    (VIEW, "//! Other bytes.\n\npub struct View {}\n", f"{VIEW}: docs/FILES.md has another row, or none"),
+    (VIEW, FILES[VIEW].replace("fn own", "pub fn own"), f"{VIEW}: docs/FILES.md has another row, or none"),
+    (VIEW, "pub struct View {}\n", f"{VIEW}: no first line says what the file holds"),
+    (SPEC, "use X\n", f"{SPEC}: no first line says what the file holds"),
+    (LEMMAS, "use X\n", f"docs/FILES.md: it cannot be written: {LEMMAS}: no first line"),
+    ("crates/low/src/more.rt", "//! More.\n", "crates/low/src/more.rt: docs/FILES.md has another row, or none"),
+    ("crates/low/specs/More.antt", "-- More.\n", "crates/low/specs/More.antt: docs/FILES.md has another row, or none"),
+    ("scripts/more.py", '"""More."""\n', "scripts/more.py: docs/FILES.md has another row, or none"),
+    ("scripts/more.py", "import sys\n", "scripts/more.py: no first line says what the file holds"),
+    ("bindings/c/calls.c", "int x;\n", "bindings/c/calls.c: no first line says what the file holds"),
+    ("bindings/rust/src/lib.rs", "//! No call.\n", "bindings/rust/src/lib.rs: docs/FILES.md has another row, or none"),
+    (VIEW, None, WHOLE),
+    ("crates/low/src/lib.rt", "//! Other.\n", WHOLE),
+    ("crates.txt", "high: bytes\nlow: high\n", WHOLE),
+    ("crates.txt", "high: low\nlow: bytes\n", MAP),
+    ("crates/low/src/lib.rt", "//! Other.\n", MAP),
+    ("docs/MAP.md", CRATES.replace("`low` | bytes", "`low` | "), MAP),
+    ("docs/MAP.md", "# Map\n", "docs/MAP.md: it cannot be written: there are no two comments with crates.txt"),
+    ("crates/low/src/laws.rt", "//! Laws.\n\n/// Bytes stay.\npub fn bytes_last()\n{}\n", PROVED),
+    ("crates/low/src/laws.rt", "//! Laws.\n\npub fn bytes_last()\n{}\n", "no comment says what bytes_last means"),
+    ("docs/PROVED.md", LAWS.replace("last.", "stay."), PROVED),
+]
+
+
+class Rows(unittest.TestCase):
+    def setUp(self):
+        self.top = pathlib.Path(tempfile.mkdtemp())
+        self.addCleanup(shutil.rmtree, self.top)
+        for path, text in FILES.items():
+            self.put(path, text)
+        for folder in ("scripts", "describe"):
+            (self.top / folder).mkdir()
+        for name in ("file_rows.py", "crates_svg.py"):
+            shutil.copy(SCRIPTS / name, self.top / "scripts")
+        self.run_script()
+
+    def put(self, path, text):
+        (self.top / path).parent.mkdir(parents=True, exist_ok=True)
+        (self.top / path).write_text(text)
+
+    def run_script(self, *words):
+        ran = subprocess.run([sys.executable, self.top / "scripts/file_rows.py", *words], stdout=subprocess.PIPE, text=True)
+        return ran.returncode, ran.stdout
+
+    def page(self):
+        return (self.top / "docs/FILES.md").read_text()
+
+    def test_rows_have_first_comments_and_names(self):
+        for row in ROWS:
+            self.assertIn(f"\n{row}\n", self.page())
+
+    def test_pages_have_the_crates_and_the_laws(self):
+        self.assertEqual((self.top / "docs/MAP.md").read_text(), f"# Map\n\n{CRATES}More.\n")
+        self.assertEqual((self.top / "docs/PROVED.md").read_text(), f"# Proved\n\n{LAWS}")
+
+    def test_crates_stand_behind_those_that_they_use(self):
+        self.assertIn("\n## low\n\nBytes of a file.\n", self.page())
+        self.assertLess(self.page().index("## low"), self.page().index("## high"))
+
+    def test_a_page_that_was_just_written_passes(self):
+        self.assertEqual(self.run_script("--check"), (0, "11 passed, 0 failed\n"))
+
+    def test_each_difference_is_said(self):
+        for path, text, said in CHANGES:
+            with self.subTest(said):
+                file = self.top / path
+                before = file.read_text() if file.exists() else None
+                file.unlink() if text is None else self.put(path, text)
+                status, output = self.run_script("--check")
+                file.unlink() if before is None else self.put(path, before)
+                self.assertEqual((status, said in output), (1, True), output)
+                self.assertRegex(output, r"\n\d+ passed, [123] failed\n\Z")
+        self.assertEqual(self.run_script("--check")[0], 0)
+
+    def test_a_row_too_many_is_said(self):
+        (self.top / "docs/FILES.md").write_text(self.page() + "| [src/gone.rt](../crates/low/src/gone.rt) | Gone. | |\n")
+        status, output = self.run_script("--check")
+        self.assertEqual((status, output), (1, f"{WHOLE}\n10 passed, 1 failed\n"))
+
+
+if __name__ == "__main__":
+    unittest.main()
