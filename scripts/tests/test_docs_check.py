@@ -63,7 +63,7 @@ VERSIONS = [
 PORTED = [
     (PROVED, "itoa, thiserror, clap", "itoa, clap", f"{PROVED}: thiserror is not among the ported crates"),
     (README, "itoa, thiserror, clap", "itoa, serde, thiserror, clap", f"{README}: serde is no ported crate"),
-    ("crates.txt", "pe_words: pe_view clap", "pe_words: pe_view clap bumpalo", f"{PROVED}: bumpalo is not among the ported crates"),
+    ("crates.txt", "pe_words: pe_view pe_text clap", "pe_words: pe_view pe_text clap bumpalo", f"{PROVED}: bumpalo is not among the ported crates"),
     (PROVED, "bumpalo (of `test_calls`)", "bumpalo (of `test_images`)", f"{PROVED}: bumpalo is not named by test_images"),
 ]
 WORDS = [

@@ -6,7 +6,7 @@ use crate::file_job::{run_file, run_files};
 use crate::map_job::run_map;
 use crate::rebase_job::run_rebase;
 use crate::texts::Engine;
-use pe_tool::{Job, ShowOptions, Shown, parse_words};
+use pe_tool::{Job, ShowOptions, parse_words};
 use std::env::FillError;
 use std::io::Input;
 use std::rt::{Env, Files};
@@ -20,14 +20,11 @@ fn has_colours(rt: &impl Env, is_terminal: bool) -> bool {
         )
 }
 
-/// What a page shows.
-fn options_of(rt: &impl Env, shown: Shown, is_terminal: bool) -> ShowOptions {
+/// What a page shows, with colours where it may have them.
+fn options_of(rt: &impl Env, options: ShowOptions, is_terminal: bool) -> ShowOptions {
     ShowOptions {
-        exports: shown.exports,
-        imports: shown.imports,
-        relocations: shown.relocations,
-        symbols: shown.symbols,
         is_coloured: has_colours(rt, is_terminal),
+        ..options
     }
 }
 
@@ -41,8 +38,8 @@ pub fn run<R: Files + Input + Env + Print + Eprint + AllocGlobal>(rt: &R, is_ter
     match parse_words(rt.alloc(), &words) {
         Ok(Job::Check { file }) => run_file(rt, Engine::Check, file.as_str()),
         Ok(Job::CheckEach { files }) => run_files(rt, Engine::Check, &files),
-        Ok(Job::Show { shown, files }) => {
-            let options = options_of(rt, shown, is_terminal);
+        Ok(Job::Show { options, files }) => {
+            let options = options_of(rt, options, is_terminal);
             run_files(rt, Engine::Show(options), &files)
         }
         Ok(Job::Json { files }) => run_files(rt, Engine::Json, &files),

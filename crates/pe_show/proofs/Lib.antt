@@ -1,4 +1,3 @@
 pub mod Adding
 pub mod Names
 pub mod PageRows
-pub mod Widths

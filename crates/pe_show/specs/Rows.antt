@@ -1,5 +1,5 @@
 -- The rows of a page of which there are many, part by part. No contract of a public function cites it.
-use Rattle.std.specs.Prelude.{ℕ, ◌-◌, ◌*◌, ◌/◌, ◌%◌, ◌==◌, min, max, if◌then◌else◌, List, [], ◌∷◌, ◌++◌, length, replicate, Option, None, Some, codes, decimal, flat_map}
+use Rattle.std.specs.Prelude.{ℕ, ◌-◌, ◌*◌, ◌/◌, ◌%◌, ◌==◌, min, if◌then◌else◌, List, [], ◌∷◌, ◌++◌, length, replicate, Option, None, Some, codes, decimal, flat_map}
 use Rattle.pe_tables.specs.declared.fixups.Fixup.{Fixup}
 use Rattle.pe_tables.specs.declared.fixups.FixupKind.{FixupKind}
 use Rattle.pe_tables.specs.declared.fixups.FixupKind.TheVariants.{Bits32, Bits64, High, Low}
@@ -7,7 +7,7 @@ use Rattle.pe_tables.specs.declared.import.Import.{Import}
 use Rattle.pe_tables.specs.declared.key.Key.{Key}
 use Rattle.pe_tables.specs.declared.key.Key.TheVariants.{Ordinal, Name}
 use Rattle.pe_text.specs.Part.{joined}
-use Rattle.pe_text.specs.Text.{hex, width_from}
+use Rattle.pe_text.specs.Text.{hex, hex_at_least}
 use Rattle.pe_show.specs.Name.{name_text, columns}
 use Rattle.pe_show.specs.declared.place.SectionPlace.{SectionPlace}
 use Rattle.pe_show.specs.declared.exports.ShownTarget.{ShownTarget}
@@ -17,14 +17,6 @@ use Rattle.pe_show.specs.declared.exports.ShownTarget.TheVariants.{Here, Forward
 -- so many blanks, and not more than 256
 abbrev pub blanks : ℕ → List ℕ
 blanks count = replicate (min count 256) 0x20
-
--- how many hexadecimal digits a number has
-abbrev pub hex_width : ℕ → ℕ
-hex_width number = width_from 15 1 number
-
--- a number in so many hexadecimal digits at least
-abbrev pub hex_text : ℕ → ℕ → List ℕ
-hex_text number digits = hex (min (max (hex_width number) digits) 16) number
 
 -- a number in decimal, behind blanks up to so many columns
 abbrev pub right_text : ℕ → ℕ → List ℕ
@@ -41,7 +33,7 @@ key_text (Name name) = name_text name.now
 
 abbrev offset_text : Option ℕ → List ℕ
 offset_text None = []
-offset_text (Some offset) = codes "+0x" ++ hex_text offset 1
+offset_text (Some offset) = codes "+0x" ++ hex_at_least 1 offset
 
 -- where an RVA lies: a section's name or another word, and the offset in it
 unfoldable pub place_text : SectionPlace → List ℕ
@@ -51,7 +43,7 @@ place_text place = name_text place.name.now ++ offset_text place.offset
 -- an ordinal and the place that it exports, in columns of `width` and `digits`
 unfoldable pub here_text : ℕ → ℕ → ℕ → ℕ → SectionPlace → List ℕ
 here_text ordinal width rva digits place = joined
-    (right_text ordinal width ∷ codes "  0x" ∷ hex_text rva digits ∷ codes "  " ∷ place_text place ∷ [])
+    (right_text ordinal width ∷ codes "  0x" ∷ hex_at_least digits rva ∷ codes "  " ∷ place_text place ∷ [])
 
 -- an ordinal, and the module and the key to which it is forwarded
 unfoldable pub forward_text : ℕ → ℕ → List ℕ → Key → List ℕ
@@ -71,7 +63,7 @@ behind_gap count gap name = joined (blanks count ∷ gap ∷ name_text name ∷ 
 -- a slot, and what is imported into it
 unfoldable pub import_row : ℕ → Import → List ℕ
 import_row digits import = joined
-    (codes "    0x" ∷ hex_text import.slot digits ∷ codes "  " ∷ key_text import.key ∷ codes "\n" ∷ [])
+    (codes "    0x" ∷ hex_at_least digits import.slot ∷ codes "  " ∷ key_text import.key ∷ codes "\n" ∷ [])
 
 -- ---- base relocations
 abbrev pub kind_text : FixupKind → List ℕ
@@ -87,7 +79,7 @@ field_text fixup = codes " " ++ hex 3 (fixup.field % 4096)
 -- fields of one kind in a page: the page, the kind, and where each stands
 unfoldable pub fields_row : ℕ → Fixup → List Fixup → List ℕ
 fields_row digits first fixups = joined
-    (codes "  0x" ∷ hex_text (first.field / 4096 * 4096) digits ∷ codes "  " ∷ kind_text first.kind ∷ codes " "
+    (codes "  0x" ∷ hex_at_least digits (first.field / 4096 * 4096) ∷ codes "  " ∷ kind_text first.kind ∷ codes " "
     ∷ flat_map field_text fixups ∷ codes "\n" ∷ [])
 
 -- ---- objects
@@ -104,7 +96,7 @@ symbol_text (Some name) = codes " " ++ name_text name
 -- a relocation: where it stands in the section, its type by name or number, and the index of its symbol, with its name if it has one
 unfoldable pub relocation_row : ℕ → Option (List ℕ) → ℕ → ℕ → Option (List ℕ) → List ℕ
 relocation_row address type_name kind index symbol = joined
-    (codes "    0x" ∷ hex_text address 6 ∷ codes "  " ∷ type_text type_name kind ∷ codes "  #" ∷ decimal index
+    (codes "    0x" ∷ hex_at_least 6 address ∷ codes "  " ∷ type_text type_name kind ∷ codes "  #" ∷ decimal index
     ∷ symbol_text symbol ∷ codes "\n" ∷ [])
 
 -- the name of a storage class, or its number, in 13 columns

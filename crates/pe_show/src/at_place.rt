@@ -6,13 +6,14 @@ ghost use Rattle.pe_text.specs.TextWriter.{IsReady};
 ghost use Rattle.pe_show.specs.Judged.{IsImageJudged};
 ghost use Rattle.pe_show.specs.Page.{AddsSome};
 
-use crate::cell::{Cell, write_cells};
+use crate::cell::Cell::{self, Plain};
+use crate::cell::{NOTHING, write_cells};
 use crate::place::SectionNames;
 use crate::sections::permissions;
 use pe_image::{Image, read_image};
 use pe_layout::{Layout, Located};
 use pe_tables::{Exports, Fixup, FixupKind, Import, TableError, Target};
-use pe_text::Part::{Hex2, Text};
+use pe_text::Part::{Decimal, Hex, Hex2, Text};
 use pe_text::{
     Outcome, Report, Sink, Source, TextWriter, ToolError, refuse, run_report, write_parts,
 };
@@ -108,9 +109,6 @@ fn is_within(rva: u32, start: u32, len: u32) -> bool {
     rva >= start && rva - start < len
 }
 
-/// A cell that shows nothing.
-const NOTHING: Cell<'static> = Cell::Words("");
-
 /// The export at an RVA of a section or before it, as `  export crc32+0x10`.
 fn export_cells<'a, A: Allocator + Copy>(
     exports: &Exports<'a, A>,
@@ -122,13 +120,13 @@ fn export_cells<'a, A: Allocator + Copy>(
     };
     let (number, name) = match name_of(exports, ordinal) {
         Some(name) => (NOTHING, Cell::Name(name)),
-        None => (Cell::Words("#"), Cell::Right(ordinal, 1)),
+        None => (Plain(Text(b"#")), Plain(Decimal(ordinal))),
     };
     let (plus, distance) = match rva.saturating_sub(at) {
         0 => (NOTHING, NOTHING),
-        distance => (Cell::Words("+0x"), Cell::Hex(u64::from(distance), 1)),
+        distance => (Plain(Text(b"+0x")), Plain(Hex(u64::from(distance), 1))),
     };
-    [Cell::Words("  export "), number, name, plus, distance]
+    [Plain(Text(b"  export ")), number, name, plus, distance]
 }
 
 /// The import whose slot is at an RVA, as `  slot of KERNEL32.dll Sleep`.
@@ -136,9 +134,9 @@ fn slot_cells<'a>(imports: &[Import<'a>], width: u32, rva: u32) -> [Cell<'a>; 4]
     for import in imports {
         if is_within(rva, import.slot, width) {
             return [
-                Cell::Words("  slot of "),
+                Plain(Text(b"  slot of ")),
                 Cell::Name(import.module),
-                Cell::Words(" "),
+                Plain(Text(b" ")),
                 Cell::Key(import.key),
             ];
         }
@@ -150,17 +148,17 @@ fn slot_cells<'a>(imports: &[Import<'a>], width: u32, rva: u32) -> [Cell<'a>; 4]
 fn target_cells<'a>(layout: &Layout, names: &SectionNames<'a>, address: u64) -> [Cell<'a>; 4] {
     match rva_of(layout, Place::Address(address)) {
         Some(rva) => {
-            let number = Cell::Hex(u64::from(rva), 1);
+            let number = Plain(Hex(u64::from(rva), 1));
             [
-                Cell::Words(" that points to RVA 0x"),
+                Plain(Text(b" that points to RVA 0x")),
                 number,
-                Cell::Words(" "),
+                Plain(Text(b" ")),
                 Cell::Place(names.place(layout, rva)),
             ]
         }
         None => {
-            let number = Cell::Hex(address, 1);
-            [Cell::Words(" that holds 0x"), number, NOTHING, NOTHING]
+            let number = Plain(Hex(address, 1));
+            [Plain(Text(b" that holds 0x")), number, NOTHING, NOTHING]
         }
     }
 }
@@ -184,9 +182,9 @@ fn field_cells<'a>(
                 None => [NOTHING; 4],
             };
             return [
-                Cell::Words("  field of "),
-                Cell::Right(u64::from(fixup.kind.width()), 1),
-                Cell::Words(" bytes"),
+                Plain(Text(b"  field of ")),
+                Plain(Decimal(u64::from(fixup.kind.width()))),
+                Plain(Text(b" bytes")),
                 to,
                 number,
                 gap,
@@ -202,21 +200,21 @@ fn where_cells<'a>(layout: &Layout, names: &SectionNames<'a>, rva: u32) -> [Cell
     let place = names.place(layout, rva);
     let address = layout.image_base().wrapping_add(u64::from(rva));
     let (in_file, file) = match place.file {
-        Some(file) => (Cell::Words("  file 0x"), Cell::Hex(file, 1)),
-        None => (Cell::Words("  not in the file"), NOTHING),
+        Some(file) => (Plain(Text(b"  file 0x")), Plain(Hex(file, 1))),
+        None => (Plain(Text(b"  not in the file")), NOTHING),
     };
     let (gap, flags) = match section_of(layout, rva) {
-        Some((_, flags)) => (Cell::Words(" "), Cell::Words(permissions(flags))),
+        Some((_, flags)) => (Plain(Text(b" ")), Plain(Text(permissions(flags)))),
         None => (NOTHING, NOTHING),
     };
     [
-        Cell::Words("RVA 0x"),
-        Cell::Hex(u64::from(rva), 1),
-        Cell::Words("  address 0x"),
-        Cell::Hex(address, 1),
+        Plain(Text(b"RVA 0x")),
+        Plain(Hex(u64::from(rva), 1)),
+        Plain(Text(b"  address 0x")),
+        Plain(Hex(address, 1)),
         in_file,
         file,
-        Cell::Words("  "),
+        Plain(Text(b"  ")),
         Cell::Place(place),
         gap,
         flags,
@@ -271,7 +269,7 @@ fn write_place<A: Allocator + Copy, W: Sink>(
 {
     match rva_of(&image.layout, place) {
         Some(rva) => write_at(text, image, names, rva),
-        None => write_cells(text, &[Cell::Words("the place is outside the image\n")]),
+        None => text.text(b"the place is outside the image\n"),
     }
 }
 

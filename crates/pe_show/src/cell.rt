@@ -1,9 +1,9 @@
 //! The cells of a row of a page, and how they are written.
 
-ghost use Rattle.std.specs.Prelude.{◌≡◌, ◌≤◌, length, decimal};
+ghost use Rattle.std.specs.Prelude.{◌≡◌, length, decimal};
 ghost use Rattle.pe_text.specs.TextWriter.{IsReady, Adds};
 ghost use Rattle.pe_show.specs.Page.{AddsSome};
-ghost use Rattle.pe_show.specs.Rows.{blanks, hex_width, hex_text, right_text, column_text};
+ghost use Rattle.pe_show.specs.Rows.{blanks, right_text, column_text};
 
 use crate::date::write_date;
 use crate::exports::write_key;
@@ -14,21 +14,19 @@ use itoa::Buffer;
 use pe_names::FlagKind;
 use pe_tables::Key;
 use pe_text::Part::{self, Text};
-use pe_text::{Sink, TextWriter, write_parts};
+use pe_text::{Sink, TextWriter, write_part, write_parts};
 
 /// A cell of a row.
 #[derive(Clone, Copy)]
 pub(crate) enum Cell<'a> {
-    /// These words.
-    Words(&'a str),
+    /// A part that any line may have.
+    Plain(Part<'a>),
     /// A name of the file.
     Name(&'a [u8]),
     /// A name of the file, and blanks up to so many columns.
     Column(&'a [u8], usize),
     /// So many blanks.
     Blanks(usize),
-    /// A number in so many hexadecimal digits at least, without `0x`.
-    Hex(u64, u8),
     /// A number in decimal, its digits in groups of three.
     Count(u64),
     /// A number in decimal, behind blanks up to so many columns.
@@ -43,9 +41,12 @@ pub(crate) enum Cell<'a> {
     Place(SectionPlace<'a>),
 }
 
+/// A cell that shows nothing.
+pub(crate) const NOTHING: Cell<'static> = Cell::Plain(Text(b""));
+
 /// The word for so many things.
-pub(crate) fn plural(count: usize, one: &'static str, more: &'static str) -> Cell<'static> {
-    Cell::Words(if count == 1 { one } else { more })
+pub(crate) fn plural(count: usize, one: &'static [u8], more: &'static [u8]) -> Cell<'static> {
+    Cell::Plain(Text(if count == 1 { one } else { more }))
 }
 
 /// The most blanks that stand in a row: a cut name of a section takes fewer columns.
@@ -56,17 +57,6 @@ pub(crate) fn blanks(count: usize) -> &'static [u8]
     ensures { result.now ≡ blanks count }
 {
     &BLANKS[..count.min(BLANKS.len())]
-}
-
-/// How many hexadecimal digits a number has.
-pub(crate) fn hex_width(number: u64) -> u8
-    ensures value { result ≡ hex_width number }
-    ensures bound { result ≤ 16 }
-{
-    match number.checked_ilog2() {
-        Some(bit) => (bit / 4 + 1) as u8,
-        None => 1,
-    }
 }
 
 /// How many digits a number has in decimal.
@@ -88,14 +78,6 @@ fn write_count<W: Sink>(text: &mut TextWriter<W>, number: u64)
     for group in others.chunks(3) {
         write_parts(text, &[Text(b","), Text(group)]);
     }
-}
-
-/// Adds a number in so many hexadecimal digits at least, without `0x`.
-pub(crate) fn write_hex<W: Sink>(text: &mut TextWriter<W>, number: u64, digits: u8)
-    requires { IsReady W.failures text.old }
-    ensures { Adds W.taken W.failures text.old text.new (hex_text number digits) }
-{
-    text.hex(hex_width(number).max(digits).min(16), number);
 }
 
 /// Adds a number in decimal, behind blanks up to so many columns.
@@ -124,11 +106,10 @@ fn write_cell<W: Sink>(text: &mut TextWriter<W>, cell: &Cell)
     ensures { AddsSome W.taken W.failures text.old text.new }
 {
     match cell {
-        Cell::Words(words) => text.text(words.as_bytes()),
+        Cell::Plain(part) => write_part(text, part),
         Cell::Name(name) => write_name(text, name),
         Cell::Column(name, width) => write_column(text, name, *width),
         Cell::Blanks(count) => text.text(blanks(*count)),
-        Cell::Hex(number, digits) => write_hex(text, *number, *digits),
         Cell::Count(number) => write_count(text, *number),
         Cell::Right(number, width) => write_right(text, *number, *width),
         Cell::Date(seconds) => write_date(text, *seconds),

@@ -3,19 +3,20 @@
 ghost use Rattle.pe_text.specs.TextWriter.{IsReady};
 ghost use Rattle.pe_show.specs.Page.{AddsSome};
 
-use crate::cell::{Cell, hex_width, plural, write_cells};
+use crate::cell::Cell::{self, Plain};
+use crate::cell::{NOTHING, plural, write_cells};
 use crate::fixups::same_page;
 use crate::heading::write_heading;
 use crate::imports::{module_name, same_module};
 use crate::name::name_width;
-use crate::options::ShowOptions;
 use crate::place::SectionNames;
 use arrayvec::ArrayVec;
 use pe_head::{Directory, directory_index, directory_name};
 use pe_image::Tables;
 use pe_layout::Layout;
 use pe_tables::{Exports, Fixup, Import, Target};
-use pe_text::{Sink, TextWriter};
+use pe_text::Part::{Hex, Text};
+use pe_text::{ShowOptions, Sink, TextWriter, hex_width};
 use std::alloc::Allocator;
 
 /// How many modules the row of the imports names.
@@ -94,9 +95,9 @@ fn write_export_count<A: Allocator + Copy, W: Sink>(text: &mut TextWriter<W>, ex
         text,
         &[
             Cell::Count(exports.ordinals().len() as u64),
-            plural(exports.ordinals().len(), " export, ", " exports, "),
+            plural(exports.ordinals().len(), b" export, ", b" exports, "),
             Cell::Count(forwarders as u64),
-            plural(forwarders, " forwarder\n", " forwarders\n"),
+            plural(forwarders, b" forwarder\n", b" forwarders\n"),
         ],
     );
 }
@@ -123,7 +124,7 @@ fn write_import_count<W: Sink>(text: &mut TextWriter<W>, imports: &[Import])
         text,
         &[
             Cell::Count(imports.len() as u64),
-            plural(imports.len(), " import", " imports"),
+            plural(imports.len(), b" import", b" imports"),
         ],
     );
     let (shown, modules) = first_runs(imports);
@@ -131,19 +132,19 @@ fn write_import_count<W: Sink>(text: &mut TextWriter<W>, imports: &[Import])
         write_cells(
             text,
             &[
-                Cell::Words(if place == 0 { ": " } else { ", " }),
+                Plain(Text(if place == 0 { b": " } else { b", " })),
                 Cell::Name(module),
-                Cell::Words(" "),
+                Plain(Text(b" ")),
                 Cell::Count(*count as u64),
             ],
         );
     }
     let end = match modules.saturating_sub(MODULES_SHOWN) {
-        0 => [Cell::Words("\n"), Cell::Words(""), Cell::Words("")],
+        0 => [Plain(Text(b"\n")), NOTHING, NOTHING],
         more => [
-            Cell::Words(" and "),
+            Plain(Text(b" and ")),
             Cell::Count(more as u64),
-            Cell::Words(" more\n"),
+            Plain(Text(b" more\n")),
         ],
     };
     write_cells(text, &end);
@@ -152,14 +153,14 @@ fn write_import_count<W: Sink>(text: &mut TextWriter<W>, imports: &[Import])
 /// The cells of how many pages base relocations have, where these ascend.
 fn page_cells(fixups: &[Fixup]) -> [Cell<'static>; 3] {
     if !fixups.iter().is_sorted_by_key(|fixup| fixup.field >> 12) {
-        let words = Cell::Words(", not in the order of their pages\n");
-        return [words, Cell::Words(""), Cell::Words("")];
+        let words = Plain(Text(b", not in the order of their pages\n"));
+        return [words, NOTHING, NOTHING];
     }
     let pages = fixups.chunk_by(same_page).count();
     [
-        Cell::Words(" in "),
+        Plain(Text(b" in ")),
         Cell::Count(pages as u64),
-        plural(pages, " page\n", " pages\n"),
+        plural(pages, b" page\n", b" pages\n"),
     ]
 }
 
@@ -173,7 +174,7 @@ fn write_fixup_count<W: Sink>(text: &mut TextWriter<W>, fixups: &[Fixup])
         text,
         &[
             Cell::Count(fixups.len() as u64),
-            plural(fixups.len(), " fixup", " fixups"),
+            plural(fixups.len(), b" fixup", b" fixups"),
             words,
             pages,
             end,
@@ -217,15 +218,15 @@ fn write_directory<A: Allocator + Copy, W: Sink>(
         text,
         &[
             Cell::Right(index as u64, 4),
-            Cell::Words("  "),
+            Plain(Text(b"  ")),
             Cell::Column(name_of(index), widths.name),
-            Cell::Words("   0x"),
-            Cell::Hex(u64::from(directory.rva), widths.rva),
-            Cell::Words("   0x"),
-            Cell::Hex(u64::from(directory.size), widths.size),
-            Cell::Words("   "),
+            Plain(Text(b"   0x")),
+            Plain(Hex(u64::from(directory.rva), widths.rva)),
+            Plain(Text(b"   0x")),
+            Plain(Hex(u64::from(directory.size), widths.size)),
+            Plain(Text(b"   ")),
             Cell::Column(section, widths.section),
-            Cell::Words("   "),
+            Plain(Text(b"   ")),
         ],
     );
     write_summary(text, index, tables);
@@ -244,7 +245,7 @@ pub(crate) fn write_directories<A: Allocator + Copy, W: Sink>(
 {
     let directories = layout.headers().directories.as_slice();
     let widths = widths_of(layout, names);
-    write_heading(text, options, "Tables", widths.count);
+    write_heading(text, options, b"Tables", widths.count);
     for (index, directory) in directories.iter().enumerate() {
         let section = section_of(layout, names, index, directory);
         write_directory(text, &widths, index, directory, section, tables);

@@ -4,16 +4,15 @@ ghost use Rattle.pe_text.specs.TextWriter.{IsReady, Adds};
 ghost use Rattle.pe_show.specs.Page.{AddsSome};
 ghost use Rattle.pe_show.specs.Rows.{key_text, here_text, forward_text, target_text, behind_gap};
 
-use crate::cell::{blanks, decimal_width, hex_width, write_hex, write_right};
+use crate::cell::{blanks, decimal_width, write_right};
 use crate::heading::write_heading;
 use crate::name::write_name;
-use crate::options::ShowOptions;
 use crate::place::{SectionNames, SectionPlace};
 use pe_image::Tables;
 use pe_layout::Layout;
 use pe_names::{ExportName, names_of};
 use pe_tables::{Exports, Key, Target};
-use pe_text::{Sink, TextWriter};
+use pe_text::{ShowOptions, Sink, TextWriter, hex_width};
 use std::alloc::Allocator;
 
 /// How wide the columns of exports are.
@@ -92,7 +91,7 @@ fn write_here<W: Sink>(
 {
     write_right(text, ordinal, widths.ordinal);
     text.text(b"  0x");
-    write_hex(text, rva as u64, widths.rva);
+    text.hex_at_least(widths.rva, rva as u64);
     text.text(b"  ");
     place.write(text);
 }
@@ -190,7 +189,7 @@ pub(crate) fn write_exports<A: Allocator + Copy, W: Sink>(
         return;
     };
     let widths = widths_of(exports.ordinals(), layout, sections);
-    write_heading(text, options, "Exports", exports.ordinals().len());
+    write_heading(text, options, b"Exports", exports.ordinals().len());
     for (ordinal, target) in exports.ordinals() {
         let shown = shown_of(layout, sections, target);
         write_target(text, &widths, *ordinal, &shown);

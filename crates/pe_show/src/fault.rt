@@ -3,20 +3,20 @@
 ghost use Rattle.pe_text.specs.TextWriter.{IsReady};
 ghost use Rattle.pe_show.specs.Page.{AddsSome};
 
-use crate::cell::{Cell, write_cells};
-use crate::options::ShowOptions;
+use crate::style::{end_style, refusal_style};
 use pe_names::{Amount, fault_detail};
-use pe_text::{FaultWords, Outcome, Sink, TextWriter, fault_words};
-use pe_view::{Fault, Place, View};
+use pe_text::Part::{self, Decimal, Hex, Text};
+use pe_text::{Outcome, ShowOptions, Sink, TextWriter, fault_sentence, write_parts};
+use pe_view::{Fault, View};
 
-/// The cells of words and of the number behind them.
-fn part_cells(words: &'static str, amount: Amount) -> [Cell<'static>; 3] {
+/// Words, and the number behind them.
+fn amount_parts(words: &'static str, amount: Amount) -> [Part<'static>; 3] {
     let (prefix, number) = match amount {
-        Amount::Nothing => (Cell::Words(""), Cell::Words("")),
-        Amount::Count(count) => (Cell::Words(""), Cell::Right(count, 1)),
-        Amount::Place(place) => (Cell::Words("0x"), Cell::Hex(place, 1)),
+        Amount::Nothing => (Text(b""), Text(b"")),
+        Amount::Count(count) => (Text(b""), Decimal(count)),
+        Amount::Place(place) => (Text(b"0x"), Hex(place, 1)),
     };
-    [Cell::Words(words), prefix, number]
+    [Text(words.as_bytes()), prefix, number]
 }
 
 /// Adds the values of the file that a fault compares, behind a colon, if it compares any.
@@ -28,10 +28,10 @@ fn write_detail<W: Sink>(text: &mut TextWriter<W>, file: View, fault: &Fault)
         return;
     };
     let [first, second, third] = detail.parts();
-    write_cells(text, &[Cell::Words(": ")]);
-    write_cells(text, &part_cells(first.0, first.1));
-    write_cells(text, &part_cells(second.0, second.1));
-    write_cells(text, &part_cells(third.0, third.1));
+    write_parts(text, &[Text(b": ")]);
+    write_parts(text, &amount_parts(first.0, first.1));
+    write_parts(text, &amount_parts(second.0, second.1));
+    write_parts(text, &amount_parts(third.0, third.1));
 }
 
 /// Adds the row of a file's fault, if there is one: `Fault 13: section header at 0x138: the section's raw data passes the end of
@@ -48,31 +48,18 @@ pub(crate) fn write_refusal<W: Sink>(
     let Outcome::Refused(fault) = outcome else {
         return;
     };
-    let FaultWords { subject, rule } = fault_words(fault.number).unwrap_or(FaultWords {
-        subject: "place",
-        rule: "no fault has this number",
-    });
-    let (at, place) = match fault.place {
-        Place::File(offset) => (Cell::Words(" at 0x"), Cell::Hex(offset, 1)),
-        Place::Rva(rva) => (Cell::Words(" at RVA 0x"), Cell::Hex(u64::from(rva), 1)),
-        Place::Address(address) => (Cell::Words(" 0x"), Cell::Hex(address, 1)),
-        Place::Item(item) => (Cell::Words(" "), Cell::Right(u64::from(item), 1)),
-    };
-    write_cells(
+    let sentence = fault_sentence(&fault);
+    write_parts(
         text,
         &[
-            Cell::Words("\n"),
-            options.refusal(),
-            Cell::Words("Fault "),
-            Cell::Right(u64::from(fault.number), 1),
-            Cell::Words(": "),
-            Cell::Words(subject),
-            at,
-            place,
-            Cell::Words(": "),
-            Cell::Words(rule),
+            Text(b"\n"),
+            refusal_style(options),
+            Text(b"Fault "),
+            Decimal(u64::from(fault.number)),
+            Text(b": "),
+            Text(sentence.as_slice()),
         ],
     );
     write_detail(text, file, &fault);
-    write_cells(text, &[options.plain(), Cell::Words("\n")]);
+    write_parts(text, &[end_style(options), Text(b"\n")]);
 }

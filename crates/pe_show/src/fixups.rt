@@ -5,12 +5,10 @@ ghost use Rattle.pe_text.specs.TextWriter.{IsReady, Adds};
 ghost use Rattle.pe_show.specs.Page.{AddsSome};
 ghost use Rattle.pe_show.specs.Rows.{field_text, fields_row, kind_text};
 
-use crate::cell::{hex_width, write_hex};
 use crate::heading::write_heading;
-use crate::options::ShowOptions;
 use pe_image::Tables;
 use pe_tables::{Fixup, FixupKind};
-use pe_text::{Sink, TextWriter};
+use pe_text::{ShowOptions, Sink, TextWriter, hex_width};
 use std::alloc::Allocator;
 
 /// How many fields a row shows.
@@ -78,7 +76,7 @@ fn write_fields<W: Sink>(text: &mut TextWriter<W>, width: u8, first: &Fixup, row
     ensures { Adds W.taken W.failures text.old text.new (fields_row width first.now row.now) }
 {
     text.text(b"  0x");
-    write_hex(text, (first.field / PAGE * PAGE) as u64, width);
+    text.hex_at_least(width, (first.field / PAGE * PAGE) as u64);
     text.text(b"  ");
     text.text(kind_word(first.kind));
     text.text(b" ");
@@ -123,7 +121,7 @@ pub(crate) fn write_fixups<A: Allocator + Copy, W: Sink>(
         6,
         |width, fixup| hex_width(u64::from(fixup.field)).max(width),
     );
-    write_heading(text, options, "Base relocations", fixups.len());
+    write_heading(text, options, b"Base relocations", fixups.len());
     let mut at = 0;
     while at < fixups.len() {
         let len = page_len(&fixups[at..]);

@@ -3,10 +3,9 @@
 ghost use Rattle.pe_text.specs.TextWriter.{IsReady};
 ghost use Rattle.pe_show.specs.Page.{AddsSome};
 
-use crate::cell::hex_width;
 use pe_head::section_flag;
 use pe_names::{FlagKind, flag_name};
-use pe_text::Part::{Name, Text};
+use pe_text::Part::{Hex, Name, Text};
 use pe_text::{Sink, TextWriter, write_parts};
 
 /// The flags of a section that its columns show: what it holds and how it may be used. The alignment is a number.
@@ -26,8 +25,7 @@ fn write_unnamed<W: Sink>(text: &mut TextWriter<W>, flags: u32)
     if flags == 0 {
         return;
     }
-    text.text(b" 0x");
-    text.hex(hex_width(u64::from(flags)), u64::from(flags));
+    write_parts(text, &[Text(b" 0x"), Hex(u64::from(flags), 1)]);
 }
 
 /// Adds a blank and a name for each flag that is set, in the order of their values, and then what has no name.

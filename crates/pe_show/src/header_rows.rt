@@ -3,18 +3,20 @@
 ghost use Rattle.pe_text.specs.TextWriter.{IsReady};
 ghost use Rattle.pe_show.specs.Page.{AddsSome};
 
-use crate::cell::{Cell, write_cells};
+use crate::cell::Cell::{self, Plain};
+use crate::cell::{NOTHING, write_cells};
 use crate::heading::Kind;
 use crate::place::SectionPlace;
 use pe_head::{Headers, Magic, characteristic, machine_name, subsystem_name};
 use pe_names::FlagKind;
-use pe_text::{Sink, TextWriter};
+use pe_text::Part::{self, Decimal, Hex, Hex4, Hex8, Text};
+use pe_text::{Sink, TextWriter, write_parts};
 
 /// A value's name, or its number where the format has no name for it.
-pub(crate) fn named(name: Option<&'static str>, value: u16) -> [Cell<'static>; 2] {
+pub(crate) fn named(name: Option<&'static str>, value: u16) -> [Part<'static>; 2] {
     match name {
-        Some(name) => [Cell::Words(name), Cell::Words("")],
-        None => [Cell::Words("0x"), Cell::Hex(u64::from(value), 4)],
+        Some(name) => [Text(name.as_bytes()), Text(b"")],
+        None => [Text(b"0x"), Hex4(value)],
     }
 }
 
@@ -22,13 +24,13 @@ pub(crate) fn named(name: Option<&'static str>, value: u16) -> [Cell<'static>; 2
 pub(crate) fn image_kind(headers: &Headers) -> Kind {
     let [machine, number] = named(machine_name(headers.machine), headers.machine);
     let is_library = headers.characteristics & characteristic::DLL != 0;
-    let kind = match (headers.magic, is_library) {
-        (Magic::Pe32, false) => "PE32 program for ",
-        (Magic::Pe32, true) => "PE32 library for ",
-        (Magic::Pe32Plus, false) => "PE32+ program for ",
-        (Magic::Pe32Plus, true) => "PE32+ library for ",
+    let kind: &[u8] = match (headers.magic, is_library) {
+        (Magic::Pe32, false) => b"PE32 program for ",
+        (Magic::Pe32, true) => b"PE32 library for ",
+        (Magic::Pe32Plus, false) => b"PE32+ program for ",
+        (Magic::Pe32Plus, true) => b"PE32+ library for ",
     };
-    [Cell::Words(kind), machine, number, Cell::Words(", ")]
+    [Text(kind), machine, number, Text(b", ")]
 }
 
 /// Adds the row of a time stamp; 0 and the greatest number stand for none.
@@ -37,17 +39,17 @@ pub(crate) fn write_stamp<W: Sink>(text: &mut TextWriter<W>, seconds: u32)
     ensures { AddsSome W.taken W.failures text.old text.new }
 {
     let date = match seconds {
-        0 | u32::MAX => Cell::Words("not set"),
+        0 | u32::MAX => Plain(Text(b"not set")),
         _ => Cell::Date(seconds),
     };
     write_cells(
         text,
         &[
-            Cell::Words("\n  Time stamp   "),
+            Plain(Text(b"\n  Time stamp   ")),
             date,
-            Cell::Words(" (0x"),
-            Cell::Hex(u64::from(seconds), 8),
-            Cell::Words(")\n"),
+            Plain(Text(b" (0x")),
+            Plain(Hex8(u64::from(seconds))),
+            Plain(Text(b")\n")),
         ],
     );
 }
@@ -55,7 +57,7 @@ pub(crate) fn write_stamp<W: Sink>(text: &mut TextWriter<W>, seconds: u32)
 /// Adds the row of a field of flags.
 pub(crate) fn write_flag_row<W: Sink>(
     text: &mut TextWriter<W>,
-    words: &str,
+    words: &[u8],
     kind: FlagKind,
     flags: u16,
 )
@@ -65,10 +67,10 @@ pub(crate) fn write_flag_row<W: Sink>(
     write_cells(
         text,
         &[
-            Cell::Words(words),
-            Cell::Words(if flags == 0 { " none" } else { "" }),
+            Plain(Text(words)),
+            Plain(Text(if flags == 0 { b" none" } else { b"" })),
             Cell::Flags(kind, u32::from(flags)),
-            Cell::Words("\n"),
+            Plain(Text(b"\n")),
         ],
     );
 }
@@ -79,30 +81,30 @@ fn write_versions<W: Sink>(text: &mut TextWriter<W>, headers: &Headers)
     ensures { AddsSome W.taken W.failures text.old text.new }
 {
     let [subsystem, number] = named(subsystem_name(headers.subsystem), headers.subsystem);
-    let version = |part: u16| Cell::Right(u64::from(part), 1);
-    write_cells(
+    let version = |part: u16| Decimal(u64::from(part));
+    write_parts(
         text,
         &[
-            Cell::Words("  Linker       "),
+            Text(b"  Linker       "),
             version(u16::from(headers.major_linker_version)),
-            Cell::Words("."),
+            Text(b"."),
             version(u16::from(headers.minor_linker_version)),
-            Cell::Words("\n  Subsystem    "),
+            Text(b"\n  Subsystem    "),
             subsystem,
             number,
-            Cell::Words(" "),
+            Text(b" "),
             version(headers.major_subsystem_version),
-            Cell::Words("."),
+            Text(b"."),
             version(headers.minor_subsystem_version),
-            Cell::Words(" (operating system "),
+            Text(b" (operating system "),
             version(headers.major_operating_system_version),
-            Cell::Words("."),
+            Text(b"."),
             version(headers.minor_operating_system_version),
-            Cell::Words(", image "),
+            Text(b", image "),
             version(headers.major_image_version),
-            Cell::Words("."),
+            Text(b"."),
             version(headers.minor_image_version),
-            Cell::Words(")\n"),
+            Text(b")\n"),
         ],
     );
 }
@@ -114,29 +116,29 @@ fn write_entry<W: Sink>(text: &mut TextWriter<W>, rva: u32, place: Option<Sectio
 {
     match place {
         _ if rva == 0 => text.text(b"  Entry        none\n"),
-        None => write_cells(
+        None => write_parts(
             text,
             &[
-                Cell::Words("  Entry        0x"),
-                Cell::Hex(u64::from(rva), 1),
-                Cell::Words("\n"),
+                Text(b"  Entry        0x"),
+                Hex(u64::from(rva), 1),
+                Text(b"\n"),
             ],
         ),
         Some(place) => {
             let (words, file) = match place.file {
-                Some(file) => (Cell::Words("  file 0x"), Cell::Hex(file, 1)),
-                None => (Cell::Words(""), Cell::Words("")),
+                Some(file) => (Plain(Text(b"  file 0x")), Plain(Hex(file, 1))),
+                None => (NOTHING, NOTHING),
             };
             write_cells(
                 text,
                 &[
-                    Cell::Words("  Entry        0x"),
-                    Cell::Hex(u64::from(rva), 1),
-                    Cell::Words("  "),
+                    Plain(Text(b"  Entry        0x")),
+                    Plain(Hex(u64::from(rva), 1)),
+                    Plain(Text(b"  ")),
                     Cell::Place(place),
                     words,
                     file,
-                    Cell::Words("\n"),
+                    Plain(Text(b"\n")),
                 ],
             );
         }
@@ -149,17 +151,17 @@ fn write_base<W: Sink>(text: &mut TextWriter<W>, headers: &Headers)
     ensures { AddsSome W.taken W.failures text.old text.new }
 {
     let is_stripped = headers.characteristics & characteristic::RELOCS_STRIPPED != 0;
-    write_cells(
+    write_parts(
         text,
         &[
-            Cell::Words("  Base         0x"),
-            Cell::Hex(headers.image_base, 1),
-            Cell::Words(", 0x"),
-            Cell::Hex(u64::from(headers.size_of_image), 1),
-            Cell::Words(if is_stripped {
-                " bytes; must stand there\n"
+            Text(b"  Base         0x"),
+            Hex(headers.image_base, 1),
+            Text(b", 0x"),
+            Hex(u64::from(headers.size_of_image), 1),
+            Text(if is_stripped {
+                b" bytes; must stand there\n"
             } else {
-                " bytes; may be moved\n"
+                b" bytes; may be moved\n"
             }),
         ],
     );
@@ -170,26 +172,26 @@ fn write_sizes<W: Sink>(text: &mut TextWriter<W>, headers: &Headers)
     requires { IsReady W.failures text.old }
     ensures { AddsSome W.taken W.failures text.old text.new }
 {
-    write_cells(
+    write_parts(
         text,
         &[
-            Cell::Words("  Alignment    0x"),
-            Cell::Hex(u64::from(headers.section_alignment), 1),
-            Cell::Words(" in memory, 0x"),
-            Cell::Hex(u64::from(headers.file_alignment), 1),
-            Cell::Words(" in the file; headers 0x"),
-            Cell::Hex(u64::from(headers.size_of_headers), 1),
-            Cell::Words(" bytes\n  Stack        0x"),
-            Cell::Hex(headers.size_of_stack_reserve, 1),
-            Cell::Words(" reserved, 0x"),
-            Cell::Hex(headers.size_of_stack_commit, 1),
-            Cell::Words(" committed; heap 0x"),
-            Cell::Hex(headers.size_of_heap_reserve, 1),
-            Cell::Words(", 0x"),
-            Cell::Hex(headers.size_of_heap_commit, 1),
-            Cell::Words("\n  CheckSum     0x"),
-            Cell::Hex(u64::from(headers.check_sum), 8),
-            Cell::Words("\n"),
+            Text(b"  Alignment    0x"),
+            Hex(u64::from(headers.section_alignment), 1),
+            Text(b" in memory, 0x"),
+            Hex(u64::from(headers.file_alignment), 1),
+            Text(b" in the file; headers 0x"),
+            Hex(u64::from(headers.size_of_headers), 1),
+            Text(b" bytes\n  Stack        0x"),
+            Hex(headers.size_of_stack_reserve, 1),
+            Text(b" reserved, 0x"),
+            Hex(headers.size_of_stack_commit, 1),
+            Text(b" committed; heap 0x"),
+            Hex(headers.size_of_heap_reserve, 1),
+            Text(b", 0x"),
+            Hex(headers.size_of_heap_commit, 1),
+            Text(b"\n  CheckSum     0x"),
+            Hex8(u64::from(headers.check_sum)),
+            Text(b"\n"),
         ],
     );
 }
@@ -210,13 +212,13 @@ pub(crate) fn write_headers<W: Sink>(
     write_sizes(text, headers);
     write_flag_row(
         text,
-        "  Image flags ",
+        b"  Image flags ",
         FlagKind::File,
         headers.characteristics,
     );
     write_flag_row(
         text,
-        "  DLL flags   ",
+        b"  DLL flags   ",
         FlagKind::Dll,
         headers.dll_characteristics,
     );

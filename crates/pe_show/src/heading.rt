@@ -3,9 +3,11 @@
 ghost use Rattle.pe_text.specs.TextWriter.{IsReady};
 ghost use Rattle.pe_show.specs.Page.{AddsSome};
 
-use crate::cell::{Cell, write_cells};
-use crate::options::ShowOptions;
-use pe_text::{Outcome, Sink, TextWriter};
+use crate::cell::Cell::{self, Plain};
+use crate::cell::write_cells;
+use crate::style::{end_style, heading_style, refusal_style};
+use pe_text::Part::{self, Text};
+use pe_text::{Outcome, ShowOptions, Sink, TextWriter, write_parts};
 
 /// What a page is of, and how it is to be.
 #[derive(Clone, Copy)]
@@ -16,8 +18,8 @@ pub(crate) struct Page<'p> {
     pub options: &'p ShowOptions,
 }
 
-/// What a file is, in four words: `PE32+ library for AMD64`.
-pub(crate) type Kind = [Cell<'static>; 4];
+/// What a file is, in four parts: `PE32+ library for AMD64`.
+pub(crate) type Kind = [Part<'static>; 4];
 
 /// Adds the first row: the file's name, whether it is accepted, what it is, and how many bytes it has.
 pub(crate) fn write_title<W: Sink>(
@@ -31,24 +33,18 @@ pub(crate) fn write_title<W: Sink>(
     ensures { AddsSome W.taken W.failures text.old text.new }
 {
     let (style, word) = match outcome {
-        Outcome::Done => (page.options.heading(), ": accepted: "),
-        Outcome::Refused(_) => (page.options.refusal(), ": refused: "),
+        Outcome::Done => (heading_style(page.options), Text(b": accepted: ")),
+        Outcome::Refused(_) => (refusal_style(page.options), Text(b": refused: ")),
     };
-    let [first, second, third, fourth] = kind;
+    write_cells(text, &[Plain(style), Cell::Name(page.name), Plain(word)]);
+    write_parts(text, &kind);
     write_cells(
         text,
         &[
-            style,
-            Cell::Name(page.name),
-            Cell::Words(word),
-            first,
-            second,
-            third,
-            fourth,
             Cell::Count(len),
-            Cell::Words(if len == 1 { " byte" } else { " bytes" }),
-            page.options.plain(),
-            Cell::Words("\n"),
+            Plain(Text(if len == 1 { b" byte" } else { b" bytes" })),
+            Plain(end_style(page.options)),
+            Plain(Text(b"\n")),
         ],
     );
 }
@@ -57,7 +53,7 @@ pub(crate) fn write_title<W: Sink>(
 pub(crate) fn write_heading<W: Sink>(
     text: &mut TextWriter<W>,
     options: &ShowOptions,
-    words: &str,
+    words: &[u8],
     count: usize,
 )
     requires { IsReady W.failures text.old }
@@ -66,14 +62,14 @@ pub(crate) fn write_heading<W: Sink>(
     write_cells(
         text,
         &[
-            Cell::Words("\n"),
-            options.heading(),
-            Cell::Words(words),
-            Cell::Words(" ("),
+            Plain(Text(b"\n")),
+            Plain(heading_style(options)),
+            Plain(Text(words)),
+            Plain(Text(b" (")),
             Cell::Count(count as u64),
-            Cell::Words(")"),
-            options.plain(),
-            Cell::Words("\n"),
+            Plain(Text(b")")),
+            Plain(end_style(options)),
+            Plain(Text(b"\n")),
         ],
     );
 }

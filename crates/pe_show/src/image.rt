@@ -7,7 +7,6 @@ ghost use Rattle.pe_text.specs.TextWriter.{IsReady};
 ghost use Rattle.pe_show.specs.Page.{AddsSome};
 ghost use Rattle.pe_names.specs.Judged.{IsOutcomeOf};
 
-use crate::cell::Cell;
 use crate::directories::write_directories;
 use crate::exports::write_exports;
 use crate::fault::write_refusal;
@@ -21,6 +20,7 @@ use pe_head::read_headers;
 use pe_image::{Tables, lay_out, read_tables};
 use pe_layout::Layout;
 use pe_names::{ExportName, names_by_ordinal};
+use pe_text::Part::Text;
 use pe_text::{Outcome, Sink, TextWriter};
 use pe_view::{Fault, View};
 use std::alloc::{AllocError, Allocator};
@@ -59,7 +59,7 @@ fn write_refused<W: Sink>(text: &mut TextWriter<W>, page: &Page, view: View, out
             write_refusal(text, page.options, outcome, view);
         }
         Err(_) => {
-            write_title(text, page, outcome, [Cell::Words(""); 4], view.len());
+            write_title(text, page, outcome, [Text(b""); 4], view.len());
             write_refusal(text, page.options, outcome, view);
         }
     }

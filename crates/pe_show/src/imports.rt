@@ -5,13 +5,14 @@ ghost use Rattle.pe_text.specs.TextWriter.{IsReady, Adds};
 ghost use Rattle.pe_show.specs.Page.{AddsSome};
 ghost use Rattle.pe_show.specs.Rows.{import_row};
 
-use crate::cell::{Cell, hex_width, write_cells, write_hex};
+use crate::cell::Cell::{self, Plain};
+use crate::cell::write_cells;
 use crate::exports::write_key;
 use crate::heading::write_heading;
-use crate::options::ShowOptions;
 use pe_image::Tables;
 use pe_tables::Import;
-use pe_text::{Sink, TextWriter};
+use pe_text::Part::Text;
+use pe_text::{ShowOptions, Sink, TextWriter, hex_width};
 use std::alloc::Allocator;
 
 /// The most bytes of a module's name that are shown: no file has a longer one.
@@ -45,7 +46,7 @@ fn write_import<W: Sink>(text: &mut TextWriter<W>, width: u8, import: &Import)
     ensures { Adds W.taken W.failures text.old text.new (import_row width import.now) }
 {
     text.text(b"    0x");
-    write_hex(text, import.slot as u64, width);
+    text.hex_at_least(width, import.slot as u64);
     text.text(b"  ");
     write_key(text, import.key);
     text.text(b"\n");
@@ -63,11 +64,11 @@ fn write_module<W: Sink>(text: &mut TextWriter<W>, width: u8, imports: &[Import]
     write_cells(
         text,
         &[
-            Cell::Words("  "),
+            Plain(Text(b"  ")),
             Cell::Name(name),
-            Cell::Words(" ("),
+            Plain(Text(b" (")),
             Cell::Count(imports.len() as u64),
-            Cell::Words(")\n"),
+            Plain(Text(b")\n")),
         ],
     );
     for import in imports {
@@ -92,7 +93,7 @@ pub(crate) fn write_imports<A: Allocator + Copy, W: Sink>(
         6,
         |width, import| hex_width(u64::from(import.slot)).max(width),
     );
-    write_heading(text, options, "Imports", imports.len());
+    write_heading(text, options, b"Imports", imports.len());
     let mut at = 0;
     while at < imports.len() {
         let len = module_len(&imports[at..]);

@@ -29,11 +29,11 @@ mod imports;
 mod name;
 mod object;
 mod object_sections;
-mod options;
 mod place;
 mod sections;
+mod style;
 mod symbols;
 
 pub use at_place::at;
 pub use engine::show;
-pub use options::ShowOptions;
+pub use pe_text::ShowOptions;

@@ -6,7 +6,8 @@ ghost use Rattle.pe_text.specs.TextWriter.{IsReady};
 ghost use Rattle.pe_show.specs.Page.{AddsSome};
 ghost use Rattle.pe_names.specs.Judged.{IsOutcomeOf};
 
-use crate::cell::{Cell, write_cells};
+use crate::cell::Cell::{self, Plain};
+use crate::cell::write_cells;
 use crate::fault::write_refusal;
 use crate::header_rows::{named, write_flag_row, write_stamp};
 use crate::heading::{Page, write_title};
@@ -15,6 +16,7 @@ use crate::symbols::{SymbolNames, write_symbols};
 use coff_object::{FileSection, ObjectFile};
 use pe_head::machine_name;
 use pe_names::FlagKind;
+use pe_text::Part::Text;
 use pe_text::{Outcome, Sink, TextWriter};
 use pe_view::View;
 use std::alloc::{AllocError, Allocator};
@@ -27,16 +29,16 @@ fn write_header<W: Sink>(text: &mut TextWriter<W>, object: &ObjectFile)
     write_stamp(text, object.time_stamp());
     write_flag_row(
         text,
-        "  Flags       ",
+        b"  Flags       ",
         FlagKind::File,
         object.characteristics(),
     );
     write_cells(
         text,
         &[
-            Cell::Words("  Symbols      "),
+            Plain(Text(b"  Symbols      ")),
             Cell::Count(object.symbol_count() as u64),
-            Cell::Words("\n"),
+            Plain(Text(b"\n")),
         ],
     );
 }
@@ -56,8 +58,7 @@ fn write_object<A: Allocator + Copy, W: Sink>(
 {
     let machine = object.machine();
     let [name, number] = named(machine_name(machine), machine);
-    let words = Cell::Words("COFF object for ");
-    let kind = [words, name, number, Cell::Words(", ")];
+    let kind = [Text(b"COFF object for "), name, number, Text(b", ")];
     write_title(text, page, Outcome::Done, kind, len);
     write_header(text, object);
     write_sections(text, page.options, sections);
@@ -70,8 +71,7 @@ fn write_refused<W: Sink>(text: &mut TextWriter<W>, page: &Page, outcome: Outcom
     requires { IsReady W.failures text.old }
     ensures { AddsSome W.taken W.failures text.old text.new }
 {
-    let nothing = Cell::Words("");
-    let kind = [Cell::Words("COFF object, "), nothing, nothing, nothing];
+    let kind = [Text(b"COFF object, "), Text(b""), Text(b""), Text(b"")];
     write_title(text, page, outcome, kind, file.len());
     write_refusal(text, page.options, outcome, file);
 }

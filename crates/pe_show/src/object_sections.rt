@@ -5,16 +5,17 @@ ghost use Rattle.pe_text.specs.TextWriter.{IsReady, Adds};
 ghost use Rattle.pe_show.specs.Page.{AddsSome};
 ghost use Rattle.pe_show.specs.Rows.{type_text, symbol_text, relocation_row};
 
-use crate::cell::{Cell, decimal_width, hex_width, write_cells, write_hex};
+use crate::cell::Cell::{self, Plain};
+use crate::cell::{decimal_width, write_cells};
 use crate::heading::write_heading;
 use crate::name::{name_width, write_name};
-use crate::options::ShowOptions;
 use crate::place::cut;
 use crate::sections::{content, permissions};
 use crate::symbols::SymbolNames;
 use coff_object::{FileSection, ObjectFile, RawData, Relocation, relocation_type_name};
 use pe_names::FlagKind;
-use pe_text::{Sink, TextWriter};
+use pe_text::Part::{Hex, Text};
+use pe_text::{ShowOptions, Sink, TextWriter, hex_width};
 use std::alloc::{AllocError, Allocator};
 
 /// How wide the columns of sections are.
@@ -74,20 +75,20 @@ fn write_section<W: Sink>(
         text,
         &[
             Cell::Right((index as u64).saturating_add(1), widths.number),
-            Cell::Words("  "),
+            Plain(Text(b"  ")),
             Cell::Column(cut(section.name), widths.name),
-            Cell::Words("  "),
-            Cell::Words(permissions(section.flags)),
-            Cell::Words(" "),
-            Cell::Column(content(section.flags).as_bytes(), 5),
-            Cell::Words("   0x"),
-            Cell::Hex(bytes, widths.bytes),
-            Cell::Words("   0x"),
-            Cell::Hex(in_file, widths.bytes),
-            Cell::Words("   "),
+            Plain(Text(b"  ")),
+            Plain(Text(permissions(section.flags))),
+            Plain(Text(b" ")),
+            Cell::Column(content(section.flags), 5),
+            Plain(Text(b"   0x")),
+            Plain(Hex(bytes, widths.bytes)),
+            Plain(Text(b"   0x")),
+            Plain(Hex(in_file, widths.bytes)),
+            Plain(Text(b"   ")),
             Cell::Right(section.relocations.len() as u64, 11),
             Cell::Flags(FlagKind::Section, section.flags),
-            Cell::Words("\n"),
+            Plain(Text(b"\n")),
         ],
     );
 }
@@ -102,17 +103,17 @@ pub(crate) fn write_sections<W: Sink>(
     ensures { AddsSome W.taken W.failures text.old text.new }
 {
     let widths = widths_of(sections);
-    write_heading(text, options, "Sections", sections.len());
+    write_heading(text, options, b"Sections", sections.len());
     write_cells(
         text,
         &[
             Cell::Blanks(widths.number.saturating_sub(1)),
-            Cell::Words("#  "),
+            Plain(Text(b"#  ")),
             Cell::Column(b"name", widths.name),
-            Cell::Words("  flags       "),
+            Plain(Text(b"  flags       ")),
             Cell::Column(b"bytes", usize::from(widths.bytes) + 5),
             Cell::Column(b"in file", usize::from(widths.bytes) + 5),
-            Cell::Words("relocations\n"),
+            Plain(Text(b"relocations\n")),
         ],
     );
     for (index, section) in sections.iter().enumerate() {
@@ -156,7 +157,7 @@ fn write_relocation<W: Sink>(
     ensures { Adds W.taken W.failures text.old text.new (relocation_row relocation.now.address (option_map (λ name. name.now) type_name.entry) relocation.now.kind relocation.now.symbol (option_map (λ name. name.now) symbol.entry)) }
 {
     text.text(b"    0x");
-    write_hex(text, relocation.address as u64, 6);
+    text.hex_at_least(6, relocation.address as u64);
     text.text(b"  ");
     write_type(text, type_name, relocation.kind);
     text.text(b"  #");
@@ -182,11 +183,11 @@ fn write_section_relocations<A: Allocator + Copy, W: Sink>(
     write_cells(
         text,
         &[
-            Cell::Words("  "),
+            Plain(Text(b"  ")),
             Cell::Name(cut(section.name)),
-            Cell::Words(" ("),
+            Plain(Text(b" (")),
             Cell::Count(relocations.len() as u64),
-            Cell::Words(")\n"),
+            Plain(Text(b")\n")),
         ],
     );
     for index in 0..relocations.len() {
@@ -219,7 +220,7 @@ pub(crate) fn write_relocations<A: Allocator + Copy, W: Sink>(
     if !options.relocations {
         return;
     }
-    write_heading(text, options, "Relocations", relocation_count(sections));
+    write_heading(text, options, b"Relocations", relocation_count(sections));
     for section in sections {
         write_section_relocations(text, machine, names, section);
     }

@@ -3,13 +3,12 @@
 ghost use Rattle.pe_text.specs.TextWriter.{IsReady, Adds};
 ghost use Rattle.pe_show.specs.Rows.{place_text};
 
-use crate::cell::{hex_width, write_hex};
 use crate::name::{name_width, write_name};
 use arrayvec::ArrayVec;
 use pe_head::Headers;
 use pe_layout::{Layout, Located};
 use pe_names::{section_name, string_table};
-use pe_text::{Sink, TextWriter};
+use pe_text::{Sink, TextWriter, hex_width};
 use pe_view::View;
 
 /// The most bytes of a section's name that are shown.
@@ -100,7 +99,7 @@ impl<'a> SectionPlace<'a> {
         write_name(text, self.name);
         if let Some(offset) = self.offset {
             text.text(b"+0x");
-            write_hex(text, offset as u64, 1);
+            text.hex_at_least(1, offset as u64);
         }
     }
 

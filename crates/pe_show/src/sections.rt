@@ -3,14 +3,15 @@
 ghost use Rattle.pe_text.specs.TextWriter.{IsReady};
 ghost use Rattle.pe_show.specs.Page.{AddsSome};
 
-use crate::cell::{Cell, hex_width, write_cells};
+use crate::cell::Cell::{self, Plain};
+use crate::cell::write_cells;
 use crate::heading::write_heading;
 use crate::name::name_width;
-use crate::options::ShowOptions;
 use crate::place::SectionNames;
 use pe_head::{Headers, SectionHeader, section_flag};
 use pe_names::FlagKind;
-use pe_text::{Sink, TextWriter};
+use pe_text::Part::{Hex, Text};
+use pe_text::{ShowOptions, Sink, TextWriter, hex_width};
 
 /// How wide the columns of sections are.
 #[derive(Clone, Copy)]
@@ -22,32 +23,32 @@ struct Widths {
 }
 
 /// How a section may be used: `r-x`.
-pub(crate) fn permissions(flags: u32) -> &'static str {
+pub(crate) fn permissions(flags: u32) -> &'static [u8] {
     let read = flags & section_flag::READ != 0;
     let write = flags & section_flag::WRITE != 0;
     let execute = flags & section_flag::EXECUTE != 0;
     match (read, write, execute) {
-        (false, false, false) => "---",
-        (false, false, true) => "--x",
-        (false, true, false) => "-w-",
-        (false, true, true) => "-wx",
-        (true, false, false) => "r--",
-        (true, false, true) => "r-x",
-        (true, true, false) => "rw-",
-        (true, true, true) => "rwx",
+        (false, false, false) => b"---",
+        (false, false, true) => b"--x",
+        (false, true, false) => b"-w-",
+        (false, true, true) => b"-wx",
+        (true, false, false) => b"r--",
+        (true, false, true) => b"r-x",
+        (true, true, false) => b"rw-",
+        (true, true, true) => b"rwx",
     }
 }
 
 /// What a section holds: code, initialized data, or data that are zero at first.
-pub(crate) fn content(flags: u32) -> &'static str {
+pub(crate) fn content(flags: u32) -> &'static [u8] {
     if flags & section_flag::CODE != 0 {
-        "code"
+        b"code"
     } else if flags & section_flag::INITIALIZED_DATA != 0 {
-        "data"
+        b"data"
     } else if flags & section_flag::UNINITIALIZED_DATA != 0 {
-        "bss"
+        b"bss"
     } else {
-        "-"
+        b"-"
     }
 }
 
@@ -87,22 +88,22 @@ fn write_section<W: Sink>(
         text,
         &[
             Cell::Right(index as u64, 4),
-            Cell::Words("  "),
+            Plain(Text(b"  ")),
             Cell::Column(name, widths.name),
-            Cell::Words("  "),
-            Cell::Words(permissions(section.characteristics)),
-            Cell::Words(" "),
-            Cell::Column(content(section.characteristics).as_bytes(), 5),
-            Cell::Words("   0x"),
-            Cell::Hex(u64::from(section.virtual_address), widths.rva),
-            Cell::Words("   0x"),
-            Cell::Hex(u64::from(section.extent()), widths.bytes),
-            Cell::Words("   0x"),
-            Cell::Hex(u64::from(section.pointer_to_raw_data), widths.file),
-            Cell::Words("   0x"),
-            Cell::Hex(u64::from(section.rawlen()), widths.bytes),
+            Plain(Text(b"  ")),
+            Plain(Text(permissions(section.characteristics))),
+            Plain(Text(b" ")),
+            Cell::Column(content(section.characteristics), 5),
+            Plain(Text(b"   0x")),
+            Plain(Hex(u64::from(section.virtual_address), widths.rva)),
+            Plain(Text(b"   0x")),
+            Plain(Hex(u64::from(section.extent()), widths.bytes)),
+            Plain(Text(b"   0x")),
+            Plain(Hex(u64::from(section.pointer_to_raw_data), widths.file)),
+            Plain(Text(b"   0x")),
+            Plain(Hex(u64::from(section.rawlen()), widths.bytes)),
             Cell::Flags(FlagKind::Section, section.characteristics),
-            Cell::Words("\n"),
+            Plain(Text(b"\n")),
         ],
     );
 }
@@ -119,17 +120,17 @@ pub(crate) fn write_sections<W: Sink>(
 {
     let sections = headers.sections.as_slice();
     let widths = widths_of(headers, names);
-    write_heading(text, options, "Sections", sections.len());
+    write_heading(text, options, b"Sections", sections.len());
     write_cells(
         text,
         &[
-            Cell::Words("   #  "),
+            Plain(Text(b"   #  ")),
             Cell::Column(b"name", widths.name),
-            Cell::Words("  flags       "),
+            Plain(Text(b"  flags       ")),
             Cell::Column(b"RVA", usize::from(widths.rva) + 5),
             Cell::Column(b"bytes", usize::from(widths.bytes) + 5),
             Cell::Column(b"file", usize::from(widths.file) + 5),
-            Cell::Words("in file\n"),
+            Plain(Text(b"in file\n")),
         ],
     );
     for (index, section) in sections.iter().enumerate() {

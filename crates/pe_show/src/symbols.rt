@@ -8,10 +8,9 @@ ghost use Rattle.pe_show.specs.Rows.{class_text, function_text, symbol_row};
 use crate::cell::{decimal_width, write_column, write_right};
 use crate::heading::write_heading;
 use crate::name::write_name;
-use crate::options::ShowOptions;
 use crate::place::cut;
 use coff_object::{FileSection, ObjectFile, Symbol, SymbolSection, storage_class_name};
-use pe_text::{Sink, TextWriter};
+use pe_text::{ShowOptions, Sink, TextWriter};
 use std::alloc::{AllocError, Allocator};
 
 /// The names of an object's symbols, by the indexes of their records.
@@ -127,7 +126,7 @@ pub(crate) fn write_symbols<A: Allocator + Copy, W: Sink>(
         return;
     }
     let width = decimal_width(object.symbol_count() as u64).max(4);
-    write_heading(text, options, "Symbols", object.symbol_count());
+    write_heading(text, options, b"Symbols", object.symbol_count());
     for (index, symbol) in object.each_symbol(alloc) {
         let section = section_words(sections, symbol.section);
         write_symbol(

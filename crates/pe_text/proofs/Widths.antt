@@ -6,38 +6,37 @@ use Rattle.std.proofs.lemmas.List.FromFn.{get_or-range_with_len}
 use Rattle.std.proofs.lemmas.List.Folds.{list_all_at}
 use Rattle.std.proofs.Math.ListN.{set}
 use Rattle.std.proofs.lemmas.Grind.{drop-set_at}
-use Rattle.std.proofs.Math.Nat.{pow-succ', lt-mul-div-succ, div-eq_of_lt}
-use Rattle.std.proofs.lemmas.Nat.{pow-add, pow_pos}
-use Rattle.std.proofs.lemmas.Bool.{cases_Bool, eqb-true, lt-ltb, le-ltb}
+use Rattle.std.proofs.Math.Nat.{pow-succ', pow-le-pow_right}
+use Rattle.std.proofs.lemmas.Nat.{pow-add}
+use Rattle.std.proofs.lemmas.Bool.{cases_Bool, cases_lt, eqb-true, lt-ltb, le-ltb}
 use Rattle.pe_text.specs.Text.{glyph, hex, width_from}
 
 -- a shift by four bits a digit
-pub shift-digits : (k : ℕ) → 2 ^ (4 * k) ≡ 16 ^ k
+shift-digits : (k : ℕ) → 2 ^ (4 * k) ≡ 16 ^ k
 shift-digits zero = refl
 shift-digits (suc k) = let e : 4 * suc k ≡ 4 + 4 * k = omega arith in rw (e, pow-add 2 4 (4 * k), shift-digits k, pow-succ' 16 k) refl
 
--- the digits hold all of a number, of which a shift by them leaves nothing
-fits : (k n : ℕ) → n / 2 ^ (4 * k) ≡ 0 → n < 16 ^ k
-fits k n e = rw (← shift-digits k) (let below = lt-mul-div-succ n {b = 2 ^ (4 * k)} (pow_pos (4 * k)) in let b = rw e at below in omega arith)
-
--- they do not
-passes : (k n : ℕ) → (n / 2 ^ (4 * k) ≡ 0 → ⊥) → 16 ^ k ≤ n
-passes k n ne = let no : n < 16 ^ k → ⊥ = λ below. ne (rw (shift-digits k) (div-eq_of_lt below)) in omega arith
-
--- no more digits are needed
-pub width_from-enough : (more k n : ℕ) → n / 2 ^ (4 * k) ≡ 0 → width_from more k n ≡ k
+-- the least width that holds a number
+width_is : (more k w n : ℕ) → k ≤ w → w ≤ k + more → ((j : ℕ) → j < w → 16 ^ j ≤ n) → n < 16 ^ w → width_from more k n ≡ w
 unfolding width_from
-width_from-enough zero k n e = refl
-width_from-enough (suc more) k n e = rw (lt-ltb n (16 ^ k) (fits k n e)) refl
+width_is zero k w n low high least holds = omega arith
+width_is (suc more) k w n low high least holds = elim (cases_lt k w) [
+  | inl below ↦ rw (le-ltb n (16 ^ k) (least k below)) (width_is more (k + 1) w n (omega arith) (omega arith) least holds)
+  | inr there ↦ (let e : k ≡ w = omega arith in rw (lt-ltb n (16 ^ k) (rw (sym e) at holds)) e)
+]
 
--- one more is needed
-pub width_from-more : (more k n : ℕ) → (n / 2 ^ (4 * k) ≡ 0 → ⊥) → width_from (suc more) k n ≡ width_from more (k + 1) n
+-- that of a number with this highest bit
+pub width_of_bit : (bit n : ℕ) → bit < 64 → 2 ^ bit ≤ n → n < 2 * 2 ^ bit → width_from 15 1 n ≡ bit / 4 + 1
+width_of_bit bit n small le lt =
+    let least : (j : ℕ) → j < bit / 4 + 1 → 16 ^ j ≤ n = λ j below. rw (sym (shift-digits j)) (omega (arith, le, pow-le-pow_right {n = 2} (omega arith) {i = 4 * j} {j = bit} (omega arith))) in
+    let more : 2 * 2 ^ bit ≤ 2 ^ (4 * (bit / 4 + 1)) = omega (arith, pow-add 2 1 bit, pow-le-pow_right {n = 2} (omega arith) {i = 1 + bit} {j = 4 * (bit / 4 + 1)} (omega arith)) in
+    let holds : n < 16 ^ (bit / 4 + 1) = rw (sym (shift-digits (bit / 4 + 1))) (omega (arith, lt, more)) in
+    width_is 15 1 (bit / 4 + 1) n (omega arith) (omega arith) least holds
+
+-- that of zero
+pub width_of_zero : width_from 15 1 0 ≡ 1
 unfolding width_from
-width_from-more more k n ne = rw (le-ltb n (16 ^ k) (passes k n ne)) refl
-
--- one more is needed, below sixteen
-pub width_from-next : (k n : ℕ) → k < 16 → (n / 2 ^ (4 * k) ≡ 0 → ⊥) → width_from (16 - (k + 1)) (k + 1) n ≡ width_from (16 - k) k n
-width_from-next k n below ne = let e : 16 - k ≡ suc (16 - (k + 1)) = omega arith in rw e (sym (width_from-more (16 - (k + 1)) k n ne))
+width_of_zero = refl
 
 -- one more digit stands before those at the end
 pub hex-before : (k n digit : ℕ) (digits : List ℕ) → k < 16 → length digits ≡ 16 → digit ≡ glyph (n / 2 ^ (4 * k) % 16) → drop (16 - k) digits ≡ hex k n

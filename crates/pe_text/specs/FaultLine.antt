@@ -3,11 +3,11 @@ use Rattle.std.specs.Prelude.{List, ℕ, ◌++◌, codes, decimal}
 use Rattle.pe_view.specs.declared.fault.Place.{Place}
 use Rattle.pe_view.specs.declared.fault.Place.TheVariants.{File, Rva, Address, Item}
 use Rattle.pe_view.specs.declared.fault.Fault.{Fault}
-use Rattle.pe_text.specs.Text.{hex, hex_8}
+use Rattle.pe_text.specs.Text.{hex, hex_at_least}
 
 -- where the fault stands; only an offset of a file may take more than the digits that are given
 unfoldable pub place_text : Place → List ℕ
-place_text (File offset) = codes "file 0x" ++ hex_8 offset
+place_text (File offset) = codes "file 0x" ++ hex_at_least 8 offset
 place_text (Rva rva) = codes "rva 0x" ++ hex 8 rva
 place_text (Address address) = codes "address 0x" ++ hex 16 address
 place_text (Item item) = codes "item " ++ decimal item

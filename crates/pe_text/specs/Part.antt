@@ -1,8 +1,8 @@
 -- The parts of a line.
 use Rattle.std.specs.Prelude.{ℕ, List, [], ◌∷◌, ◌++◌, Option, None, Some, codes, decimal, option_map}
 use Rattle.pe_text.specs.declared.part.Part.{Part}
-use Rattle.pe_text.specs.declared.part.Part.TheVariants.{Text, Quoted, Name, Decimal, Hex2, Hex4, Hex8, Hex16}
-use Rattle.pe_text.specs.Text.{hex, quoted}
+use Rattle.pe_text.specs.declared.part.Part.TheVariants.{Text, Quoted, Name, Decimal, Hex, Hex2, Hex4, Hex8, Hex16}
+use Rattle.pe_text.specs.Text.{hex, hex_at_least, quoted}
 
 -- a blank and a name, where there is one
 abbrev pub name_text : Option (List ℕ) → List ℕ
@@ -14,6 +14,7 @@ part_text (Text bytes) = bytes.now
 part_text (Quoted text) = quoted text.now
 part_text (Name name) = name_text (option_map (λ text. text.now) name)
 part_text (Decimal number) = decimal number
+part_text (Hex number least) = hex_at_least least number
 part_text (Hex2 number) = hex 2 number
 part_text (Hex4 number) = hex 4 number
 part_text (Hex8 number) = hex 8 number

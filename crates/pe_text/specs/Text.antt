@@ -1,5 +1,5 @@
 -- Numbers and texts as lines show them.
-use Rattle.std.specs.Prelude.{ℕ, ◌+◌, ◌/◌, ◌%◌, ◌^◌, ◌==◌, ◌&&◌, not, Bool, nat_lt, nat_le, if◌then◌else◌, zero, suc, List, [], ◌∷◌, ◌++◌, codes, flat_map}
+use Rattle.std.specs.Prelude.{ℕ, ◌+◌, ◌/◌, ◌%◌, ◌^◌, ◌==◌, ◌&&◌, not, Bool, nat_lt, nat_le, min, max, if◌then◌else◌, zero, suc, List, [], ◌∷◌, ◌++◌, codes, flat_map}
 
 -- a hexadecimal digit, in lower case
 abbrev pub glyph : ℕ → ℕ
@@ -15,13 +15,13 @@ unfoldable pub width_from : ℕ → ℕ → ℕ → ℕ
 width_from zero width n = width
 width_from (suc more) width n = if nat_lt n (16 ^ width) then width else width_from more (width + 1) n
 
--- the width of a number of at most 16 digits that is shown in 8 at least
-abbrev pub hex_8_width : ℕ → ℕ
-hex_8_width n = width_from 8 8 n
+-- how many hexadecimal digits a number of at most 16 has
+abbrev pub hex_width : ℕ → ℕ
+hex_width n = width_from 15 1 n
 
--- a number in 8 hexadecimal digits, or in more where it needs them
-abbrev pub hex_8 : ℕ → List ℕ
-hex_8 n = hex (hex_8_width n) n
+-- a number in `least` hexadecimal digits, or in more where it needs them, and in 16 at most
+abbrev pub hex_at_least : ℕ → ℕ → List ℕ
+hex_at_least least n = hex (min (max (hex_width n) least) 16) n
 
 -- the byte is printable ASCII
 abbrev pub is_printable : ℕ → Bool

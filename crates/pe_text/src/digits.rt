@@ -1,7 +1,7 @@
 //! Hexadecimal digits, and how many of them a number needs.
 
 ghost use Rattle.std.specs.Prelude.{◌≡◌, ◌-◌, ◌≤◌, ◌<◌, drop};
-ghost use Rattle.pe_text.specs.Text.{glyph, hex, width_from};
+ghost use Rattle.pe_text.specs.Text.{glyph, hex, hex_width};
 
 /// The most hexadecimal digits that a number has.
 pub(crate) const DIGITS: usize = 16;
@@ -32,16 +32,13 @@ pub(crate) fn hex_digits(width: usize, number: u64) -> [u8; DIGITS]
     digits
 }
 
-/// How many hexadecimal digits show the number, if there are to be so many at least.
-pub(crate) fn hex_width(least: u8, number: u64) -> u8
-    requires { least ≤ 16 }
-    ensures value { result ≡ width_from (16 - least) least number }
+/// How many hexadecimal digits a number has.
+pub fn hex_width(number: u64) -> u8
+    ensures value { result ≡ hex_width number }
     ensures bound { result ≤ 16 }
 {
-    for width in least..16 {
-        if number >> (4 * width) == 0 {
-            return width;
-        }
+    match number.checked_ilog2() {
+        Some(bit) => (bit / 4 + 1) as u8,
+        None => 1,
     }
-    16
 }

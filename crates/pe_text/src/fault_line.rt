@@ -16,7 +16,7 @@ fn write_place<W: Sink>(line: &mut TextWriter<W>, place: &Place)
     match place {
         Place::File(offset) => {
             line.text(b"file 0x");
-            line.hex_8(*offset);
+            line.hex_at_least(8, *offset);
         }
         Place::Rva(rva) => {
             line.text(b"rva 0x");

@@ -398,7 +398,7 @@ fn with_hex(words: FaultWords, at: &str, number: u64) -> ArrayVec<u8, 256>
     ensures text { result.items ≡ take 256 (words.subject.now ++ at.now ++ hex_text number ++ codes ": " ++ words.rule.now) }
     ensures short { length (hex_text number) ≤ 16 }
 {
-    let width = hex_width(1, number);
+    let width = hex_width(number);
     let digits = hex_digits(width as usize, number);
     with_place(words, at, &digits[DIGITS - width as usize..])
 }

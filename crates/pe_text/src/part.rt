@@ -1,4 +1,4 @@
-//! `Part` and `write_parts`: the parts of a line.
+//! `Part`, `write_part` and `write_parts`: the parts of a line.
 
 ghost use Rattle.std.specs.Prelude.{flat_map};
 ghost use Rattle.pe_text.specs.TextWriter.{IsReady, Adds};
@@ -18,6 +18,8 @@ pub enum Part<'a> {
     Name(Option<&'a [u8]>),
     /// A number in decimal.
     Decimal(u64),
+    /// A number in hexadecimal digits, so many at least.
+    Hex(u64, u8),
     /// A number in 2 hexadecimal digits.
     Hex2(u8),
     /// A number in 4 hexadecimal digits.
@@ -29,7 +31,7 @@ pub enum Part<'a> {
 }
 
 /// Adds a part.
-fn write_part<W: Sink>(line: &mut TextWriter<W>, part: &Part)
+pub fn write_part<W: Sink>(line: &mut TextWriter<W>, part: &Part)
     requires { IsReady W.failures line.old }
     ensures { Adds W.taken W.failures line.old line.new (part_text part.now) }
 {
@@ -42,6 +44,7 @@ fn write_part<W: Sink>(line: &mut TextWriter<W>, part: &Part)
             line.text(name);
         }
         Part::Decimal(number) => line.decimal(*number),
+        Part::Hex(number, least) => line.hex_at_least(*least, *number),
         Part::Hex2(number) => line.hex(2, u64::from(*number)),
         Part::Hex4(number) => line.hex(4, u64::from(*number)),
         Part::Hex8(number) => line.hex(8, *number),

@@ -2,7 +2,7 @@
 
 ghost use Rattle.std.specs.Prelude.{◌≡◌, ◌-◌, ◌^◌, ◌<◌, ◌≤◌, length, take, slice_index_or, [], decimal, flat_map, ℕ, List, true, false};
 ghost use Rattle.pe_text.specs.TextWriter.{WritesAll, Finishes};
-ghost use Rattle.pe_text.specs.Text.{hex, hex_8, is_plain, escaped, quoted};
+ghost use Rattle.pe_text.specs.Text.{hex, hex_at_least, is_plain, escaped, quoted};
 
 use crate::device::{Failed, Sink};
 use crate::digits::{DIGITS, hex_digits, hex_width};
@@ -154,12 +154,12 @@ impl<'w, W: Sink> TextWriter<'w, W> {
         self.text(&digits[DIGITS - width as usize..]);
     }
 
-    /// Adds a number in 8 hexadecimal digits, or in more where it needs them.
-    pub fn hex_8(&mut self, number: u64)
+    /// Adds a number in `least` hexadecimal digits, or in more where it needs them, and in 16 at most.
+    pub fn hex_at_least(&mut self, least: u8, number: u64)
         requires { IsReady W.failures self.old }
-        ensures { Adds W.taken W.failures self.old self.new (hex_8 number) }
+        ensures { Adds W.taken W.failures self.old self.new (hex_at_least least number) }
     {
-        self.hex(hex_width(8, number), number);
+        self.hex(hex_width(number).max(least).min(16), number);
     }
 
     /// Adds a byte of a quoted text that doesn't stand for itself: `\x` and two digits.

@@ -30,7 +30,7 @@ pub use pe_text::{
     Counted, Failed, FaultText, FaultWords, FileKind, Outcome, Sink, Source, ToolError,
     fault_words, file_kind, read_whole, status,
 };
-pub use pe_words::{MapFile, Shown, WordsError};
+pub use pe_words::{MapFile, WordsError};
 pub use rebasing::rebase;
 pub use set_report::map_report;
 pub use words::{Job, parse_words};

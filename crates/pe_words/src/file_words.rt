@@ -1,8 +1,9 @@
 //! The words of the commands that read files one by one: `show`, `check`, `dump`, `object` and `json`.
 
 use crate::builders::{flag, new_command, required_argument, with_argument};
-use crate::job::{Job, Shown, WordsError};
+use crate::job::{Job, WordsError};
 use clap::{Arg, ArgAction, ArgMatches, Command};
+use pe_text::ShowOptions;
 use std::alloc::{AllocError, Global};
 
 /// A command that reads files one by one.
@@ -111,13 +112,14 @@ fn files_of(alloc: Global, found: &ArgMatches<'_>) -> Result<Vec<String>, WordsE
 }
 
 /// What the options of `show` ask for.
-fn shown_of(found: &ArgMatches<'_>) -> Shown {
+fn options_of(found: &ArgMatches<'_>) -> ShowOptions {
     let is_all = found.get_flag("all");
-    Shown {
+    ShowOptions {
         exports: is_all || found.get_flag("exports"),
         imports: is_all || found.get_flag("imports"),
         relocations: is_all || found.get_flag("relocations"),
         symbols: is_all || found.get_flag("symbols"),
+        is_coloured: false,
     }
 }
 
@@ -140,7 +142,7 @@ pub(crate) fn file_job<P>(
 ) -> Result<Option<Job<P>>, WordsError> {
     let job = match name {
         "show" => Job::Show {
-            shown: shown_of(found),
+            options: options_of(found),
             files: files_of(alloc, found)?,
         },
         "json" => Job::Json {

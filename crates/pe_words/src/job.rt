@@ -1,5 +1,6 @@
 //! What the words of a command line ask for, or why they ask for nothing.
 
+use pe_text::ShowOptions;
 use pe_view::Place;
 use std::alloc::{AllocError, AllocFailed};
 
@@ -14,19 +15,6 @@ pub struct MapFile {
     pub name: String,
 }
 
-/// What `show` prints beside the page that it always does.
-#[derive(Clone, Copy, Debug, PartialEq, Eq)]
-pub struct Shown {
-    /// Each export.
-    pub exports: bool,
-    /// Each import.
-    pub imports: bool,
-    /// Each base relocation, or each relocation of an object.
-    pub relocations: bool,
-    /// Each symbol of an object.
-    pub symbols: bool,
-}
-
 /// What the words ask for.
 #[derive(Debug, Drop, PartialEq, Eq)]
 pub enum Job<P> {
@@ -38,9 +26,9 @@ pub enum Job<P> {
     CheckEach {
         files: Vec<String>,
     },
-    /// `show FILE...`: write a page on each image or object.
+    /// `show FILE...`: write a page on each image or object. No word asks for colours.
     Show {
-        shown: Shown,
+        options: ShowOptions,
         files: Vec<String>,
     },
     /// `json FILE...`: write what each image or object holds as a line of JSON.

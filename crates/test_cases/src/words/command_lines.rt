@@ -1,7 +1,7 @@
 //! Command lines, and what they ask for.
 
 use crate::numbers::bytes_of;
-use pe_tool::{Job, MapFile, Policy, Shown, WordsError, parse_words};
+use pe_tool::{Job, MapFile, Policy, ShowOptions, WordsError, parse_words};
 use std::alloc::Global;
 use std::str;
 
@@ -42,13 +42,14 @@ fn print_files<R: Print>(rt: &R, command: &str, files: &[String]) -> Option<()> 
 }
 
 /// Prints what a page is to show, and of which files.
-fn print_show<R: Print>(rt: &R, shown: Shown, files: &[String]) -> Option<()> {
-    let Shown {
+fn print_show<R: Print>(rt: &R, options: ShowOptions, files: &[String]) -> Option<()> {
+    let ShowOptions {
         exports,
         imports,
         relocations,
         symbols,
-    } = shown;
+        ..
+    } = options;
     println!(rt;
         "exports {exports} imports {imports} relocations {relocations} symbols {symbols}"
     ).ok()?;
@@ -60,7 +61,7 @@ fn print_job<R: Print>(rt: &R, job: &Job) -> Option<()> {
     match job {
         Job::Check { file } => println!(rt; "check {file}").ok(),
         Job::CheckEach { files } => print_files(rt, "check each", files),
-        Job::Show { shown, files } => print_show(rt, *shown, files),
+        Job::Show { options, files } => print_show(rt, *options, files),
         Job::Json { files } => print_files(rt, "json", files),
         Job::At { file, place } => println!(rt; "at {file} {place:?}").ok(),
         Job::Explain { number } => println!(rt; "explain {number:?}").ok(),

@@ -5,4 +5,4 @@ use Rattle.pe_show.proofs.exports.write_here.Goals as goal
 
 pub returns : goal.returns
 unfolding here_text
-returns g c = rw append-nil (c.write_right.ensures then (c.text.ensures then (c.write_hex.ensures then (c.text-2.ensures then c.write.ensures))))
+returns g c = rw append-nil (c.write_right.ensures then (c.text.ensures then (c.hex_at_least.ensures then (c.text-2.ensures then c.write.ensures))))

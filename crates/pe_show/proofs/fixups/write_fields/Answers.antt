@@ -6,4 +6,4 @@ pub returns : goal.returns
 unfolding fields_row
 returns g c =
     let word = rw c.kind_word.ensures at c.text-3.ensures in
-    c.text.ensures then (c.write_hex.ensures then (c.text-2.ensures then (word then (c.text-4.ensures then (c.write_each.ensures then c.text-5.ensures)))))
+    c.text.ensures then (c.hex_at_least.ensures then (c.text-2.ensures then (word then (c.text-4.ensures then (c.write_each.ensures then c.text-5.ensures)))))

@@ -4,4 +4,4 @@ use Rattle.pe_show.proofs.imports.write_import.Goals as goal
 
 pub returns : goal.returns
 unfolding import_row
-returns g c = c.text.ensures then (c.write_hex.ensures then (c.text-2.ensures then (c.write_key.ensures then c.text-3.ensures)))
+returns g c = c.text.ensures then (c.hex_at_least.ensures then (c.text-2.ensures then (c.write_key.ensures then c.text-3.ensures)))

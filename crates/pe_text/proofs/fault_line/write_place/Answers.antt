@@ -4,7 +4,7 @@ use Rattle.pe_text.proofs.fault_line.write_place.Goals as goal
 
 pub returns-in-File : goal.returns-in-File
 unfolding place_text
-returns-in-File g c = rw c.in-File.is (c.text.ensures then c.hex_8.ensures)
+returns-in-File g c = rw c.in-File.is (c.text.ensures then c.hex_at_least.ensures)
 
 pub returns-in-Rva : goal.returns-in-Rva
 unfolding place_text

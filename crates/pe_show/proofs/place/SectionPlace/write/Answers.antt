@@ -5,7 +5,7 @@ use Rattle.pe_show.proofs.place.SectionPlace.write.Goals as goal
 
 pub returns-in-Some : goal.returns-in-Some
 unfolding place_text
-returns-in-Some g c = rw c.in-Some.is (c.write_name.ensures then (c.text.ensures then c.write_hex.ensures))
+returns-in-Some g c = rw c.in-Some.is (c.write_name.ensures then (c.text.ensures then c.hex_at_least.ensures))
 
 pub returns-in_default : goal.returns-in_default
 unfolding place_text
