@@ -34,8 +34,8 @@ fn write_detail<W: Sink>(text: &mut TextWriter<W>, file: View, fault: &Fault)
     write_parts(text, &amount_parts(third.0, third.1));
 }
 
-/// Adds the row of a file's fault, if there is one: `Fault 13: section header at 0x138: the section's raw data passes the end of
-/// the file: 16 bytes at 0x200, and the file has 520`.
+/// Adds the row of a file's fault, if there is one: `Fault 13: section header at 0x138: the section's raw data extends past the
+/// end of the file: 16 bytes at 0x200, and the file has 520`.
 pub(crate) fn write_refusal<W: Sink>(
     text: &mut TextWriter<W>,
     options: &ShowOptions,
