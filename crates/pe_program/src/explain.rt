@@ -364,7 +364,9 @@ fn print_fault(rt: &impl Print, row: &Explained) -> io::Result<()> {
     let Some(FaultWords { subject, rule }) = fault_words(number) else {
         return Ok(());
     };
-    println!(rt; "fault {number}: {subject}: {rule}\n  Reported when {stands}.\n  Typical case: {met}.")
+    println!(rt;
+        "fault {number}: {subject}: {rule}\n  Reported when {stands}.\n  Typical case: {met}."
+    )
 }
 
 /// Prints the words of a fault, in one line.

@@ -16,8 +16,7 @@ const BASE: &str = "The image's new base";
 const SOURCE: &str = "The image's file";
 
 /// What help says of the file that is written.
-const TARGET: &str =
-    "The file to write, which may not be IN; it is left alone if IN is refused";
+const TARGET: &str = "The file to write, which may not be IN; it is left alone if IN is refused";
 
 /// The subcommand `rebase`.
 pub(crate) fn rebase_command<'a>(alloc: Global) -> Result<Command<'a>, AllocError> {

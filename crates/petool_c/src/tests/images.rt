@@ -405,6 +405,10 @@ fn faults_have_words(rt: HostRuntime) {
     assert_holds(&rt, 0, is(subject.bytes, b"?") && is(rule.bytes, b"?"));
     assert_holds(&rt, 1, petool_fault_words(9, &mut subject, &mut rule) == 0);
     assert_holds(&rt, 1, is(subject.bytes, b"NumberOfSections"));
-    assert_holds(&rt, 1, is(rule.bytes, b"the image has more than 96 sections"));
+    assert_holds(
+        &rt,
+        1,
+        is(rule.bytes, b"the image has more than 96 sections"),
+    );
     assert_holds(&rt, 2, petool_version() == 0x1_0000);
 }
