@@ -1,7 +1,7 @@
 #!/usr/bin/env python3
 """Compares pages with what they tell of, and says what differs: docs_check.py
 
-- PROVED.md: the public functions that have conditions, and the tests that it names; TESTS.md: its tests and wrong bodies
+- PROVED.md: the public functions that have conditions, and the tests that it names; TESTS.md: the tests that it names
 - MAP.md: each file and each proof by hand that it names is there (its crates, and FILES.md, are compared by file_rows.py)
 - GUIDE.md and petool(1): the commands, options and arguments of the program that PETOOL_PROGRAM names, and README.md, which may
   leave out options; without that program this is left out
@@ -214,16 +214,6 @@ def list_faults():
     yield from (f"{PROVED}: there is no {it}" for it in LISTS if not (TOP / it).is_file())
 
 
-def edit_faults():
-    """Whether the edits are there by which TESTS.md says that wrong bodies are planted."""
-    for row in rows(section(read(TESTS), "## Wrong bodies")):
-        crate = ""
-        for before, name in re.findall(r"(?:(\w+) )?`([a-z]\w*)`", row[1]):
-            crate = before or crate
-            if not (TOP / f"crates/{crate}/must-fail/{name}.edit").is_file():
-                yield f"{TESTS}: there is no edit {name} of {crate}"
-
-
 def said(program, *words):
     return subprocess.run([program, *words], stdout=subprocess.PIPE, check=True, text=True).stdout
 
@@ -355,7 +345,7 @@ def trust_faults(page):
 def comparisons(program):
     """Of each comparison what is wrong: nothing where page and source agree."""
     yield condition_faults()
-    yield from (file_faults(), proof_faults(), list_faults(), edit_faults(), version_faults())
+    yield from (file_faults(), proof_faults(), list_faults(), version_faults())
     yield from map(test_faults, (PROVED, TESTS))
     yield from map(trust_faults, (PROVED, README))
     if program:

@@ -88,6 +88,13 @@ def lemma_row(crate):
     return [f"| [proofs](../crates/{crate}/proofs) | Modules of lemmas: {len(modules)}. {told} | |"] if modules else []
 
 
+def edit_row(crate):
+    """The row that names the wrong bodies of a crate, if it has any."""
+    edits = sorted(path.stem for path in (TOP / "crates" / crate / "must-fail").glob("*.edit"))
+    told = ", ".join(f"`{it}`" for it in edits)
+    return [f"| [must-fail](../crates/{crate}/must-fail) | Wrong bodies that the prover refuses: {len(edits)}. | {told} |"] if edits else []
+
+
 def crates():
     """The crates, each behind those that it stands on."""
     below = crates_below()
@@ -147,7 +154,7 @@ def filled(path, name, lines):
 def crate_part(crate):
     """The heading of a crate, the first paragraph of its page, and its rows."""
     yield from ("", f"## {crate}", "", purpose(crate))
-    rows = [*map(row, files_of(crate)), *lemma_row(crate)]
+    rows = [*map(row, files_of(crate)), *lemma_row(crate), *edit_row(crate)]
     if rows:
         yield from ("", "| File | What it holds | Names |", "|---|---|---|", *rows)
 

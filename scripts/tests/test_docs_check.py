@@ -45,7 +45,6 @@ NAMED = [
     (PROVED, "`bindings/c/tests/memory.c`", "`bindings/c/tests/room.c`", f"{PROVED}: there is no test bindings/c/tests/room.c"),
     (TESTS, "`refusals.rt` | `rt ci`", "`refusal.rt` | `rt ci`", f"{TESTS}: there is no test refusal.rt"),
     (TESTS, "`bindings/rust` |", "`bindings/rusts` |", f"{TESTS}: there is no test bindings/rusts"),
-    (TESTS, "`leaves_the_fields`", "`leaves_each_field`", f"{TESTS}: there is no edit leaves_each_field of pe_write"),
 ]
 VERSIONS = [
     ("VERSION", "1.0", "1.1", "man/petool.1: the version is 1.0, and that of VERSION 1.1"),
@@ -125,7 +124,7 @@ class TestDocsCheck(unittest.TestCase):
     def test_files_and_proofs_by_hand_are_there(self):
         self.assert_named(FILES)
 
-    def test_tests_and_edits_are_there(self):
+    def test_tests_are_there(self):
         self.assert_named(NAMED)
 
     def test_lists_of_cases_are_there(self):
