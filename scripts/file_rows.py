@@ -1,10 +1,9 @@
 #!/usr/bin/env python3
-"""Writes docs/FILES.md, a row for each source of the crates, the bindings and the scripts; the crates in docs/MAP.md; and the laws in
-docs/PROVED.md: file_rows.py [--check]
+"""Writes docs/FILES.md, a row for each source, the crates in docs/MAP.md and the laws in docs/PROVED.md: file_rows.py [--check]
 
 A row has the comment that the file begins with, and the names that it declares for other files. That of a crate has what its first
 page says, and what it names in crates.txt; a law has its comment. With --check nothing is written: each file is compared with its
-row, and the other pages; the last line is 'N passed, M failed', and the status is 1 where something differs.
+row, and the three pages with what is written; the last line is 'N passed, M failed', and the status is 1 where something differs.
 """
 
 import ast
@@ -92,7 +91,8 @@ def edit_row(crate):
     """The row that names the wrong bodies of a crate, if it has any."""
     edits = sorted(path.stem for path in (TOP / "crates" / crate / "must-fail").glob("*.edit"))
     told = ", ".join(f"`{it}`" for it in edits)
-    return [f"| [must-fail](../crates/{crate}/must-fail) | Wrong bodies that the prover refuses: {len(edits)}. | {told} |"] if edits else []
+    text = f"| [must-fail](../crates/{crate}/must-fail) | Wrong bodies that the prover refuses: {len(edits)}. | {told} |"
+    return [text] if edits else []
 
 
 def crates():
