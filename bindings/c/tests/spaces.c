@@ -33,7 +33,7 @@ static void check_judging(void)
     CHECK(count == 99 && cycle == 77);
     CHECK(petool_judge(wrong, 2, true, rows, 2, &count, &cycle, &fault) == PETOOL_OK && count == 0);
 
-    /* a base that is no multiple of 65,536 */
+    /* a base that is not a multiple of 65,536 */
     wrong[0] = entry("b.dll", vb, 0x20000001);
     CHECK(petool_judge(wrong, 1, false, rows, 2, &count, &cycle, &fault) == PETOOL_FAULT);
     CHECK(fault.number == 44 && fault.image == 0 && fault.place == PETOOL_PLACE_ADDRESS && fault.at == 0x20000001);
