@@ -42,7 +42,7 @@ static EXPLAINED: [Explained; 69] = [
     ),
     (
         7,
-        "SizeOfOptionalHeader is less than 96 bytes in PE32 or 112 in PE32+, plus 8 for each of the directories that NumberOfRvaAndSizes counts, up to 16 NumberOfRvaAndSizes counts, up to 16",
+        "SizeOfOptionalHeader is less than 96 bytes in PE32 or 112 in PE32+, plus 8 for each of the directories that NumberOfRvaAndSizes counts, up to 16",
         "headers that were packed by hand so that the optional header looks shorter than it is",
     ),
     (
