@@ -79,7 +79,7 @@ enum {
 /* from describe/records.txt: fault */
 typedef struct petool_fault {
     uint16_t number; /* as in docs/FAULTS.md, from 1 to 85 */
-    uint16_t image;  /* of a set the index of the entry, else 0 */
+    uint16_t image;  /* the index of the entry in a set; otherwise 0 */
     uint32_t place;  /* what `at` counts: a PETOOL_PLACE */
     uint64_t at;
 } petool_fault;
@@ -104,7 +104,7 @@ uint32_t petool_check(const uint8_t *file, size_t len, petool_fault *fault);
 
 /* from describe/records.txt: directory */
 typedef struct petool_directory {
-    uint32_t rva, size; /* of the certificate table, directory 4, rva is a file offset */
+    uint32_t rva, size; /* for the certificate table, directory 4, rva is a file offset */
 } petool_directory;
 /* end of describe/records.txt */
 
@@ -125,7 +125,7 @@ typedef struct petool_headers {
 } petool_headers;
 
 typedef struct petool_section {
-    uint8_t name[8];    /* filled up with zero bytes */
+    uint8_t name[8];    /* padded with zero bytes */
     uint32_t rva;       /* of the first byte */
     uint32_t extent;    /* how many bytes of the laid-out image the section takes */
     uint32_t file_size; /* how many of these, from the first on, come from the file */
@@ -157,20 +157,20 @@ enum { PETOOL_TARGET_RVA = 0, PETOOL_TARGET_ORDINAL = 1, PETOOL_TARGET_NAME = 2 
 /* from describe/records.txt: target, export, import, fixup */
 typedef struct petool_target {
     uint32_t kind;            /* a PETOOL_TARGET: an RVA of the image, or an ordinal or a name of another module */
-    uint32_t value;           /* the RVA, or the ordinal at the other module; 0 beside a name */
-    petool_text module, name; /* of a forwarder; else empty */
+    uint32_t value;           /* the RVA, or the ordinal in the other module; 0 for a name */
+    petool_text module, name; /* of a forwarder; otherwise empty */
 } petool_target;
 
 typedef struct petool_export {
-    uint64_t ordinal; /* of an export by ordinal, which may pass 2^32; else 0 */
-    petool_text name; /* of an export by name; else empty */
+    uint64_t ordinal; /* the ordinal of an export by ordinal, which may exceed 2^32; otherwise 0 */
+    petool_text name; /* the name of an export by name; otherwise empty */
     petool_target target;
 } petool_export;
 
 typedef struct petool_import {
-    petool_text module, name; /* name is empty of an import by ordinal */
+    petool_text module, name; /* name is empty for an import by ordinal */
     uint32_t slot;            /* the RVA of its slot */
-    uint16_t ordinal;         /* of an import by ordinal; else 0 */
+    uint16_t ordinal;         /* the ordinal of an import by ordinal; otherwise 0 */
     bool by_ordinal;
 } petool_import;
 
@@ -268,9 +268,9 @@ uint32_t petool_rebase(const uint8_t *file, size_t len, uint64_t base, uint8_t *
 
 /* from describe/records.txt: entry, binding */
 typedef struct petool_entry {
-    petool_text name; /* of the module, as "kernel32.dll"; the case of ASCII letters does not count */
+    petool_text name; /* the module's name, such as "kernel32.dll"; the case of ASCII letters is ignored */
     petool_text file; /* all bytes of its file */
-    uint64_t base;    /* where it is to stand */
+    uint64_t base;    /* the image's base */
 } petool_entry;
 
 typedef struct petool_binding {
@@ -339,7 +339,7 @@ typedef struct petool_object_header {
 } petool_object_header;
 
 typedef struct petool_section_header {
-    uint8_t name[8];          /* a name, filled up with zero bytes, or where it stands in the string table */
+    uint8_t name[8];          /* a name, padded with zero bytes, or its offset in the string table */
     uint32_t virtual_size, virtual_address, size_of_raw_data, pointer_to_raw_data, pointer_to_relocations, pointer_to_linenumbers;
     uint16_t number_of_relocations, number_of_linenumbers;
     uint32_t characteristics; /* the section's flags */
@@ -348,15 +348,15 @@ typedef struct petool_section_header {
 
 /* from describe/records.txt: object_section, object_relocation */
 typedef struct petool_object_section {
-    petool_text name, bytes; /* bytes are empty where none stand in the file */
-    uint32_t absent_size;    /* then SizeOfRawData, else 0 */
+    petool_text name, bytes; /* bytes are empty if the file holds none */
+    uint32_t absent_size;    /* then SizeOfRawData; otherwise 0 */
     uint32_t virtual_size, virtual_address, characteristics, relocation_count;
 } petool_object_section;
 
 typedef struct petool_object_relocation {
     uint32_t address; /* the offset of the reference in the section's bytes */
-    uint32_t symbol;  /* the index of the symbol's record, auxiliary records counted */
-    uint32_t kind;    /* by the machine's own table of types */
+    uint32_t symbol;  /* the index of the symbol's record, counting auxiliary records */
+    uint32_t kind;    /* the type, which depends on the machine */
 } petool_object_relocation;
 /* end of describe/records.txt */
 
@@ -365,8 +365,8 @@ enum { PETOOL_SECTION_UNDEFINED = 0, PETOOL_SECTION_ABSOLUTE = 0xffff, PETOOL_SE
 /* from describe/records.txt: object_symbol */
 typedef struct petool_object_symbol {
     petool_text name, aux;   /* aux has 18 bytes for each auxiliary record */
-    uint32_t index;          /* of the symbol's record, by which relocations name it */
-    uint32_t value;          /* by the section and the class */
+    uint32_t index;          /* the index of the symbol's record, to which relocations refer */
+    uint32_t value;          /* its meaning depends on the section and the class */
     uint16_t section_number; /* counted from 1, or a PETOOL_SECTION */
     uint16_t kind;
     uint8_t class_;          /* the storage class */

@@ -22,8 +22,8 @@ class Directory:
     """Where a table of the image stands, and how many bytes it has."""
 
     # from describe/records.txt: directory
-    rva: int  #: where its table begins in the image, of the certificate table in the file; 0 where there is none
-    size: int  #: how many bytes the table has, as the file says
+    rva: int  #: where its table begins in the image, or for the certificate table in the file; 0 if there is none
+    size: int  #: the table's size, as the file has it
     # end of describe/records.txt
 
 
@@ -38,20 +38,20 @@ class Headers:
     time_date_stamp: int  #: when the image was made, in seconds since 1970, as written
     pointer_to_symbol_table: int  #: the file offset of the symbol table, which is not read
     number_of_symbols: int  #: how many records the symbol table has
-    size_of_optional_header: int  #: the bytes from the optional header to the section table
+    size_of_optional_header: int  #: the bytes from the beginning of the optional header to the section table
     characteristics: int  #: flags of the image
-    magic: int  #: the form of the optional header: 0x10b of PE32, 0x20b of PE32+
+    magic: int  #: 0x10b for PE32, 0x20b for PE32+
     major_linker_version: int  #: the linker's version
     minor_linker_version: int  #: the second part of the linker's version
-    size_of_code: int  #: the bytes of all code
-    size_of_initialized_data: int  #: the bytes of all initialized data
-    size_of_uninitialized_data: int  #: the bytes of all uninitialized data
+    size_of_code: int  #: the size of all code
+    size_of_initialized_data: int  #: the size of all initialized data
+    size_of_uninitialized_data: int  #: the size of all uninitialized data
     address_of_entry_point: int  #: the RVA where the image starts to run, or 0
     base_of_code: int  #: the RVA where code begins
     base_of_data: int  #: the RVA where data begins; 0 in PE32+
-    image_base: int  #: the address at which the image prefers to stand
-    section_alignment: int  #: the alignment of sections in the laid-out image, in bytes
-    file_alignment: int  #: the alignment of raw data in the file, in bytes
+    image_base: int  #: the preferred address of the image
+    section_alignment: int  #: the alignment of sections in the laid-out image
+    file_alignment: int  #: the alignment of raw data in the file
     major_operating_system_version: int  #: the operating system's version that the image needs
     minor_operating_system_version: int  #: the second part of the operating system's version
     major_image_version: int  #: the image's own version
@@ -59,17 +59,17 @@ class Headers:
     major_subsystem_version: int  #: the subsystem's version that the image needs
     minor_subsystem_version: int  #: the second part of the subsystem's version
     win32_version_value: int  #: reserved
-    size_of_image: int  #: the bytes of the laid-out image
-    size_of_headers: int  #: the bytes of the headers, as a piece of the laid-out image
-    check_sum: int  #: as it is written; it is not computed
+    size_of_image: int  #: the size of the laid-out image
+    size_of_headers: int  #: the size of the headers in the laid-out image
+    check_sum: int  #: as written; it is not computed
     subsystem: int  #: what the image needs to run
     dll_characteristics: int  #: flags of a library
-    size_of_stack_reserve: int  #: the bytes of stack to reserve
-    size_of_stack_commit: int  #: the bytes of stack to commit
-    size_of_heap_reserve: int  #: the bytes of heap to reserve
-    size_of_heap_commit: int  #: the bytes of heap to commit
+    size_of_stack_reserve: int  #: how many bytes of stack to reserve
+    size_of_stack_commit: int  #: how many bytes of stack to commit
+    size_of_heap_reserve: int  #: how many bytes of heap to reserve
+    size_of_heap_commit: int  #: how many bytes of heap to commit
     loader_flags: int  #: reserved
-    number_of_rva_and_sizes: int  #: how many directories there are; at most 16 are held
+    number_of_rva_and_sizes: int  #: how many directories there are; at most 16 are kept
     directories: Tuple[Directory, ...]  #: 16 of them; those that the headers do not hold are 0
     # end of describe/records.txt
 
@@ -77,13 +77,13 @@ class Headers:
 @dataclass(frozen=True)
 class Section:
     # from describe/records.txt: section
-    name: bytes  #: the name, without the zero bytes behind it
+    name: bytes  #: the name, without the zero bytes after it
     rva: int  #: the RVA of the first byte
     extent: int  #: how many bytes of the laid-out image the section takes
     file_size: int  #: how many of these, from the first on, come from the file
-    pointer_to_raw_data: int  #: the file offset of the first byte, as the header has it
-    size_of_raw_data: int  #: the size in the file, as the header has it
-    virtual_size: int  #: the size in the laid-out image, as the header has it
+    pointer_to_raw_data: int  #: the file offset of the first byte, as in the header
+    size_of_raw_data: int  #: the size in the file, as in the header
+    virtual_size: int  #: the size in the laid-out image, as in the header
     characteristics: int  #: the section's flags
     # end of describe/records.txt
 

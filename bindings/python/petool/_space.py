@@ -38,7 +38,7 @@ class Moved(NamedTuple):
 
     # from describe/records.txt: moved
     fields: int  #: how many fields of the image
-    slots: int  #: how many bound slots of all images
+    slots: int  #: how many bound slots, of all images
     # end of describe/records.txt
 
 
