@@ -12,11 +12,11 @@ from ._bytes import LAYOUTS, Buffer, FileBytes, RowLayout, Rows, first_rows, rea
 from ._file import OfFile
 from ._library import library
 
-SECTION_UNDEFINED = 0  #: a symbol's section number that names no section
+SECTION_UNDEFINED = 0  #: the section number of a symbol that is defined in another object
 SECTION_ABSOLUTE = 0xFFFF
 SECTION_DEBUG = 0xFFFE
 
-#: How many relocations at least are read at once, where there are so many.
+#: At least how many relocations are read at once, if there are that many.
 _WINDOW = 4096
 
 
@@ -152,9 +152,9 @@ class Object(OfFile):
         return self._symbols
 
     def relocations(self, section: int) -> Sequence[ObjectRelocation]:
-        """Those of one section, counted from 0. IndexError where there is no such section.
+        """Those of one section, counted from 0. IndexError if there is no such section.
 
-        They are read with those of the sections behind it, some thousands at once, so ask for section after section.
+        They are read with those of the sections after it, some thousands at once, so go through the sections in order.
         """
         if self._starts is None:
             self._starts = list(accumulate((it.relocation_count for it in self.sections), initial=0))

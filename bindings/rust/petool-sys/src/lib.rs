@@ -3,21 +3,21 @@
 //!
 //! Records have the names of the header without `petool_`, calls and constants have them as they are. The functions
 //! that the header defines in C alone, such as `petool_exports_init`, are not here: [`Text::NONE`] and the `NONE` of
-//! rows with texts are for what has to be set before a call.
+//! rows with texts are for what has to be initialized before a call.
 #![no_std]
 #![deny(missing_docs)]
 
 use core::ffi::{c_char, c_int, c_void};
 
-/// The call did what it is for.
+/// Done.
 pub const PETOOL_OK: u32 = 0;
-/// A rule of the format does not hold: the fault tells which, and where.
+/// A rule of the format is broken: the fault says which, and where.
 pub const PETOOL_FAULT: u32 = 1;
-/// A growth of memory was refused.
+/// Out of memory.
 pub const PETOOL_MEMORY: u32 = 2;
-/// The bytes pass the image, or there is no such text, export or section.
+/// Bytes outside the image or the file, or no such string, export, section, image or fault.
 pub const PETOOL_ABSENT: u32 = 3;
-/// There is too little room: the count tells how much is needed.
+/// Too little room: the count says how much is needed.
 pub const PETOOL_SMALL: u32 = 4;
 /// An argument has a value that it may not have; nothing was done.
 pub const PETOOL_ARGUMENT: u32 = 5;
@@ -33,7 +33,7 @@ pub const PETOOL_PLACE_ADDRESS: u32 = 2;
 /// A fault's place counts items of a list.
 pub const PETOOL_PLACE_ITEM: u32 = 3;
 
-/// The version of the header, as [`petool_version`] answers that of the library: the first part times 65,536, and the
+/// The version of the header, as [`petool_version`] returns that of the library: the first part times 65,536, plus the
 /// second.
 pub const PETOOL_VERSION: u32 = 0x10000;
 /// No image has more sections.
@@ -46,9 +46,9 @@ pub const PETOOL_TARGET_ORDINAL: u32 = 1;
 /// An export's target is a name of another module.
 pub const PETOOL_TARGET_NAME: u32 = 2;
 
-/// A symbol's section: it stands in another object.
+/// A symbol's section: the symbol is defined in another object.
 pub const PETOOL_SECTION_UNDEFINED: u16 = 0;
-/// A symbol's section: its value is no address.
+/// A symbol's section: its value is not an address.
 pub const PETOOL_SECTION_ABSOLUTE: u16 = 0xffff;
 /// A symbol's section: it is for debuggers.
 pub const PETOOL_SECTION_DEBUG: u16 = 0xfffe;
@@ -212,7 +212,7 @@ pub struct Target {
 }
 
 impl Target {
-    /// What stands in it before a call sets it.
+    /// Its value before a call sets it.
     pub const NONE: Target = Target {
         kind: 0,
         value: 0,
@@ -234,7 +234,7 @@ pub struct Export {
 }
 
 impl Export {
-    /// What stands in it before a call sets it.
+    /// Its value before a call sets it.
     pub const NONE: Export = Export {
         ordinal: 0,
         name: Text::NONE,
@@ -259,7 +259,7 @@ pub struct Import {
 }
 
 impl Import {
-    /// What stands in it before a call sets it.
+    /// Its value before a call sets it.
     pub const NONE: Import = Import {
         module: Text::NONE,
         name: Text::NONE,
@@ -408,7 +408,7 @@ pub struct ObjectSection {
 }
 
 impl ObjectSection {
-    /// What stands in it before a call sets it.
+    /// Its value before a call sets it.
     pub const NONE: ObjectSection = ObjectSection {
         name: Text::NONE,
         bytes: Text::NONE,
@@ -453,7 +453,7 @@ pub struct ObjectSymbol {
 }
 
 impl ObjectSymbol {
-    /// What stands in it before a call sets it.
+    /// Its value before a call sets it.
     pub const NONE: ObjectSymbol = ObjectSymbol {
         name: Text::NONE,
         aux: Text::NONE,
