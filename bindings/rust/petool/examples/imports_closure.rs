@@ -13,7 +13,7 @@ use std::{env, fs, io, process};
 
 const USAGE: &str = "usage: imports_closure PROGRAM FOLDER
 
-Tells who exports what a program imports: follows its imports, and those of each DLL of a folder to which they lead.
+Shows who exports what a program imports: follows its imports, and those of each DLL of a folder that they lead to.
 A DLL that is refused is told of on standard error, and counts as no file.";
 
 /// A search that passes more forwarders is given up.
