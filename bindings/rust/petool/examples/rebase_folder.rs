@@ -1,7 +1,7 @@
 //! Rebases the DLLs of a folder to bases that are apart, in the order of their names, and writes them to another folder:
 //! `rebase_folder [--base HEX] FOLDER OUT`.
 //!
-//! A DLL that is refused is told of, and left out.
+//! A DLL that is refused is reported, and left out.
 
 use petool::Image;
 use std::error::Error;
@@ -12,7 +12,7 @@ use std::{env, fs, io, process};
 const USAGE: &str = "usage: rebase_folder [--base HEX] FOLDER OUT
 
 Gives the DLLs of a folder bases that do not overlap, in the order of their names, and writes them to another folder.
-A DLL that is refused is told of, and left out.
+A DLL that is refused is reported, and left out.
 
   --base HEX  the first base, in hexadecimal; by default 10000000";
 
