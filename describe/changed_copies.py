@@ -42,7 +42,7 @@ COPIED = [
     *(f"crates/{crate}/src" for crate in CRATES + FAULT_CRATES),
 ]
 
-#: What is changed: the file, what stands in it, and what takes its place.
+#: What is changed: the file, what is in it, and what takes its place.
 WRITTEN = [
     ("bindings/c/layout.c", "AT(petool_fixup, field, 4)", "AT(petool_fixup, field, 8)"),
     ("bindings/c/petool.map", "PETOOL_0", "PETOOL_1"),
@@ -110,7 +110,7 @@ FAULTS_WRITTEN = [
     (RULES, "the file is larger than 2^32 bytes", "the file has over 2^31 bytes"),
     (RULES, '(9, "NumberOfSections"', '(9, "NumberOfSymbols"'),
     (RULES, '    (41, "file", "the set has more than 256 files"),\n', ""),
-    (RULES, '    (83, "section",', '    (82, "section",'),
+    (RULES, '    (\n        83,\n', '    (\n        82,\n'),
     (RULES, "; 69] = [", "; 68] = ["),
     (RULES, "static RULES", "static WORDS"),
     (EXPLAINED, "an MS-DOS, NE, LE or LX program", "an MS-DOS program"),

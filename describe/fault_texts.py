@@ -73,7 +73,7 @@ def part(faults: Faults, what: str) -> List[str]:
         return _names(faults)
     table = faults.tables[what]
     place = "Place and image" if any("image" in it.rows for it in table) else "Place"
-    head = f"| No. | Stands where | {place} | In words: what stands there, and what is wrong | Code |"
+    head = f"| No. | Condition | {place} | In words: what is there, and what is wrong | Code |"
     return [head, "|---|---|---|---|---|", *(f"| {' | '.join(_cells(it))} |" for it in table)]
 
 

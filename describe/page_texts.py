@@ -93,7 +93,7 @@ def _calls_table(description: Description) -> List[str]:
         if call.faults:
             rows.setdefault((call.faults, call.memory), []).append(f"`{call.name}`")
     lines = [f"| {', '.join(names)} | {faults} | {memory} |" for (faults, memory), names in rows.items()]
-    return ["| Call | Faults that it may tell | Memory |", "|---|---|---|", *lines]
+    return ["| Call | Faults that it may report | Memory |", "|---|---|---|", *lines]
 
 
 def _fields_table(description: Description) -> List[str]:

@@ -84,7 +84,7 @@ def _none(description: Description, record: Record) -> List[str]:
     """The constant of a record with texts, none of which may be null before a call."""
     name = record.camel()
     fields = [f"        {it.name}: {_blank(description, it)}," for it in record.fields]
-    about = "    /// What stands in it before a call sets it."
+    about = "    /// Its value before a call sets it."
     return ["", f"impl {name} {{", about, f"    pub const NONE: {name} = {name} {{", *fields, "    };", "}"]
 
 

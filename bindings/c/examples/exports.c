@@ -1,7 +1,7 @@
 /* Lists what a DLL exports by name: exports FILE */
 #include "files.h"
 
-static const char usage[] = "usage: exports FILE\n\nLists what a DLL exports by name, and where each leads.\n";
+static const char usage[] = "usage: exports FILE\n\nLists what a DLL exports by name, and where each name leads.\n";
 
 static void print_target(petool_target target)
 {

@@ -16,8 +16,8 @@
 
 static const char usage[] =
     "usage: imports_closure PROGRAM FOLDER\n\n"
-    "Tells who exports what a program imports: follows its imports, and those of each DLL of a folder to which they lead.\n"
-    "A DLL that is refused is told of on standard error, and counts as no file.\n";
+    "Shows who exports what a program imports: follows its imports, and those of each DLL of a folder that they lead to.\n"
+    "A DLL that is refused is reported on standard error, and counts as missing.\n";
 
 /* An image: the program, or a file of the folder, which is read when it is first asked for. */
 typedef struct module {

@@ -8,10 +8,10 @@
 #define UNIT 0x10000
 
 static const char usage[] = "usage: map FILE...\n\n"
-                            "Maps images behind one another from 0x10000000 on, moves the one in the middle, and tells each time\n"
-                            "where they stand and what their first bound slots hold.\n";
+                            "Maps images one after another from 0x10000000 on, moves the one in the middle, and shows each time\n"
+                            "where they are and what their first bound slots hold.\n";
 
-/* Where each image stands. */
+/* Where each image is. */
 static void show_images(petool_space *space, size_t images)
 {
     size_t i;

@@ -11,9 +11,9 @@
 
 static const char usage[] =
     "usage: rebase_folder [--base HEX] FOLDER OUT\n\n"
-    "Rebases the DLLs of a folder to bases that are apart, in the order of their names, and writes them to another folder.\n"
-    "A DLL that is refused is told of, and left out.\n\n"
-    "  --base HEX  the first base, in hexadecimal; else 10000000\n";
+    "Gives the DLLs of a folder bases that do not overlap, in the order of their names, and writes them to another folder.\n"
+    "A DLL that is refused is reported, and left out.\n\n"
+    "  --base HEX  the first base, in hexadecimal; by default 10000000\n";
 
 static int is_dll(const struct dirent *entry)
 {

@@ -1,7 +1,7 @@
 #!/usr/bin/env python3
-"""Tells who exports what a program imports: follows its imports, and those of each DLL of a folder to which they lead.
+"""Shows who exports what a program imports: follows its imports, and those of each DLL of a folder that they lead to.
 
-A DLL that is refused is told of on standard error, and counts as no file.
+A DLL that is refused is reported on standard error, and counts as missing.
 """
 
 import argparse

@@ -1,7 +1,7 @@
 #!/usr/bin/env python3
-"""Rebases the DLLs of a folder to bases that are apart, in the order of their names, and writes them to another folder.
+"""Gives the DLLs of a folder bases that do not overlap, in the order of their names, and writes them to another folder.
 
-A DLL that is refused is told of, and left out.
+A DLL that is refused is reported, and left out.
 """
 
 import argparse
@@ -40,7 +40,7 @@ def main() -> int:
     arguments = argparse.ArgumentParser(description=__doc__)
     arguments.add_argument("folder", type=pathlib.Path)
     arguments.add_argument("out", type=pathlib.Path)
-    arguments.add_argument("--base", type=hexadecimal, default=0x10000000, metavar="HEX", help="the first base; else 10000000")
+    arguments.add_argument("--base", type=hexadecimal, default=0x10000000, metavar="HEX", help="the first base; by default 10000000")
     words = arguments.parse_args()
     try:
         rebase_folder(words.folder, words.out, words.base)

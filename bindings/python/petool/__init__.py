@@ -1,4 +1,4 @@
-"""Reads, judges and moves PE images and COFF objects, from files that may be hostile, by proved calls of libpetool.
+"""Reads, judges and moves PE images, and reads COFF objects, from files that may be hostile, with the proved calls of libpetool.
 
     import petool
 
@@ -10,19 +10,19 @@
 
 What is raised:
 
-- ``FormatFault``, a ``ValueError``: a rule of the format does not hold; its ``number`` is that of docs/FAULTS.md.
-- ``IndexError``: bytes that pass an image (``Image.read``, ``read_into``), or an index of no image (``Space.move``) or of no section
-  (``Object.relocations``).
+- ``FormatFault``, a ``ValueError``: a rule of the format is broken; its ``number`` is that of docs/FAULTS.md.
+- ``IndexError``: bytes that are not all in an image (``Image.read``, ``read_into``), or an index without an image (``Space.move``) or
+  without a section (``Object.relocations``).
 - ``KeyError``: nothing is exported under a key (``Image.exports[key]``). Both are ``LookupError``.
-- ``MemoryError``: memory was refused.
+- ``MemoryError``: out of memory.
 - ``OverflowError``: a base or an address has over 64 bits, or is negative.
 - ``ValueError``: an image, an object or a space was closed before the call.
-- ``TypeError`` and ``BufferError``: an object has no bytes that stand in one piece.
+- ``TypeError`` and ``BufferError``: an object's bytes are not in one piece.
 
-``Image.text`` and ``Image.locate`` answer None where there is nothing to answer.
+``Image.text`` and ``Image.locate`` return None if there is no such string or byte.
 
 Data is any object with the buffer protocol: bytes, bytearray, memoryview, mmap. It is not copied, and nobody may change it while a
-call runs. Calls do not hold the interpreter's lock. No call is made in a forked child of a process with threads.
+call runs. Calls do not hold the interpreter's lock. Make no call in a forked child of a process with threads.
 """
 
 from ._bytes import Buffer

@@ -1,4 +1,4 @@
-"""Bytes where they stand: those of a caller's object, whose address a call needs, and the rows that a call fills."""
+"""Bytes in place: those of a caller's object, whose address a call needs, and the rows that a call fills."""
 
 from __future__ import annotations
 
@@ -11,7 +11,7 @@ from typing import Any, Callable, Generic, Iterator, List, Sequence, Tuple, Type
 
 from . import _library, _records
 
-#: Anything with the buffer protocol whose bytes stand in one piece.
+#: Anything with the buffer protocol whose bytes are in one piece.
 Buffer = Union[bytes, bytearray, memoryview, mmap.mmap]
 Row = TypeVar("Row")
 
@@ -38,7 +38,7 @@ _release_buffer.restype = None
 
 
 def address_of(view: memoryview) -> int:
-    """Where the bytes of a view stand, for as long as the view is not released: it holds the buffer.
+    """Where the bytes of a view are, for as long as the view is not released: it holds the buffer.
 
     ctypes' own from_buffer wants bytes that may be written, so Python is asked itself: this takes `bytes` and a read-only
     mmap too, and copies nothing.
@@ -51,7 +51,7 @@ def address_of(view: memoryview) -> int:
 
 
 def view_of(data: Any) -> memoryview:
-    """A view of all bytes of an object. TypeError or BufferError where it has none that stand in one piece."""
+    """A view of all bytes of an object. TypeError or BufferError if they are not in one piece."""
     view = memoryview(data)
     if not view.c_contiguous:
         raise BufferError("the bytes do not stand in one piece")
@@ -71,7 +71,7 @@ class FileBytes:
         self.length = len(self._view)
 
     def hold(self) -> memoryview:
-        """A hold of the bytes for one call: until it goes they stand where they are, also if another thread calls close()."""
+        """A hold of the bytes for one call: until it is dropped they stay where they are, even if another thread calls close()."""
         try:
             return self._view[:]
         except ValueError:

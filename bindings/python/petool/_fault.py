@@ -1,4 +1,4 @@
-"""Faults: the rules of the format that do not hold, and what a call's status raises."""
+"""Faults: broken rules of the format, and what a call's status raises."""
 
 from __future__ import annotations
 
@@ -19,12 +19,12 @@ class Place(enum.IntEnum):
     ITEM = 3  #: items of a list
 
 
-#: How many bytes the longest line has, with the zero byte that ends it.
+#: How many bytes the longest line has, with the zero byte at its end.
 _LINE = 257
 
 
 def _words(number: int) -> Tuple[str, str]:
-    """What stands at the place of a fault, and which rule does not hold of it."""
+    """What is at the place of a fault, and which rule it breaks."""
     subject, rule = _library.no_text(), _library.no_text()
     if library.petool_fault_words(number, ctypes.byref(subject), ctypes.byref(rule)) != _library.OK:
         return "place", "no fault has this number"
@@ -41,18 +41,18 @@ def _line(fault: FormatFault) -> str:
 
 
 class FormatFault(ValueError):
-    """The first rule of the format that does not hold, in the order of docs/FAULTS.md.
+    """The first broken rule of the format, in the order of docs/FAULTS.md.
 
     ``str()`` is the fault in the words of the program ``petool``.
     """
 
     number: int  #: as in docs/FAULTS.md, from 1 to 85
-    image: int  #: of a set the index of the entry, else 0
+    image: int  #: the index of the entry in a set; otherwise 0
     place: Place  #: what ``at`` counts
     at: int
-    subject: str  #: what stands at the place
-    rule: str  #: which rule does not hold of it
-    cycle: Optional[int]  #: of fault 50 the length of the cycle of forwarders, else None
+    subject: str  #: what is at the place
+    rule: str  #: which rule it breaks
+    cycle: Optional[int]  #: for fault 50 the length of the cycle of forwarders; otherwise None
 
     def __init__(self, number: int, image: int, place: int, at: int, cycle: Optional[int] = None) -> None:
         super().__init__(number, image, place, at, cycle)
@@ -65,13 +65,13 @@ class FormatFault(ValueError):
 
 
 def raise_for(status: int) -> None:
-    """Raises what stands for a status that is neither OK, ABSENT nor SMALL, and no fault."""
+    """Raises the exception for a status that is neither OK, ABSENT nor SMALL, and not a fault."""
     if status == _library.MEMORY:
-        raise MemoryError("libpetool was refused memory")
+        raise MemoryError("libpetool is out of memory")
     if status == _library.CLOSED:
         raise ValueError("the space is closed")
     if status not in (_library.OK, _library.ABSENT, _library.SMALL):
-        raise RuntimeError(f"libpetool answered status {status}")
+        raise RuntimeError(f"libpetool returned status {status}")
 
 
 def ask(function: Any, *arguments: Any, cycle: Optional[ctypes.c_uint32] = None) -> int:

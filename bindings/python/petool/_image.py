@@ -19,11 +19,11 @@ from ._library import library
 
 @dataclass(frozen=True)
 class Directory:
-    """Where a table of the image stands, and how many bytes it has."""
+    """Where a table of the image is, and how many bytes it has."""
 
     # from describe/records.txt: directory
-    rva: int  #: where its table begins in the image, of the certificate table in the file; 0 where there is none
-    size: int  #: how many bytes the table has, as the file says
+    rva: int  #: where its table begins in the image, or for the certificate table in the file; 0 if there is none
+    size: int  #: the table's size, as the file has it
     # end of describe/records.txt
 
 
@@ -38,20 +38,20 @@ class Headers:
     time_date_stamp: int  #: when the image was made, in seconds since 1970, as written
     pointer_to_symbol_table: int  #: the file offset of the symbol table, which is not read
     number_of_symbols: int  #: how many records the symbol table has
-    size_of_optional_header: int  #: the bytes from the optional header to the section table
+    size_of_optional_header: int  #: the bytes from the beginning of the optional header to the section table
     characteristics: int  #: flags of the image
-    magic: int  #: the form of the optional header: 0x10b of PE32, 0x20b of PE32+
+    magic: int  #: 0x10b for PE32, 0x20b for PE32+
     major_linker_version: int  #: the linker's version
     minor_linker_version: int  #: the second part of the linker's version
-    size_of_code: int  #: the bytes of all code
-    size_of_initialized_data: int  #: the bytes of all initialized data
-    size_of_uninitialized_data: int  #: the bytes of all uninitialized data
+    size_of_code: int  #: the size of all code
+    size_of_initialized_data: int  #: the size of all initialized data
+    size_of_uninitialized_data: int  #: the size of all uninitialized data
     address_of_entry_point: int  #: the RVA where the image starts to run, or 0
     base_of_code: int  #: the RVA where code begins
     base_of_data: int  #: the RVA where data begins; 0 in PE32+
-    image_base: int  #: the address at which the image prefers to stand
-    section_alignment: int  #: the alignment of sections in the laid-out image, in bytes
-    file_alignment: int  #: the alignment of raw data in the file, in bytes
+    image_base: int  #: the preferred address of the image
+    section_alignment: int  #: the alignment of sections in the laid-out image
+    file_alignment: int  #: the alignment of raw data in the file
     major_operating_system_version: int  #: the operating system's version that the image needs
     minor_operating_system_version: int  #: the second part of the operating system's version
     major_image_version: int  #: the image's own version
@@ -59,17 +59,17 @@ class Headers:
     major_subsystem_version: int  #: the subsystem's version that the image needs
     minor_subsystem_version: int  #: the second part of the subsystem's version
     win32_version_value: int  #: reserved
-    size_of_image: int  #: the bytes of the laid-out image
-    size_of_headers: int  #: the bytes of the headers, as a piece of the laid-out image
-    check_sum: int  #: as it is written; it is not computed
+    size_of_image: int  #: the size of the laid-out image
+    size_of_headers: int  #: the size of the headers in the laid-out image
+    check_sum: int  #: as written; it is not computed
     subsystem: int  #: what the image needs to run
     dll_characteristics: int  #: flags of a library
-    size_of_stack_reserve: int  #: the bytes of stack to reserve
-    size_of_stack_commit: int  #: the bytes of stack to commit
-    size_of_heap_reserve: int  #: the bytes of heap to reserve
-    size_of_heap_commit: int  #: the bytes of heap to commit
+    size_of_stack_reserve: int  #: how many bytes of stack to reserve
+    size_of_stack_commit: int  #: how many bytes of stack to commit
+    size_of_heap_reserve: int  #: how many bytes of heap to reserve
+    size_of_heap_commit: int  #: how many bytes of heap to commit
     loader_flags: int  #: reserved
-    number_of_rva_and_sizes: int  #: how many directories there are; at most 16 are held
+    number_of_rva_and_sizes: int  #: how many directories there are; at most 16 are kept
     directories: Tuple[Directory, ...]  #: 16 of them; those that the headers do not hold are 0
     # end of describe/records.txt
 
@@ -77,20 +77,20 @@ class Headers:
 @dataclass(frozen=True)
 class Section:
     # from describe/records.txt: section
-    name: bytes  #: the name, without the zero bytes behind it
+    name: bytes  #: the name, without the zero bytes after it
     rva: int  #: the RVA of the first byte
     extent: int  #: how many bytes of the laid-out image the section takes
     file_size: int  #: how many of these, from the first on, come from the file
-    pointer_to_raw_data: int  #: the file offset of the first byte, as the header has it
-    size_of_raw_data: int  #: the size in the file, as the header has it
-    virtual_size: int  #: the size in the laid-out image, as the header has it
+    pointer_to_raw_data: int  #: the file offset of the first byte, as in the header
+    size_of_raw_data: int  #: the size in the file, as in the header
+    virtual_size: int  #: the size in the laid-out image, as in the header
     characteristics: int  #: the section's flags
     # end of describe/records.txt
 
 
 @dataclass(frozen=True)
 class Rva:
-    """An export that stands in the image itself."""
+    """An export in the image itself."""
 
     rva: int
 
@@ -109,15 +109,15 @@ Key = Union[bytes, str, int]
 
 @dataclass(frozen=True)
 class Export:
-    name: Optional[bytes]  #: of an export by name. Names are bytes, since the format gives them no encoding
-    ordinal: Optional[int]  #: of an export by ordinal
+    name: Optional[bytes]  #: the name of an export by name, as bytes, since the format gives names no encoding
+    ordinal: Optional[int]  #: the ordinal of an export by ordinal
     target: Target
 
 
 @dataclass(frozen=True)
 class Import:
     module: bytes
-    key: Union[bytes, int]  #: the name or the ordinal that is asked of the module
+    key: Union[bytes, int]  #: the name or the ordinal of the export in that module
     slot: int  #: the RVA of its slot
 
     @property
@@ -184,8 +184,8 @@ def _import_maker(file: FileBytes) -> Callable[..., Import]:
 class Exports(AbstractMapping):  # type: ignore[type-arg]
     """What an image exports: targets by name (bytes, or str as UTF-8) and by ordinal (int).
 
-    KeyError where nothing is exported under a key. Its keys are the names, in the order of the name pointer table, and then the
-    ordinals, in the order of the export address table, so ``len()`` counts both. A dict is made at the first question.
+    KeyError if nothing is exported under a key. Its keys are the names, in the order of the name pointer table, and then the
+    ordinals, in the order of the export address table, so ``len()`` counts both. A dict is made when it is first needed.
     """
 
     def __init__(self, names: Sequence[Export], ordinals: Sequence[Export]) -> None:
@@ -193,7 +193,7 @@ class Exports(AbstractMapping):  # type: ignore[type-arg]
         self._targets: Optional[Dict[Union[bytes, int], Target]] = None
 
     def names(self) -> Sequence[Export]:
-        """The exports by name, each text once."""
+        """The exports by name, each name once."""
         return self._names
 
     def ordinals(self) -> Sequence[Export]:
@@ -225,11 +225,11 @@ class Exports(AbstractMapping):  # type: ignore[type-arg]
 
 
 class Image(OfFile):
-    """One image, from the bytes of its file. FormatFault where one of the image faults of docs/FAULTS.md stands of them.
+    """One image, from the bytes of its file. FormatFault if it has one of the image faults of docs/FAULTS.md.
 
-    With ``check=False`` the headers and sections alone are judged (1 to 15), and each table at its first question. Nothing is
+    With ``check=False`` only the headers and sections are judged (1 to 15), and each table when it is first read. Nothing is
     copied, and nobody may change the bytes while the image is open; a bytearray cannot be resized until ``close()``. After that
-    each question raises ValueError. Any number of threads may ask one image.
+    each use raises ValueError. Any number of threads may use one image.
     """
 
     def __init__(self, data: Buffer, *, check: bool = True) -> None:
@@ -245,7 +245,7 @@ class Image(OfFile):
             raise
 
     def _judge(self) -> _records.Counts:
-        """Judges the whole image, and counts the rows of its tables in the same reading."""
+        """Judges the whole image, and counts the rows of its tables at the same time."""
         counts = _records.Counts()
         self._ask(library.petool_tables, *((_library.NO_BYTES, 0) * 4), byref(counts))
         return counts
@@ -268,7 +268,7 @@ class Image(OfFile):
 
     @property
     def exports(self) -> Exports:
-        """Read at the first question. Without ``check`` FormatFault of 16 to 22."""
+        """Read when first needed. Without ``check`` FormatFault of 16 to 22."""
         if self._exports is None:
             names = self._rows(library.petool_export_names, LAYOUTS["export"], self._counts.names)
             ordinals = self._rows(library.petool_exports, LAYOUTS["export"], self._counts.exports)
@@ -278,7 +278,7 @@ class Image(OfFile):
 
     @property
     def imports(self) -> Sequence[Import]:
-        """In table order, read at the first question. Without ``check`` FormatFault of 24 to 32."""
+        """In table order, read when first needed. Without ``check`` FormatFault of 24 to 32."""
         if self._imports is None:
             rows = self._rows(library.petool_imports, LAYOUTS["import"], self._counts.imports)
             self._imports = Rows(rows, LAYOUTS["import"], _import_maker(self._file))
@@ -286,7 +286,7 @@ class Image(OfFile):
 
     @property
     def fixups(self) -> Sequence[Fixup]:
-        """The base relocations in table order, read at the first question. Without ``check`` FormatFault of 24 to 38."""
+        """The base relocations in table order, read when first needed. Without ``check`` FormatFault of 24 to 38."""
         return Rows(self._fixups(), LAYOUTS["fixup"], Fixup)
 
     def _fixups(self) -> memoryview:
@@ -303,7 +303,7 @@ class Image(OfFile):
         return self._fixups().cast("I")
 
     def read(self, rva: int, count: int) -> bytes:
-        """The bytes from an RVA on, as the file lays them out. IndexError where they do not all lie in the image."""
+        """The bytes from an RVA on, as the file lays them out. IndexError if they do not all lie in the image."""
         # asked before there is room for them, since a count may be any number
         if count < 0 or rva < 0 or rva + count > self._headers.size_of_image:
             raise IndexError("the bytes pass the image")
@@ -312,7 +312,7 @@ class Image(OfFile):
         return bytes(buffer)
 
     def read_into(self, rva: int, buffer: Union[bytearray, memoryview]) -> None:
-        """Fills a buffer with the bytes from an RVA on. IndexError, and the buffer is as it was, where they pass the image."""
+        """Fills a buffer with the bytes from an RVA on. IndexError, with the buffer as it was, if they do not all lie in it."""
         view = writable(buffer)
         if not 0 <= rva < 1 << 32:
             raise IndexError("the bytes pass the image")
@@ -320,19 +320,19 @@ class Image(OfFile):
             raise IndexError("the bytes pass the image")
 
     def text(self, rva: int) -> Optional[bytes]:
-        """The bytes from an RVA to the next zero byte, without it; None where no zero byte of the image ends them."""
+        """The zero-terminated string at an RVA, without its zero byte; None if there is none."""
         text = _library.no_text()
         found = 0 <= rva < 1 << 32 and self._ask(library.petool_read_text, rva, byref(text)) == _library.OK
         return self._file.text(text.at, text.len) if found else None
 
     def locate(self, rva: int) -> Optional[int]:
-        """The offset at which the file holds the byte at an RVA; None where it does not hold it."""
+        """The file offset of the byte at an RVA; None if the file does not hold it."""
         offset = ctypes.c_uint64()
         found = 0 <= rva < 1 << 32 and self._ask(library.petool_locate, rva, byref(offset)) == _library.OK
         return offset.value if found else None
 
     def rebased(self, base: int) -> bytes:
-        """The file of the image that is to stand at another base; FormatFault of 24 to 38, 44 to 46, 51 and 52."""
+        """The image's file for another base; FormatFault of 24 to 38, 44 to 46, 51 and 52."""
         room = bytearray(max(self._file.length, 1))
         view = memoryview(room)
         self._ask(library.petool_rebase, unsigned(base, 64, "a base"), address_of(view), self._file.length)
@@ -348,7 +348,7 @@ def writable(buffer: Any) -> memoryview:
 
 
 def check(data: Buffer) -> Optional[FormatFault]:
-    """The first of the image faults that stands of an image, as a value: for those who sort files."""
+    """The first of the image faults of docs/FAULTS.md as a value, or None: to sort files."""
     file = FileBytes(data)
     try:
         ask(library.petool_check, file.address, file.length)
@@ -372,6 +372,6 @@ def open(path: Union[str, "os.PathLike[str]"], *, check: bool = True) -> Image:
 
 
 def rebase(data: Buffer, base: int) -> bytes:
-    """The file of the image that is to stand at another base; FormatFault of 1 to 15, 24 to 38, 44 to 46, 51 and 52."""
+    """The image's file for another base; FormatFault of 1 to 15, 24 to 38, 44 to 46, 51 and 52."""
     with Image(data, check=False) as image:
         return image.rebased(base)

@@ -1,4 +1,4 @@
-"""The shared library: where it is, its version, its statuses and what stands where there is nothing."""
+"""The shared library: where it is, its version, its statuses and empty values."""
 
 from __future__ import annotations
 
@@ -22,12 +22,12 @@ NO_BYTES = ctypes.addressof(_no_bytes)
 
 
 def no_text() -> Text:
-    """A text as it is before a call sets it."""
+    """A text before a call sets it."""
     return Text(NO_BYTES, 0)
 
 
 def _path() -> str:
-    """The file named by PETOOL_LIBRARY, else the one beside this package, else the system's."""
+    """The file named by PETOOL_LIBRARY, else the one in the package, else the system's."""
     named = os.environ.get("PETOOL_LIBRARY")
     if named:
         return named

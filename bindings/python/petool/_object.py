@@ -12,11 +12,11 @@ from ._bytes import LAYOUTS, Buffer, FileBytes, RowLayout, Rows, first_rows, rea
 from ._file import OfFile
 from ._library import library
 
-SECTION_UNDEFINED = 0  #: a symbol's section number that names no section
+SECTION_UNDEFINED = 0  #: the section number of a symbol that is defined in another object
 SECTION_ABSOLUTE = 0xFFFF
 SECTION_DEBUG = 0xFFFE
 
-#: How many relocations at least are read at once, where there are so many.
+#: At least how many relocations are read at once, if there are that many.
 _WINDOW = 4096
 
 
@@ -28,9 +28,9 @@ class ObjectHeader:
     machine: int  #: the processor that the object is for
     number_of_sections: int  #: how many section headers there are
     time_date_stamp: int  #: when the object was made, in seconds since 1970, as written
-    pointer_to_symbol_table: int  #: the file offset of the symbol table; 0 where there is none
+    pointer_to_symbol_table: int  #: the file offset of the symbol table; 0 if there is none
     number_of_symbols: int  #: how many records the symbol table has
-    size_of_optional_header: int  #: the bytes of the optional header
+    size_of_optional_header: int  #: the size of the optional header
     characteristics: int  #: flags of the object
     # end of describe/records.txt
 
@@ -40,11 +40,11 @@ class SectionHeader:
     """A section header of an object, each field as the file has it."""
 
     # from describe/records.txt: section_header
-    name: bytes  #: the name field, filled up with zero bytes: a name, or where it stands
-    virtual_size: int  #: VirtualSize, as it is written
-    virtual_address: int  #: VirtualAddress, as it is written
-    size_of_raw_data: int  #: SizeOfRawData, also where no bytes stand in the file
-    pointer_to_raw_data: int  #: the file offset of the first byte; 0 where there is none
+    name: bytes  #: the name field, padded with zero bytes: a name, or its offset in the string table
+    virtual_size: int  #: VirtualSize, as written
+    virtual_address: int  #: VirtualAddress, as written
+    size_of_raw_data: int  #: SizeOfRawData, even if the file holds no bytes
+    pointer_to_raw_data: int  #: the file offset of the first byte; 0 if there is none
     pointer_to_relocations: int  #: the file offset of the relocations
     pointer_to_linenumbers: int  #: the file offset of the line numbers
     number_of_relocations: int  #: how many relocations there are
@@ -56,11 +56,11 @@ class SectionHeader:
 @dataclass(frozen=True)
 class ObjectSection:
     # from describe/records.txt: object_section
-    name: bytes  #: the name, also where it stands in the string table
-    data: bytes  #: empty where none stand in the file
-    absent_size: int  #: SizeOfRawData where no bytes stand in the file, else 0
-    virtual_size: int  #: VirtualSize, as it is written
-    virtual_address: int  #: VirtualAddress, as it is written
+    name: bytes  #: the name, also if it is in the string table
+    data: bytes  #: the section's bytes; empty if the file holds none
+    absent_size: int  #: SizeOfRawData if the file holds no bytes; otherwise 0
+    virtual_size: int  #: VirtualSize, as written
+    virtual_address: int  #: VirtualAddress, as written
     characteristics: int  #: the section's flags
     relocation_count: int  #: how many relocations it has
     # end of describe/records.txt
@@ -70,21 +70,21 @@ class ObjectSection:
 class ObjectRelocation:
     # from describe/records.txt: object_relocation
     address: int  #: the offset of the reference in the section's bytes
-    symbol: int  #: the index of the symbol's record, auxiliary records counted
-    kind: int  #: by the machine's own table of types
+    symbol: int  #: the index of the symbol's record, counting auxiliary records
+    kind: int  #: the type, which depends on the machine
     # end of describe/records.txt
 
 
 @dataclass(frozen=True)
 class ObjectSymbol:
     # from describe/records.txt: object_symbol
-    name: bytes  #: the name, also where it stands in the string table
+    name: bytes  #: the name, also if it is in the string table
     aux: bytes  #: 18 bytes for each auxiliary record
-    index: int  #: of the symbol's record, by which relocations name it
-    value: int  #: by the section and the storage class
+    index: int  #: the index of the symbol's record, to which relocations refer
+    value: int  #: the value, whose meaning depends on the section and the storage class
     section_number: int  #: counted from 1, or SECTION_UNDEFINED, SECTION_ABSOLUTE or SECTION_DEBUG
     kind: int  #: the type; 32 is a function
-    storage_class: int  #: the storage class, by the numbers of "PE Format"
+    storage_class: int  #: the storage class, as numbered in "PE Format"
     # end of describe/records.txt
 
 
@@ -152,9 +152,9 @@ class Object(OfFile):
         return self._symbols
 
     def relocations(self, section: int) -> Sequence[ObjectRelocation]:
-        """Those of one section, counted from 0. IndexError where there is no such section.
+        """Those of one section, counted from 0. IndexError if there is no such section.
 
-        They are read with those of the sections behind it, some thousands at once, so ask for section after section.
+        They are read with those of the sections after it, some thousands at once, so go through the sections in order.
         """
         if self._starts is None:
             self._starts = list(accumulate((it.relocation_count for it in self.sections), initial=0))

@@ -14,7 +14,7 @@ from ._fault import ask, raise_for
 from ._image import writable
 from ._library import library
 
-#: The name of a module, all bytes of its file, and the base at which it is to stand.
+#: The name of a module, all bytes of its file, and its base.
 SetEntry = Tuple[Union[str, bytes], Buffer, int]
 
 # how many bindings there is room for before they are counted
@@ -38,21 +38,21 @@ class Moved(NamedTuple):
 
     # from describe/records.txt: moved
     fields: int  #: how many fields of the image
-    slots: int  #: how many bound slots of all images
+    slots: int  #: how many bound slots, of all images
     # end of describe/records.txt
 
 
 class Standing(NamedTuple):
-    """Where an image stands."""
+    """Where an image is."""
 
     base: int
     size: int
 
 
 def judge(images: Sequence[SetEntry], known: bool = False) -> List[Binding]:
-    """Judges a set, and tells what each import is bound to. FormatFault of an image or set fault (docs/FAULTS.md).
+    """Judges a set, and returns what each import is bound to. FormatFault of an image or set fault (docs/FAULTS.md).
 
-    With ``known``, an import from a module that is not in the set is no fault.
+    With ``known``, an import from a module that is not in the set is not a fault.
     """
     held, cycle = FileSet(images), ctypes.c_uint32()
 
@@ -66,9 +66,9 @@ class Space:
     """Images in one address space, each at its base, with its fields relocated and its imports bound.
 
     ``images`` are tuples of a module's name, its file's bytes and its base; the index of a tuple is that of its image. FormatFault
-    of an image or set fault. With ``known``, an import from a module that is not in the set is no fault, and its slot is left as
-    it stands in the file. A space holds its own bytes: the files may go. A lock is taken by each call, so threads may share a
-    space. After ``close()`` each question raises ValueError.
+    of an image or set fault. With ``known``, an import from a module that is not in the set is not a fault, and its slot keeps
+    its bytes from the file. A space holds its own bytes: the files may be dropped. Each call takes a lock, so threads may share a
+    space. After ``close()`` each use raises ValueError.
     """
 
     def __init__(self, images: Sequence[SetEntry], *, known: bool = False) -> None:
@@ -81,7 +81,7 @@ class Space:
         self._largest = max((it.size for it in self.images), default=0)
 
     def read(self, address: int, count: int) -> bytes:
-        """The bytes from an address on. FormatFault 54 where they do not all lie in one image."""
+        """The bytes from an address on. FormatFault 54 if they do not all lie in one image."""
         if count < 0:
             raise ValueError("the count is negative")
         # where no image has so many bytes, one byte too many meets the same fault
@@ -90,14 +90,14 @@ class Space:
         return bytes(buffer)
 
     def read_into(self, address: int, buffer: Union[bytearray, memoryview]) -> None:
-        """Fills a buffer with the bytes from an address on. FormatFault 54, and then the buffer is as it was."""
+        """Fills a buffer with the bytes from an address on. FormatFault 54, and then the buffer is left as it was."""
         view = writable(buffer)
         at = unsigned(address, 64, "an address")
         with self._lock:
             ask(library.petool_space_read, byref(self._space), at, address_of(view), len(view))
 
     def move(self, image: int, base: int) -> Moved:
-        """Moves an image: its fields are moved on, and the slots that end in it are bound anew.
+        """Moves an image: relocates its fields, and binds again the slots whose exports are in it.
 
         IndexError where there is no such image. FormatFault of 44 to 47, and then nothing is changed.
         """
@@ -110,7 +110,7 @@ class Space:
 
     @property
     def images(self) -> Tuple[Standing, ...]:
-        """Where each image stands now, and how many bytes it has."""
+        """Where each image is now, and how many bytes it has."""
         with self._lock:
             return tuple(map(self._standing, range(self._count)))
 
@@ -132,7 +132,7 @@ class Space:
             return Rows(read_rows(LAYOUTS["binding"], _GUESS, call), LAYOUTS["binding"], Binding)
 
     def close(self) -> None:
-        """Gives the memory back. Closing a closed space does nothing."""
+        """Frees the memory. Closing a closed space does nothing."""
         with self._lock:
             library.petool_space_close(byref(self._space))
 

@@ -3,21 +3,21 @@
 //!
 //! Records have the names of the header without `petool_`, calls and constants have them as they are. The functions
 //! that the header defines in C alone, such as `petool_exports_init`, are not here: [`Text::NONE`] and the `NONE` of
-//! rows with texts are for what has to be set before a call.
+//! rows with texts are for what has to be initialized before a call.
 #![no_std]
 #![deny(missing_docs)]
 
 use core::ffi::{c_char, c_int, c_void};
 
-/// The call did what it is for.
+/// Done.
 pub const PETOOL_OK: u32 = 0;
-/// A rule of the format does not hold: the fault tells which, and where.
+/// A rule of the format is broken: the fault says which, and where.
 pub const PETOOL_FAULT: u32 = 1;
-/// A growth of memory was refused.
+/// Out of memory.
 pub const PETOOL_MEMORY: u32 = 2;
-/// The bytes pass the image, or there is no such text, export or section.
+/// Bytes outside the image or the file, or no such string, export, section, image or fault.
 pub const PETOOL_ABSENT: u32 = 3;
-/// There is too little room: the count tells how much is needed.
+/// Too little room: the count says how much is needed.
 pub const PETOOL_SMALL: u32 = 4;
 /// An argument has a value that it may not have; nothing was done.
 pub const PETOOL_ARGUMENT: u32 = 5;
@@ -33,7 +33,7 @@ pub const PETOOL_PLACE_ADDRESS: u32 = 2;
 /// A fault's place counts items of a list.
 pub const PETOOL_PLACE_ITEM: u32 = 3;
 
-/// The version of the header, as [`petool_version`] answers that of the library: the first part times 65,536, and the
+/// The version of the header, as [`petool_version`] returns that of the library: the first part times 65,536, plus the
 /// second.
 pub const PETOOL_VERSION: u32 = 0x10000;
 /// No image has more sections.
@@ -46,9 +46,9 @@ pub const PETOOL_TARGET_ORDINAL: u32 = 1;
 /// An export's target is a name of another module.
 pub const PETOOL_TARGET_NAME: u32 = 2;
 
-/// A symbol's section: it stands in another object.
+/// A symbol's section: the symbol is defined in another object.
 pub const PETOOL_SECTION_UNDEFINED: u16 = 0;
-/// A symbol's section: its value is no address.
+/// A symbol's section: its value is not an address.
 pub const PETOOL_SECTION_ABSOLUTE: u16 = 0xffff;
 /// A symbol's section: it is for debuggers.
 pub const PETOOL_SECTION_DEBUG: u16 = 0xfffe;
@@ -57,7 +57,7 @@ const NO_BYTES: &[u8; 1] = &[0];
 
 // from describe/records.txt: records
 
-/// A part of the file, or a text of the library. An empty one points anywhere.
+/// A part of the file, or a string of the library. An empty one may point anywhere.
 #[repr(C)]
 #[derive(Clone, Copy, Debug)]
 pub struct Text {
@@ -67,17 +67,17 @@ pub struct Text {
     pub len: usize,
 }
 
-/// Which rule does not hold, and where.
+/// Which rule is broken, and where.
 #[repr(C)]
 #[derive(Clone, Copy, Debug, Default, PartialEq, Eq, Hash)]
 pub struct Fault {
     /// As in docs/FAULTS.md, from 1 to 85.
     pub number: u16,
-    /// Of a set the index of the entry, else 0.
+    /// The index of the entry in a set; otherwise 0.
     pub image: u16,
     /// What `at` counts: a `PETOOL_PLACE`.
     pub place: u32,
-    /// Where the rule does not hold.
+    /// Where the rule is broken.
     pub at: u64,
 }
 
@@ -85,25 +85,25 @@ pub struct Fault {
 #[repr(C)]
 #[derive(Clone, Copy, Debug, Default, PartialEq, Eq, Hash)]
 pub struct Directory {
-    /// Where its table begins in the image, of the certificate table in the file; 0 where there is none.
+    /// Where its table begins in the image, or for the certificate table in the file; 0 if there is none.
     pub rva: u32,
-    /// How many bytes the table has, as the file says.
+    /// The table's size, as the file has it.
     pub size: u32,
 }
 
-/// Every field of the headers, with the greater of two widths where PE32 and PE32+ differ.
+/// Every field of the headers, with the wider type where PE32 and PE32+ differ.
 #[repr(C)]
 #[derive(Clone, Copy, Debug, Default, PartialEq, Eq, Hash)]
 pub struct Headers {
-    /// The address at which the image prefers to stand.
+    /// The preferred address of the image.
     pub image_base: u64,
-    /// The bytes of stack to reserve.
+    /// How many bytes of stack to reserve.
     pub size_of_stack_reserve: u64,
-    /// The bytes of stack to commit.
+    /// How many bytes of stack to commit.
     pub size_of_stack_commit: u64,
-    /// The bytes of heap to reserve.
+    /// How many bytes of heap to reserve.
     pub size_of_heap_reserve: u64,
-    /// The bytes of heap to commit.
+    /// How many bytes of heap to commit.
     pub size_of_heap_commit: u64,
     /// The file offset of the signature.
     pub pe_offset: u32,
@@ -113,11 +113,11 @@ pub struct Headers {
     pub pointer_to_symbol_table: u32,
     /// How many records the symbol table has.
     pub number_of_symbols: u32,
-    /// The bytes of all code.
+    /// The size of all code.
     pub size_of_code: u32,
-    /// The bytes of all initialized data.
+    /// The size of all initialized data.
     pub size_of_initialized_data: u32,
-    /// The bytes of all uninitialized data.
+    /// The size of all uninitialized data.
     pub size_of_uninitialized_data: u32,
     /// The RVA where the image starts to run, or 0.
     pub address_of_entry_point: u32,
@@ -125,29 +125,29 @@ pub struct Headers {
     pub base_of_code: u32,
     /// The RVA where data begins; 0 in PE32+.
     pub base_of_data: u32,
-    /// The alignment of sections in the laid-out image, in bytes.
+    /// The alignment of sections in the laid-out image.
     pub section_alignment: u32,
-    /// The alignment of raw data in the file, in bytes.
+    /// The alignment of raw data in the file.
     pub file_alignment: u32,
     /// Reserved.
     pub win32_version_value: u32,
-    /// The bytes of the laid-out image.
+    /// The size of the laid-out image.
     pub size_of_image: u32,
-    /// The bytes of the headers, as a piece of the laid-out image.
+    /// The size of the headers in the laid-out image.
     pub size_of_headers: u32,
-    /// As it is written; it is not computed.
+    /// As written; it is not computed.
     pub check_sum: u32,
     /// Reserved.
     pub loader_flags: u32,
-    /// How many directories there are; at most 16 are held.
+    /// How many directories there are; at most 16 are kept.
     pub number_of_rva_and_sizes: u32,
-    /// The form of the optional header: 0x10b of PE32, 0x20b of PE32+.
+    /// 0x10b for PE32, 0x20b for PE32+.
     pub magic: u16,
     /// The processor that the image is for.
     pub machine: u16,
     /// How many sections there are.
     pub number_of_sections: u16,
-    /// The bytes from the optional header to the section table.
+    /// The bytes from the beginning of the optional header to the section table.
     pub size_of_optional_header: u16,
     /// Flags of the image.
     pub characteristics: u16,
@@ -179,7 +179,7 @@ pub struct Headers {
 #[repr(C)]
 #[derive(Clone, Copy, Debug, Default, PartialEq, Eq, Hash)]
 pub struct Section {
-    /// The name, filled up with zero bytes.
+    /// The name, padded with zero bytes.
     pub name: [u8; 8],
     /// The RVA of the first byte.
     pub rva: u32,
@@ -187,32 +187,32 @@ pub struct Section {
     pub extent: u32,
     /// How many of these, from the first on, come from the file.
     pub file_size: u32,
-    /// The file offset of the first byte, as the header has it.
+    /// The file offset of the first byte, as in the header.
     pub pointer_to_raw_data: u32,
-    /// The size in the file, as the header has it.
+    /// The size in the file, as in the header.
     pub size_of_raw_data: u32,
-    /// The size in the laid-out image, as the header has it.
+    /// The size in the laid-out image, as in the header.
     pub virtual_size: u32,
     /// The section's flags.
     pub characteristics: u32,
 }
 
-/// What an export stands for.
+/// What an export leads to.
 #[repr(C)]
 #[derive(Clone, Copy, Debug)]
 pub struct Target {
     /// A `PETOOL_TARGET`: an RVA of the image, or an ordinal or a name of another module.
     pub kind: u32,
-    /// The RVA, or the ordinal at the other module; 0 beside a name.
+    /// The RVA, or the ordinal in the other module; 0 for a name.
     pub value: u32,
-    /// Of a forwarder the other module; else empty.
+    /// The other module of a forwarder; otherwise empty.
     pub module: Text,
-    /// Of a forwarder to a name; else empty.
+    /// The name of a forwarder to a name; otherwise empty.
     pub name: Text,
 }
 
 impl Target {
-    /// What stands in it before a call sets it.
+    /// Its value before a call sets it.
     pub const NONE: Target = Target {
         kind: 0,
         value: 0,
@@ -225,16 +225,16 @@ impl Target {
 #[repr(C)]
 #[derive(Clone, Copy, Debug)]
 pub struct Export {
-    /// Of an export by ordinal, which may pass 2^32; else 0.
+    /// The ordinal of an export by ordinal, which may exceed 2^32; otherwise 0.
     pub ordinal: u64,
-    /// Of an export by name; else empty.
+    /// The name of an export by name; otherwise empty.
     pub name: Text,
-    /// What it stands for.
+    /// What it leads to.
     pub target: Target,
 }
 
 impl Export {
-    /// What stands in it before a call sets it.
+    /// Its value before a call sets it.
     pub const NONE: Export = Export {
         ordinal: 0,
         name: Text::NONE,
@@ -246,20 +246,20 @@ impl Export {
 #[repr(C)]
 #[derive(Clone, Copy, Debug)]
 pub struct Import {
-    /// The module that is to export it.
+    /// The module that exports it.
     pub module: Text,
-    /// Empty of an import by ordinal.
+    /// The name; empty for an import by ordinal.
     pub name: Text,
     /// The RVA of its slot.
     pub slot: u32,
-    /// Of an import by ordinal; else 0.
+    /// The ordinal of an import by ordinal; otherwise 0.
     pub ordinal: u16,
-    /// Whether it is one by ordinal.
+    /// Whether it is imported by ordinal.
     pub by_ordinal: bool,
 }
 
 impl Import {
-    /// What stands in it before a call sets it.
+    /// Its value before a call sets it.
     pub const NONE: Import = Import {
         module: Text::NONE,
         name: Text::NONE,
@@ -299,11 +299,11 @@ pub struct Counts {
 #[repr(C)]
 #[derive(Clone, Copy, Debug)]
 pub struct Entry {
-    /// Of the module, as "kernel32.dll"; the case of ASCII letters does not count.
+    /// The module's name, such as "kernel32.dll"; the case of ASCII letters is ignored.
     pub name: Text,
     /// All bytes of its file.
     pub file: Text,
-    /// Where it is to stand.
+    /// The image's base.
     pub base: u64,
 }
 
@@ -325,7 +325,7 @@ pub struct Binding {
 #[repr(C)]
 #[derive(Debug)]
 pub struct Space {
-    /// The library's own.
+    /// Private to the library.
     pub state: *mut c_void,
     /// Whether a set is mapped.
     pub is_open: bool,
@@ -337,7 +337,7 @@ pub struct Space {
 pub struct Moved {
     /// How many fields of the image.
     pub fields: u32,
-    /// How many bound slots of all images.
+    /// How many bound slots, of all images.
     pub slots: u32,
 }
 
@@ -351,11 +351,11 @@ pub struct ObjectHeader {
     pub number_of_sections: u16,
     /// When the object was made, in seconds since 1970, as written.
     pub time_date_stamp: u32,
-    /// The file offset of the symbol table; 0 where there is none.
+    /// The file offset of the symbol table; 0 if there is none.
     pub pointer_to_symbol_table: u32,
     /// How many records the symbol table has.
     pub number_of_symbols: u32,
-    /// The bytes of the optional header.
+    /// The size of the optional header.
     pub size_of_optional_header: u16,
     /// Flags of the object.
     pub characteristics: u16,
@@ -365,15 +365,15 @@ pub struct ObjectHeader {
 #[repr(C)]
 #[derive(Clone, Copy, Debug, Default, PartialEq, Eq, Hash)]
 pub struct SectionHeader {
-    /// The name field, filled up with zero bytes: a name, or where it stands.
+    /// The name field, padded with zero bytes: a name, or its offset in the string table.
     pub name: [u8; 8],
-    /// VirtualSize, as it is written.
+    /// VirtualSize, as written.
     pub virtual_size: u32,
-    /// VirtualAddress, as it is written.
+    /// VirtualAddress, as written.
     pub virtual_address: u32,
-    /// SizeOfRawData, also where no bytes stand in the file.
+    /// SizeOfRawData, even if the file holds no bytes.
     pub size_of_raw_data: u32,
-    /// The file offset of the first byte; 0 where there is none.
+    /// The file offset of the first byte; 0 if there is none.
     pub pointer_to_raw_data: u32,
     /// The file offset of the relocations.
     pub pointer_to_relocations: u32,
@@ -391,15 +391,15 @@ pub struct SectionHeader {
 #[repr(C)]
 #[derive(Clone, Copy, Debug)]
 pub struct ObjectSection {
-    /// The name, also where it stands in the string table.
+    /// The name, also if it is in the string table.
     pub name: Text,
-    /// Empty where none stand in the file.
+    /// The section's bytes; empty if the file holds none.
     pub bytes: Text,
-    /// SizeOfRawData where no bytes stand in the file, else 0.
+    /// SizeOfRawData if the file holds no bytes; otherwise 0.
     pub absent_size: u32,
-    /// VirtualSize, as it is written.
+    /// VirtualSize, as written.
     pub virtual_size: u32,
-    /// VirtualAddress, as it is written.
+    /// VirtualAddress, as written.
     pub virtual_address: u32,
     /// The section's flags.
     pub characteristics: u32,
@@ -408,7 +408,7 @@ pub struct ObjectSection {
 }
 
 impl ObjectSection {
-    /// What stands in it before a call sets it.
+    /// Its value before a call sets it.
     pub const NONE: ObjectSection = ObjectSection {
         name: Text::NONE,
         bytes: Text::NONE,
@@ -426,9 +426,9 @@ impl ObjectSection {
 pub struct ObjectRelocation {
     /// The offset of the reference in the section's bytes.
     pub address: u32,
-    /// The index of the symbol's record, auxiliary records counted.
+    /// The index of the symbol's record, counting auxiliary records.
     pub symbol: u32,
-    /// By the machine's own table of types.
+    /// The type, which depends on the machine.
     pub kind: u32,
 }
 
@@ -436,24 +436,24 @@ pub struct ObjectRelocation {
 #[repr(C)]
 #[derive(Clone, Copy, Debug)]
 pub struct ObjectSymbol {
-    /// The name, also where it stands in the string table.
+    /// The name, also if it is in the string table.
     pub name: Text,
     /// 18 bytes for each auxiliary record.
     pub aux: Text,
-    /// Of the symbol's record, by which relocations name it.
+    /// The index of the symbol's record, to which relocations refer.
     pub index: u32,
-    /// By the section and the storage class.
+    /// The value, whose meaning depends on the section and the storage class.
     pub value: u32,
     /// Counted from 1, or a `PETOOL_SECTION`.
     pub section_number: u16,
     /// The type; 32 is a function.
     pub kind: u16,
-    /// The storage class, by the numbers of "PE Format".
+    /// The storage class, as numbered in "PE Format".
     pub class_: u8,
 }
 
 impl ObjectSymbol {
-    /// What stands in it before a call sets it.
+    /// Its value before a call sets it.
     pub const NONE: ObjectSymbol = ObjectSymbol {
         name: Text::NONE,
         aux: Text::NONE,

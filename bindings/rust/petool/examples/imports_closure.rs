@@ -1,7 +1,7 @@
 //! Who exports what a program imports: `imports_closure PROGRAM FOLDER` follows the imports of a program, and those of
 //! each DLL of a folder to which they lead, through all forwarders.
 //!
-//! A DLL that is refused is told of on standard error, and counts as no file.
+//! A DLL that is refused is reported on standard error, and counts as missing.
 
 use petool::{Image, Key, OutOfMemory, Tables, Target};
 use std::cell::OnceCell;
@@ -13,8 +13,8 @@ use std::{env, fs, io, process};
 
 const USAGE: &str = "usage: imports_closure PROGRAM FOLDER
 
-Tells who exports what a program imports: follows its imports, and those of each DLL of a folder to which they lead.
-A DLL that is refused is told of on standard error, and counts as no file.";
+Shows who exports what a program imports: follows its imports, and those of each DLL of a folder that they lead to.
+A DLL that is refused is reported on standard error, and counts as missing.";
 
 /// A search that passes more forwarders is given up.
 const MOST_FORWARDERS: usize = 32;

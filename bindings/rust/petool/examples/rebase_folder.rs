@@ -1,7 +1,7 @@
 //! Rebases the DLLs of a folder to bases that are apart, in the order of their names, and writes them to another folder:
 //! `rebase_folder [--base HEX] FOLDER OUT`.
 //!
-//! A DLL that is refused is told of, and left out.
+//! A DLL that is refused is reported, and left out.
 
 use petool::Image;
 use std::error::Error;
@@ -11,10 +11,10 @@ use std::{env, fs, io, process};
 
 const USAGE: &str = "usage: rebase_folder [--base HEX] FOLDER OUT
 
-Rebases the DLLs of a folder to bases that are apart, in the order of their names, and writes them to another folder.
-A DLL that is refused is told of, and left out.
+Gives the DLLs of a folder bases that do not overlap, in the order of their names, and writes them to another folder.
+A DLL that is refused is reported, and left out.
 
-  --base HEX  the first base, in hexadecimal; else 10000000";
+  --base HEX  the first base, in hexadecimal; by default 10000000";
 
 /// Bases are multiples of this.
 const UNIT: u64 = 0x10000;

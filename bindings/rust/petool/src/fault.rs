@@ -1,9 +1,9 @@
-//! What a call answers in place of a result.
+//! What a call returns in place of a result.
 
 use petool_sys as sys;
 use std::{fmt, slice};
 
-/// Where a rule does not hold. It is shown as `petool check` prints it: `file 0x00000138`.
+/// Where a rule is broken. It is shown as `petool check` prints it: `file 0x00000138`.
 #[derive(Clone, Copy, Debug, PartialEq, Eq, Hash)]
 pub enum Place {
     /// Bytes from the beginning of the file.
@@ -27,26 +27,26 @@ impl fmt::Display for Place {
     }
 }
 
-/// A rule of the format that does not hold: the first one, in the order of docs/FAULTS.md.
+/// A broken rule of the format: the first one, in the order of docs/FAULTS.md.
 ///
 /// It is shown in words: `section header at 0x138: the section's raw data extends past the end of the file`.
 #[derive(Clone, Copy, Debug, PartialEq, Eq, Hash)]
 pub struct Fault {
     /// Which rule, from 1 to 85.
     pub number: u16,
-    /// Of a set the index of the entry, else 0.
+    /// The index of the entry in a set; otherwise 0.
     pub image: u16,
-    /// Where it does not hold.
+    /// Where it is broken.
     pub place: Place,
 }
 
 impl Fault {
-    /// What stands at the place.
+    /// What is at the place.
     pub fn subject(&self) -> &'static str {
         self.words().0
     }
 
-    /// Which rule does not hold of it.
+    /// Which rule it breaks.
     pub fn rule(&self) -> &'static str {
         self.words().1
     }
@@ -96,12 +96,12 @@ impl Fault {
     }
 }
 
-/// How many bytes the longest line of a fault has, with the zero byte that ends it.
+/// How many bytes the longest line of a fault has, with the zero byte at its end.
 const LINE: usize = 257;
 
 /// # Safety
 ///
-/// The text is one of the library, and not of a file.
+/// The text is a string of the library, and not of a file.
 unsafe fn library_text(text: sys::Text) -> &'static str {
     // SAFETY: the text lives for ever, and nobody writes to it; its pointer is not null, also where it is empty
     let bytes: &'static [u8] = unsafe { slice::from_raw_parts(text.at, text.len) };
@@ -120,7 +120,7 @@ impl fmt::Display for Fault {
 
 impl std::error::Error for Fault {}
 
-/// A growth of memory was refused.
+/// Out of memory.
 #[derive(Clone, Copy, Debug, PartialEq, Eq, Hash)]
 pub struct OutOfMemory;
 
@@ -135,9 +135,9 @@ impl std::error::Error for OutOfMemory {}
 /// Why a file is refused.
 #[derive(Clone, Copy, Debug, PartialEq, Eq, Hash)]
 pub enum Error {
-    /// A rule of the format does not hold.
+    /// A rule of the format is broken.
     Fault(Fault),
-    /// A growth of memory was refused: nothing is told of the file.
+    /// Out of memory: this says nothing about the file.
     Memory,
 }
 
@@ -177,7 +177,7 @@ impl From<OutOfMemory> for Error {
 /// Why a set is refused.
 #[derive(Clone, Copy, Debug, PartialEq, Eq, Hash)]
 pub enum SetError {
-    /// A rule does not hold; the fault's `image` is the index of the entry.
+    /// A rule is broken; the fault's `image` is the index of the entry.
     Fault(Fault),
     /// Fault 50: an import leads into a cycle of forwarders.
     Cycle {
@@ -186,7 +186,7 @@ pub enum SetError {
         /// How many forwarders the cycle has.
         length: u32,
     },
-    /// A growth of memory was refused: nothing is told of the set.
+    /// Out of memory: this says nothing about the set.
     Memory,
 }
 
@@ -194,7 +194,7 @@ pub enum SetError {
 const CYCLE: u16 = 50;
 
 impl SetError {
-    /// The fault, also that of a cycle.
+    /// The fault, even if it is a cycle.
     pub fn fault(&self) -> Option<Fault> {
         match self {
             SetError::Fault(fault) | SetError::Cycle { fault, .. } => Some(*fault),

@@ -1,4 +1,4 @@
-//! Headers and sections, which need no memory.
+//! Headers and sections, which are read without allocating.
 
 use crate::Error;
 use petool_sys as sys;
@@ -11,7 +11,7 @@ use std::ops::Deref;
 pub struct Section(sys::Section);
 
 impl Section {
-    /// Its name, without the zero bytes that fill it up.
+    /// Its name, without the zero bytes after it.
     pub fn text(&self) -> &[u8] {
         let filled = self.name.iter().rposition(|byte| *byte != 0).map_or(0, |last| last + 1);
         self.name.get(..filled).unwrap_or(&[])
@@ -39,7 +39,7 @@ pub struct Headers {
 }
 
 impl Headers {
-    /// Reads headers and sections, and asks nothing of tables: it is refused where one of faults 1 to 15 stands.
+    /// Reads headers and sections, and no tables: the error is the first of faults 1 to 15.
     ///
     /// ```
     /// let file: &[u8] = include_bytes!("../../../../crates/test_cases/data/v1.dll");
@@ -49,7 +49,7 @@ impl Headers {
     /// # Ok::<(), petool::Error>(())
     /// ```
     ///
-    /// No memory is taken, so [`Error::Memory`] comes of no library that keeps its header's word.
+    /// It allocates nothing, so a library that does what its header says never causes [`Error::Memory`].
     pub fn read(file: &[u8]) -> Result<Headers, Error> {
         let mut headers = Headers {
             fields: sys::Headers::default(),

@@ -4,9 +4,10 @@ use crate::rows::{room_of, text_of};
 use crate::{Error, Headers, OutOfMemory, Section, Tables, Target};
 use petool_sys as sys;
 
-/// A file in which none of the image faults of docs/FAULTS.md stands.
+/// A file with none of the image faults of docs/FAULTS.md.
 ///
-/// It is judged once, when it is made. After that no call answers a fault, and only those that read tables want memory.
+/// It is judged once, when it is made. After that only [`Image::rebased`] returns a fault, and only calls that read tables
+/// or rebase may be out of memory.
 #[derive(Clone, Debug)]
 pub struct Image<'a> {
     file: &'a [u8],
@@ -15,8 +16,8 @@ pub struct Image<'a> {
 }
 
 impl<'a> Image<'a> {
-    /// Judges a file: headers, sections, exports, imports and base relocations. The rows of its tables are counted on
-    /// the way.
+    /// Judges a file: headers, sections, exports, imports and base relocations. The rows of its tables are counted at
+    /// the same time.
     pub fn new(file: &'a [u8]) -> Result<Image<'a>, Error> {
         let mut tables = Tables::empty(file);
         let (mut counts, mut fault) = (sys::Counts::default(), sys::Fault::default());
@@ -47,7 +48,7 @@ impl<'a> Image<'a> {
     }
 
     /// Fills the buffer with the bytes from an RVA on, as the file lays them out: raw data, or 0. It is `None`, and the
-    /// buffer as it was, where they do not all lie inside the image.
+    /// buffer is left as it was, if they do not all lie inside the image.
     ///
     /// ```
     /// let file: &[u8] = include_bytes!("../../../../crates/test_cases/data/v1.dll");
@@ -74,7 +75,7 @@ impl<'a> Image<'a> {
         (status == sys::PETOOL_OK).then_some(())
     }
 
-    /// The text at an RVA, without the zero byte that ends it; `None` where no zero byte does.
+    /// The zero-terminated string at an RVA, without its zero byte; `None` if there is none.
     pub fn text(&self, rva: u32) -> Option<&'a [u8]> {
         let (mut text, mut fault) = (sys::Text::NONE, sys::Fault::default());
         // SAFETY: the file is all of a slice, which nobody writes to; the text is set
@@ -82,7 +83,7 @@ impl<'a> Image<'a> {
         (status == sys::PETOOL_OK).then(|| text_of(self.file, text))
     }
 
-    /// The offset at which the file holds the byte at an RVA; `None` where the file does not hold it.
+    /// The file offset of the byte at an RVA; `None` if the file does not hold it.
     pub fn locate(&self, rva: u32) -> Option<u64> {
         let (mut offset, mut fault) = (0, sys::Fault::default());
         // SAFETY: the file is all of a slice, which nobody writes to
@@ -90,12 +91,12 @@ impl<'a> Image<'a> {
         (status == sys::PETOOL_OK).then_some(offset)
     }
 
-    /// All rows of its tables, in one reading.
+    /// All rows of its tables, read in one pass over the file.
     pub fn tables(&self) -> Result<Tables<'a>, OutOfMemory> {
         Tables::of(self.file, self.counts)
     }
 
-    /// What a name exports. The export table is read at each call: for many names ask [`Image::tables`] once.
+    /// What a name exports. Each call reads the export table: to look up many names, call [`Image::tables`] once.
     pub fn export_by_name(&self, name: &[u8]) -> Result<Option<Target<'a>>, OutOfMemory> {
         let (mut target, mut fault) = (sys::Target::NONE, sys::Fault::default());
         // SAFETY: the file and the name are all of slices, which nobody writes to; the target's texts are set
@@ -130,8 +131,8 @@ impl<'a> Image<'a> {
         }
     }
 
-    /// The file of the image that is to stand at another base: with its fields moved, and without a checksum. It is
-    /// refused by faults 44 to 46, 51 and 52.
+    /// The image's file for another base: with its fields relocated, and without a checksum. The error is the first of
+    /// faults 44 to 46, 51 and 52.
     ///
     /// ```
     /// let file: &[u8] = include_bytes!("../../../../crates/test_cases/data/v2.dll");

@@ -1,8 +1,8 @@
-//! Reads, judges and moves PE images and COFF objects, from files that may be hostile, by the proved calls of
+//! Reads, judges and moves PE images, and reads COFF objects, from files that may be hostile, with the proved calls of
 //! libpetool.
 //!
-//! An [`Image`] is a file in which no fault stands: judged once, it answers without errors but for want of memory.
-//! [`Headers`] asks headers and sections alone. [`judge`] tells what the imports of a set of images are bound to, a
+//! An [`Image`] is a file without a fault: it is judged once, and then read. [`Headers`] reads headers and sections
+//! only. [`judge`] returns what the imports of a set of images are bound to, a
 //! [`Space`] maps a set and moves its images, and an [`Object`] is a COFF object.
 //!
 //! ```
@@ -16,14 +16,14 @@
 //! for (ordinal, target) in image.tables()?.exports() {
 //!     println!("{ordinal}: {target:?}");
 //! }
-//! // what is refused says which rule does not hold, and where
+//! // an error says which rule is broken, and where
 //! let Err(Error::Fault(fault)) = Image::new(&file[..63]) else { panic!() };
 //! assert_eq!(fault.number, 2);
 //! # Ok::<(), Error>(())
 //! ```
 //!
-//! A file is lent as its bytes, and every name that is handed out is a part of it: nothing is copied. No call panics,
-//! whatever the file holds. A status that the library is not to answer counts as want of memory, or as absence where a
+//! A file is borrowed as its bytes, and every name that a call returns is a part of it: nothing is copied. No call
+//! panics, whatever the file holds. A status that the header does not allow counts as out of memory, or as absent if a
 //! call has no such error: never as success.
 #![deny(missing_docs, unsafe_op_in_unsafe_fn)]
 

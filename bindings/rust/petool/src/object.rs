@@ -5,10 +5,10 @@ use crate::{Fault, ObjectHeader, OutOfMemory, Relocation, SectionHeader};
 use petool_sys as sys;
 use std::sync::{Mutex, PoisonError};
 
-/// How many relocations at least are read at once, where there are so many.
+/// At least how many relocations are read at once, if there are that many.
 const WINDOW: usize = 4096;
 
-/// A COFF object in which none of faults 61 to 72 stands.
+/// A COFF object with none of faults 61 to 72.
 ///
 /// ```
 /// let file: &[u8] = include_bytes!("../../../../crates/test_cases/data/o1.obj");
@@ -22,12 +22,12 @@ pub struct Object<'a> {
     window: Mutex<Window>,
 }
 
-/// Relocations that stand behind one another among those of all sections.
+/// Consecutive relocations among those of all sections.
 #[derive(Debug, Default)]
 struct Window {
-    /// Where those of each section begin among those of all, and last where all end; empty until it is asked.
+    /// Where those of each section begin among those of all, and last where all end; empty until it is needed.
     starts: Vec<usize>,
-    /// How many stand before the first row.
+    /// How many come before the first row.
     first: usize,
     rows: Vec<Relocation>,
 }
@@ -35,11 +35,11 @@ struct Window {
 /// A section of an object.
 #[derive(Clone, Copy, Debug, PartialEq, Eq)]
 pub struct ObjectSection<'a> {
-    /// Its name, also where that is long.
+    /// Its name, also if it is in the string table.
     pub name: &'a [u8],
-    /// Its bytes; empty where none stand in the file.
+    /// Its bytes; empty if the file holds none.
     pub bytes: &'a [u8],
-    /// SizeOfRawData where no bytes stand in the file, else 0.
+    /// SizeOfRawData if the file holds no bytes; otherwise 0.
     pub absent_size: u32,
     /// VirtualSize.
     pub virtual_size: u32,
@@ -54,13 +54,13 @@ pub struct ObjectSection<'a> {
 /// A symbol of an object.
 #[derive(Clone, Copy, Debug, PartialEq, Eq)]
 pub struct Symbol<'a> {
-    /// Its name, also where that is long.
+    /// Its name, also if it is in the string table.
     pub name: &'a [u8],
     /// 18 bytes for each auxiliary record.
     pub aux: &'a [u8],
-    /// The index of its record, by which relocations name it.
+    /// The index of its record, to which relocations refer.
     pub index: u32,
-    /// By the section and the class.
+    /// Its value, whose meaning depends on the section and the class.
     pub value: u32,
     /// The section's number, counted from 1; 0 UNDEFINED, 0xffff ABSOLUTE, 0xfffe DEBUG.
     pub section_number: u16,
@@ -132,8 +132,8 @@ impl<'a> Object<'a> {
         }
     }
 
-    /// Judges a file. No memory is taken. A status that the library is not to answer is shown as fault 0, which is
-    /// none.
+    /// Judges a file, without allocating. A status that the header does not allow is shown as fault 0, which does not
+    /// exist.
     pub fn new(file: &'a [u8]) -> Result<Object<'a>, Fault> {
         let mut fault = sys::Fault::default();
         // SAFETY: the file is all of a slice, which nobody writes to
@@ -188,10 +188,10 @@ impl<'a> Object<'a> {
         translated(&rows, Symbol::NONE, |row| Symbol::of(self.file, row))
     }
 
-    /// The relocations of a section, counted from 0; `None` where there is no such section.
+    /// The relocations of a section, counted from 0; `None` if there is no such section.
     ///
-    /// They are read with those of the sections behind it, some thousands at once, which are kept until others are read:
-    /// so ask for section after section.
+    /// They are read with those of the sections after it, some thousands at once, which are kept until others are read:
+    /// so go through the sections in order.
     pub fn relocations(&self, section: usize) -> Result<Option<Vec<Relocation>>, OutOfMemory> {
         let mut window = self.window.lock().unwrap_or_else(PoisonError::into_inner);
         if window.starts.is_empty() {
@@ -224,7 +224,7 @@ impl<'a> Object<'a> {
         Ok(starts)
     }
 
-    /// The relocations of all sections behind so many, as many as there is room for.
+    /// The relocations of all sections after so many, as many as there is room for.
     fn relocations_from(&self, skipped: usize, room: usize) -> Result<Vec<Relocation>, OutOfMemory> {
         let mut rows = room_of(Relocation::default(), room)?;
         let (mut count, mut fault) = (0, sys::Fault::default());

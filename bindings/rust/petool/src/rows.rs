@@ -1,4 +1,4 @@
-//! Tables that a call reads into rows, and texts of a file.
+//! Tables that a call reads into rows, and strings of a file.
 
 use crate::OutOfMemory;
 use petool_sys as sys;
@@ -20,7 +20,7 @@ pub(crate) fn room_of<Row: Copy>(blank: Row, count: usize) -> Result<Vec<Row>, O
 }
 
 /// All rows of a table, or the status with which it was not read. The call gets rows, which are all set, and a count to
-/// fill: once with the room that is guessed, and once more with the room that it then asks for.
+/// fill: once with the room that is guessed, and once more with the room that it then reports.
 pub(crate) fn read_rows<Row: Copy>(
     guess: usize,
     blank: Row,

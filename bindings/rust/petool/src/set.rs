@@ -1,4 +1,4 @@
-//! Sets of images that are to stand together.
+//! Sets of images in one address space.
 
 use crate::rows::{read_rows, room_of};
 use crate::{Binding, OutOfMemory, SetError};
@@ -7,20 +7,20 @@ use petool_sys as sys;
 /// An image of a set.
 #[derive(Clone, Copy, Debug)]
 pub struct Entry<'a> {
-    /// Of the module, as `kernel32.dll`; the case of ASCII letters does not count.
+    /// The module's name, such as `kernel32.dll`; the case of ASCII letters is ignored.
     pub name: &'a [u8],
     /// All bytes of its file.
     pub file: &'a [u8],
-    /// Where it is to stand: a multiple of 65,536.
+    /// Its base: a multiple of 65,536.
     pub base: u64,
 }
 
-/// What an import means whose module is not in the set.
+/// What an import means if its module is not in the set.
 #[derive(Clone, Copy, Debug, PartialEq, Eq, Hash)]
 pub enum Policy {
     /// It is fault 48.
     Strict,
-    /// It is no fault: its slot is left as it stands in the file.
+    /// It is not a fault, and its slot keeps its bytes from the file.
     Known,
 }
 
@@ -48,10 +48,10 @@ pub(crate) fn raw_entries(set: &[Entry<'_>]) -> Result<Vec<sys::Entry>, OutOfMem
     Ok(raw)
 }
 
-/// How many bindings are read without a second judgement.
+/// How many bindings are read without judging the set a second time.
 const GUESS: usize = 1024;
 
-/// Judges a set of at most 256 images, and tells what each import is bound to.
+/// Judges a set of at most 256 images, and returns what each import is bound to.
 ///
 /// ```
 /// use petool::{judge, Entry, Policy};

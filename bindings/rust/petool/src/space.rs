@@ -1,4 +1,4 @@
-//! Images that are kept at their bases, and move.
+//! Images that are kept at their bases, and can be moved.
 
 use crate::rows::read_rows;
 use crate::set::raw_entries;
@@ -6,9 +6,9 @@ use crate::{Binding, Entry, Fault, Moved, OutOfMemory, Policy, SetError};
 use petool_sys as sys;
 
 /// A set of images, mapped: each at its base, with its fields relocated and its imports bound. It holds its own bytes,
-/// so the files may go.
+/// so the files may be dropped.
 ///
-/// It may go to another thread, but goes to one call at a time, also to read: it is `Send`, and not `Sync`.
+/// It may be sent to another thread, but only one call at a time may use it, even to read: it is `Send` and not `Sync`.
 ///
 /// ```compile_fail,E0277
 /// fn share<T: Sync>() {}
@@ -37,7 +37,7 @@ pub struct Space {
 // state
 unsafe impl Send for Space {}
 
-/// Where an image of a space stands.
+/// Where an image of a space is.
 #[derive(Clone, Copy, Debug, PartialEq, Eq, Hash)]
 pub struct Placed {
     /// The address of its first byte.
@@ -46,7 +46,7 @@ pub struct Placed {
     pub size: u32,
 }
 
-/// The faults of a window and of an index, as which a status counts that no call is to answer.
+/// The faults of a window and of an index, as which a status counts that the header does not allow.
 const NO_WINDOW: u16 = 54;
 const NO_IMAGE: u16 = 55;
 
@@ -75,8 +75,8 @@ impl Space {
         }
     }
 
-    /// Fills the buffer with the bytes from an address on, which all lie in one image. Else it is refused by fault 54,
-    /// and is as it was.
+    /// Fills the buffer with the bytes from an address on. If they do not all lie in one image, the error is fault 54,
+    /// and the buffer is left as it was.
     pub fn read(&mut self, address: u64, buffer: &mut [u8]) -> Result<(), Fault> {
         let mut fault = sys::Fault {
             number: NO_WINDOW,
@@ -93,8 +93,8 @@ impl Space {
         }
     }
 
-    /// Moves an image to another base: its fields are moved on, and the slots that end in it are bound anew. It is
-    /// refused by faults 55 and 44 to 47, and then nothing is changed.
+    /// Moves an image to another base: relocates its fields, and binds again the slots whose exports are in it. The
+    /// error is the first of faults 55 and 44 to 47, and then nothing is changed.
     pub fn move_image(&mut self, image: u16, base: u64) -> Result<Moved, Fault> {
         let mut moved = Moved::default();
         let mut fault = sys::Fault {
@@ -111,7 +111,7 @@ impl Space {
         }
     }
 
-    /// Where the image of an entry stands; `None` past the last.
+    /// Where the image of an entry is; `None` if there is no such image.
     pub fn image(&mut self, image: u16) -> Option<Placed> {
         let mut placed = Placed { base: 0, size: 0 };
         // SAFETY: the space is open

@@ -4,7 +4,7 @@ use crate::rows::{room_of, text_of};
 use crate::{Fixup, OutOfMemory};
 use petool_sys as sys;
 
-/// By what an export is asked for.
+/// By what an export is looked up.
 #[derive(Clone, Copy, Debug, PartialEq, Eq, Hash)]
 pub enum Key<'a> {
     /// By its ordinal.
@@ -13,7 +13,7 @@ pub enum Key<'a> {
     Name(&'a [u8]),
 }
 
-/// What an export stands for.
+/// What an export leads to.
 #[derive(Clone, Copy, Debug, PartialEq, Eq, Hash)]
 pub enum Target<'a> {
     /// An address of the image.
@@ -48,9 +48,9 @@ impl<'a> Target<'a> {
 /// An import, and where its slot is.
 #[derive(Clone, Copy, Debug, PartialEq, Eq, Hash)]
 pub struct Import<'a> {
-    /// The module that is to export it, as in the file.
+    /// The module that exports it, as in the file.
     pub module: &'a [u8],
-    /// What it is to export.
+    /// The export, by name or ordinal.
     pub key: Key<'a>,
     /// The RVA of the slot of the import address table.
     pub slot: u32,
@@ -108,7 +108,7 @@ impl<'a> Tables<'a> {
         }
     }
 
-    /// The tables of a file that was judged, and has so many rows.
+    /// The tables of a file that was judged, and has this many rows.
     pub(crate) fn of(file: &'a [u8], mut counts: sys::Counts) -> Result<Tables<'a>, OutOfMemory> {
         let mut tables = Tables {
             file,
@@ -144,7 +144,7 @@ impl<'a> Tables<'a> {
         }
     }
 
-    /// The exports by ordinal, in the order of the export address table. An ordinal may pass 2^32.
+    /// The exports by ordinal, in the order of the export address table. An ordinal may exceed 2^32.
     pub fn exports(&self) -> impl ExactSizeIterator<Item = (u64, Target<'a>)> + '_ {
         let file = self.file;
         self.exports
