@@ -11,7 +11,7 @@ import unittest
 from dataclasses import dataclass, replace
 from typing import Optional, Sequence, Tuple
 
-from .files import put
+from .files import looped, program, put
 
 PROGRAM = os.environ.get("PETOOL_PROGRAM")
 
@@ -369,6 +369,32 @@ SETS = [
     ),
 ]
 
+#: An import that leads to a module without the export, or into a cycle of forwarders: the file that imports, the name of the other
+#: file, that file, and what is told.
+FAILED_IMPORTS = [
+    (
+        NAMED,
+        "K.dll",
+        HEADERS,
+        "fault 49 image 0 rva 0x00000140\n",
+        "0x140: the import leads to a module that does not export it: K.dll Sleep",
+    ),
+    (
+        NUMBERED,
+        "k.DLL",
+        HEADERS,
+        "fault 49 image 0 rva 0x00000140\n",
+        "0x140: the import leads to a module that does not export it: K.dll #7",
+    ),
+    (
+        program(1),
+        "f.dll",
+        looped(0, 3),
+        "fault 50 image 0 rva 0x00001030 cycle 3\n",
+        "0x1030: the import leads into a cycle of forwarders: F.DLL #1",
+    ),
+]
+
 #: Files that are not what a command reads.
 KINDS = [
     (
@@ -502,6 +528,17 @@ class Ends(unittest.TestCase):
 
     def test_faults_of_sets_are_told_in_words(self):
         self.assert_refused(SETS)
+
+    def test_an_import_that_another_file_fails_is_named(self):
+        for importer, name, exporter, line, words in FAILED_IMPORTS:
+            with self.subTest(line=line, words=words):
+                for file, data in (("a.dll", importer), (name, exporter)):
+                    (self.folder / file).write_bytes(data)
+                done = subprocess.run(
+                    [PROGRAM, *MAP, f"20000000={name}"], cwd=self.folder, stdout=subprocess.PIPE, stderr=subprocess.PIPE
+                )
+                told = f"petool: a.dll: import address table slot at RVA {words}\n"
+                self.assertEqual((done.stdout.decode(), done.stderr.decode(), done.returncode), (line, told, 1))
 
     def test_files_of_other_kinds_are_told_for_what_they_are(self):
         self.assert_refused(KINDS)
