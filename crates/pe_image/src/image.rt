@@ -3,14 +3,13 @@
 ghost use Rattle.std.specs.Prelude.{◌≡◌, ◌<◌, None, length, IsErrOf};
 ghost use Rattle.pe_view.specs.Faults.{first_standing, Answers, AnswersOrWants};
 ghost use Rattle.pe_layout.specs.SectionFaults.{layout_tests};
-ghost use Rattle.pe_layout.specs.Layout.{IsLayoutOf};
-ghost use Rattle.pe_image.specs.ImageTests.{image_tests};
-ghost use Rattle.pe_image.specs.ImageOf.{IsImageOf};
+ghost use Rattle.pe_layout.specs.Layout.{image_of, IsLayoutOf};
+ghost use Rattle.pe_image.specs.ImageTests.{table_tests, image_tests};
+ghost use Rattle.pe_image.specs.ImageOf.{HoldsTablesOf, IsImageOf};
 ghost use Rattle.pe_view.specs.declared.refusal.Refusal.{Refusal};
 
-use crate::tables::read_tables;
 use pe_layout::Layout;
-use pe_tables::{Exports, Fixup, Import, TableError};
+use pe_tables::{Exports, Fixup, Import, TableError, read_exports, read_fixups, read_imports};
 use pe_view::{Fault, View};
 use std::alloc::Allocator;
 
@@ -35,6 +34,22 @@ pub fn lay_out(file: &[u8], number: u16) -> Result<Layout<'_>, Fault>
     Layout::new(View::new(file), number)
 }
 
+/// Reads the tables of a layout, each where the ones before have no fault, and keeps what they hold. [`crate::read_tables`] keeps
+/// them as far as they are whole, in a record of options, which takes room that is cleared at each call.
+fn read_whole<A: Allocator + Copy>(alloc: A, layout: Layout<'_>) -> Result<Image<'_, A>, TableError>
+    ensures { AnswersOrWants (table_tests (image_of layout.entry)) (HoldsTablesOf layout.entry) result }
+{
+    let exports = read_exports(alloc, &layout)?;
+    let imports = read_imports(alloc, &layout)?;
+    let fixups = read_fixups(alloc, &layout, &imports)?;
+    Ok(Image {
+        layout,
+        exports,
+        imports,
+        fixups,
+    })
+}
+
 /// Reads an image whole: `file` is all of its file, and faults name the image by `number`.
 ///
 /// Faults are asked phase by phase: headers and sections (1 to 15), exports (16 to 22), imports (24 to 32), base relocations
@@ -53,14 +68,5 @@ pub fn read_image<A: Allocator + Copy>(
     ensures not_empty { IsErrOf result Refusal.Memory → 0 < length file.now }
 {
     let layout = lay_out(file, number)?;
-    let tables = read_tables(alloc, &layout)?;
-    match tables.fault {
-        Some(fault) => Err(TableError::Fault(fault)),
-        None => Ok(Image {
-            layout,
-            exports: tables.exports.unwrap(),
-            imports: tables.imports.unwrap(),
-            fixups: tables.fixups.unwrap(),
-        }),
-    }
+    read_whole(alloc, layout)
 }
