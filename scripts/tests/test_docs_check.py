@@ -79,7 +79,7 @@ WORDS = [
     (MAN, ".IR HEX=FILE ...", ".I HEX=FILE", f"{MAN}: petool map takes HEX=FILE..., and not HEX=FILE"),
     (MAN, "\n.B rebase\n", "\n.B move\n", f"{MAN}: move is no command, or has no paragraph"),
     (MAN, "Options add", "\\-\\-more adds", f"{MAN}: there is no option --more"),
-    (MAN, '"petool 0', '"petool 9', f"{MAN}: the program is petool 0"),
+    ("VERSION", "1.0", "1.1", "VERSION: the program is petool 1.0"),
 ]
 
 
