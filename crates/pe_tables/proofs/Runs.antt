@@ -1,13 +1,11 @@
 -- Of a run of ascending ranges those that start below an RVA stand first, and the last one of them ends last.
-use Rattle.std.proofs.Common.{◌≡◌, ℕ, zero, suc, ◌+◌, ◌-◌, ◌<◌, ◌≤◌, Bool, true, false, ◌||◌, List, [], ◌∷◌, ◌++◌, length, take, get_or, refl, sym, ap, subst, ◌∙◌, inl, inr, arith, length-append}
+use Rattle.std.proofs.Common.{◌≡◌, ℕ, zero, suc, ◌+◌, ◌-◌, ◌<◌, ◌≤◌, Bool, true, false, ◌||◌, List, [], ◌∷◌, ◌++◌, length, take, get_or, refl, sym, ap, subst, ◌∙◌, inl, inr, arith}
 use Rattle.std.specs.Prelude.{nat_lt, filter, All, if◌then◌else◌}
 use Rattle.std.specs.List.{list_any}
-use Rattle.std.specs.List.Sorted.{IsPartitionedBy}
-use Rattle.std.proofs.lemmas.Bool.{cases_eq, cases_lt, le-ltb, lt-ltb, ltb-true}
-use Rattle.std.proofs.lemmas.List.{take_more, get_or_append_left, get_or-append-add}
+use Rattle.std.proofs.lemmas.Bool.{cases_eq}
+use Rattle.std.proofs.lemmas.List.{take_more}
 use Rattle.std.proofs.lemmas.List.Elements.{All-nil, All-cons, All-tail}
 use Rattle.std.proofs.lemmas.List.Folds.{list_any-append}
-use Rattle.std.proofs.lemmas.List.Kept.{AllPairs-cons}
 use Rattle.pe_tables.specs.Ranges.{meets_any, range_end, IsAscending, FitsBeside, Gains}
 use Rattle.pe_tables.proofs.Neighbours.{Before, meets_any-none, meets_any-last, swapped}
 use Rattle.pe_tables.proofs.Pairs.{AllPairs-snoc}
@@ -20,73 +18,6 @@ filter-front p (x ∷ xs) zero these others =
     rw (others 0 x (omega arith) (omega arith)) (filter-front p xs zero (λ i d lt. absurd (omega arith)) (λ i d le lt. others (suc i) d (omega arith) (omega arith)))
 filter-front p (x ∷ xs) (suc k) these others =
     rw (these 0 x (omega arith) (omega arith)) (ap (λ (ys : _). x ∷ ys) (filter-front p xs k (λ i d below lt. these (suc i) d (omega arith) (omega arith)) (λ i d le lt. others (suc i) d (omega arith) (omega arith))))
-
--- those ranges come first that start below an RVA
-pub starts-parted : (ranges : List (ℕ × ℕ)) (rva : ℕ) → IsAscending ranges → IsPartitionedBy (λ (range : ℕ × ℕ). nat_lt range.0 rva) ranges
-starts-parted ranges rva ascending = λ i j d le below test. (let less = ltb-true _ _ test in elim (cases_lt i j) [
-  | inl before ↦ (let pair = ascending i j d before below in let first = pair.0 in lt-ltb _ _ (omega arith))
-  | inr not_before ↦ (let same : j ≡ i = omega arith in rw same at test)
-])
-
-pub ascending_front : (front back : List (ℕ × ℕ)) → IsAscending (front ++ back) → IsAscending front
-ascending_front front back ascending = λ i j d lt within. (
-    let whole : length (front ++ back) ≡ length front + length back = length-append front back in
-    let pair = ascending i j d lt (omega arith) in
-    let first = get_or_append_left front back d i (omega arith) in
-    let second = get_or_append_left front back d j within in
-    rw (first, second) at pair
-    )
-
-pub ascending_behind : (front back : List (ℕ × ℕ)) → IsAscending (front ++ back) → IsAscending back
-ascending_behind front back ascending = λ i j d lt within. (
-    let whole : length (front ++ back) ≡ length front + length back = length-append front back in
-    let pair = ascending (length front + i) (length front + j) d (omega arith) (omega arith) in
-    let first = get_or-append-add front back i d in
-    let second = get_or-append-add front back j d in
-    rw (first, second) at pair
-    )
-
--- of two parts of a run those ranges start below an RVA that do in the first, and in the second
-pub counted : (front back : List (ℕ × ℕ)) (rva n m : ℕ) → IsAscending (front ++ back) → n ≤ length front → m ≤ length back
-    → ((k : ℕ) (d : ℕ × ℕ) → k < n → (get_or front k d).0 < rva) → ((k : ℕ) (d : ℕ × ℕ) → n ≤ k → k < length front → rva ≤ (get_or front k d).0)
-    → ((k : ℕ) (d : ℕ × ℕ) → k < m → (get_or back k d).0 < rva) → ((k : ℕ) (d : ℕ × ℕ) → m ≤ k → k < length back → rva ≤ (get_or back k d).0)
-    → filter (λ range. nat_lt range.0 rva) (front ++ back) ≡ take (n + m) (front ++ back)
-counted front back rva n m ascending front_within back_within before after before_behind after_behind =
-    let whole : length (front ++ back) ≡ length front + length back = length-append front back in
-    filter-front (λ (range : ℕ × ℕ). nat_lt range.0 rva) (front ++ back) (n + m)
-    (λ k d less within. elim (cases_lt k (length front)) [
-      | inl here ↦ (let place = get_or_append_left front back d k here in rw place (elim (cases_lt k n) [
-        | inl low ↦ lt-ltb _ _ (before k d low)
-        | inr high ↦ (
-            let pair = ascending k (length front) d (omega arith) (omega arith) in
-            let low = before_behind 0 d (omega arith) in
-            let first : get_or (front ++ back) (length front) d ≡ get_or back 0 d = ap (λ (i : ℕ). get_or (front ++ back) i d) (omega arith) ∙ get_or-append-add front back 0 d in
-            let one : (get_or (front ++ back) k d).0 ≡ (get_or front k d).0 = ap (λ (r : ℕ × ℕ). r.0) place in
-            let two : (get_or (front ++ back) (length front) d).0 ≡ (get_or back 0 d).0 = ap (λ (r : ℕ × ℕ). r.0) first in
-            let start = pair.0 in
-            lt-ltb _ _ (omega arith)
-            )
-      ]))
-      | inr there ↦ (
-          let place : get_or (front ++ back) k d ≡ get_or back (k - length front) d = ap (λ (i : ℕ). get_or (front ++ back) i d) (omega arith) ∙ get_or-append-add front back (k - length front) d in
-          rw place (lt-ltb _ _ (before_behind (k - length front) d (omega arith))))
-    ])
-    (λ k d not_less within. elim (cases_lt k (length front)) [
-      | inl here ↦ (let place = get_or_append_left front back d k here in rw place (le-ltb _ _ (after k d (omega arith) here)))
-      | inr there ↦ elim (cases_lt n (length front)) [
-        | inl short ↦ (
-            let pair = ascending n k d (omega arith) within in
-            let one : (get_or (front ++ back) n d).0 ≡ (get_or front n d).0 = ap (λ (r : ℕ × ℕ). r.0) (get_or_append_left front back d n short) in
-            let high = after n d (omega arith) short in
-            let start = pair.0 in
-            le-ltb _ _ (omega arith)
-            )
-        | inr all ↦ (
-            let place : get_or (front ++ back) k d ≡ get_or back (k - length front) d = ap (λ (i : ℕ). get_or (front ++ back) i d) (omega arith) ∙ get_or-append-add front back (k - length front) d in
-            rw place (le-ltb _ _ (after_behind (k - length front) d (omega arith) (omega arith)))
-            )
-      ]
-    ])
 
 -- the last range starts last
 pub starts_below : (run : List (ℕ × ℕ)) (last : ℕ × ℕ) (rva : ℕ) → IsAscending run → 0 < length run → ((d : ℕ × ℕ) → last ≡ get_or run (length run - 1) d) → last.0 < rva → All (λ range. range.0 < rva) run
@@ -163,9 +94,3 @@ meets-others start len run others apart = list_any-append _ run others ∙ ap (�
 pub ascending-pushed : (pushed : Bool) (old new : List (ℕ × ℕ)) (start len : ℕ) → new ≡ (if pushed then old ++ (start, len) ∷ [] else old) → IsAscending old → All (λ range. range.0 < start) old → All (FitsBeside start len) old → IsAscending new
 ascending-pushed true old new start len is ascending below fits = subst IsAscending (sym is) (ascending-push old start len ascending below fits)
 ascending-pushed false old new start len is ascending below fits = subst IsAscending (sym is) ascending
-
--- a run with a range in front of it, or without it for want of memory
-pub ascending-put : (put : Bool) (old new : List (ℕ × ℕ)) (start len : ℕ) → new ≡ (if put then (start, len) ∷ old else old) → IsAscending old → All (λ range. start < range.0) old → All (FitsBeside start len) old → IsAscending new
-ascending-put true old new start len is ascending above fits =
-    subst IsAscending (sym is) (AllPairs-cons Before (start, len) old (λ k d lt. let less = above k d lt in let fit = fits k d lt in (less, fit.below less)) ascending)
-ascending-put false old new start len is ascending above fits = subst IsAscending (sym is) ascending

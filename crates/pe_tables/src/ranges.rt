@@ -1,18 +1,18 @@
 //! `Ranges`: ranges of RVAs, and whether another range has an RVA in common with one of them.
 
-ghost use Rattle.std.specs.Prelude.{◌≡◌, ℕ, ◌+◌, ◌<◌, ◌≤◌, ◌^◌, ◌↔◌, All, IsTrue, OnOk, [], length, take, filter, nat_lt, slice_index_or};
+ghost use Rattle.std.specs.Prelude.{◌≡◌, ◌+◌, ◌<◌, ◌≤◌, ◌^◌, ◌↔◌, All, IsTrue, OnOk, [], length, take, filter, nat_lt};
 ghost use Rattle.pe_tables.specs.Ranges.{IsAscending, meets_any, range_end};
 
 use std::alloc::{AllocError, Allocator};
-use std::collections::{BTreeMap, VecDeque};
+use std::collections::BTreeMap;
 
 /// Ranges of RVAs by their starts, of which no later one ends first.
 ///
-/// Those of most tables ascend, and then they are all one run, whose ends tell where the next one stands.
+/// Those of most tables ascend, and then they are all one run, whose end tells where the next one stands.
 #[derive(Drop)]
 pub(crate) struct Ranges<A: Allocator> {
-    /// The ranges that started behind all those of the run, or before them, when they were added.
-    run: VecDeque<(u32, u32), A>,
+    /// The ranges that start behind all those of the run before them.
+    run: Vec<(u32, u32), A>,
     /// How long the other ranges are, by their starts.
     others: BTreeMap<u32, u32, A>,
     ghost run_ascending: { IsAscending run.items },
@@ -20,71 +20,39 @@ pub(crate) struct Ranges<A: Allocator> {
 }
 
 /// Whether all ranges of a run start below an RVA, which the last one tells.
-fn all_below<A: Allocator>(run: &VecDeque<(u32, u32), A>, rva: u32) -> bool
-    requires { IsAscending run.now.items }
-    ensures { IsTrue result ↔ All (λ range. range.0 < rva) run.now.items }
+fn all_below(run: &[(u32, u32)], rva: u32) -> bool
+    requires { IsAscending run.now }
+    ensures { IsTrue result ↔ All (λ range. range.0 < rva) run.now }
 {
-    match run.back() {
+    match run.last() {
         Some(last) => last.0 < rva,
         None => true,
     }
 }
 
 /// Whether no range of a run starts below an RVA, which the first one tells.
-fn none_below<A: Allocator>(run: &VecDeque<(u32, u32), A>, rva: u32) -> bool
-    requires { IsAscending run.now.items }
-    ensures { IsTrue result → All (λ range. rva ≤ range.0) run.now.items }
+fn none_below(run: &[(u32, u32)], rva: u32) -> bool
+    requires { IsAscending run.now }
+    ensures { IsTrue result → All (λ range. rva ≤ range.0) run.now }
 {
-    match run.front() {
+    match run.first() {
         Some(first) => rva <= first.0,
         None => true,
     }
 }
 
-/// Whether all ranges of a run start above an RVA, which the first one tells.
-fn all_above<A: Allocator>(run: &VecDeque<(u32, u32), A>, rva: u32) -> bool
-    requires { IsAscending run.now.items }
-    ensures { IsTrue result → All (λ range. rva < range.0) run.now.items }
-{
-    match run.front() {
-        Some(first) => rva < first.0,
-        None => true,
-    }
-}
-
-/// How many ranges of a slice start below an RVA.
-fn search(ranges: &[(u32, u32)], rva: u32) -> usize
-    requires { IsAscending ranges.now }
-    ensures within { result ≤ length ranges.now }
-    ensures before { (k : ℕ) (d : ℕ × ℕ) → k < result → (slice_index_or ranges.now k d).0 < rva }
-    ensures after { (k : ℕ) (d : ℕ × ℕ) → result ≤ k → k < length ranges.now → rva ≤ (slice_index_or ranges.now k d).0 }
-{
-    ranges.partition_point(|range| range.0 < rva)
-}
-
-/// How many ranges of a run start below an RVA, by a search of each of its two parts, which takes half the steps that a search by the
-/// places of the run takes.
-fn search_run<A: Allocator>(run: &VecDeque<(u32, u32), A>, rva: u32) -> usize
-    requires { IsAscending run.now.items }
-    ensures within { result ≤ length run.now.items }
-    ensures these { filter (λ range. nat_lt range.0 rva) run.now.items ≡ take result run.now.items }
-{
-    let (front, back) = run.as_slices();
-    search(front, rva) + search(back, rva)
-}
-
 /// How many ranges of a run start below an RVA: most RVAs are asked for in front of all ranges, or behind them.
-fn count_below<A: Allocator>(run: &VecDeque<(u32, u32), A>, rva: u32) -> usize
-    requires { IsAscending run.now.items }
-    ensures within { result ≤ length run.now.items }
-    ensures these { filter (λ range. nat_lt range.0 rva) run.now.items ≡ take result run.now.items }
+fn count_below(run: &[(u32, u32)], rva: u32) -> usize
+    requires { IsAscending run.now }
+    ensures within { result ≤ length run.now }
+    ensures these { filter (λ range. nat_lt range.0 rva) run.now ≡ take result run.now }
 {
     if all_below(run, rva) {
         run.len()
     } else if none_below(run, rva) {
         0
     } else {
-        search_run(run, rva)
+        run.partition_point(|range| range.0 < rva)
     }
 }
 
@@ -98,10 +66,10 @@ fn ends_behind(start: u32, len: u32, rva: u32) -> bool
 /// Whether some range of a run has an RVA in common with the `len` bytes at `start`.
 ///
 /// Of the ranges that start before these bytes end, the last one ends last, so it alone is asked.
-fn run_meets<A: Allocator>(run: &VecDeque<(u32, u32), A>, start: u32, len: u32) -> bool
-    requires ascending { IsAscending run.now.items }
+fn run_meets(run: &[(u32, u32)], start: u32, len: u32) -> bool
+    requires ascending { IsAscending run.now }
     requires small { start + len < 2 ^ 32 }
-    ensures { result ≡ meets_any start len run.now.items }
+    ensures { result ≡ meets_any start len run.now }
 {
     let count = count_below(run, start + len);
     if count == 0 {
@@ -136,7 +104,7 @@ impl<A: Allocator + Copy> Ranges<A> {
         ensures { ranges_in result ≡ [] }
     {
         Ranges {
-            run: VecDeque::new(alloc),
+            run: Vec::new(alloc),
             others: BTreeMap::new(alloc),
         }
     }
@@ -146,7 +114,7 @@ impl<A: Allocator + Copy> Ranges<A> {
         requires { start + len < 2 ^ 32 }
         ensures { result ≡ meets_any start len (ranges_in self.now) }
     {
-        run_meets(&self.run, start, len) || others_meet(&self.others, start, len)
+        run_meets(self.run.as_slice(), start, len) || others_meet(&self.others, start, len)
     }
 
     /// Adds a range, which fits among the others.
@@ -154,10 +122,8 @@ impl<A: Allocator + Copy> Ranges<A> {
         requires { All (FitsBeside start len) (ranges_in self.old) }
         ensures { OnOk result (Gains (ranges_in self.old) (ranges_in self.new) (start, len)) }
     {
-        if all_below(&self.run, start) {
-            self.run.push_back((start, len))?;
-        } else if all_above(&self.run, start) {
-            self.run.push_front((start, len))?;
+        if all_below(self.run.as_slice(), start) {
+            self.run.push((start, len))?;
         } else {
             self.others.insert(start, len)?;
         }

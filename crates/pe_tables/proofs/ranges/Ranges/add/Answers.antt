@@ -1,12 +1,12 @@
--- The range goes on with the run at one of its ends, or takes its place among the others.
-use Rattle.std.proofs.Common.{◌≡◌, List, ℕ, Ok, Err, Result, refl, subst, sym}
+-- The range goes on with the run, or takes its place among the others.
+use Rattle.std.proofs.Common.{◌≡◌, ◌<◌, List, ℕ, Ok, Err, Result, subst, sym}
 use Rattle.std.specs.Prelude.{All, OnOk, OnErr}
 use Rattle.std.specs.Ordering.{nat_cmp}
 use Rattle.std.specs.BTreeMap.{insert_entry}
 use Rattle.pe_tables.specs.Ranges.{IsAscending, FitsBeside}
 use Rattle.pe_tables.specs.RangesView.{ranges_in}
 use Rattle.pe_tables.proofs.Neighbours.{gains-insert_entry, ascending-insert_entry}
-use Rattle.pe_tables.proofs.Runs.{ascending-pushed, ascending-put, fits_run, fits_others, gains-push, gains-others}
+use Rattle.pe_tables.proofs.Runs.{ascending-pushed, fits_run, fits_others, gains-push, gains-others}
 use Rattle.pe_tables.proofs.ranges.Ranges.add.Goals as goal
 
 -- either way the others ascend
@@ -18,38 +18,26 @@ pub invariant_of-self : goal.invariant_of-self
 unfolding ranges_in
 invariant_of-self g c =
     let ranges = c.args.self.now in
+    let below : All (λ (range : ℕ × ℕ). range.0 < c.args.start) ranges.run.items = subst (λ (run : List (ℕ × ℕ)). All (λ (range : ℕ × ℕ). range.0 < c.args.start) run) c.as_slice.ensures.value (c.all_below.ensures.0 c.if-all_below.true) in
     record {
-      run_ascending = ascending-pushed _ ranges.run.items c.push_back.new.self.items c.args.start c.args.len c.push_back.ensures.items ranges.run_ascending (c.all_below.ensures.0 c.if-all_below.true) (fits_run (FitsBeside c.args.start c.args.len) ranges.run.items ranges.others.entries c.requires);
+      run_ascending = ascending-pushed _ ranges.run.items c.push.new.self.items c.args.start c.args.len c.push.ensures.items ranges.run_ascending below (fits_run (FitsBeside c.args.start c.args.len) ranges.run.items ranges.others.entries c.requires);
       others_ascending = ranges.others_ascending;
     }
 
-pub invariant_of-self-then-all_above : goal.invariant_of-self-then-all_above
+pub invariant_of-self-else-all_below : goal.invariant_of-self-else-all_below
 unfolding ranges_in
-invariant_of-self-then-all_above g c =
-    let ranges = c.args.self.now in
-    record {
-      run_ascending = ascending-put _ ranges.run.items c.push_front.new.self.items c.args.start c.args.len c.push_front.ensures.items ranges.run_ascending (c.all_above.ensures c.if-all_above.true) (fits_run (FitsBeside c.args.start c.args.len) ranges.run.items ranges.others.entries c.requires);
-      others_ascending = ranges.others_ascending;
-    }
-
-pub invariant_of-self-else-all_above : goal.invariant_of-self-else-all_above
-unfolding ranges_in
-invariant_of-self-else-all_above g c =
+invariant_of-self-else-all_below g c =
     let ranges = c.args.self.now in
     record {
       run_ascending = ranges.run_ascending;
       others_ascending = ascends c.insert.result c.args.start c.args.len ranges.others.entries c.insert.new.self.entries c.insert.ensures.entries c.insert.ensures.err (fits_others (FitsBeside c.args.start c.args.len) ranges.run.items ranges.others.entries c.requires) ranges.others_ascending;
     }
 
-pub returns-in_ok-push_back : goal.returns-in_ok-push_back
+pub returns-in_ok-push : goal.returns-in_ok-push
 unfolding ranges_in
-returns-in_ok-push_back g c =
+returns-in_ok-push g c =
     let ranges = c.args.self.now in
-    rw c.in_ok-push_back.ensures.items (gains-push ranges.run.items ranges.others.entries (c.args.start, c.args.len))
-
-pub returns-in_ok-push_front : goal.returns-in_ok-push_front
-unfolding ranges_in
-returns-in_ok-push_front g c = rw c.in_ok-push_front.ensures.items (λ test. refl)
+    rw c.in_ok-push.ensures.items (gains-push ranges.run.items ranges.others.entries (c.args.start, c.args.len))
 
 pub returns-in_ok-insert : goal.returns-in_ok-insert
 unfolding ranges_in

@@ -1,5 +1,5 @@
 -- The run meets the bytes, or the others do.
-use Rattle.std.proofs.Common.{◌≡◌, ◌∙◌, true, false, sym}
+use Rattle.std.proofs.Common.{◌≡◌, ◌∙◌, true, false, ap, sym}
 use Rattle.pe_tables.specs.Ranges.{meets_any}
 use Rattle.pe_tables.specs.RangesView.{ranges_in}
 use Rattle.pe_tables.proofs.Runs.{meets-run, meets-others}
@@ -9,12 +9,12 @@ pub returns-then-run_meets : goal.returns-then-run_meets
 unfolding ranges_in
 returns-then-run_meets g c =
     let ranges = c.args.self.now in
-    let met : meets_any c.args.start c.args.len ranges.run.items ≡ true = sym c.run_meets.ensures ∙ c.if-run_meets.true in
+    let met : meets_any c.args.start c.args.len ranges.run.items ≡ true = ap (meets_any c.args.start c.args.len) (sym c.as_slice.ensures.value) ∙ sym c.run_meets.ensures ∙ c.if-run_meets.true in
     c.if-run_meets.true ∙ sym (meets-run c.args.start c.args.len ranges.run.items ranges.others.entries met)
 
 pub returns-else-run_meets : goal.returns-else-run_meets
 unfolding ranges_in
 returns-else-run_meets g c =
     let ranges = c.args.self.now in
-    let apart : meets_any c.args.start c.args.len ranges.run.items ≡ false = sym c.run_meets.ensures ∙ c.if-run_meets.false in
+    let apart : meets_any c.args.start c.args.len ranges.run.items ≡ false = ap (meets_any c.args.start c.args.len) (sym c.as_slice.ensures.value) ∙ sym c.run_meets.ensures ∙ c.if-run_meets.false in
     c.others_meet.ensures ∙ sym (meets-others c.args.start c.args.len ranges.run.items ranges.others.entries apart)
