@@ -15,7 +15,7 @@ import unittest.mock
 TOP = pathlib.Path(__file__).resolve().parents[2]
 PROVED, TESTS, MAP = "docs/PROVED.md", "docs/TESTS.md", "docs/MAP.md"
 GUIDE, README, MAN = "docs/GUIDE.md", "README.md", "man/petool.1"
-TABLES, SAMPLES, TEXTS = "crates/pe_tables/src/lib.rt", "crates/pe_samples/src/images.rt", "crates/pe_layout/src/text.rt"
+TABLES, SAMPLES, TEXTS = "crates/pe_tables/src/lib.rt", "crates/pe_vectors/src/images.rt", "crates/pe_layout/src/text.rt"
 
 #: What is changed: the file, what stands in it, what takes its place, and what is then told.
 CONDITIONS = [

@@ -1,6 +1,6 @@
 //! Each call as a program in C makes it: on its good path, and in each of its statuses.
 //!
-//! What is expected stands in the files of `pe_samples`, which were made by hand from the format. bindings/c has the same calls from C, and
+//! What is expected stands in the files of `pe_vectors`, which were made by hand from the format. bindings/c has the same calls from C, and
 //! with each growth of memory refused.
 
 mod images;

@@ -18,7 +18,7 @@ use pe_records_c::headers::{HeadersRecord, SectionRow, headers_record};
 use pe_records_c::import::ImportRow;
 use pe_records_c::tables::CountsRecord;
 use pe_records_c::text::TextRecord;
-use pe_samples::files::{Vector, file_of};
+use pe_vectors::files::{Vector, file_of};
 use pe_view::View;
 use std::alloc::Global;
 use std::process::Abort;

@@ -8,7 +8,7 @@ use crate::object::{
 use crate::symbol::petool_object_symbols;
 use pe_records_c::object::{ObjectRelocationRow, ObjectSectionRow};
 use pe_records_c::symbol::ObjectSymbolRow;
-use pe_samples::objects::O1;
+use pe_vectors::objects::O1;
 use std::alloc::Global;
 use std::process::Abort;
 

@@ -9,7 +9,7 @@ use crate::space::{
 use pe_handle::Handle;
 use pe_records_c::set::{BindingRow, EntryRecord};
 use pe_records_c::space::MovedRecord;
-use pe_samples::members::{A, B, C, Member, files_of};
+use pe_vectors::members::{A, B, C, Member, files_of};
 use std::alloc::Global;
 use std::process::Abort;
 

@@ -1,8 +1,8 @@
 //! One set as both spaces, that in memory and that over files.
 
 use crate::fault_line::FaultLine;
-use pe_checker::slow_first;
 use pe_space::{FileSpace, MapError, MappedSpace, Policy, SetEntry, map, open_space};
+use pe_vectors::slow_first;
 use std::alloc::Global;
 
 /// The two spaces of a set.

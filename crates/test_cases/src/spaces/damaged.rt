@@ -4,8 +4,8 @@ use crate::edits::edited_file;
 use crate::numbers::number_of;
 use crate::sets::{SetCase, read_set, set_of};
 use crate::spaces::both::{first_error, print_error};
-use pe_checker::slow_first;
 use pe_space::{Policy, SetEntry};
+use pe_vectors::slow_first;
 use std::alloc::Global;
 use std::rt::Files;
 

@@ -1,7 +1,7 @@
 //! What tests of one image's file share.
 
 use pe_layout::Layout;
-use pe_samples::files::{Piece, Vector, file_of, put, put_pieces};
+use pe_vectors::files::{Piece, Vector, file_of, put, put_pieces};
 use pe_view::View;
 use std::alloc::Global;
 use std::process::Abort;

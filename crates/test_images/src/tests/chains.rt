@@ -1,8 +1,8 @@
 //! Chains of forwarders, byte by byte.
 
 use crate::tests::asserts::assert_holds;
-use pe_samples::files::{Piece, put_pieces};
-use pe_samples::vf;
+use pe_vectors::files::{Piece, put_pieces};
+use pe_vectors::vf;
 
 /// How many forwarders VF has, and the pieces that it has for them.
 const CHAINS: &[(u32, &[Piece])] = &[

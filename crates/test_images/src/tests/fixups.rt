@@ -2,9 +2,9 @@
 
 use super::cases::{layout_of, with_data};
 use crate::tests::asserts::assert_holds;
-use pe_samples::files::Piece;
 use pe_tables::FixupKind::{self, Bits32, Bits64, High, Low};
 use pe_tables::{Fixup, ascending, encode_fixups, read_fixups};
+use pe_vectors::files::Piece;
 use std::alloc::Global;
 use std::process::Abort;
 

@@ -4,7 +4,7 @@ use super::cases::{IMAGE, layout_of};
 use crate::tests::asserts::assert_holds;
 use pe_head::Directory;
 use pe_layout::Layout;
-use pe_samples::files::{Piece, Vector, changed_file, file_of, put_pieces};
+use pe_vectors::files::{Piece, Vector, changed_file, file_of, put_pieces};
 use std::process::Abort;
 
 #[test]

@@ -5,7 +5,7 @@ ghost use Rattle.std.specs.Prelude.{◌<◌, ◌*◌};
 use super::cases::{layout_of, with_data};
 use crate::tests::asserts::{assert_holds, assert_number};
 use linked_list_allocator::LocalHeap;
-use pe_samples::files::put_pieces;
+use pe_vectors::files::put_pieces;
 use pe_view::{TextEnds, View};
 use std::alloc::{Allocator, Global};
 use std::process::Abort;

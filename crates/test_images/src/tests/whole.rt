@@ -2,8 +2,8 @@
 
 use crate::tests::asserts::assert_holds;
 use pe_image::read_image;
-use pe_samples::files::{Vector, file_of};
 use pe_tables::TableError;
+use pe_vectors::files::{Vector, file_of};
 use pe_view::{Fault, Place};
 
 #[test]

@@ -1,8 +1,8 @@
 //! The devices of tests: a reader and a writer over memory that work in steps and fail.
 
 use crate::tests::asserts::{assert_holds, assert_number};
-use pe_samples::{StepReader, StepWriter};
 use pe_tool::{Failed, Sink, Source};
+use pe_vectors::{StepReader, StepWriter};
 use std::process::Abort;
 
 /// Whether a read answered with these bytes, or failed.

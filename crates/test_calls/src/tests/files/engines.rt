@@ -2,11 +2,11 @@
 
 ghost use Rattle.std.specs.Prelude.{◌≡◌, ◌<◌};
 
-use pe_samples::{StepReader, StepWriter};
 use pe_tool::{
     Outcome, Policy, SetEntry, ShowOptions, ToolError, at, check, dump, dump_object, json,
     map_report, show,
 };
+use pe_vectors::{StepReader, StepWriter};
 use pe_view::Place;
 use std::alloc::{AllocError, Allocator, Global};
 

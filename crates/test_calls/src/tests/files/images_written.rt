@@ -6,8 +6,8 @@ use super::plans::{
 use crate::tests::asserts::{assert_holds, assert_number, bytes_from};
 use pe_head::{Directory, Magic};
 use pe_layout::Layout;
-use pe_samples::files::{Vector, file_of, number, put, put_pieces};
-use pe_samples::vf;
+use pe_vectors::files::{Vector, file_of, number, put, put_pieces};
+use pe_vectors::vf;
 use pe_view::{Fault, Place, View};
 use pe_write::{Plan, PlanSection, WriteError, write_image};
 use std::alloc::Global;

@@ -5,8 +5,8 @@ use crate::tests::asserts::{assert_holds, has_pieces};
 use coff_object::{
     ObjSection, Object, ObjectError, RawData, Relocation, Symbol, SymbolSection, write_object,
 };
-use pe_samples::files::Piece;
-use pe_samples::objects::O1;
+use pe_vectors::files::Piece;
+use pe_vectors::objects::O1;
 use pe_view::{Fault, Place};
 use std::alloc::Global;
 use std::process::Abort;

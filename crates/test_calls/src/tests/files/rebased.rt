@@ -1,9 +1,9 @@
 //! Files at other bases: what the engine writes of them, and over devices that fail.
 
 use crate::tests::asserts::assert_holds;
-use pe_samples::files::{Vector, file_of};
-use pe_samples::{StepReader, StepWriter};
 use pe_tool::{Outcome, Sink, ToolError, rebase, status};
+use pe_vectors::files::{Vector, file_of};
+use pe_vectors::{StepReader, StepWriter};
 use pe_view::{Fault, Place};
 use pe_write::rebase_file;
 use std::alloc::{Allocator, Global};

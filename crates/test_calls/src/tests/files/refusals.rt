@@ -12,11 +12,6 @@ use bumpalo::Bump;
 use coff_object::{Object, ObjectError, ObjectFile, Symbol, read_object, write_object};
 use pe_image::read_image;
 use pe_layout::Layout;
-use pe_samples::StepReader;
-use pe_samples::files::{Vector, file_of};
-use pe_samples::members::{A, B, C, files_of, names_of, repeated, set_of};
-use pe_samples::objects::O1;
-use pe_samples::same::{same_imports, same_names, same_ordinals};
 use pe_set::{Binding, Module, judge};
 use pe_space::{Command, MapError, Policy, SetEntry, Space, map, open_space, run};
 use pe_tables::{
@@ -24,6 +19,11 @@ use pe_tables::{
     read_fixups, read_imports,
 };
 use pe_tool::{Outcome, ToolError, read_whole};
+use pe_vectors::StepReader;
+use pe_vectors::files::{Vector, file_of};
+use pe_vectors::members::{A, B, C, files_of, names_of, repeated, set_of};
+use pe_vectors::objects::O1;
+use pe_vectors::same::{same_imports, same_names, same_ordinals};
 use pe_view::{Fault, Place, View};
 use pe_write::{WriteError, rebase_file, write_image};
 use std::alloc::Global;

@@ -5,11 +5,11 @@ ghost use Rattle.std.specs.Prelude.{◌≡◌, ◌<◌};
 
 use super::engines::{Answered, Devices, Engine, report_over, run, steps_of};
 use crate::tests::asserts::assert_holds;
-use pe_samples::files::{Piece, VECTORS, Vector, file_of, put_pieces};
-use pe_samples::members::{A, B, C, files_of, set_of};
-use pe_samples::objects::O1;
-use pe_samples::{StepReader, StepWriter, vf};
 use pe_tool::{Outcome, Policy, SetEntry, ToolError, check, map_report, status};
+use pe_vectors::files::{Piece, VECTORS, Vector, file_of, put_pieces};
+use pe_vectors::members::{A, B, C, files_of, set_of};
+use pe_vectors::objects::O1;
+use pe_vectors::{StepReader, StepWriter, vf};
 use pe_view::{Fault, Place};
 use std::alloc::Global;
 use std::process::Abort;

@@ -1,7 +1,7 @@
 -- What the devices tell of their calls.
 use Rattle.std.specs.Prelude.{ℕ, ◌-◌, Bool, List, Option, take, vec_len, vec_capacity}
-use Rattle.pe_samples.specs.declared.devices.StepReader.{StepReader}
-use Rattle.pe_samples.specs.declared.devices.StepWriter.{StepWriter}
+use Rattle.pe_vectors.specs.declared.devices.StepReader.{StepReader}
+use Rattle.pe_vectors.specs.declared.devices.StepWriter.{StepWriter}
 
 -- the bytes that a reader was made of
 abbrev pub bytes_of : StepReader → List ℕ

@@ -46,7 +46,7 @@ pub struct StepReader<'a> {
 }
 
 impl<'a> StepReader<'a> {
-    ghost use Rattle.pe_samples.specs.Devices.{bytes_of, given_by, has_ended, failed_reads, step_of_reads, next_read, failing_read};
+    ghost use Rattle.pe_vectors.specs.Devices.{bytes_of, given_by, has_ended, failed_reads, step_of_reads, next_read, failing_read};
 
     /// A source of these bytes that gives at most `step` of them a call. The call of the number `failing`, counted from
     /// 0, fails and gives none.
@@ -72,7 +72,7 @@ impl<'a> StepReader<'a> {
 }
 
 impl<'a> Source for StepReader<'a> {
-    ghost use Rattle.pe_samples.specs.Devices.{given_by, has_ended, failed_reads};
+    ghost use Rattle.pe_vectors.specs.Devices.{given_by, has_ended, failed_reads};
 
     ghost given = { λ reader. given_by reader };
 
@@ -109,7 +109,7 @@ pub struct StepWriter {
 }
 
 impl StepWriter {
-    ghost use Rattle.pe_samples.specs.Devices.{taken_by, room_of, failed_writes, step_of_writes, next_write, failing_write};
+    ghost use Rattle.pe_vectors.specs.Devices.{taken_by, room_of, failed_writes, step_of_writes, next_write, failing_write};
 
     /// A sink that takes at most `step` bytes a call, and `room` in all: their memory is taken here, and none later. The
     /// call of the number `failing`, counted from 0, fails and takes none.
@@ -143,7 +143,7 @@ impl StepWriter {
 }
 
 impl Sink for StepWriter {
-    ghost use Rattle.pe_samples.specs.Devices.{taken_by, failed_writes};
+    ghost use Rattle.pe_vectors.specs.Devices.{taken_by, failed_writes};
 
     ghost taken = { λ writer. taken_by writer };
 

@@ -1,4 +1,4 @@
-//! What tests of several crates share: small files, sets of them, and devices that fail.
+//! What tests of several crates share: small files, sets of them, devices that fail, and a slow checker of sets.
 //!
 //! Small image files with known bytes are written down piece by piece at the offsets of "PE Format". One of them, VR, is rich: each
 //! field that its dump shows has a value of its own, and each kind of text bytes that are escaped. So a dump that shows one value
@@ -12,7 +12,8 @@
 //! ```
 //!
 //! Over these stand pieces of bytes that are written over a file ([`files`]), sets of files ([`members`]), an object file
-//! ([`objects`]), comparisons ([`same`]), a source and a sink over memory that work in steps and fail on demand.
+//! ([`objects`]), comparisons ([`same`]), a source and a sink over memory that work in steps and fail on demand. The checker,
+//! [`slow_first`], has a crate of its own, `pe_checker`.
 //!
 //! No function here stops a test: want of memory is answered, and so is a piece that does not lie in its file. A test unwraps the
 //! answer:
@@ -32,3 +33,4 @@ pub mod same;
 
 pub use devices::{StepReader, StepWriter};
 pub use images::vf;
+pub use pe_checker::slow_first;

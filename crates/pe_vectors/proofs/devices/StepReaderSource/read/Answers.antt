@@ -1,6 +1,6 @@
 use Rattle.std.proofs.Common.{ℕ, ◌≡◌, ◌+◌, ◌-◌, ◌≤◌, List, ◌++◌, take, drop, length, length-take, length-drop, arith, sym, ◌∙◌, ap}
 use Rattle.std.proofs.Math.Seq.{take-add, take-append_seam}
-use Rattle.pe_samples.proofs.devices.StepReaderSource.read.Goals as goal
+use Rattle.pe_vectors.proofs.devices.StepReaderSource.read.Goals as goal
 
 -- the next `count` bytes are those that were copied to the buffer's beginning
 given_more : (given count : ℕ) (bytes copied rest : List ℕ) → given + count ≤ length bytes → copied ≡ take (given + count - given) (drop given bytes) → take (given + count) bytes ≡ take given bytes ++ take count (copied ++ rest)
