@@ -1,7 +1,8 @@
 //! Runs a workload of the benchmark, and prints all its results as one number.
 //!
 //! The words of its command line are the workload's name, how many rounds it has, and the seed of its inputs; without words each
-//! workload has one round. `bench/run` compares two builds of it.
+//! workload has one round. Where one was not run, as no workload has its name or a call was refused, the status is 1. `bench/run`
+//! compares two builds of it.
 #![tactic(auto)]
 
 mod awkward;
@@ -48,18 +49,21 @@ fn run_workload(
     }
 }
 
-/// Runs a workload and prints its name and its number.
+/// Runs a workload and prints its name and its number. Answers whether it was run.
 fn print_workload<R: Print + AllocGlobal>(
     rt: &R,
     name: &str,
     rounds: u32,
     seed: u64,
-) -> io::Result<()> {
+) -> io::Result<bool> {
     let mut digest = Digest::new();
-    match run_workload(rt.alloc(), &mut digest, name, rounds, seed) {
-        Some(()) => println!(rt; "{name} {:016x}", digest.value()),
-        None => println!(rt; "{name} was not run"),
+    let was_run = run_workload(rt.alloc(), &mut digest, name, rounds, seed).is_some();
+    if was_run {
+        println!(rt; "{name} {:016x}", digest.value())?;
+    } else {
+        println!(rt; "{name} was not run")?;
     }
+    Ok(was_run)
 }
 
 /// The number that a word of the command line writes.
@@ -67,25 +71,31 @@ fn number_of(word: Option<&String>) -> Option<u32> {
     word?.parse().ok()
 }
 
-/// Runs what the words name.
-fn run<R: Print + Env + AllocGlobal>(rt: &R) -> io::Result<()> {
+/// Runs each workload once, and answers whether all were run.
+fn print_all<R: Print + AllocGlobal>(rt: &R, seed: u64) -> io::Result<bool> {
+    let mut all_were_run = true;
+    for name in WORKLOADS {
+        if !print_workload(rt, name, 1, seed)? {
+            all_were_run = false;
+        }
+    }
+    Ok(all_were_run)
+}
+
+/// Runs what the words name, and answers whether all of it was run.
+fn run<R: Print + Env + AllocGlobal>(rt: &R) -> io::Result<bool> {
     let words: Vec<String> = env::args(rt)?.skip(1).collect(rt.alloc())?;
     let seed = u64::from(number_of(words.get(2)).unwrap_or(1));
     let rounds = number_of(words.get(1)).unwrap_or(1);
     match words.first() {
         Some(name) => print_workload(rt, name, rounds, seed),
-        None => {
-            for name in WORKLOADS {
-                print_workload(rt, name, 1, seed)?;
-            }
-            Ok(())
-        }
+        None => print_all(rt, seed),
     }
 }
 
 fn main(rt: HostRuntime) -> ExitCode {
     match run(&rt) {
-        Ok(()) => ExitCode::SUCCESS,
-        Err(_) => ExitCode::FAILURE,
+        Ok(true) => ExitCode::SUCCESS,
+        _ => ExitCode::FAILURE,
     }
 }
