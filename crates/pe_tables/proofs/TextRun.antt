@@ -1,7 +1,7 @@
 -- Texts that ascend: what stands before a text is not the same, and a binary search finds a text if it is there.
 use Rattle.std.proofs.Common.{◌≡◌, ℕ, zero, suc, ◌-◌, ◌<◌, ◌≤◌, Bool, true, false, List, [], ◌∷◌, ◌++◌, length, get_or, Option, Some, None, refl, sym, ap, subst, ◌∙◌, inl, inr, arith}
 use Rattle.std.specs.Borrow.{Bor}
-use Rattle.std.specs.Prelude.{All, if◌then◌else◌}
+use Rattle.std.specs.Prelude.{All, is_some, ◌||◌, if◌then◌else◌}
 use Rattle.std.specs.Str.{bytes_eq}
 use Rattle.std.specs.Ordering.{nat_cmp, is_eq, is_lt, ordering_reverse, ordering_index}
 use Rattle.std.specs.declared.cmp.Ordering.{Ordering}
@@ -76,6 +76,14 @@ module _ {X : Type 0} where
 
   pub found-before : (text : List ℕ) (entries others : List (Entry X)) (x : X) → found text entries ≡ Some x → found text (entries ++ others) ≡ Some x
   found-before text entries others x some = found-append text entries others ∙ ap (λ (o : Option X). first_of o (found text others)) some
+
+  either : (o p : Option X) → is_some (first_of o p) ≡ (is_some o || is_some p)
+  either None p = refl
+  either (Some x) p = refl
+
+  -- a text is among entries and others where it is among either
+  pub found-either : (text : List ℕ) (entries others : List (Entry X)) → is_some (found text (entries ++ others)) ≡ (is_some (found text entries) || is_some (found text others))
+  found-either text entries others = ap is_some (found-append text entries others) ∙ either (found text entries) (found text others)
 
   lacks_by : (o p : Option X) → first_of o p ≡ None → o ≡ None
   lacks_by None p none = refl

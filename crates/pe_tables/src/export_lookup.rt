@@ -144,16 +144,27 @@ impl<'a, A: Allocator + Copy> Exports<'a, A> {
         Some(target)
     }
 
-    /// What a name exports, where it is that of an export that is guessed.
-    fn guessed(&self, name: &[u8]) -> Option<Target<'a>>
-        ensures { IfSome result (λ target. held self.now.names name.now ≡ Some (Some target)) }
-    {
-        for index in self.guesses.get(name) {
-            if let Some(target) = self.export_at(index as usize, name) {
-                return Some(target);
+    /// The first guess of where a name stands at which a text of its length does.
+    fn likely_index(&self, name: &[u8]) -> Option<usize> {
+        let exports = self.names.exports.as_slice();
+        for guess in self.guesses.get(name) {
+            let index = guess as usize;
+            if index < exports.len() && exports[index].0.len() == name.len() {
+                return Some(index);
             }
         }
         None
+    }
+
+    /// What a name exports, where it is that of the first guess of its length. No other guess is compared: names that a file chose may
+    /// have as many wrong ones as there can be.
+    fn guessed(&self, name: &[u8]) -> Option<Target<'a>>
+        ensures { IfSome result (λ target. held self.now.names name.now ≡ Some (Some target)) }
+    {
+        if self.guesses.is_empty() {
+            return None;
+        }
+        self.export_at(self.likely_index(name)?, name)
     }
 
     /// What a name exports: what the first of the names with this text does. No memory is taken.

@@ -33,8 +33,9 @@ const ENTRIES_AT_ONCE: u32 = 256;
 /// From how many bytes the fields of a block are: they begin in a page of 4,096 bytes, and the last has 8 at most.
 const BLOCK_REACH: u32 = 4096 + 8;
 
-/// The most entries of a block of which each is asked for slots, and not the page.
-const FEW_ENTRIES: u32 = 4;
+/// The most entries of a block that are asked for slots one by one. Where there are more, one question about the page may spare theirs,
+/// and where it doesn't, it is one among many.
+const FEW_ENTRIES: u32 = 16;
 
 /// What a fixup's field is, and how it is relocated ("PE Format", Base Relocation Types).
 #[derive(Clone, Copy, Debug, PartialEq, Eq)]

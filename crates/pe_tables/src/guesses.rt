@@ -58,6 +58,11 @@ impl<A: Allocator + Copy> Guesses<A> {
         }
     }
 
+    /// Whether there are none.
+    pub(crate) fn is_empty(&self) -> bool {
+        self.buckets.is_empty()
+    }
+
     /// The bucket of a text.
     fn bucket_of(&self, text: &[u8]) -> usize {
         mark(text).checked_shr(self.shift).unwrap_or(0) as usize

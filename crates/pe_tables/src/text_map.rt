@@ -1,6 +1,6 @@
 //! `TextMap`: what each name of under 256 bytes exports, in the order of the names' bytes.
 
-ghost use Rattle.std.specs.Prelude.{◌≡◌, ◌↔◌, ◌&&◌, ℕ, List, [], None, Some, All, IsTrue, OnOk, IfOk, is_none, if◌then◌else◌};
+ghost use Rattle.std.specs.Prelude.{◌≡◌, ◌↔◌, ◌&&◌, ℕ, List, [], None, Some, All, IsTrue, OnOk, IfOk, is_none, is_some, if◌then◌else◌};
 ghost use Rattle.std.specs.Str.{bytes_eq};
 ghost use Rattle.pe_tables.specs.TextMap.{IsBefore, TextsAscend, found};
 
@@ -31,7 +31,7 @@ fn all_before(run: &[(&[u8], Option<Target>)], text: &[u8]) -> bool
     }
 }
 
-/// What a text of a run exports, if it is there.
+/// What a text of a run exports, if it is there. A text behind all others isn't, which the last one tells.
 fn find<'a>(run: &[(&[u8], Option<Target<'a>>)], text: &[u8]) -> Option<Option<Target<'a>>>
     requires { TextsAscend run.now }
     ensures { result ≡ found text.now run.now }
@@ -39,10 +39,30 @@ fn find<'a>(run: &[(&[u8], Option<Target<'a>>)], text: &[u8]) -> Option<Option<T
     if all_before(run, text) {
         return None;
     }
+    search(run, text)
+}
+
+/// What a text of a run exports, if it is there, by a binary search.
+fn search<'a>(run: &[(&[u8], Option<Target<'a>>)], text: &[u8]) -> Option<Option<Target<'a>>>
+    requires { TextsAscend run.now }
+    ensures { result ≡ found text.now run.now }
+{
     let Ok(index) = run.binary_search_by_key(&text, |entry| entry.0) else {
         return None;
     };
     Some(run[index].1)
+}
+
+/// Whether a text is one of a run; `behind` tells that it stands behind all of them.
+fn is_in(run: &[(&[u8], Option<Target>)], text: &[u8], behind: bool) -> bool
+    requires ascending { TextsAscend run.now }
+    requires tells { IsTrue behind → All (λ entry. IsBefore entry.0.now text.now) run.now }
+    ensures { result ≡ is_some (found text.now run.now) }
+{
+    if behind {
+        return false;
+    }
+    search(run, text).is_some()
 }
 
 impl<'a, A: Allocator + Copy> TextMap<'a, A> {
@@ -78,12 +98,29 @@ impl<'a, A: Allocator + Copy> TextMap<'a, A> {
         }
     }
 
-    /// Adds a text, which isn't there yet.
-    pub fn insert(&mut self, text: &'a [u8], target: Option<Target<'a>>) -> Result<(), AllocError>
-        requires { found text.now (entries_in self.old) ≡ None }
+    /// Whether a text is there; `is_behind` tells that it stands behind the whole run.
+    fn holds(&self, text: &[u8], is_behind: bool) -> bool
+        requires { IsTrue is_behind → All (λ entry. IsBefore entry.0.now text.now) self.now.run.items }
+        ensures { result ≡ is_some (found text.now (entries_in self.now)) }
+    {
+        if is_in(self.run.as_slice(), text, is_behind) {
+            return true;
+        }
+        self.others.get(text).copied().is_some()
+    }
+
+    /// Adds a text, which isn't there yet; `is_behind` tells that it stands behind the whole run.
+    fn insert(
+        &mut self,
+        text: &'a [u8],
+        target: Option<Target<'a>>,
+        is_behind: bool,
+    ) -> Result<(), AllocError>
+        requires behind { IsTrue is_behind → All (λ entry. IsBefore entry.0.now text.now) self.old.run.items }
+        requires new { found text.now (entries_in self.old) ≡ None }
         ensures { OnOk result ((other : List ℕ) → found other (entries_in self.new) ≡ (if bytes_eq other text.now then Some target.entry else found other (entries_in self.old))) }
     {
-        if all_before(self.run.as_slice(), text) {
+        if is_behind {
             self.run.push((text, target))?;
         } else {
             self.others.insert(text, target)?;
@@ -91,20 +128,17 @@ impl<'a, A: Allocator + Copy> TextMap<'a, A> {
         Ok(())
     }
 
-    /// Adds a text unless it is there, and tells whether it is new. A text behind all others, as those of most tables are, is
-    /// compared once.
+    /// Adds a text unless it is there, and tells whether it is new. It is compared with the last text of the run once: one behind it, as
+    /// those of most tables are, with no other of the run.
     pub fn add(&mut self, text: &'a [u8], target: Option<Target<'a>>) -> Result<bool, AllocError>
         ensures { IfOk result (λ is_new. (is_new ≡ is_none (found text.entry.now (entries_in self.old)))
             × ((other : List ℕ) → found other (entries_in self.new) ≡ (if is_new && bytes_eq other text.entry.now then Some target.entry else found other (entries_in self.old)))) }
     {
-        if self.others.is_empty() && all_before(self.run.as_slice(), text) {
-            self.run.push((text, target))?;
-            return Ok(true);
-        }
-        if self.get(text).is_some() {
+        let is_behind = all_before(self.run.as_slice(), text);
+        if self.holds(text, is_behind) {
             return Ok(false);
         }
-        self.insert(text, target)?;
+        self.insert(text, target, is_behind)?;
         Ok(true)
     }
 }

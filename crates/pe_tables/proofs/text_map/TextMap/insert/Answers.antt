@@ -8,12 +8,12 @@ pub returns-in_ok-push : goal.returns-in_ok-push
 unfolding entries_in
 returns-in_ok-push g c = λ other.
     let map = c.args.self.now in
-    let new_text = run_lacks c.args.text.now map.run.items map.others.entries c.requires in
+    let new_text = run_lacks c.args.text.now map.run.items map.others.entries c.requires.new in
     rw c.in_ok-push.ensures.items (gained-push map.run.items map.others.entries c.args.text c.args.target other new_text)
 
 pub returns-in_ok-insert : goal.returns-in_ok-insert
 unfolding entries_in
 returns-in_ok-insert g c = λ other.
     let map = c.args.self.now in
-    let new_text = run_lacks c.args.text.now map.run.items map.others.entries c.requires in
+    let new_text = run_lacks c.args.text.now map.run.items map.others.entries c.requires.new in
     rw c.in_ok-insert.ensures.entries (gained-others map.run.items map.others.entries c.args.text c.args.target other _ new_text (inserted c.args.text c.args.target other map.others.entries))
