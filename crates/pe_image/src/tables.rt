@@ -1,13 +1,13 @@
 //! `read_tables`: an image's tables up to the first with a fault; and `read_relocations`, its base relocations alone.
 
-ghost use Rattle.std.specs.Prelude.{◌≡◌, None, Some, option_map, IsErrOf, IfOk};
+ghost use Rattle.std.specs.Prelude.{◌≡◌, None, Some, option_map, IsErrOf, IfOk, OnErr};
 ghost use Rattle.pe_view.specs.Faults.{AnswersOrWants};
 ghost use Rattle.pe_view.specs.declared.refusal.Refusal.{Refusal};
 ghost use Rattle.pe_layout.specs.Layout.{image_of};
 ghost use Rattle.pe_tables.specs.Fixups.{fixups_of};
 ghost use Rattle.pe_image.specs.ImageTests.{relocation_tests};
 ghost use Rattle.pe_image.specs.ImageOf.{AreTablesOf};
-ghost use Rattle.pe_image.specs.Wants.{FixupsTakeMemory};
+ghost use Rattle.pe_image.specs.Wants.{FixupsTakeMemory, TablesTakeMemory};
 
 use pe_layout::Layout;
 use pe_tables::{Exports, Fixup, Import, TableError, read_exports, read_fixups, read_imports};
@@ -35,6 +35,7 @@ fn tables_before<'a, A: Allocator>(
 ) -> Result<Tables<'a, A>, AllocError>
     ensures kept { IfOk result (λ tables. (tables.exports ≡ exports.entry) × (tables.imports ≡ imports.entry) × (tables.fixups ≡ None)) }
     ensures refused { IfOk result (λ tables. option_map Refusal.Fault tables.fault ≡ Some error) }
+    ensures memory { OnErr result (error ≡ Refusal.Memory) }
 {
     match error {
         TableError::Fault(fault) => Ok(Tables {
@@ -56,7 +57,8 @@ pub fn read_tables<'a, A: Allocator + Copy>(
     alloc: A,
     layout: &Layout<'a>,
 ) -> Result<Tables<'a, A>, AllocError>
-    ensures { IfOk result (AreTablesOf (image_of layout.now)) }
+    ensures tables { IfOk result (AreTablesOf (image_of layout.now)) }
+    ensures memory { OnErr result (TablesTakeMemory (image_of layout.now)) }
 {
     let exports = match read_exports(alloc, layout) {
         Ok(exports) => exports,

@@ -3,11 +3,6 @@ use Rattle.std.specs.Prelude.{◌≡◌, ℕ, List, None}
 use Rattle.pe_view.specs.Faults.{first_standing}
 use Rattle.pe_layout.specs.Image.{LaidOut, image_of_file}
 use Rattle.pe_layout.specs.SectionFaults.{layout_tests}
-use Rattle.pe_tables.specs.ExportFaults.{HasRows}
-
--- exports: the table has a name or an entry, and none of faults 16 to 18 stands
-abbrev pub ExportsTakeMemory : LaidOut → Type 0
-ExportsTakeMemory i = HasRows i (i.directory 0)
 
 -- none of faults 1 to 15 stands
 abbrev pub IsLaidOut : List ℕ → Type 0

@@ -10,8 +10,8 @@ ghost use Rattle.pe_tables.specs.Fixups.{fixups_of};
 ghost use Rattle.pe_tables.specs.Imports.{imports_of};
 ghost use Rattle.pe_tables.specs.ImportView.{import_view};
 ghost use Rattle.pe_records_c.specs.TableTests.{file_export_tests, file_import_tests, file_relocation_tests};
-ghost use Rattle.pe_image.specs.Wants.{ImportsTakeMemory, FixupsTakeMemory};
-ghost use Rattle.pe_records_c.specs.Wants.{ExportsTakeMemory, IsLaidOutAnd};
+ghost use Rattle.pe_image.specs.Wants.{ExportsTakeMemory, ImportsTakeMemory, FixupsTakeMemory};
+ghost use Rattle.pe_records_c.specs.Wants.{IsLaidOutAnd};
 
 use pe_image::{lay_out, read_relocations};
 use pe_tables::{Exports, Fixup, Import, read_exports, read_imports};

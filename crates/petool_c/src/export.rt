@@ -8,7 +8,8 @@ ghost use Rattle.pe_records_c.specs.ExportRows.{export_text, export_by_ordinal, 
 ghost use Rattle.pe_records_c.specs.Faults.{IsAccepted, IsAnswered, IsRefused};
 ghost use Rattle.pe_records_c.specs.Rows.{ReadsTable};
 ghost use Rattle.pe_records_c.specs.TableTests.{file_export_tests};
-ghost use Rattle.pe_records_c.specs.Wants.{ExportsTakeMemory, IsLaidOutAnd};
+ghost use Rattle.pe_image.specs.Wants.{ExportsTakeMemory};
+ghost use Rattle.pe_records_c.specs.Wants.{IsLaidOutAnd};
 
 use pe_records_c::export::{ExportRow, TargetRecord, put_target};
 use pe_records_c::fault::{FaultRecord, refuse_for};

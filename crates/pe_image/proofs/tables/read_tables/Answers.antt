@@ -1,5 +1,6 @@
 -- A table behind the first fault is not read.
-use Rattle.std.proofs.Common.{◌≡◌, ◌∙◌, List, ℕ, ◌++◌, None, ap, sym, subst}
+use Rattle.std.proofs.Common.{◌≡◌, ◌∙◌, List, ℕ, ◌++◌, None, IsTrue, inl, inr, ap, sym, subst}
+use Rattle.std.proofs.lemmas.Result.{on_err_weaker}
 use Rattle.pe_view.specs.Faults.{first_standing, Refuses}
 use Rattle.pe_view.specs.FirstStanding.{first-past, refused-in, refused-past}
 use Rattle.pe_layout.specs.Layout.{image_of}
@@ -10,14 +11,15 @@ use Rattle.pe_tables.specs.FixupFaults.{fixup_tests}
 use Rattle.pe_tables.specs.Import.{slots_of}
 use Rattle.pe_tables.specs.ImportFaults.{import_tests}
 use Rattle.pe_tables.specs.Imports.{imports_of}
+use Rattle.pe_tables.specs.TableFaults.{goes_past}
 use Rattle.pe_image.specs.ImageTests.{relocation_tests, table_tests}
 use Rattle.pe_image.proofs.Phases.{own_slots}
 use Rattle.pe_image.proofs.Whole.{both_ok, there, told, absent}
 use Rattle.pe_image.proofs.tables.read_tables.Goals as goal
 
-pub returns-in-Err : goal.returns-in-Err
+pub returns-in-Err-clause-tables : goal.returns-in-Err-clause-tables
 unfolding table_tests
-returns-in-Err g c =
+returns-in-Err-clause-tables g c =
     let i = image_of c.args.layout.now in
     let error = c.in-Err.error in
     let refused = c.in-Err.ensures.exact in
@@ -30,9 +32,9 @@ returns-in-Err g c =
       fault = sym (told (table_tests i) error t.fault fault before_all);
     }) c.tables_before.ensures.kept c.tables_before.ensures.refused
 
-pub returns-in-Err-read_imports : goal.returns-in-Err-read_imports
+pub returns-in-Err-read_imports-clause-tables : goal.returns-in-Err-read_imports-clause-tables
 unfolding table_tests
-returns-in-Err-read_imports g c =
+returns-in-Err-read_imports-clause-tables g c =
     let i = image_of c.args.layout.now in
     let error = c.in-Err-read_imports.error in
     let exports = c.in-Ok.ensures.exact in
@@ -46,9 +48,9 @@ returns-in-Err-read_imports g c =
       fault = sym (told (table_tests i) error t.fault fault before_all);
     }) c.tables_before-in-Err-read_imports.ensures.kept c.tables_before-in-Err-read_imports.ensures.refused
 
-pub returns-in-Err-read_fixups : goal.returns-in-Err-read_fixups
+pub returns-in-Err-read_fixups-clause-tables : goal.returns-in-Err-read_fixups-clause-tables
 unfolding table_tests
-returns-in-Err-read_fixups g c =
+returns-in-Err-read_fixups-clause-tables g c =
     let i = image_of c.args.layout.now in
     let error = c.in-Err-read_fixups.error in
     let exports = c.in-Ok.ensures.exact in
@@ -64,9 +66,9 @@ returns-in-Err-read_fixups g c =
       fault = sym (told (table_tests i) error t.fault fault before_all);
     }) c.tables_before-in-Err-read_fixups.ensures.kept c.tables_before-in-Err-read_fixups.ensures.refused
 
-pub returns-in-Ok-read_fixups : goal.returns-in-Ok-read_fixups
+pub returns-in-Ok-read_fixups-clause-tables : goal.returns-in-Ok-read_fixups-clause-tables
 unfolding table_tests
-returns-in-Ok-read_fixups g c =
+returns-in-Ok-read_fixups-clause-tables g c =
     let i = image_of c.args.layout.now in
     let exports = c.in-Ok.ensures.exact in
     let imports = c.in-Ok-read_imports.ensures.exact in
@@ -81,3 +83,20 @@ returns-in-Ok-read_fixups g c =
       fixups = rw fixups.1 (sym (there (table_tests i) (fixups_of i) none));
       fault = sym none;
     }
+
+pub returns-in-Err-clause-memory : goal.returns-in-Err-clause-memory
+returns-in-Err-clause-memory g c =
+    on_err_weaker c.tables_before.result (λ wants. inl (c.in-Err.ensures.memory (cc wants))) c.tables_before.ensures.memory
+
+pub returns-in-Err-read_imports-clause-memory : goal.returns-in-Err-read_imports-clause-memory
+returns-in-Err-read_imports-clause-memory g c =
+    on_err_weaker c.tables_before-in-Err-read_imports.result (λ wants. inr (c.in-Ok.ensures.exact.0, inl (c.in-Err-read_imports.ensures.memory (cc wants)))) c.tables_before-in-Err-read_imports.ensures.memory
+
+pub returns-in-Err-read_fixups-clause-memory : goal.returns-in-Err-read_fixups-clause-memory
+returns-in-Err-read_fixups-clause-memory g c =
+    let i = image_of c.args.layout.now in
+    let imports = c.in-Ok-read_imports.ensures.exact in
+    let slots = ap slots_of c.deref.ensures.value ∙ own_slots c.in-Ok-read_imports.imports.items _ imports.1 in
+    on_err_weaker c.tables_before-in-Err-read_fixups.result
+    (λ wants. inr (c.in-Ok.ensures.exact.0, inr (imports.0, subst (λ (s : List ℕ). IsTrue (goes_past 33 (fixup_tests i s))) slots (c.in-Err-read_fixups.ensures.memory (cc wants)))))
+    c.tables_before-in-Err-read_fixups.ensures.memory

@@ -10,7 +10,7 @@ use Rattle.pe_tables.specs.ExportFaults.{export_tests}
 use Rattle.pe_tables.specs.Exports.{exports_of}
 use Rattle.pe_tables.specs.ExportsView.{exports_view}
 use Rattle.pe_records_c.specs.TableTests.{file_export_tests}
-use Rattle.pe_records_c.specs.Wants.{ExportsTakeMemory}
+use Rattle.pe_image.specs.Wants.{ExportsTakeMemory}
 use Rattle.pe_records_c.proofs.Phases.{behind}
 use Rattle.pe_records_c.proofs.reading.exports_in.Goals as goal
 
