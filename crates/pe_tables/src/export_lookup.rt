@@ -161,19 +161,35 @@ impl<'a, A: Allocator + Copy> Exports<'a, A> {
     fn guessed(&self, name: &[u8]) -> Option<Target<'a>>
         ensures { IfSome result (λ target. held self.now.names name.now ≡ Some (Some target)) }
     {
-        if self.guesses.is_empty() {
-            return None;
-        }
         self.export_at(self.likely_index(name)?, name)
+    }
+
+    /// What a name exports, by a search.
+    fn searched(&self, name: &[u8]) -> Option<Target<'a>>
+        ensures { option_map target_view result ≡ target_at (exports_view self.now) (Name name.now) }
+    {
+        self.names.get(name)?
+    }
+
+    /// What a name exports, by a guess where it is right. It stands apart, so that a search alone has the registers.
+    #[inline(never)]
+    fn by_guess(&self, name: &[u8]) -> Option<Target<'a>>
+        ensures { option_map target_view result ≡ target_at (exports_view self.now) (Name name.now) }
+    {
+        match self.guessed(name) {
+            Some(target) => Some(target),
+            None => self.searched(name),
+        }
     }
 
     /// What a name exports: what the first of the names with this text does. No memory is taken.
     pub fn by_name(&self, name: &[u8]) -> Option<Target<'a>>
         ensures { option_map target_view result ≡ target_at (exports_view self.now) (Name name.now) }
     {
-        match self.guessed(name) {
-            Some(target) => Some(target),
-            None => self.names.get(name)?,
+        if self.guesses.is_empty() {
+            self.searched(name)
+        } else {
+            self.by_guess(name)
         }
     }
 
