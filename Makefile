@@ -8,7 +8,8 @@
 # LIBDIR and ZSHDIR name other folders for the library and for zsh's completion. What `rt ci` has left is taken where it is newer than
 # the sources. PROGRAM and CALLS may name a program and an archive of the calls that exist already.
 #
-# All but what `rt` builds, which stands in crates/*/out, is made in $(O), outside the repository.
+# What `rt` builds stands in crates/*/out, and is kept by scripts/prove.py for other checkouts; all else is made in $(O), outside the
+# repository.
 
 O ?= $(or $(TMPDIR),/tmp)/petool-build
 override O := $(abspath $(O))
@@ -45,7 +46,7 @@ WANTED := petool $(if $(filter petool,$(MAKECMDGOALS)),,petool_c)
 
 # it is touched, since sources that were only copied or checked out again are newer than what was proved of them
 crates/petool/out/petool: $(SOURCES)
-	scripts/prove.py --jobs $(JOBS) --folder $(O) $(WANTED)
+	scripts/prove.py --jobs $(JOBS) $(WANTED)
 	touch $@
 
 # anew each time, since another checkout may have made them

@@ -1,5 +1,6 @@
 """Tests scripts/prove.py over a small repository, with an `rt` that only notes how it is called."""
 
+import fcntl
 import os
 import pathlib
 import re
@@ -12,24 +13,34 @@ import unittest
 
 PROVE = pathlib.Path(__file__).resolve().parents[1] / "prove.py"
 CRATES = "low: bytes\nother:\nhigh: low bytes\ncalls staticlib: high other\nprogram: high\n"
-# it wants what is proved of the crates below, leaves what the crate's file `fails` or `waits` asks for, and else a made crate
+# it notes what of the crates below it has to prove again, or has got half; it leaves what the crate's file `fails` or a file of the kit
+# asks for, and else a made crate
 RT = """#!/bin/sh
-if [ "$1" = doc ]; then echo "$KIT/PAGE.md"; exit; fi
+if [ "$1" = version ]; then cat "$KIT/version"; exit; fi
 crate=$(basename "$PWD")
 echo "$crate $1 $(ls out/incremental 2>/dev/null)" >>"$KIT/log"
+stamp() { cat "$1"/src/*.rt "$KIT/version" "$KIT/stamps" | cksum; }
 for library in $(sed -n "s/^$crate\\( staticlib\\)*: *//p" ../../crates.txt); do
-    [ "$library" = bytes ] || [ -f "../$library/out/rlib/stamp" ] || { echo "no $library"; exit 1; }
+    [ "$library" = bytes ] || [ "$(cat "../$library/out/rlib/stamp")" = "$(stamp "../$library")" ] || echo "$library again" >>"$KIT/log"
+    [ ! -e "../$library/out/rlib/half" ] || echo "$library half" >>"$KIT/log"
 done
-mkdir -p out/incremental out/rlib
+mkdir -p out/incremental
 touch out/incremental/begun
 if grep -q fails src/*.rt; then echo 'it is refused'; exit 1; fi
 if [ -e "$KIT/waits" ]; then sleep 60; fi
+if [ -e "$KIT/leaves-nothing" ]; then exit; fi
 case $crate in
 calls) echo calls >out/libcalls.a ;;
 program) echo program >out/program ;;
-*) mkdir -p "out/rlib/$crate.rlib" && echo "$crate" >out/rlib/stamp ;;
+*) rm -rf out/rlib && mkdir -p "out/rlib/$crate.rlib" && stamp . >out/rlib/stamp && printf %1000s "$crate" >"out/rlib/$crate.rlib/code" ;;
 esac
 """
+# its `cp` refuses what is to be kept
+CP = """#!/bin/sh
+case $* in */kept/*) echo 'cp: No space left on device' >&2; exit 1 ;; esac
+exec /bin/cp "$@"
+"""
+LIMITS = "KEPT_BYTES, FREE_BYTES = 6 << 30, 5 << 30"
 
 
 class TestProve(unittest.TestCase):
@@ -45,16 +56,40 @@ class TestProve(unittest.TestCase):
         (self.top / "HANDLES").write_text("Handles allowed: none.\n")
         (self.top / "scripts").mkdir()
         shutil.copy(PROVE, self.top / "scripts")
+        # whatever the disk of this machine has free
+        self.limit(6 << 30, 0)
         self.kit.mkdir()
-        (self.kit / "KIT-ID").write_text("kit")
-        (self.kit / "rt").write_text(RT)
-        (self.kit / "rt").chmod(0o755)
+        (self.kit / "version").write_text("kit")
+        (self.kit / "stamps").write_text("")
+        self.script("rt", RT)
+        self.folder = ["--folder", self.room / "folder"]
+        self.environment = {}
+
+    def script(self, name, text):
+        (self.kit / name).write_text(text)
+        (self.kit / name).chmod(0o755)
+
+    def limit(self, kept, free):
+        """Sets the bytes that may be kept, and those that have to be free."""
+        text = PROVE.read_text()
+        self.assertEqual(text.count(LIMITS), 1)
+        (self.top / "scripts" / "prove.py").write_text(text.replace(LIMITS, f"KEPT_BYTES, FREE_BYTES = {kept}, {free}"))
+
+    def clone(self, name):
+        """Goes on in another checkout of the repository, in which nothing was made."""
+        clone = self.room / name
+        shutil.copytree(self.top, clone, ignore=shutil.ignore_patterns("out"))
+        self.top = clone
+
+    def kept(self):
+        """The folder of what is kept of the crate low."""
+        return next(it.parents[3] for it in (self.room / "folder" / "kept").glob("*/made/rlib/low.rlib/code"))
 
     def begin(self, *words):
         path = f"{self.kit}:{os.environ['PATH']}"
-        command = [self.top / "scripts" / "prove.py", "--jobs", "3", "--folder", self.room / "folder", *words]
+        command = [self.top / "scripts" / "prove.py", "--jobs", "3", *self.folder, *words]
         return subprocess.Popen(
-            command, env={**os.environ, "PATH": path, "KIT": str(self.kit)}, text=True,
+            command, env={**os.environ, "PATH": path, "KIT": str(self.kit), **self.environment}, text=True,
             stdout=subprocess.PIPE, stderr=subprocess.STDOUT,
         )
 
@@ -64,6 +99,21 @@ class TestProve(unittest.TestCase):
         run = self.begin(*words)
         said, _ = run.communicate(timeout=60)
         return run.returncode, said, self.log()
+
+    def prove_beside(self, crate, act, *words):
+        """What was noted of a run that comes to the folder of a crate while another run, which does `act` there, has its lock."""
+        (self.kit / "log").write_text("")
+        held = os.open(self.top / "crates" / crate, os.O_RDONLY)
+        try:
+            fcntl.flock(held, fcntl.LOCK_EX)
+            run = self.begin(*words)
+            self.assertIn(f"waiting for another run in {self.top / 'crates' / crate}", run.stdout.readline())
+            act()
+        finally:
+            os.close(held)
+        said, _ = run.communicate(timeout=60)
+        self.assertEqual(run.returncode, 0, said)
+        return (self.kit / "log").read_text().splitlines()
 
     def log(self):
         return [line.split()[0] for line in (self.kit / "log").read_text().splitlines()]
@@ -117,13 +167,20 @@ class TestProve(unittest.TestCase):
 
     def test_another_kit_proves_anew(self):
         self.prove("low")
-        (self.kit / "KIT-ID").write_text("another kit")
+        (self.kit / "version").write_text("another kit")
         self.assertEqual(self.prove("low")[2], ["low"])
 
     def test_what_is_made_that_was_removed_is_made_again(self):
         self.prove("program")
         (self.top / "crates/program/out/program").unlink()
+        shutil.rmtree(self.room / "folder" / "kept")
         self.assertEqual(self.prove("program")[2], ["program"])
+
+    def test_what_another_run_made_in_its_place_does_not_stand(self):
+        self.prove("program")
+        program = self.top / "crates/program/out/program"
+        program.write_text("of other sources")
+        self.assertEqual((self.prove("program")[2], program.read_text()), ([], "program\n"))
 
     def test_a_refused_crate_is_told_with_what_rt_said(self):
         (self.top / "crates/high/src/lib.rt").write_text("fails")
@@ -157,11 +214,140 @@ class TestProve(unittest.TestCase):
         self.assertIn("waiting for another run", second.communicate(timeout=60)[0])
         self.assertEqual((second.returncode, self.log()), (0, ["low", "low"]))
 
-    def test_stands_asks_and_proves_nothing(self):
-        self.assertEqual(self.prove("--stands", "program")[::2], (1, []))
-        self.prove("program")
-        self.assertEqual(self.prove("--stands", "program")[::2], (0, []))
-        self.assertEqual(self.prove("--stands", "calls")[::2], (1, []))
+    def test_another_checkout_is_handed_what_was_proved(self):
+        self.prove("program", "calls")
+        self.clone("clone")
+        status, said, proved = self.prove("program", "calls")
+        self.assertEqual((status, proved), (0, []), said)
+        self.assertEqual((self.top / "crates/program/out/program").read_text(), "program\n")
+        self.assertEqual((self.top / "crates/calls/out/libcalls.a").read_text(), "calls\n")
+        self.assertEqual(sorted(it.name for it in (self.top / "crates/high/out/rlib").iterdir()), ["high.rlib", "proved", "stamp"])
+
+    def test_another_checkout_proves_what_it_has_otherwise(self):
+        self.prove("program", "calls")
+        self.clone("clone")
+        (self.top / "crates/high/src/lib.rt").write_text("edited")
+        self.assertEqual(sorted(self.prove("program", "calls")[2]), ["calls", "high", "program"])
+
+    def test_what_was_proved_before_an_edit_is_kept_too(self):
+        self.prove("high")
+        source = self.top / "crates/low/src/lib.rt"
+        source.write_text("edited")
+        self.prove("high")
+        source.write_text("low")
+        self.assertEqual(self.prove("high")[2], [])
+
+    def test_what_is_kept_stays_as_it_was_whatever_a_checkout_does(self):
+        self.prove("low")
+        self.clone("second")
+        self.prove("low")
+        with open(self.top / "crates/low/out/rlib/low.rlib/code", "a") as code:
+            code.write("written over")
+        self.clone("third")
+        self.assertEqual(self.prove("low")[2], [])
+        self.assertEqual((self.top / "crates/low/out/rlib/low.rlib/code").read_text().strip(), "low")
+
+    def test_what_is_not_kept_whole_is_proved_again(self):
+        self.prove("high")
+        (self.kept() / "made/rlib/low.rlib/code").write_text("")
+        self.clone("second")
+        status, said, proved = self.prove("high")
+        self.assertEqual((status, proved), (0, ["low"]), said)
+        self.clone("third")
+        self.assertEqual(self.prove("high")[2], [])
+        (self.kept() / "sum").unlink()
+        self.clone("fourth")
+        self.assertEqual(self.prove("high")[2], ["low"])
+
+    def test_what_a_run_left_unfinished_is_not_taken(self):
+        self.prove("low")
+        self.kept().rename(self.kept().with_suffix(".new"))
+        (self.room / "folder" / "kept" / "another.new").mkdir()
+        self.clone("second")
+        self.assertEqual(self.prove("low")[2], ["low"])
+        self.assertEqual(list((self.room / "folder" / "kept").iterdir()), [self.kept()])
+
+    def test_where_nothing_can_be_kept_all_else_goes_on(self):
+        self.script("cp", CP)
+        status, said, proved = self.prove("high")
+        self.assertEqual((status, proved), (0, ["low", "high"]), said)
+        self.assertIn("low is not kept for other checkouts", said)
+        self.assertEqual(list((self.room / "folder" / "kept").iterdir()), [])
+        self.assertEqual(self.prove("high")[2], [])
+
+    def test_nothing_is_kept_on_a_disk_that_is_almost_full(self):
+        self.limit(6 << 30, 1 << 62)
+        self.prove("low")
+        self.clone("clone")
+        self.assertEqual(self.prove("low")[2], ["low"])
+
+    def test_what_was_longest_unused_goes(self):
+        # two of these libraries
+        self.limit(3000, 0)
+        self.prove("low")
+        self.prove("other")
+        self.prove("high")
+        self.clone("clone")
+        self.assertEqual(self.prove("high", "other")[2], ["other"])
+
+    def test_what_rt_does_not_take_is_proved_again_by_it(self):
+        self.prove("low")
+        (self.kit / "stamps").write_text("of another form")
+        self.clone("clone")
+        self.prove("high")
+        self.assertEqual((self.kit / "log").read_text(), "high lib \nlow again\n")
+
+    def test_what_rt_does_not_leave_is_told(self):
+        (self.kit / "leaves-nothing").touch()
+        status, said, _ = self.prove("low")
+        self.assertEqual(status, 1)
+        self.assertIn("there is no", said)
+
+    def test_a_copy_of_what_was_begun_waits_for_the_run_that_works_there(self):
+        begun = self.top / "crates/low/out/incremental"
+        begun.mkdir(parents=True)
+        (begun / "half").touch()
+        self.assertEqual(self.prove_beside("low", lambda: (begun / "half").rename(begun / "whole"), "low"), ["low lib whole"])
+
+    def clear_low(self):
+        """What a run of `rt` does that makes the library low again, and has not ended."""
+        folder = self.top / "crates/low/out/rlib"
+        stamp = (folder / "stamp").read_text()
+        shutil.rmtree(folder)
+        (folder / "low.rlib").mkdir(parents=True)
+        (folder / "stamp").write_text(stamp)
+        (folder / "half").touch()
+
+    def test_of_a_crate_below_no_half_library_is_taken_but_what_is_kept(self):
+        self.prove("low")
+        self.assertEqual(self.prove_beside("low", self.clear_low, "high"), ["high lib "])
+
+    def test_of_a_crate_below_no_half_library_is_taken(self):
+        self.prove("low")
+        shutil.rmtree(self.kept())
+        self.assertEqual(self.prove_beside("low", self.clear_low, "high"), ["high lib ", "low again"])
+
+    def test_a_folder_in_which_others_may_write_is_refused(self):
+        (self.room / "folder").mkdir()
+        (self.room / "folder").chmod(0o777)
+        status, said, proved = self.prove("low")
+        self.assertEqual((status, proved), (1, []))
+        self.assertIn("in which this user alone may write", said)
+
+    def test_the_folder_is_the_users_own_where_none_is_named(self):
+        self.folder = []
+        cache, home, made = self.room / "cache", self.room / "home", self.room / "made"
+        made.mkdir()
+        chosen = [
+            ({"XDG_CACHE_HOME": str(cache), "HOME": str(home)}, cache / "petool"),
+            ({"XDG_CACHE_HOME": "", "HOME": str(home)}, home / ".cache" / "petool"),
+            ({"XDG_CACHE_HOME": "/dev/null/no", "HOME": "/dev/null", "TMPDIR": str(made)}, made / f"petool-build-{os.getuid()}"),
+        ]
+        for self.environment, folder in chosen:
+            with self.subTest(folder=folder):
+                self.assertFalse(folder.exists())
+                self.assertEqual(self.prove("low")[0], 0)
+                self.assertEqual((len(list((folder / "kept").iterdir())), folder.stat().st_mode & 0o777), (1, 0o700))
 
 
 if __name__ == "__main__":
