@@ -5,6 +5,7 @@
 - MAP.md: each file and each proof by hand that it names is there (its crates, and FILES.md, are compared by file_rows.py)
 - GUIDE.md and petool(1): the commands, options and arguments of the program that PETOOL_PROGRAM names, and README.md, which may
   leave out options; without that program this is left out
+- README.md and GUIDE.md: the test command of .ci/run
 - the versions of the program, of the library, of its bindings and of its package: that of the file VERSION
 - PROVED.md and README.md: the ported crates of crates.txt, those of tests and of the benchmark apart
 
@@ -25,6 +26,7 @@ from completions import options_of, rows as help_rows
 TOP = pathlib.Path(__file__).resolve().parents[1]
 PROVED, TESTS, MAP = "docs/PROVED.md", "docs/TESTS.md", "docs/MAP.md"
 GUIDE, README, MAN = "docs/GUIDE.md", "README.md", "man/petool.1"
+RUN = ".ci/run"
 #: Folders of what is made, which no page tells of.
 MADE = {".git", "out", "target", "__pycache__"}
 #: Where a test stands that a page names without a folder, by its ending, and the lists of cases that PROVED.md names by one word.
@@ -214,6 +216,13 @@ def list_faults():
     yield from (f"{PROVED}: there is no {it}" for it in LISTS if not (TOP / it).is_file())
 
 
+def command_faults():
+    """Whether the pages name the test command that .ci/run runs."""
+    command = [line for line in read(RUN).splitlines() if not line.startswith("#")][-1]
+    pages = [it for it in (README, GUIDE) if f"\n    {command}\n" not in read(it)]
+    yield from (f"{it}: it does not name the test command of {RUN}, which is {command}" for it in pages)
+
+
 def said(program, *words):
     return subprocess.run([program, *words], stdout=subprocess.PIPE, check=True, text=True).stdout
 
@@ -345,7 +354,7 @@ def trust_faults(page):
 def comparisons(program):
     """Of each comparison what is wrong: nothing where page and source agree."""
     yield condition_faults()
-    yield from (file_faults(), proof_faults(), list_faults(), version_faults())
+    yield from (file_faults(), proof_faults(), list_faults(), command_faults(), version_faults())
     yield from map(test_faults, (PROVED, TESTS))
     yield from map(trust_faults, (PROVED, README))
     if program:
@@ -359,7 +368,7 @@ def comparisons(program):
 def main():
     program = os.environ.get("PETOOL_PROGRAM")
     if not program:
-        print(f"the commands of the program, in {GUIDE}, {README} and {MAN}: left out, there is no PETOOL_PROGRAM")
+        print(f"the commands of the program, in {GUIDE}, {README} and {MAN}: left out without program: PETOOL_PROGRAM names none")
     try:
         found = [list(it) for it in comparisons(program)]
     except (LookupError, OSError, subprocess.CalledProcessError) as error:

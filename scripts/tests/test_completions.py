@@ -40,7 +40,7 @@ printf '%s\\n' "${COMPREPLY[@]}"
 """
 
 
-@unittest.skipUnless(shutil.which("bash"), "there is no bash")
+@unittest.skipUnless(shutil.which("bash"), "left out without bash")
 class Bash(unittest.TestCase):
     def setUp(self):
         self.room = pathlib.Path(tempfile.mkdtemp())

@@ -46,6 +46,10 @@ NAMED = [
     (TESTS, "`refusals.rt` | `rt ci`", "`refusal.rt` | `rt ci`", f"{TESTS}: there is no test refusal.rt"),
     (TESTS, "`bindings/rust` |", "`bindings/rusts` |", f"{TESTS}: there is no test bindings/rusts"),
 ]
+COMMAND = [
+    (README, "bindings/test --without mypy\n", "bindings/test\n", f"{README}: it does not name the test command of .ci/run"),
+    (".ci/run", "rt ci && ", "rt all test && ", f"{GUIDE}: it does not name the test command of .ci/run, which is rt all test && "),
+]
 VERSIONS = [
     ("VERSION", "1.0", "1.1", "man/petool.1: the version is 1.0, and that of VERSION 1.1"),
     ("VERSION", "1.0", "2.0", "bindings/c/petool.h: the version is 0x10000, and that of VERSION 2.0"),
@@ -135,6 +139,9 @@ class TestDocsCheck(unittest.TestCase):
         file.write_text(text)
         self.assertEqual((status, f"{PROVED}: there is no crates/test_cases/data/words" in said), (1, True), said)
 
+    def test_the_test_command_is_that_which_is_run(self):
+        self.assert_named(COMMAND)
+
     def test_versions_are_that_of_the_file(self):
         self.assert_named(VERSIONS)
 
@@ -144,12 +151,12 @@ class TestDocsCheck(unittest.TestCase):
     def test_words_are_those_of_help(self):
         program = os.environ.get("PETOOL_PROGRAM")
         if not program:
-            self.skipTest("there is no PETOOL_PROGRAM")
+            self.skipTest("left out without program: PETOOL_PROGRAM names none")
         self.assert_named(WORDS, program)
 
     def test_words_are_left_out_without_a_program(self):
         status, said = self.check()
-        self.assertEqual((status, "left out, there is no PETOOL_PROGRAM" in said), (0, True), said)
+        self.assertEqual((status, "left out without program" in said), (0, True), said)
 
 
 if __name__ == "__main__":

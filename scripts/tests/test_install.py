@@ -27,7 +27,9 @@ FILES = {
 }
 
 
-@unittest.skipUnless(all(NAMED.values()) and shutil.which("make"), "there is no make, no program or no archive of the calls")
+@unittest.skipUnless(NAMED["PROGRAM"], "left out without program: PETOOL_PROGRAM names none")
+@unittest.skipUnless(NAMED["CALLS"], "left out without calls: PETOOL_CALLS names none")
+@unittest.skipUnless(shutil.which("make"), "left out without make")
 class Install(unittest.TestCase):
     def setUp(self):
         self.room = pathlib.Path(tempfile.mkdtemp())

@@ -81,7 +81,7 @@ class Forwarders(Answers):
     def test_the_line_of_a_cycle_tells_its_length(self):
         told = self.mapped_by_program(with_program(looped(1, 34), program(0)), False)
         if told is None:
-            self.skipTest("PETOOL_PROGRAM does not name the program petool")
+            self.skipTest("left out without program: PETOOL_PROGRAM names none")
         self.assertEqual(told, (["fault 50 image 1 rva 0x00001030 cycle 34"], 1))
 
     def test_a_slot_is_bound_behind_1_000_hops(self):

@@ -231,7 +231,7 @@ class Headers(unittest.TestCase):
                 self.assertEqual(self.assert_headers(bytes(file)).pe_offset, pe_offset)
 
 
-@unittest.skipUnless(PROGRAM, "PETOOL_PROGRAM does not name the program petool")
+@unittest.skipUnless(PROGRAM, "left out without program: PETOOL_PROGRAM names none")
 class FieldsOfSections(unittest.TestCase):
     """The fields of section headers that the calls do not tell, and BaseOfData of PE32 alone: as the program's lines of JSON have
     them."""

@@ -71,7 +71,7 @@ class Hostile(unittest.TestCase):
             numbers.add(number)
         self.assertGreater(len(numbers), 15)
 
-    @unittest.skipUnless(PROGRAM, "PETOOL_PROGRAM does not name the program petool")
+    @unittest.skipUnless(PROGRAM, "left out without program: PETOOL_PROGRAM names none")
     def test_the_program_tells_the_same_faults(self):
         with tempfile.TemporaryDirectory() as folder:
             paths = []

@@ -208,7 +208,7 @@ class Texts(unittest.TestCase):
                         self.assertEqual(image.text(rva), text)
 
 
-@unittest.skipUnless(PROGRAM, "PETOOL_PROGRAM does not name the program petool")
+@unittest.skipUnless(PROGRAM, "left out without program: PETOOL_PROGRAM names none")
 class Places(unittest.TestCase):
     """What stands at an RVA, by the program's `at`."""
 

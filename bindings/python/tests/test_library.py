@@ -69,7 +69,7 @@ class Library(unittest.TestCase):
         found = run("import petool", "libc.so.6")
         self.assertIn("ImportError", found.stderr)
 
-    @unittest.skipUnless(WHEEL_MAKER, "no Python with pip, setuptools and wheel is here")
+    @unittest.skipUnless(WHEEL_MAKER, "left out without wheel: no Python with pip, setuptools and wheel is here")
     def test_wheel(self):
         with tempfile.TemporaryDirectory() as folder:
             source, installed = os.path.join(folder, "source"), os.path.join(folder, "installed")

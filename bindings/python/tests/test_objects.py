@@ -112,7 +112,7 @@ class Rows(unittest.TestCase):
             self.assertEqual((found.sections, list(found.symbols)), ((), []))
 
 
-@unittest.skipUnless(PROGRAM, "PETOOL_PROGRAM does not name the program petool")
+@unittest.skipUnless(PROGRAM, "left out without program: PETOOL_PROGRAM names none")
 class Told(unittest.TestCase):
     def told(self, file, *words):
         """What the program prints of an object."""

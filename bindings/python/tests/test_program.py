@@ -443,7 +443,7 @@ NAMED_LINE = (
 )
 
 
-@unittest.skipUnless(PROGRAM, "PETOOL_PROGRAM does not name the program petool")
+@unittest.skipUnless(PROGRAM, "left out without program: PETOOL_PROGRAM names none")
 class Ends(unittest.TestCase):
     maxDiff = None
 
@@ -564,7 +564,8 @@ WANTS = [
 ]
 
 
-@unittest.skipUnless(PROGRAM and shutil.which("cc"), "PETOOL_PROGRAM does not name the program petool, or there is no cc")
+@unittest.skipUnless(PROGRAM, "left out without program: PETOOL_PROGRAM names none")
+@unittest.skipUnless(shutil.which("cc"), "left out without cc")
 class Memory(unittest.TestCase):
     """Want of memory: each growth that the program asks for is refused in turn."""
 

@@ -27,7 +27,7 @@ class Source(unittest.TestCase):
             with self.subTest(file=file):
                 ast.parse(file.read_text(), str(file), feature_version=OLDEST)
 
-    @unittest.skipUnless(has_mypy(), "no mypy that knows the oldest Python is here")
+    @unittest.skipUnless(has_mypy(), "left out without mypy: none is here that knows the oldest Python")
     def test_types(self):
         # mypy knows which names of the standard library its Python has, so later ones are found too
         words = [*MYPY, "--strict", "petool", "examples"]

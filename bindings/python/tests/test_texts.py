@@ -134,7 +134,7 @@ def difference(old, new):
     return [f"{start:#x}={new[start:end].hex()}" for start, end in zip(starts, ends)]
 
 
-@unittest.skipUnless(PROGRAM, "PETOOL_PROGRAM does not name the program petool")
+@unittest.skipUnless(PROGRAM, "left out without program: PETOOL_PROGRAM names none")
 class Program(Cases):
     """What the program prints."""
 
