@@ -50,11 +50,7 @@ static EXPLAINED: [Explained; 69] = [
         "the optional header, by its SizeOfOptionalHeader, extends past the end of the file",
         "an image that was cut off in its headers",
     ),
-    (
-        9,
-        "NumberOfSections is more than 96",
-        "a damaged header; the Windows loader refuses such an image too",
-    ),
+    (9, "NumberOfSections is more than 96", "a damaged header"),
     (
         10,
         "the section table, at 40 bytes a section, extends past the end of the file",

@@ -35,7 +35,7 @@ pub struct ObjectHeaderRecord {
 pub struct SectionHeaderRow {
     /// The name field: a name, filled up with zero bytes, or where it stands in the string table.
     pub name: [u8; 8],
-    /// VirtualSize, which is 0 in objects.
+    /// VirtualSize, as it is written.
     pub virtual_size: u32,
     /// VirtualAddress.
     pub virtual_address: u32,

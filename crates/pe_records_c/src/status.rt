@@ -6,7 +6,8 @@ pub const DONE: u32 = 0;
 pub const FAULT: u32 = 1;
 /// A growth of memory was refused.
 pub const MEMORY: u32 = 2;
-/// There is nothing of this kind: the bytes pass the image, or no such text, export or section is there.
+/// There is nothing of this kind: the bytes pass the image, the file does not hold the byte, or no such text, export, section,
+/// image or fault is there.
 pub const ABSENT: u32 = 3;
 /// There is too little room: the count tells how much is needed.
 pub const SMALL: u32 = 4;

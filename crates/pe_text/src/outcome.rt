@@ -11,7 +11,8 @@ use thiserror::Error;
 pub enum Outcome {
     /// The file has no fault, and the text says what it holds.
     Done,
-    /// The file is refused by this fault, and the text is the fault's line.
+    /// The file is refused by this fault, and the text says so: it is the fault's line, or the page or the line of JSON of a
+    /// refused file.
     Refused(Fault),
 }
 
@@ -24,7 +25,7 @@ pub enum ToolError {
     /// A write failed, or took no byte. What was written is a beginning of the text.
     #[error("writing failed")]
     Write,
-    /// Memory was refused. Nothing was written.
+    /// Memory was refused. Nothing was written, but `json` may have written a beginning of its line.
     #[error("out of memory")]
     Memory,
 }
