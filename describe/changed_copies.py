@@ -111,6 +111,17 @@ FAULTS_WRITTEN = [
     (RULES, '(9, "NumberOfSections"', '(9, "NumberOfSymbols"'),
     (RULES, '    (41, "file", "the set has more than 256 files"),\n', ""),
     (RULES, '    (\n        83,\n', '    (\n        82,\n'),
+    # the words of two faults, and two rows, in each other's place
+    (
+        RULES,
+        '(9, "NumberOfSections", "the image has more than 96 sections"),\n    (\n        10,\n        "NumberOfSections",\n        "the section table extends past the end of the file",',
+        '(9, "NumberOfSections", "the section table extends past the end of the file"),\n    (\n        10,\n        "NumberOfSections",\n        "the image has more than 96 sections",',
+    ),
+    (
+        RULES,
+        '    (3, "MS-DOS header", "the file does not begin with MZ"),\n    (\n        4,\n        "offset of the signature",\n        "the signature and the COFF file header after it extend past the end of the file",\n    ),\n',
+        '    (\n        4,\n        "offset of the signature",\n        "the signature and the COFF file header after it extend past the end of the file",\n    ),\n    (3, "MS-DOS header", "the file does not begin with MZ"),\n',
+    ),
     (RULES, "; 69] = [", "; 68] = ["),
     (RULES, "static RULES", "static WORDS"),
     (EXPLAINED, "an MS-DOS, NE, LE or LX program", "an MS-DOS program"),
