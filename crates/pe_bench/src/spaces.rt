@@ -71,10 +71,12 @@ pub(crate) fn move_images<S: Space>(digest: &mut Digest, space: &mut S, step: u6
     Some(())
 }
 
-/// Adds where each slot stands and ends.
+/// Adds where each slot stands and ends: its image and RVA, and those of the export.
 pub(crate) fn read_bindings<S: Space>(digest: &mut Digest, space: &S) {
     for binding in space.bindings() {
+        digest.number(u64::from(binding.image));
         digest.number(u64::from(binding.slot));
+        digest.number(u64::from(binding.exporter));
         digest.number(u64::from(binding.rva));
     }
 }

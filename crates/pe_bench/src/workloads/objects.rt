@@ -4,7 +4,7 @@ use crate::digest::Digest;
 use crate::object::{ObjectShape, object};
 use crate::shape::round_seed;
 use crate::texts::{Engine, read_text};
-use coff_object::read_object;
+use coff_object::{ObjSection, RawData, Symbol, SymbolSection, read_object};
 use std::alloc::Global;
 
 /// An object of a large source, compiled with a section for each function.
@@ -15,19 +15,51 @@ const SHAPE: ObjectShape = ObjectShape {
     symbols: 3000,
 };
 
+/// Adds a section's name, numbers, bytes and relocations.
+fn read_section(digest: &mut Digest, section: &ObjSection<Global>) {
+    digest.bytes(section.name);
+    digest.number(u64::from(section.virtual_size));
+    digest.number(u64::from(section.virtual_address));
+    digest.number(u64::from(section.flags));
+    match section.raw {
+        RawData::Bytes(bytes) => digest.bytes(bytes),
+        RawData::Absent(size) => digest.number(u64::from(size)),
+    }
+    for relocation in &section.relocations {
+        digest.number(u64::from(relocation.address));
+        digest.number(u64::from(relocation.symbol));
+        digest.number(u64::from(relocation.kind));
+    }
+}
+
+/// The number by which a file names the section of a symbol.
+fn section_number(section: SymbolSection) -> u16 {
+    match section {
+        SymbolSection::Undefined => 0,
+        SymbolSection::Absolute => 0xffff,
+        SymbolSection::Debug => 0xfffe,
+        SymbolSection::Section(number) => number,
+    }
+}
+
+/// Adds a symbol's name, value, section, type, class and auxiliary records.
+fn read_symbol(digest: &mut Digest, symbol: &Symbol) {
+    digest.bytes(symbol.name);
+    digest.number(u64::from(symbol.value));
+    digest.number(u64::from(section_number(symbol.section)));
+    digest.number(u64::from(symbol.kind));
+    digest.number(u64::from(symbol.class));
+    digest.bytes(symbol.aux);
+}
+
 /// Adds what a reader that makes lists has of an object.
 fn read_lists(alloc: Global, digest: &mut Digest, file: &[u8]) -> Option<()> {
     let object = read_object(alloc, file).ok()?;
     for section in &object.sections {
-        digest.bytes(section.name);
-        for relocation in &section.relocations {
-            digest.number(u64::from(relocation.address));
-            digest.number(u64::from(relocation.symbol));
-        }
+        read_section(digest, section);
     }
     for symbol in &object.symbols {
-        digest.bytes(symbol.name);
-        digest.number(u64::from(symbol.value));
+        read_symbol(digest, symbol);
     }
     Some(())
 }
