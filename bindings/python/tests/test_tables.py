@@ -149,6 +149,69 @@ AN_IMPORT = [
 #: V1 has no table.
 NO_TABLE = [([], [0x1000], [])]
 
+#: How many entries blocks have of which one meets something: a few, as many as are read at once, one fewer and one more, and some that are
+#: read in three parts.
+ENTRIES = [1, 4, 255, 256, 257, 600]
+
+#: The last page of an image of 0x9000 bytes, in which each of these blocks is, and the field of the block before it, of 4 bytes.
+PAGE, EARLIER = 0x8000, 0x8FF0
+
+
+def entry_of(kind, offset):
+    """The number of an entry."""
+    return kind << 12 | offset
+
+
+def block(page, entries):
+    """The bytes of a block."""
+    return numbers(page, 8 + 2 * len(entries)) + struct.pack(f"<{len(entries)}H", *entries)
+
+
+def with_slots(slots, table):
+    """An image of 0x9000 bytes that imports ordinal 1 of `a.dll` into each of these slots and has this base relocation table, and the
+    table's RVA. The tables stand one behind the other at 0x1000: descriptors, an entry for each of them, the name, base relocations."""
+    lookups = 0x1000 + 20 * len(slots) + 20
+    name = lookups + 8 * len(slots)
+    descriptors = b"".join(numbers(lookups + 8 * k, 0, 0, name, slot) for k, slot in enumerate(slots))
+    section = descriptors + bytes(20) + numbers(0x80000001, 0) * len(slots) + b"a.dll\0\0\0" + table
+    directories = [(0xC0, numbers(0x1000, lookups - 0x1000)), (0xE0, numbers(name + 8, len(table)))]
+    return with_data([(0x90, numbers(0x9000)), *directories], section), name + 8
+
+
+def long_block_cases(count, at):
+    """Cases of a block of so many entries, of which the one at this index meets something: the slots of imports, the block's page, the
+    numbers of entries that differ, and the fault of which entry stands, or None. The fields have 2 bytes and stand 6 apart, so
+    that a slot of 4 bytes just fits between two."""
+    field = PAGE + 6 * at
+    between = [field + 2]
+    for slots in ([], between):
+        # 35: no such type; 36: a field that passes the end of the image; 37: the last byte of an earlier field, and the first
+        yield slots, PAGE, {at: entry_of(4, 6 * at)}, (35, at)
+        yield slots, PAGE, {at: entry_of(BITS32, 0xFFE)}, (36, at)
+        yield slots, PAGE, {at: entry_of(HIGH, EARLIER + 3 - PAGE)}, (37, at)
+        yield slots, PAGE, {at: entry_of(LOW, EARLIER - 1 - PAGE)}, (37, at)
+        if at > 0:
+            yield slots, PAGE, {at: entry_of(LOW, 6 * at - 5)}, (37, at)
+        # none: the last field that the image has room for, no field, and one of another type
+        yield slots, PAGE, {at: entry_of(BITS32, 0xFFC)}, None
+        yield slots, PAGE, {at: entry_of(0, 6 * at)}, None
+        yield slots, PAGE, {at: entry_of(HIGH, 6 * at)}, None
+    yield [], PAGE, {at: entry_of(BITS32, 6 * at)}, None
+    # 38: the last byte of a field, its first, all of it; slots that end and begin where it does meet nothing
+    for slot in (field + 1, field - 3, field - 1):
+        yield [slot], PAGE, {}, (38, at)
+    yield [field - 4, field + 2], PAGE, {}, None
+    # a slot among others, before and behind it
+    yield [0x3000, field - 4, field, 0x8FF8], PAGE, {}, (38, at)
+    # the first entry that meets something counts
+    if at > 0:
+        yield [field], PAGE, {at - 1: entry_of(4, 0)}, (35, at - 1)
+    if at + 1 < count:
+        yield [field], PAGE, {at + 1: entry_of(4, 0)}, (38, at)
+    # a field of 8 bytes that begins with the last byte of its page, and slots in the page behind it
+    yield [PAGE + 6], PAGE - 0x1000, {at: entry_of(BITS64, 0xFFF)}, (38, at)
+    yield [PAGE + 7], PAGE - 0x1000, {at: entry_of(BITS64, 0xFFF)}, None
+
 
 def imports_at(slots, wide):
     """What gives a file imports with these slots: VirtualSize 0x200 of its first section, in which a table at 0x1100 has a descriptor
@@ -202,6 +265,25 @@ class Fixups(unittest.TestCase):
         self.assert_fixups("v2.dll", SLOTS)
         self.assert_fixups("v3.dll", WIDE_SLOTS)
         self.assert_fixups("vc.dll", AN_IMPORT)
+
+    def assert_long_block(self, count, slots, page, changes, met):
+        """Asserts what is read of a block of so many entries, behind one with an entry alone."""
+        entries = [changes.get(k, entry_of(LOW, 6 * k)) for k in range(count)]
+        file, table = with_slots(slots, block(PAGE, [entry_of(BITS32, EARLIER - PAGE), 0]) + block(page, entries))
+        first = table + 20
+        if met:
+            number, at = met
+            self.assert_case(file, slots, (number, first + 2 * at))
+            return
+        fixups = [(first + 2 * k, page + entry % 0x1000, entry >> 12) for k, entry in enumerate(entries) if entry >> 12]
+        self.assert_case(file, slots, [(table + 8, EARLIER, BITS32), *fixups])
+
+    def test_an_entry_of_a_long_block_meets_something(self):
+        for count in ENTRIES:
+            for at in sorted({0, count // 2, count - 1}):
+                for slots, page, changes, met in long_block_cases(count, at):
+                    with self.subTest(count=count, at=at, slots=slots, page=page, changes=changes):
+                        self.assert_long_block(count, slots, page, changes, met)
 
     def test_an_image_without_a_table(self):
         self.assert_fixups("v1.dll", NO_TABLE)
