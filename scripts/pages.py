@@ -1,8 +1,8 @@
 #!/usr/bin/env python3
 """Makes the pages of `petool show` and `petool at` apart from petool, and compares them with what petool prints, byte for byte.
 
-    pages.py [--all] FILE...            prints the pages of images and objects
-    pages.py --at RVA FILE              prints what stands at a place of an image; RVA is hexadecimal
+    pages.py [OPTION..] FILE...         prints the pages of images and objects, with the options of `petool show`
+    pages.py --at [OPTION] PLACE FILE   prints what stands at a place of an image, with the options of `petool at`; PLACE is hexadecimal
     pages.py --cases FOLDER DATA        compares the cases `show` and `at` of FOLDER/views, of files in DATA, with FOLDER/views.answers
     pages.py --beside PETOOL FILE...    compares `PETOOL show --all FILE` with the page, file by file
 
@@ -27,6 +27,8 @@ from pages_names import (CLASSES, DIRECTORIES, DLL_FLAGS, FIXUPS, IMAGE_FLAGS, M
 from pages_reader import FIXUP_WIDTHS, Headers, Image, Object, Refused, is_object, uint  # noqa: E402
 
 FAULTS = os.path.join(os.path.dirname(os.path.abspath(__file__)), "..", "docs", "FAULTS.md")
+#: The tables of which a page has a row for each entry, where an option wants them.
+TABLES = ("exports", "imports", "relocations", "symbols")
 SECTION_WORDS = {0: "UNDEFINED", 0xFFFF: "ABSOLUTE", 0xFFFE: "DEBUG"}
 # control characters, and those that turn the direction of the text around them
 UNSAFE = re.compile("[\0-\x1f\x7f-\x9f\u061c\u200e\u200f\u2028-\u202e\u2066-\u2069\ufeff]")
@@ -230,19 +232,19 @@ def fixup_rows(fixups):
             yield f"  0x{page << 12:0{width}x}  {FIXUPS[kind]:<7} {fields}"
 
 
-def table_rows(image, is_whole):
+def table_rows(image, wanted):
     """What a page shows behind the headers."""
     yield from section_rows(image.headers.sections)
     yield from directory_rows(image)
-    if is_whole and image.exports is not None:
+    if "exports" in wanted and image.exports is not None:
         yield from export_rows(image)
-    if is_whole and image.imports is not None:
+    if "imports" in wanted and image.imports is not None:
         yield from import_rows(image.imports)
-    if is_whole and image.fixups is not None:
+    if "relocations" in wanted and image.fixups is not None:
         yield from fixup_rows(image.fixups)
 
 
-def image_page(file, is_whole):
+def image_page(file, wanted):
     """Whether an image is accepted, what it is, and the rows of its page."""
     kind, rows, fault, headers, image = "", [], None, None, None
     try:
@@ -254,14 +256,14 @@ def image_page(file, is_whole):
     if headers:
         kind, rows = image_kind(headers), [*header_rows(headers, image)]
     if image:
-        rows += table_rows(image, is_whole)
+        rows += table_rows(image, wanted)
     return fault, kind, rows
 
 
 # ---- objects
 
 
-def object_rows(it, is_whole):
+def object_rows(it, wanted):
     yield from ("", stamp_row(it.stamp), f"  Flags       {flag_words(IMAGE_FLAGS, it.flags) or ' none'}")
     yield f"  Symbols      {len(it.symbols):,}"
     names, number = [shown(section.name, 40) for section in it.sections], max(4, len(str(len(it.sections))))
@@ -271,8 +273,9 @@ def object_rows(it, is_whole):
     for i, section in enumerate(it.sections):
         yield (f"{i + 1:{number}}  {names[i]:<{name}}  {use_words(section.flags)}   0x{section.raw_size:0{size}x}"
                f"   0x{section.in_file:0{size}x}   {len(section.relocations):11}{section_flag_words(section.flags)}")
-    if is_whole:
+    if "relocations" in wanted:
         yield from relocation_rows(it, names)
+    if "symbols" in wanted:
         yield from symbol_rows(it, names)
 
 
@@ -295,10 +298,10 @@ def symbol_rows(it, names):
         yield f"{index:{width}}  0x{value:08x}  {place:<12}  {word:<13}  {'function' if kind == 0x20 else '':8}  {shown(name)}"
 
 
-def object_page(file, is_whole):
+def object_page(file, wanted):
     try:
         it = Object(file)
-        return None, f"COFF object for {name_of(MACHINES, it.machine)}, ", [*object_rows(it, is_whole)]
+        return None, f"COFF object for {name_of(MACHINES, it.machine)}, ", [*object_rows(it, wanted)]
     except Refused as fault:
         return fault, "COFF object, ", []
 
@@ -306,9 +309,16 @@ def object_page(file, is_whole):
 # ---- pages
 
 
-def page_of(name, file, is_whole):
+def split_options(words):
+    """The options that words begin with, without their dashes, and the words behind them."""
+    options = list(itertools.takewhile(lambda word: word.startswith("--"), words))
+    return [option[2:] for option in options], words[len(options) :]
+
+
+def page_of(name, file, options):
     """The page of a file, and its fault."""
-    fault, kind, rows = (object_page if is_object(file) else image_page)(file, is_whole)
+    wanted = TABLES if "all" in options else options
+    fault, kind, rows = (object_page if is_object(file) else image_page)(file, wanted)
     title = f"{shown(os.fsencode(name))}: {'refused' if fault else 'accepted'}: {kind}{counted(len(file), 'byte')}"
     return "\n".join([title, *rows, *([fault_row(fault)] if fault else [])]) + "\n", fault
 
@@ -340,14 +350,26 @@ def field_words(image, rva):
     return ""
 
 
-def text_at(file, rva):
-    """What `at` prints of an RVA of an image, and the image's fault."""
+def rva_of(image, options, place):
+    """The RVA of a place: of an RVA itself, of an address while the image stands at its ImageBase, or of a file offset; -1 where it has
+    none."""
+    if "address" in options:
+        return place - image.headers.base
+    if "file" not in options or place < image.headers.headers:
+        return place
+    held = (it for it in image.headers.sections if it.pointer <= place < it.pointer + it.in_file)
+    return next((it.rva + place - it.pointer for it in held), -1)
+
+
+def text_at(file, options, place):
+    """What `at` prints of a place of an image, and the image's fault."""
     try:
         image = Image(file, Headers(file))
         image.read_tables()
     except Refused as fault:
         return f"fault {fault.number} image 0 {fault.kind} 0x{fault.place:08x}\n", fault
-    if rva >= image.size:
+    rva = rva_of(image, options, place)
+    if not 0 <= rva < image.size:
         return "the place is outside the image\n", None
     (where, offset), piece = place_of(image, rva), image.piece(rva)
     in_file = "not in the file" if offset is None else f"file 0x{offset:x}"
@@ -383,11 +405,11 @@ def changed(data, words):
 def case_text(data, line):
     """What a case prints, and the fault."""
     kind, *words = line.split(" ")
+    options, words = split_options(words)
     if kind == "at":
-        text, fault = text_at(changed(data, words[1:]), int(words[0], 16))
+        text, fault = text_at(changed(data, words[1:]), options, int(words[0], 16))
     else:
-        files = words[1:] if words[0] == "--all" else words
-        text, fault = page_of(files[0], changed(data, files), words[0] == "--all")
+        text, fault = page_of(words[0], changed(data, words), options)
     return text + f"status {1 if fault else 0}\n", fault
 
 
@@ -421,7 +443,7 @@ def compare_cases(folder, data):
 def compare_files(command, paths):
     differing = 0
     for path in paths:
-        ours, _ = page_of(path, read(path), True)
+        ours, _ = page_of(path, read(path), ["all"])
         theirs = subprocess.run([*command, "show", "--all", path], stdout=subprocess.PIPE).stdout.decode()
         if theirs != ours:
             differing += 1
@@ -442,10 +464,11 @@ def main(words):
     elif words[:1] == ["--beside"]:
         failed = compare_files(shlex.split(words[1]), words[2:])
     elif words[:1] == ["--at"]:
-        failed = write_texts([text_at(read(words[2]), int(words[1], 16))])
+        options, (place, path) = split_options(words[1:])
+        failed = write_texts([text_at(read(path), options, int(place, 16))])
     elif words:
-        is_whole = words[0] == "--all"
-        failed = write_texts([page_of(path, read(path), is_whole) for path in words[is_whole:]])
+        options, paths = split_options(words)
+        failed = write_texts([page_of(path, read(path), options) for path in paths])
     else:
         print(__doc__)
         return 2

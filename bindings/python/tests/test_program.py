@@ -4,14 +4,16 @@ and where an output is full or lost."""
 import errno
 import os
 import pathlib
+import pty
 import shutil
 import subprocess
 import tempfile
+import tty
 import unittest
 from dataclasses import dataclass, replace
 from typing import Optional, Sequence, Tuple
 
-from .files import looped, program, put
+from .files import library, looped, program, put
 
 PROGRAM = os.environ.get("PETOOL_PROGRAM")
 
@@ -395,6 +397,29 @@ FAILED_IMPORTS = [
     ),
 ]
 
+#: A library that exports something by ordinal 0; its ordinal 1 is a forwarder to itself.
+FORWARDING = library([b"", b"f.#1"])
+
+#: An import that fails of the second file, `b.dll`: that file, and what is told. The first file has an import at the same RVA, `F.DLL #0`,
+#: which leads to the third one, FORWARDING.
+LATER_IMPORTS = [
+    (
+        bytes(put(bytearray(program(1)), (0x240, b"G"))),
+        "fault 48 image 1 rva 0x00001030\n",
+        "the import leads to a module that is not in the set: G.DLL #1; with --known such slots are left as they are",
+    ),
+    (
+        program(2),
+        "fault 49 image 1 rva 0x00001030\n",
+        "the import leads to a module that does not export it: F.DLL #2",
+    ),
+    (
+        program(1),
+        "fault 50 image 1 rva 0x00001030 cycle 1\n",
+        "the import leads into a cycle of forwarders: F.DLL #1",
+    ),
+]
+
 #: Files that are not what a command reads.
 KINDS = [
     (
@@ -540,6 +565,16 @@ class Ends(unittest.TestCase):
                 told = f"petool: a.dll: import address table slot at RVA {words}\n"
                 self.assertEqual((done.stdout.decode(), done.stderr.decode(), done.returncode), (line, told, 1))
 
+    def test_an_import_of_a_later_file_is_named(self):
+        words = ["map", "10000000=a.dll", "20000000=b.dll", "30000000=f.dll"]
+        for importer, line, rule in LATER_IMPORTS:
+            with self.subTest(line=line):
+                for file, data in (("a.dll", program(0)), ("b.dll", importer), ("f.dll", FORWARDING)):
+                    (self.folder / file).write_bytes(data)
+                done = subprocess.run([PROGRAM, *words], cwd=self.folder, stdout=subprocess.PIPE, stderr=subprocess.PIPE)
+                told = f"petool: b.dll: import address table slot at RVA 0x1030: {rule}\n"
+                self.assertEqual((done.stdout.decode(), done.stderr.decode(), done.returncode), (line, told, 1))
+
     def test_files_of_other_kinds_are_told_for_what_they_are(self):
         self.assert_refused(KINDS)
 
@@ -550,6 +585,73 @@ class Ends(unittest.TestCase):
             pass
         done = subprocess.run([PROGRAM, "json", EACH_BYTE], cwd=self.folder, stdout=subprocess.PIPE)
         self.assertEqual((done.stdout.decode(), done.returncode), (NAMED_LINE, 1))
+
+
+#: The whole page of a file without bytes where it has colours: bold and red.
+RED_PAGE = (
+    "\x1b[1;31ma.dll: refused: 0 bytes\x1b[0m\n\n"
+    "\x1b[1;31mFault 2: end of the file at 0x0: the file has fewer than the 64 bytes of an MS-DOS header: it has 0\x1b[0m\n"
+)
+
+#: The rows of a page of HEADERS that are bold where it has colours: what the file is, and the heading of each table.
+BOLD_ROWS = [
+    "a.dll: accepted: PE32 library for I386, 184 bytes", "Sections (0)", "Tables (0)", "Exports (0)", "Imports (0)", "Base relocations (0)",
+]  # fmt: skip
+
+
+@unittest.skipUnless(PROGRAM, "PETOOL_PROGRAM does not name the program petool")
+class Colours(unittest.TestCase):
+    """Pages have colours on a terminal, where NO_COLOR is not set, or empty."""
+
+    def setUp(self):
+        folder = tempfile.TemporaryDirectory()
+        self.addCleanup(folder.cleanup)
+        self.folder = pathlib.Path(folder.name)
+
+    def on_terminal(self, file, no_color):
+        """The page of a file on a terminal that changes no byte."""
+        (self.folder / "a.dll").write_bytes(file)
+        environment = {name: value for name, value in os.environ.items() if name != "NO_COLOR"}
+        if no_color is not None:
+            environment["NO_COLOR"] = no_color
+        reader, writer = pty.openpty()
+        tty.setraw(writer)
+        with subprocess.Popen([PROGRAM, "show", "--all", "a.dll"], cwd=self.folder, env=environment, stdout=writer) as process:
+            os.close(writer)
+            with open(reader, "rb", buffering=0) as terminal:
+                printed = b"".join(iter(lambda: self.part(terminal), b""))
+        return printed.decode(), process.returncode
+
+    @staticmethod
+    def part(terminal):
+        """What comes next on a terminal; nothing where all that wrote to it have closed it, of which Linux tells by an error."""
+        try:
+            return terminal.read(4096)
+        except OSError as error:
+            if error.errno != errno.EIO:
+                raise
+            return b""
+
+    def plain(self, file):
+        """The page of a file where standard output is no terminal."""
+        (self.folder / "a.dll").write_bytes(file)
+        return subprocess.run([PROGRAM, "show", "--all", "a.dll"], cwd=self.folder, stdout=subprocess.PIPE).stdout.decode()
+
+    def test_a_page_on_a_terminal_has_colours(self):
+        plain = self.plain(HEADERS)
+        self.assertNotIn("\x1b", plain)
+        rows = [f"\x1b[1m{row}\x1b[0m" if row in BOLD_ROWS else row for row in plain.split("\n")]
+        self.assertEqual(sum("\x1b" in row for row in rows), len(BOLD_ROWS))
+        for no_color in (None, ""):
+            with self.subTest(no_color=no_color):
+                self.assertEqual(self.on_terminal(HEADERS, no_color), ("\n".join(rows), 0))
+                self.assertEqual(self.on_terminal(b"", no_color), (RED_PAGE, 1))
+
+    def test_no_color_turns_them_off(self):
+        for no_color in ("1", "0", "no colours"):
+            with self.subTest(no_color=no_color):
+                self.assertEqual(self.on_terminal(HEADERS, no_color), (self.plain(HEADERS), 0))
+                self.assertEqual(self.on_terminal(b"", no_color)[0], EMPTY_PAGES.partition("\n\nstandard")[0] + "\n")
 
 
 #: A command, what it prints where no growth of memory is refused, and what it tells where each is in turn: of the words, of a file,

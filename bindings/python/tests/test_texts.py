@@ -12,6 +12,7 @@ name of each value and flag.
 
 import collections
 import ctypes
+import itertools
 import json
 import os
 import pathlib
@@ -37,7 +38,7 @@ for _name in ("texts", "views"):
 COUNTS = {
     "head": 93, "layout": 34, "find": 28, "tables": 172, "check": 33, "dump": 49, "object": 102, "begins": 81,
     "rebase": 43, "rebased": 8, "map": 14, "faults": 1, "kind": 20, "names": 1,
-    "show": 21, "json": 56, "refusal": 51, "at": 8,
+    "show": 29, "json": 57, "refusal": 51, "at": 39,
 }  # fmt: skip
 
 PLACES = {
@@ -126,6 +127,12 @@ class Calls(Cases):
         self.each("faults", self.faults)
 
 
+def split_options(words):
+    """The options that words begin with, and the words behind them."""
+    options = list(itertools.takewhile(lambda word: word.startswith("--"), words))
+    return options, words[len(options) :]
+
+
 def difference(old, new):
     """The bytes of a file where it differs from the one that it was made of, each run of them with its offset."""
     places = [at for at in range(len(old)) if old[at] != new[at]]
@@ -183,8 +190,8 @@ class Program(Cases):
         self.each("begins", self.of_file("object", kept=lambda number, _: number == 0))
 
     def show(self, words):
-        whole = words[0] == "--all"
-        return self.of_file("show", *words[:whole])(words[whole:])
+        options, words = split_options(words)
+        return self.of_file("show", *options)(words)
 
     def test_pages(self):
         self.each("show", self.show)
@@ -196,7 +203,8 @@ class Program(Cases):
         self.each("json", self.of_file("json"))
 
     def at(self, words):
-        lines, status = self.lines("at", self.write(words[1:]), words[0])
+        options, words = split_options(words)
+        lines, status = self.lines("at", *options, self.write(words[1:]), words[0])
         return "\n".join([*lines, f"status {status}"])
 
     def test_places(self):
@@ -253,6 +261,11 @@ class Program(Cases):
 
     def test_what_first_bytes_show(self):
         self.each("kind", self.kind)
+
+    def test_the_list_of_faults_has_the_words_of_each(self):
+        [(_, words)] = ALL["faults"]
+        rows = (line.split(" ", 1) for line in words.split("\n"))
+        self.assertEqual(self.lines("explain"), ([f"{number:>3}  {told}" for number, told in rows], 0))
 
     def test_names(self):
         self.each("names", self.names)
