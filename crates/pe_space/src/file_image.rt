@@ -21,14 +21,13 @@ use std::alloc::Allocator;
 use std::marker::Model;
 use std::snapshot::Snapshot;
 
-/// An image whose bytes stay in its file. `fixups` are in the order of their fields, and `hints` guess where among them an RVA
-/// stands; `listed`, of which proofs alone speak, are the same in the order of their table.
+/// An image whose bytes stay in its file. `fixups` are in the order of their fields; `listed`, of which proofs alone speak, are
+/// the same in the order of their table.
 #[derive(Drop)]
 pub(crate) struct FileImage<'a, A: Allocator> {
     base: u64,
     layout: Layout<'a>,
     fixups: Vec<Fixup, A>,
-    hints: Hints<A>,
     listed: Snapshot<Vec<Fixup, A>>,
 }
 
@@ -84,7 +83,7 @@ impl<'a, A: Allocator + Copy> Placed for FileImage<'a, A> {
 impl<'a, A: Allocator + Copy> FileImage<'a, A> {
     /// An image that was read, at its base.
     #[tactic(auto, unfolding(pe_set::specs::SetView::module_view))]
-    pub(crate) fn new(alloc: A, own: Module<'a, A>) -> FileImage<'a, A>
+    pub(crate) fn new(own: Module<'a, A>) -> FileImage<'a, A>
         requires { FieldsFit (module_view own) }
         ensures { result ≡ image_content (module_view own.entry) }
     {
@@ -92,24 +91,27 @@ impl<'a, A: Allocator + Copy> FileImage<'a, A> {
         let mut fixups = own.image.fixups;
         let listed = Snapshot::of(&fixups);
         put_in_order::<ByField, _>(fixups.as_mut_slice());
-        let hints = Hints::of::<ByField, _>(alloc, fixups.as_slice(), 0);
         FileImage {
             base,
             layout,
             fixups,
-            hints,
             listed,
         }
     }
 
-    /// The fixups whose fields may meet the bytes from RVA `start` up to `end`.
-    fn fixups_in(&self, start: u32, end: u64) -> &[Fixup]
+    /// Guesses where its fields stand.
+    pub(crate) fn hint_fields(&self, alloc: A) -> Hints<A> {
+        Hints::of::<ByField, _>(alloc, self.fixups.as_slice(), 0)
+    }
+
+    /// The fixups whose fields may meet the bytes from RVA `start` up to `end`. `guess` is how many fields may stand before them.
+    fn fixups_in(&self, guess: Option<usize>, start: u32, end: u64) -> &[Fixup]
         requires { start ≤ end }
         ensures held { (fixup : Fixup) → Contains result.now fixup → Contains self.now.fixups fixup }
         ensures all { (fixup : Fixup) → Contains self.now.fixups fixup → start < fixup.field + 8 → fixup.field < end → Contains result.now fixup }
     {
         let low = u64::from(start.saturating_sub(REACH));
-        between::<ByField, _>(self.fixups.as_slice(), self.hints.get(low), low, end)
+        between::<ByField, _>(self.fixups.as_slice(), guess, low, end)
     }
 
     /// The number in a field: that of the file, moved on from ImageBase to the base.
@@ -136,15 +138,15 @@ impl<'a, A: Allocator + Copy> FileImage<'a, A> {
     }
 
     /// Fills a window with the bytes from RVA `start` on, as they stand before slots are bound: those of the file, on which the
-    /// fields that meet the window are laid.
-    pub(crate) fn read(&self, start: u32, window: &mut [u8])
+    /// fields that meet the window are laid. `guess` is how many fields may stand before those.
+    pub(crate) fn read(&self, guess: Option<usize>, start: u32, window: &mut [u8])
         requires sound { IsImage self.now }
         requires inside { start + length window.old ≤ self.now.size }
         ensures { window.new ≡ fixed_bytes self.now start (length window.old) }
     {
         self.layout.fill(start, window);
         let end = u64::from(start) + window.len() as u64;
-        for fixup in self.fixups_in(start, end) {
+        for fixup in self.fixups_in(guess, start, end) {
             let value = self.relocated(*fixup);
             lay_on(
                 window,

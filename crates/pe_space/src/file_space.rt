@@ -12,7 +12,7 @@ ghost use Rattle.pe_space.specs.Windows.{bytes_in};
 use crate::by_base::{NumberAt, by_base, rebase};
 use crate::bytes::slot_width;
 use crate::file_image::FileImage;
-use crate::hints::Hints;
+use crate::hints::{Hints, guess_of};
 use crate::ordered::{BySlot, IMAGE_STEP, between, ordered_copy};
 use crate::placed::{base_of, holder, move_fault, size_of, window_image};
 use crate::space::{Moved, Space};
@@ -52,46 +52,45 @@ fn count_slots<A: Allocator + Copy>(
     Ok(counts)
 }
 
-/// No guesses, for as many images, or for none of them where memory is refused.
-fn no_hints<A: Allocator + Copy>(alloc: A, images: usize) -> Vec<Hints<A>, A> {
-    let mut hints = Vec::new(alloc);
-    if hints.reserve(images).is_err() {
-        return hints;
-    }
-    for _ in 0..images {
-        let _ = hints.push(Hints::none(alloc));
+/// Guesses where the fields of each image stand, or none where memory for a list of them is refused.
+fn hint_fields<A: Allocator + Copy>(alloc: A, images: &[FileImage<A>]) -> Vec<Hints<A>, A> {
+    let Ok(mut hints) = Vec::with_capacity(alloc, images.len()) else {
+        return Vec::new(alloc);
+    };
+    for image in images {
+        let _ = hints.push(image.hint_fields(alloc));
     }
     hints
 }
 
-/// Whether two slots are of one image.
-fn same_image(slot: &Binding, other: &Binding) -> bool {
-    slot.image == other.image
-}
-
-/// Guesses where the slots of each image stand among all slots, which are in the order of their images.
-fn hint_slots<A: Allocator + Copy>(alloc: A, hints: &mut [Hints<A>], slots: &[Binding]) {
-    let mut start: u32 = 0;
-    for own in slots.chunk_by(same_image) {
-        let image = own.first().map_or(0, |slot| slot.image as usize);
-        if let Some(hint) = hints.get_mut(image) {
-            *hint = Hints::of::<BySlot, _>(alloc, own, start);
-        }
-        start = start.saturating_add(u32::try_from(own.len()).unwrap_or(u32::MAX));
+/// Guesses where the slots of each image stand among all slots, which are in the order of their images, or none where memory for a
+/// list of them is refused.
+fn hint_slots<A: Allocator + Copy>(alloc: A, images: usize, slots: &[Binding]) -> Vec<Hints<A>, A> {
+    let Ok(mut hints) = Vec::with_capacity(alloc, images) else {
+        return Vec::new(alloc);
+    };
+    let mut start = 0;
+    for image in 0..images {
+        let end = slots.partition_point(|slot| slot.image as usize <= image);
+        let own = slots.get(start..end).unwrap_or(&[]);
+        let _ = hints.push(Hints::of::<BySlot, _>(alloc, own, start));
+        start = end;
     }
+    hints
 }
 
 /// Images whose bytes stay in their files, which it borrows. `order` has the images by their bases, `slots` the bindings by image,
-/// and those of an image by slot; `hints` guess by image where among these a slot stands; `counts` tells how many end in each
-/// image.
+/// and those of an image by slot; `counts` tells how many end in each image. `field_hints` guess by image where its fields stand,
+/// and `slot_hints` where among the slots its own do.
 #[derive(Drop)]
 pub struct FileSpace<'a, A: Allocator> {
     images: Vec<FileImage<'a, A>, A>,
     order: Vec<NumberAt, A>,
     bindings: Vec<Binding, A>,
     slots: Vec<Binding, A>,
-    hints: Vec<Hints<A>, A>,
     counts: Vec<u32, A>,
+    field_hints: Vec<Hints<A>, A>,
+    slot_hints: Vec<Hints<A>, A>,
 }
 
 impl<'a, A: Allocator> Model for FileSpace<'a, A> {
@@ -124,16 +123,23 @@ impl<'a, A: Allocator + Copy> FileSpace<'a, A> {
         let order = by_base(alloc, images.as_slice())?;
         let slots = ordered_copy::<BySlot, _, _>(alloc, bindings.as_slice())?;
         let counts = count_slots(alloc, images.len(), bindings.as_slice())?;
-        let mut hints = no_hints(alloc, images.len());
-        hint_slots(alloc, hints.as_mut_slice(), slots.as_slice());
+        let field_hints = hint_fields(alloc, images.as_slice());
+        let slot_hints = hint_slots(alloc, images.len(), slots.as_slice());
         Ok(FileSpace {
             images,
             order,
             bindings,
             slots,
-            hints,
             counts,
+            field_hints,
+            slot_hints,
         })
+    }
+
+    /// A guess of how many fields of an image stand before those that may meet its bytes from RVA `start` on.
+    fn fields_before(&self, number: u16, start: u32) -> Option<usize> {
+        let low = start.saturating_sub(REACH);
+        guess_of(&self.field_hints, number, u64::from(low))
     }
 
     /// The bound slots of an image that may meet its bytes from RVA `start` up to `end`.
@@ -145,11 +151,8 @@ impl<'a, A: Allocator + Copy> FileSpace<'a, A> {
     {
         let image_start = u64::from(number) * IMAGE_STEP;
         let low = image_start + u64::from(start.saturating_sub(REACH));
-        let hint = match self.hints.get(number as usize) {
-            Some(hints) => hints.get(low),
-            None => 0,
-        };
-        between::<BySlot, _>(self.slots.as_slice(), hint, low, image_start + end)
+        let guess = guess_of(&self.slot_hints, number, low);
+        between::<BySlot, _>(self.slots.as_slice(), guess, low, image_start + end)
     }
 
     /// Fills a window with the bytes of an image from RVA `start` on: the slots that meet the window are laid on those that
@@ -160,7 +163,7 @@ impl<'a, A: Allocator + Copy> FileSpace<'a, A> {
         ensures { window.new ≡ bytes_in self.now number start (length window.old) }
     {
         let image = &self.images[number as usize];
-        image.read(start, window);
+        image.read(self.fields_before(number, start), start, window);
         let width = slot_width(image.magic());
         let end = u64::from(start) + window.len() as u64;
         for slot in self.slots_in(number, start, end) {

@@ -75,7 +75,7 @@ fn slots_of(slots: &[Binding], exporter: u16) -> &[Binding]
     ensures count { length result.now ≡ count_by (ends_in exporter) slots.now }
 {
     let exporter = u64::from(exporter);
-    between::<ByExporter, _>(slots, 0, exporter, exporter + 1)
+    between::<ByExporter, _>(slots, None, exporter, exporter + 1)
 }
 
 impl<A: Allocator + Copy> MappedSpace<A> {

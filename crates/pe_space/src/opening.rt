@@ -33,7 +33,7 @@ pub fn open_space<'a, A: Allocator + Copy>(
     let Accepted { modules, bindings } = judge(alloc, set, policy)?;
     let mut images = Vec::with_capacity(alloc, modules.len())?;
     for own in modules {
-        images.push(FileImage::new(alloc, own))?;
+        images.push(FileImage::new(own))?;
     }
     Ok(FileSpace::new(alloc, images, bindings)?)
 }
