@@ -1,3 +1,4 @@
 pub mod Adding
 pub mod Names
 pub mod PageRows
+pub mod SymbolIndexes

@@ -1,11 +1,11 @@
 -- Names that stand as they are, and how wide the others are.
-use Rattle.std.proofs.Common.{◌≡◌, ◌∙◌, ◌≤◌, ◌-◌, ◌&&◌, ℕ, zero, suc, Bool, true, false, List, [], ◌∷◌, get_or, ap, refl, sym, arith, inl, inr, rules}
+use Rattle.std.proofs.Common.{◌≡◌, ◌∙◌, ◌≤◌, ◌-◌, ◌&&◌, ℕ, zero, suc, Bool, true, false, List, [], ◌∷◌, length, get_or, ap, refl, sym, arith, inl, inr, rules}
 use Rattle.std.specs.List.{list_all, range_with_len}
 use Rattle.std.specs.Str.{chars, is_utf8, IsAscii, IsUtf8}
 use Rattle.std.proofs.lemmas.List.FromFn.{get_or-range_with_len}
 use Rattle.std.proofs.lemmas.List.Folds.{list_all_at}
 use Rattle.std.proofs.lemmas.Bool.{cases_Bool}
-use Rattle.std.proofs.lemmas.Str.{IsUtf8-from_ascii, encodes-IsAscii, chars_from_encodes, is_utf8-from_IsUtf8, IsUtf8-from_is_utf8}
+use Rattle.std.proofs.lemmas.Str.{IsUtf8-from_ascii, encodes-IsAscii, encodes-chars, chars_from_encodes, is_utf8-from_IsUtf8, IsUtf8-from_is_utf8, length-le-encodes}
 use Rattle.pe_text.specs.Text.{is_printable}
 use Rattle.pe_show.specs.Name.{is_safe, is_safe_text, begins_plain, is_plain}
 
@@ -62,3 +62,10 @@ other_is_not_plain bs other = elim (cases_Bool (is_utf8 bs)) [
   | inl some ↦ absurd (other (IsUtf8-from_is_utf8 bs some))
   | inr none ↦ rw none (and_false (begins_plain bs))
 ]
+
+-- a name that is plain has no more characters than bytes
+pub plain_has_few_chars : (bs : List ℕ) → is_plain bs ≡ true → length (chars bs) ≤ length bs
+plain_has_few_chars bs plain =
+    let text = parts (begins_plain bs) (is_safe_text bs) plain in
+    let utf8 = IsUtf8-from_is_utf8 bs (parts (is_utf8 bs) _ text.1).0 in
+    omega (arith, length-le-encodes (chars bs), ap length (encodes-chars bs utf8))

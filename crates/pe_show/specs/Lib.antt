@@ -7,4 +7,5 @@ pub use Rattle.pe_text.specs.TextWriter
 pub mod Judged
 pub mod Name
 pub mod Page
+pub mod Places
 pub mod Rows

@@ -1,7 +1,10 @@
 //! The exports of an image, a row each.
 
+ghost use Rattle.std.specs.Prelude.{◌≡◌};
+ghost use Rattle.pe_layout.specs.Layout.{headers_of};
 ghost use Rattle.pe_text.specs.TextWriter.{IsReady, Adds};
 ghost use Rattle.pe_show.specs.Page.{AddsSome};
+ghost use Rattle.pe_show.specs.Places.{Shows, gap_columns};
 ghost use Rattle.pe_show.specs.Rows.{key_text, here_text, forward_text, target_text, behind_gap};
 
 use crate::cell::{blanks, decimal_width, write_right};
@@ -37,7 +40,9 @@ fn shown_of<'s, 't>(
     layout: &Layout,
     sections: &SectionNames<'s>,
     target: &Target<'t>,
-) -> ShownTarget<'s, 't> {
+) -> ShownTarget<'s, 't>
+    ensures { Shows sections.now.names.items (headers_of layout.now) target.now result }
+{
     match target {
         Target::Rva(rva) => ShownTarget::Here {
             rva: *rva,
@@ -131,7 +136,9 @@ fn write_target<W: Sink>(
 }
 
 /// How many columns stand between what an ordinal exports and its names, beside two.
-fn gap_of(widths: &Widths, shown: &ShownTarget) -> usize {
+fn gap_of(widths: &Widths, shown: &ShownTarget) -> usize
+    ensures { result ≡ gap_columns widths.now.place shown.now }
+{
     match shown {
         ShownTarget::Here { place, .. } => widths.place.saturating_sub(place.width()),
         ShownTarget::Forward { .. } => 0,

@@ -9,8 +9,8 @@
 //! let answer = show(alloc, b"zlib1.dll", &options, &mut reader, &mut writer);
 //! ```
 //!
-//! The outcome is by contract. So are, inside, how a name stands on a page, and the rows of exports, imports, base relocations,
-//! relocations and symbols; what else a page shows is in no contract.
+//! The outcome is by contract. So are, inside, how a name stands on a page, where an RVA lies, and the rows of exports, imports,
+//! base relocations, relocations and symbols; what else a page shows is in no contract.
 #![tactic(auto)]
 
 mod at_place;

@@ -1,6 +1,6 @@
 //! Names of a file as a page shows them.
 
-ghost use Rattle.std.specs.Prelude.{◌≡◌, ◌≤◌, ◌&&◌, length, IfSome, IfNone, true, false};
+ghost use Rattle.std.specs.Prelude.{◌≡◌, ◌≤◌, ◌+◌, ◌*◌, ◌&&◌, length, IfSome, IfNone, true, false};
 ghost use Rattle.std.specs.List.{list_all};
 ghost use Rattle.std.specs.Str.{chars};
 ghost use Rattle.pe_text.specs.Text.{is_printable, escaped, quoted};
@@ -105,7 +105,8 @@ fn escaped_width(byte: u8) -> usize
 /// How many columns a name takes in quotes.
 fn quoted_width(name: &[u8]) -> usize
     requires { length name.now ≤ 4096 }
-    ensures { result ≡ length (quoted name.now) }
+    ensures value { result ≡ length (quoted name.now) }
+    ensures bound { result ≤ 2 + 4 * length name.now }
 {
     let mut width: usize = 2;
     for byte in name {
@@ -114,16 +115,24 @@ fn quoted_width(name: &[u8]) -> usize
     width
 }
 
+/// How many columns a text takes, one a character.
+fn text_width(text: &str) -> usize
+    ensures { result ≡ length (chars text.now) }
+{
+    text.chars().count()
+}
+
 /// How many columns a name takes.
 pub(crate) fn name_width(name: &[u8]) -> usize
-    ensures { result ≡ columns name.now }
+    ensures value { result ≡ columns name.now }
+    ensures bound { result ≤ 2 + 4 * 4096 }
 {
     let name = cut(name);
     if is_bare(name) {
         return name.len();
     }
     match plain_text(name) {
-        Some(text) => text.chars().count(),
+        Some(text) => text_width(text),
         None => quoted_width(name),
     }
 }

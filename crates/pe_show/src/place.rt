@@ -1,6 +1,10 @@
 //! `SectionNames`: the long names of sections, and where an RVA lies among them.
 
+ghost use Rattle.std.specs.Prelude.{◌≡◌, ◌-◌, ◌≤◌, None, Some};
+ghost use Rattle.pe_layout.specs.Layout.{headers_of};
+ghost use Rattle.pe_layout.specs.Locating.{located};
 ghost use Rattle.pe_text.specs.TextWriter.{IsReady, Adds};
+ghost use Rattle.pe_show.specs.Places.{IsPlace, IsPlaceOf, name_at, start_at, offset_columns, place_columns};
 ghost use Rattle.pe_show.specs.Rows.{place_text};
 
 use crate::name::{name_width, write_name};
@@ -36,6 +40,27 @@ pub(crate) fn cut(name: &[u8]) -> &[u8] {
     name.get(..NAME_LIMIT).unwrap_or(name)
 }
 
+/// Where a section begins.
+fn section_start(layout: &Layout, index: usize) -> u32
+    ensures { result ≡ start_at (headers_of layout.now) index }
+{
+    match layout.headers().sections.as_slice().get(index) {
+        Some(section) => section.virtual_address,
+        None => 0,
+    }
+}
+
+/// A place of a name alone.
+fn named_place(name: &[u8]) -> SectionPlace
+    ensures { IsPlace result name.now None None }
+{
+    SectionPlace {
+        name,
+        offset: None,
+        file: None,
+    }
+}
+
 impl<'a> SectionNames<'a> {
     /// The names of the sections of an image's file. Each is searched for its end once.
     pub fn new(view: View<'a>, headers: &'a Headers) -> SectionNames<'a> {
@@ -48,25 +73,30 @@ impl<'a> SectionNames<'a> {
     }
 
     /// The name of section `index`.
-    pub fn get(&self, index: usize) -> &'a [u8] {
-        self.names.as_slice().get(index).copied().unwrap_or(b"")
+    pub fn get(&self, index: usize) -> &'a [u8]
+        ensures { result.now ≡ name_at self.now.names.items index }
+    {
+        match self.names.as_slice().get(index) {
+            Some(name) => name,
+            None => b"",
+        }
     }
 
     /// Where an RVA of the image lies.
-    pub fn place(&self, layout: &Layout, rva: u32) -> SectionPlace<'a> {
-        let (name, offset, file) = match layout.locate(rva) {
-            Located::Raw { section, file } => return self.in_section(
-                layout,
-                section,
-                rva,
-                Some(file),
-            ),
-            Located::Zero { section } => return self.in_section(layout, section, rva, None),
-            Located::Header { file } => (&b"headers"[..], Some(rva), Some(file)),
-            Located::Gap => (&b"no section"[..], None, None),
-            Located::Outside => (&b"outside the image"[..], None, None),
-        };
-        SectionPlace { name, offset, file }
+    pub fn place(&self, layout: &Layout, rva: u32) -> SectionPlace<'a>
+        ensures { IsPlaceOf self.now.names.items (headers_of layout.now) rva (located (headers_of layout.now) rva) result }
+    {
+        match layout.locate(rva) {
+            Located::Raw { section, file } => self.in_section(layout, section, rva, Some(file)),
+            Located::Zero { section } => self.in_section(layout, section, rva, None),
+            Located::Header { file } => SectionPlace {
+                name: b"headers",
+                offset: Some(rva),
+                file: Some(file),
+            },
+            Located::Gap => named_place(b"no section"),
+            Located::Outside => named_place(b"outside the image"),
+        }
     }
 
     /// A place in a section.
@@ -76,17 +106,26 @@ impl<'a> SectionNames<'a> {
         index: u8,
         rva: u32,
         file: Option<u64>,
-    ) -> SectionPlace<'a> {
+    ) -> SectionPlace<'a>
+        ensures { IsPlace result (name_at self.now.names.items index) (Some (rva - start_at (headers_of layout.now) index)) file }
+    {
         let index = usize::from(index);
-        let start = match layout.headers().sections.as_slice().get(index) {
-            Some(section) => section.virtual_address,
-            None => 0,
-        };
         SectionPlace {
             name: self.get(index),
-            offset: Some(rva.saturating_sub(start)),
+            offset: Some(rva.saturating_sub(section_start(layout, index))),
             file,
         }
+    }
+}
+
+/// How many columns an offset in a section takes, with `+0x` before it.
+fn offset_width(offset: Option<u32>) -> usize
+    ensures value { result ≡ offset_columns offset }
+    ensures bound { result ≤ 19 }
+{
+    match offset {
+        Some(offset) => 3 + usize::from(hex_width(u64::from(offset))),
+        None => 0,
     }
 }
 
@@ -104,11 +143,9 @@ impl<'a> SectionPlace<'a> {
     }
 
     /// How many columns that takes.
-    pub fn width(&self) -> usize {
-        let offset = match self.offset {
-            Some(offset) => 3 + usize::from(hex_width(u64::from(offset))),
-            None => 0,
-        };
-        name_width(self.name).saturating_add(offset)
+    pub fn width(&self) -> usize
+        ensures { result ≡ place_columns self.now }
+    {
+        name_width(self.name) + offset_width(self.offset)
     }
 }

@@ -1,6 +1,8 @@
 //! The symbols of an object.
 
-ghost use Rattle.std.specs.Prelude.{◌≡◌, option_map};
+ghost use Rattle.std.specs.Prelude.{◌≡◌, ◌==◌, ◌<◌, ◌≤◌, AllPairs, length, option_map};
+ghost use Rattle.std.specs.List.{find};
+ghost use Rattle.std.specs.List.Sorted.{IsPartitionPoint};
 ghost use Rattle.pe_text.specs.TextWriter.{IsReady, Adds};
 ghost use Rattle.pe_show.specs.Page.{AddsSome};
 ghost use Rattle.pe_show.specs.Rows.{class_text, function_text, symbol_row};
@@ -17,6 +19,32 @@ use std::alloc::{AllocError, Allocator};
 #[derive(Drop)]
 pub(crate) struct SymbolNames<'a, A: Allocator> {
     names: Vec<(u32, &'a [u8]), A>,
+    ghost ascend: { AllPairs (λ name later. name.0 < later.0) names.items },
+}
+
+/// The place of the first name whose index is not below `index`, among names by ascending indexes.
+fn first_from(names: &[(u32, &[u8])], index: u32) -> usize
+    requires { AllPairs (λ name later. name.0 < later.0) names.now }
+    ensures bound { result ≤ length names.now }
+    ensures point { IsPartitionPoint (λ name. name.0 < index) (λ name. index ≤ name.0) names.now result }
+{
+    names.partition_point(|name| name.0 < index)
+}
+
+/// The name under an index, among names by ascending indexes.
+fn name_under<'a>(names: &[(u32, &'a [u8])], index: u32) -> Option<&'a [u8]>
+    requires { AllPairs (λ name later. name.0 < later.0) names.now }
+    ensures { result ≡ option_map (λ name. name.1) (find (λ name. name.0 == index) names.now) }
+{
+    let place = first_from(names, index);
+    if place == names.len() {
+        return None;
+    }
+    let (found, name) = names[place];
+    if found != index {
+        return None;
+    }
+    Some(name)
 }
 
 impl<'a, A: Allocator + Copy> SymbolNames<'a, A> {
@@ -38,12 +66,10 @@ impl<'a, A: Allocator + Copy> SymbolNames<'a, A> {
     }
 
     /// The name of the symbol that a record begins; an auxiliary record begins none.
-    pub fn get(&self, index: u32) -> Option<&'a [u8]> {
-        let place = self.names.partition_point(|name| name.0 < index);
-        match self.names.get(place) {
-            Some((found, name)) if *found == index => Some(name),
-            _ => None,
-        }
+    pub fn get(&self, index: u32) -> Option<&'a [u8]>
+        ensures { result ≡ option_map (λ name. name.1) (find (λ name. name.0 == index) self.now.names.items) }
+    {
+        name_under(self.names.as_slice(), index)
     }
 }
 

@@ -1,0 +1,68 @@
+-- Where an RVA lies, as a page says it, and the columns that this takes. No contract of a public function cites it.
+use Rattle.std.specs.Prelude.{◌≡◌, ℕ, ◌+◌, ◌-◌, List, [], Option, None, Some, codes, slice_get}
+use denote.Bor.{Bor}
+use Rattle.pe_head.specs.declared.headers.Headers.{Headers}
+use Rattle.pe_head.specs.declared.section.SectionHeader.{SectionHeader}
+use Rattle.pe_layout.specs.Locating.{located}
+use Rattle.pe_layout.specs.declared.locate.Located.{Located}
+use Rattle.pe_layout.specs.declared.locate.Located.TheVariants.{Header, Raw, Zero, Gap, Outside}
+use Rattle.pe_tables.specs.declared.key.Target.{Target}
+use Rattle.pe_tables.specs.declared.key.Target.TheVariants as exported
+use Rattle.pe_text.specs.Text.{hex_width}
+use Rattle.pe_show.specs.Name.{columns}
+use Rattle.pe_show.specs.declared.place.SectionPlace.{SectionPlace}
+use Rattle.pe_show.specs.declared.exports.ShownTarget.{ShownTarget}
+use Rattle.pe_show.specs.declared.exports.ShownTarget.TheVariants.{Here, Forward}
+
+-- ---- where an RVA lies
+abbrev text_of : Option (Bor (List ℕ)) → List ℕ
+text_of None = []
+text_of (Some name) = name.now
+
+-- the name of the section of an index, among the names of all
+abbrev pub name_at : List (Bor (List ℕ)) → ℕ → List ℕ
+name_at names section = text_of (slice_get names section)
+
+abbrev address_of : Option SectionHeader → ℕ
+address_of None = 0
+address_of (Some section) = section.virtual_address
+
+-- where the section of an index begins
+abbrev pub start_at : Headers → ℕ → ℕ
+start_at h section = address_of (slice_get h.sections.items section)
+
+-- a place: its name, and the offsets in its piece and in the file, where it has them
+pub record IsPlace (place : SectionPlace) (name : List ℕ) (offset file : Option ℕ) : Type 0 where
+  pub is_named : place.name.now ≡ name
+  pub is_behind : place.offset ≡ offset
+  pub is_in_file : place.file ≡ file
+
+-- the place of an RVA, by what stands there and the names of the sections
+abbrev pub IsPlaceOf : List (Bor (List ℕ)) → Headers → ℕ → Located → SectionPlace → Type 0
+IsPlaceOf names h rva (Raw section file) place = IsPlace place (name_at names section) (Some (rva - start_at h section)) (Some file)
+IsPlaceOf names h rva (Zero section) place = IsPlace place (name_at names section) (Some (rva - start_at h section)) None
+IsPlaceOf names h rva (Header file) place = IsPlace place (codes "headers") (Some rva) (Some file)
+IsPlaceOf names h rva Gap place = IsPlace place (codes "no section") None None
+IsPlaceOf names h rva Outside place = IsPlace place (codes "outside the image") None None
+
+-- what is shown of what an ordinal exports: an RVA with its place, or the module and the key to which it is forwarded
+abbrev pub Shows : List (Bor (List ℕ)) → Headers → Target → ShownTarget → Type 0
+Shows names h (exported.Rva rva) (Here shown place) = (shown ≡ rva) × IsPlaceOf names h rva (located h rva) place
+Shows names h (exported.Forward dll key) (Forward shown_dll shown_key) = (shown_dll.now ≡ dll.now) × (shown_key ≡ key)
+Shows names h (exported.Rva rva) (Forward dll key) = ⊥
+Shows names h (exported.Forward dll key) (Here rva place) = ⊥
+
+-- ---- columns
+-- how many columns the offset of a place takes, with `+0x` before it
+abbrev pub offset_columns : Option ℕ → ℕ
+offset_columns None = 0
+offset_columns (Some offset) = 3 + hex_width offset
+
+-- how many columns a place takes
+abbrev pub place_columns : SectionPlace → ℕ
+place_columns place = columns place.name.now + offset_columns place.offset
+
+-- how many columns stand between what an ordinal exports and its names: a place is filled up to `width`, a forwarder is not
+abbrev pub gap_columns : ℕ → ShownTarget → ℕ
+gap_columns width (Here rva place) = width - place_columns place
+gap_columns width (Forward dll key) = 0
