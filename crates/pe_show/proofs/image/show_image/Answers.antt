@@ -25,7 +25,7 @@ unfolding image_tests
 returns-in_ok-names-in-Ok-clause-judged g c =
     let file = c.args.file.now in
     let outcome = c.outcome_of.result in
-    let judged = c.outcome_of.ensures (table_tests (image_of c.in-Ok.layout)) c.in_ok-tables-in-Ok.ensures.fault in
+    let judged = c.outcome_of.ensures (table_tests (image_of c.in-Ok.layout)) c.in_ok-tables-in-Ok.ensures.tables.fault in
     behind (layout_tests 0 file) (table_tests (image_of_file 0 file)) outcome c.in-Ok.ensures.0
     (subst (λ (i : LaidOut). IsOutcomeOf (table_tests i) outcome) c.in-Ok.ensures.1.shows judged)
 
