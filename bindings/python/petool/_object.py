@@ -5,7 +5,7 @@ from __future__ import annotations
 from ctypes import byref
 from dataclasses import dataclass, fields
 from itertools import accumulate
-from typing import Any, Callable, List, Optional, Sequence, Tuple
+from typing import Any, Callable, Dict, List, Optional, Sequence, Tuple
 
 from . import _library, _records
 from ._bytes import LAYOUTS, Buffer, FileBytes, RowLayout, Rows, first_rows, read_rows
@@ -89,8 +89,9 @@ class ObjectSymbol:
 
 
 def _section_header_of(record: _records.SectionHeader) -> SectionHeader:
-    values = {it.name: getattr(record, it.name) for it in fields(SectionHeader)}
-    return SectionHeader(**{**values, "name": bytes(record.name)})
+    values: Dict[str, Any] = {it.name: getattr(record, it.name) for it in fields(SectionHeader)}
+    values["name"] = bytes(record.name)
+    return SectionHeader(**values)
 
 
 def _maker(file: FileBytes, kind: Callable[..., Any]) -> Callable[..., Any]:

@@ -599,7 +599,7 @@ BOLD_ROWS = [
 ]  # fmt: skip
 
 
-@unittest.skipUnless(PROGRAM, "PETOOL_PROGRAM does not name the program petool")
+@unittest.skipUnless(PROGRAM, "left out without program: PETOOL_PROGRAM names none")
 class Colours(unittest.TestCase):
     """Pages have colours on a terminal, where NO_COLOR is not set, or empty."""
 
