@@ -3,6 +3,9 @@
 use crate::ordered::{FEW, Order};
 use std::alloc::{AllocError, Allocator};
 
+/// What is kept in place of a guess where none helps.
+const NONE: u32 = u32::MAX;
+
 /// Guesses of how many items of a list by ascending keys stand before a key, made for some of its items that stand together. A
 /// search looks whether a guess is right before it begins there, so that nothing rests on them but how long it takes.
 ///
@@ -14,12 +17,11 @@ pub(crate) struct Hints<A: Allocator> {
     first: u64,
     /// How many bits of a key tell where it stands in its stretch.
     shift: u32,
-    /// How many items stand before each stretch. It is empty where there are few items, or where its memory was refused.
-    counts: Vec<u32, A>,
-    /// How many items of the list stand before these.
-    start: u32,
-    /// How many stand before the ones behind these.
-    end: u32,
+    /// How many items of the list stand before each stretch, or [`NONE`] where too many stand in it to be looked at one after the
+    /// other. It is empty where there are few items, or where its memory was refused.
+    guesses: Vec<u32, A>,
+    /// The guess for a key of no stretch.
+    beyond: u32,
 }
 
 /// So many bits that a range of keys has as many stretches as there are items, or up to twice as many.
@@ -30,9 +32,9 @@ fn shift_of(range: u64, items: usize) -> u32 {
     }
 }
 
-/// A place in a list in 32 bits.
+/// A place in a list in 32 bits, or [`NONE`].
 fn place(index: usize) -> u32 {
-    u32::try_from(index).unwrap_or(u32::MAX)
+    u32::try_from(index).unwrap_or(NONE)
 }
 
 impl<A: Allocator + Copy> Hints<A> {
@@ -41,12 +43,12 @@ impl<A: Allocator + Copy> Hints<A> {
         let mut hints = Hints {
             first: 0,
             shift: 0,
-            counts: Vec::new(alloc),
-            start: place(start),
-            end: place(start.saturating_add(items.len())),
+            guesses: Vec::new(alloc),
+            beyond: place(start),
         };
         if items.len() >= FEW {
-            let _ = hints.count::<O, T>(items);
+            hints.beyond = NONE;
+            let _ = hints.count::<O, T>(items, place(start));
         }
         hints
     }
@@ -57,8 +59,8 @@ impl<A: Allocator + Copy> Hints<A> {
         behind.checked_shr(self.shift).unwrap_or(0) as usize
     }
 
-    /// Counts how many items stand before each stretch, unless memory for the counts is refused.
-    fn count<O: Order<T>, T>(&mut self, items: &[T]) -> Result<(), AllocError> {
+    /// Counts how many items stand before each stretch, behind `start` others, unless memory for the counts is refused.
+    fn count<O: Order<T>, T>(&mut self, items: &[T], start: u32) -> Result<(), AllocError> {
         let (Some(first), Some(last)) = (items.first(), items.last()) else {
             return Ok(());
         };
@@ -66,49 +68,40 @@ impl<A: Allocator + Copy> Hints<A> {
         self.first = first;
         self.shift = shift_of(last.saturating_sub(first), items.len());
         let stretches = self.stretch(last).saturating_add(1);
-        self.counts.reserve_exact(stretches)?;
-        let mut before = self.start;
+        self.guesses.reserve_exact(stretches)?;
+        let mut before = start;
         for item in items {
             self.note(O::key(item), before)?;
             before = before.saturating_add(1);
         }
+        self.beyond = before;
         Ok(())
     }
 
-    /// Says how many items stand before a key, after the same of all keys below it.
+    /// Notes an item of a key, with how many stand before it, after the items before it.
     fn note(&mut self, key: u64, before: u32) -> Result<(), AllocError> {
         let stretch = self.stretch(key);
-        if stretch < self.counts.len() {
-            return Ok(());
+        let Some(guess) = self.guesses.get_mut(stretch) else {
+            return self.guesses.resize(stretch.saturating_add(1), before);
+        };
+        let earlier = before.saturating_sub(*guess);
+        if earlier.saturating_add(1) as usize >= FEW {
+            *guess = NONE;
         }
-        self.counts.resize(stretch.saturating_add(1), before)
-    }
-
-    /// How many items stand before a stretch.
-    fn before(&self, stretch: usize) -> u32 {
-        match self.counts.get(stretch) {
-            Some(before) => *before,
-            None => self.end,
-        }
-    }
-
-    /// How many items stand before the stretch of a key, and how many before the next one.
-    fn around(&self, key: u64) -> (u32, u32) {
-        if self.counts.is_empty() {
-            return (self.start, self.end);
-        }
-        let stretch = self.stretch(key);
-        (self.before(stretch), self.before(stretch.saturating_add(1)))
+        Ok(())
     }
 
     /// A guess of how many items stand before a key: those before its stretch, where so few stand in the stretch that they are looked
     /// at one after the other.
     fn guess(&self, key: u64) -> Option<usize> {
-        let (before, behind) = self.around(key);
-        if behind.saturating_sub(before) as usize >= FEW {
+        let guess = match self.guesses.get(self.stretch(key)) {
+            Some(guess) => *guess,
+            None => self.beyond,
+        };
+        if guess == NONE {
             return None;
         }
-        Some(before as usize)
+        Some(guess as usize)
     }
 }
 
