@@ -6,6 +6,7 @@ pub mod Items
 pub mod Laid
 pub mod Mapped
 pub mod Listed
+pub mod MoreTexts
 pub mod NameFields
 pub mod NamePlaces
 pub mod Offsets
@@ -16,5 +17,8 @@ pub mod SectionsBack
 pub mod Sizes
 pub mod StringTable
 pub mod SymbolsBack
+pub mod TableFinds
+pub mod Telling
+pub mod TextOrder
 pub mod Writable
 pub mod WrittenSize

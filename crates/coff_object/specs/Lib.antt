@@ -24,6 +24,7 @@ pub use Rattle.coff_read.specs.TablesPlace
 pub use Rattle.coff_read.specs.TypeNames
 pub mod NamePlaces
 pub mod Sizes
+pub mod Slots
 pub mod StringTableView
 pub mod StringTableWords
 pub mod Writable

@@ -18,6 +18,7 @@ pub mod laws;
 mod layout;
 mod record_bytes;
 mod refusal;
+mod slots;
 mod string_table;
 mod write;
 

@@ -18,7 +18,7 @@ returns g c =
     let symbols = c.as_slice-2.ensures.value in
     let p =
     placed o one two c.in_ok-sections.sections.items c.in_ok-symbols.symbols.items
-    (c.in_ok-sections.ensures.texts ∙ ap (λ ts. with_strings ts (long_section_names (map section_view c.as_slice.result.now))) c.new-strings.ensures ∙ ap (λ ss. with_strings [] (long_section_names (map section_view ss))) sections)
+    (c.in_ok-sections.ensures.texts ∙ ap (λ ts. with_strings ts (long_section_names (map section_view c.as_slice.result.now))) c.in_ok-strings.ensures ∙ ap (λ ss. with_strings [] (long_section_names (map section_view ss))) sections)
     (c.in_ok-symbols.ensures.texts ∙ ap (λ ss. with_strings one (long_symbol_names (map symbol_view ss))) symbols)
     (c.in_ok-sections.ensures.places ∙ ap (λ ss. section_places one (map section_view ss)) sections)
     (c.in_ok-symbols.ensures.places ∙ ap (λ ss. symbol_places two (map symbol_view ss)) symbols) in
