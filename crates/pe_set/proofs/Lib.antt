@@ -21,11 +21,13 @@ pub mod ModuleRead
 pub mod Moving
 pub mod NameRows
 pub mod PairNumbers
+pub mod Owning
 pub mod Pathing
 pub mod Pigeons
 pub mod PlaceRows
 pub mod Places
 pub mod Pushed
+pub mod Remembering
 pub mod Returning
 pub mod Searching
 pub mod SetRows

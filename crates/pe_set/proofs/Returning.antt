@@ -4,7 +4,7 @@ use Rattle.std.proofs.lemmas.Bool.{cases_lt}
 use Rattle.pe_tables.specs.Key.{Key}
 use Rattle.pe_set.specs.Set.{Module}
 use Rattle.pe_set.specs.Search.{stand_at, steps, stands, pairs_of, cycle_length, ended, resolve}
-use Rattle.pe_set.specs.SearchEnds.{Repeats, IsCycle}
+use Rattle.pe_set.specs.SearchEnds.{Repeats}
 use Rattle.pe_set.specs.declared.search.Resolution.TheVariants.{Endless}
 use Rattle.pe_set.proofs.Cycles.{NeverEnds, steps_add, steps_none, goes_on, times, times_more, round, cycle_is}
 

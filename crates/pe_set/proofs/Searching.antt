@@ -1,5 +1,5 @@
 -- What an image that has been read is, and how a search goes on from it.
-use Rattle.std.proofs.Common.{◌≡◌, ◌∙◌, ◌<◌, ◌+◌, ℕ, zero, suc, List, [], ◌∷◌, Bool, true, false, not, cond, length, map, drop, get_or, Option, None, Some, refl, sym, ap, arith}
+use Rattle.std.proofs.Common.{◌≡◌, ◌∙◌, ◌<◌, ◌+◌, ℕ, suc, List, [], ◌∷◌, Bool, true, false, not, cond, length, map, get_or, Option, None, Some, refl, sym, ap, arith}
 use Rattle.std.specs.Prelude.{option_map, nat_lt, position, ◌||◌}
 use Rattle.std.specs.List.{list_any, position_or_len, prefix_len}
 use Rattle.std.specs.Str.{bytes_eq, str_to_ascii_lowercase}
@@ -8,13 +8,12 @@ use Rattle.std.proofs.lemmas.Slice.Eq.{bytes_eq-Decides}
 use Rattle.std.proofs.lemmas.Option.{slice_get-map, slice_get_read}
 use Rattle.std.proofs.lemmas.List.{length-map}
 use Rattle.std.proofs.lemmas.List.Quantifiers.{position-Some}
-use Rattle.pe_tables.specs.ExportsView.{exports_view}
 use Rattle.pe_tables.specs.ImportView.{import_view}
 use Rattle.pe_tables.specs.Key.{Key, Target, Rva, Forward}
 use Rattle.pe_tables.specs.Exports.{target_at}
 use Rattle.pe_set.specs.Set.{Module, named, forwarded_name}
-use Rattle.pe_set.specs.Search.{target_in, from_target, from_image, resolve_in, stand_at, onward, step, steps, steps_to, same_stand, pairs_of}
-use Rattle.pe_set.specs.NamesView.{lowered, found, FoundAlike}
+use Rattle.pe_set.specs.Search.{target_in, from_target, from_image, resolve_in, stand_at, onward, step, steps}
+use Rattle.pe_set.specs.NamesView.{lowered, found}
 use Rattle.pe_set.specs.SetView.{module_view, modules_view}
 use Rattle.pe_set.specs.declared.reading.Module as code_module
 use Rattle.pe_set.specs.declared.search.Resolution.TheVariants.{Bound, Missing, Unknown}

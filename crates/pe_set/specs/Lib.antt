@@ -11,6 +11,7 @@ pub mod NamesView
 pub mod Numbered
 pub mod PathView
 pub mod Placement
+pub mod RememberedView
 pub mod Search
 pub mod SearchEnds
 pub mod Set

@@ -1,8 +1,11 @@
 //! `Binding`: a slot and the export that it is bound to; and faults 48 to 50 of imports.
 
-ghost use Rattle.std.specs.Prelude.{◌≡◌, ◌++◌, ◌≤◌, ◌^◌, length, IsOk, OnOk};
+ghost use Rattle.std.specs.Prelude.{◌≡◌, ◌++◌, ◌≤◌, ◌^◌, length, All, IsOk, OnOk};
 ghost use Rattle.std.specs.List.{flat_map, filter_map};
+ghost use Rattle.pe_layout.specs.Layout.{image_of};
+ghost use Rattle.pe_tables.specs.Imports.{imports_of};
 ghost use Rattle.pe_tables.specs.ImportView.{import_view};
+ghost use Rattle.pe_set.specs.Set as set;
 ghost use Rattle.pe_set.specs.NamesView.{names_in, lowered};
 ghost use Rattle.pe_set.specs.SetView.{modules_view};
 ghost use Rattle.pe_set.specs.Search.{pairs_of};
@@ -16,7 +19,9 @@ use crate::entry::Policy;
 use crate::error::{MapError, fault};
 use crate::module_names::Names;
 use crate::reading::Module;
-use crate::search::{Resolution, resolve};
+use crate::remembered::{Remembered, place_at, places_of};
+use crate::search::{Resolution, resolve_once};
+use pe_layout::Layout;
 use pe_tables::Import;
 use pe_view::{Fault, Place};
 use std::alloc::Allocator;
@@ -70,13 +75,15 @@ fn bound(
     }
 }
 
-/// Binds the imports of image `number`, or answers the first of their faults 48 to 50. A module's name is looked up once for the
-/// imports in a row that name it. `buffer` has room for names while it runs.
+/// Binds the imports of image `number`, which has this layout, or answers the first of their faults 48 to 50. A module's name is
+/// looked up once for the imports in a row that name it, and a long name of an export once for all imports that share it. `buffer` has
+/// room for names while it runs.
 fn bind_imports<'a, A: Allocator + Copy>(
     modules: &[Module<'a, A>],
     names: &Names<A>,
     policy: Policy,
     number: u16,
+    layout: &Layout<'a>,
     imports: &[Import<'a>],
     bindings: &mut Vec<Binding, A>,
     ends: &mut Ends<'a, A>,
@@ -86,19 +93,35 @@ fn bind_imports<'a, A: Allocator + Copy>(
     requires named { names_in names.now ≡ lowered (modules_view modules.now) }
     requires few_exports { pairs_of (modules_view modules.now) ≤ 2 ^ 25 }
     requires known { AreEnds (modules_view modules.now) ends.old }
+    requires own { map import_view imports.now ≡ imports_of (image_of layout.now) }
     ensures known { OnOk result (AreEnds (modules_view modules.now) ends.new) }
     ensures exact { SetAnswers (first_error (flat_map (import_errors policy (modules_view modules.now) number) (map import_view imports.now)))
         (λ _. bindings.new.items ≡ bindings.old.items ++ filter_map (binding_of (modules_view modules.now) number) (map import_view imports.now)) result }
 {
     let mut name: &[u8] = b"";
     let mut image = names.find(buffer, name)?;
+    let places = places_of(ends.alloc, layout, imports)?;
+    let mut remembered = Remembered::new(ends.alloc);
+    let mut index = 0usize;
     for import in imports {
         let beginning = names.beginning(import.module);
         if beginning != name {
             name = beginning;
             image = names.find(buffer, name)?;
         }
-        let resolution = resolve(modules, names, import, image, ends, buffer)?;
+        let place = place_at(&places, index);
+        index += 1;
+        let resolution = resolve_once(
+            modules,
+            names,
+            layout,
+            import,
+            place,
+            image,
+            ends,
+            &mut remembered,
+            buffer,
+        )?;
         if let Some(binding) = bound(policy, number, import.slot, resolution)? {
             bindings.push(binding)?;
         }
@@ -116,6 +139,7 @@ pub(crate) fn bind<A: Allocator + Copy>(
     requires few { length modules.now ≤ 256 }
     requires named { names_in names.now ≡ lowered (modules_view modules.now) }
     requires few_exports { pairs_of (modules_view modules.now) ≤ 2 ^ 25 }
+    requires own { All (λ (m : set.Module). m.imports ≡ imports_of m.image) (modules_view modules.now) }
     ensures exact { SetAnswers (first_error (imports_errors policy (modules_view modules.now))) (λ bindings. bindings.items ≡ bindings_of (modules_view modules.now)) result }
     ensures empty { length modules.now ≡ 0 → IsOk result }
 {
@@ -128,6 +152,7 @@ pub(crate) fn bind<A: Allocator + Copy>(
             names,
             policy,
             index as u16,
+            &module.image.layout,
             module.image.imports.as_slice(),
             &mut bindings,
             &mut ends,

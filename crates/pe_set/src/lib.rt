@@ -25,6 +25,7 @@ mod path;
 mod placement;
 mod placing;
 mod reading;
+mod remembered;
 mod search;
 mod standing;
 

@@ -12,6 +12,9 @@ use std::alloc::{AllocError, Allocator};
 use std::hash::{BuildHasherDefault, FoldHasher};
 
 /// The names of a set's images, in lower case, by which their numbers are found.
+///
+/// The hasher has a fixed seed, so names can be made to collide. They are 256 at most: a look-up compares a name with no more than
+/// these, and with those of its length alone.
 #[derive(Drop)]
 pub(crate) struct Names<A: Allocator> {
     pub names: IndexSet<Vec<u8, A>, BuildHasherDefault<FoldHasher>, A>,

@@ -1,6 +1,9 @@
 //! The search from an import through forwarders: where it ends, or the length of the cycle that it runs in.
 
-ghost use Rattle.std.specs.Prelude.{◌≡◌, ◌^◌, ◌≤◌, [], length, option_map, IfOk, OnOk};
+ghost use Rattle.std.specs.Prelude.{◌≡◌, ◌^◌, ◌≤◌, [], length, option_map, IfOk, IfSome, OnOk};
+ghost use Rattle.pe_layout.specs.Layout.{image_of};
+ghost use Rattle.pe_tables.specs.ImportNames.{IsNamedAt};
+ghost use Rattle.pe_tables.specs.ImportView.{import_view};
 ghost use Rattle.pe_tables.specs.Key.{key_view, target_view};
 ghost use Rattle.pe_tables.specs.Exports.{target_at};
 ghost use Rattle.pe_set.specs.Set.{named};
@@ -9,12 +12,15 @@ ghost use Rattle.pe_set.specs.NamesView.{names_in, lowered};
 ghost use Rattle.pe_set.specs.Search.{resolve, pairs_of};
 ghost use Rattle.pe_set.specs.EndsView.{AreEnds};
 ghost use Rattle.pe_set.specs.PathView.{path_view, IsPath, LeadsTo};
+ghost use Rattle.pe_set.specs.RememberedView.{AreRemembered};
 
 use crate::ends::Ends;
 use crate::module_names::Names;
 use crate::path::Path;
 use crate::reading::Module;
+use crate::remembered::{Remembered, query_of};
 use crate::standing::Standing;
+use pe_layout::Layout;
 use pe_tables::{Import, Key, Target};
 use std::alloc::{AllocError, Allocator};
 
@@ -126,5 +132,38 @@ pub(crate) fn resolve<'a, A: Allocator + Copy>(
     for at in &path.stands {
         ends.keep(*at, end)?;
     }
+    Ok(end)
+}
+
+/// Where the search for what an import of the image with this layout names ends. `place` is where its name stands, if that is known:
+/// then a long name is looked up once for all imports whose names stand there. `buffer` has room for names while it runs.
+pub(crate) fn resolve_once<'a, A: Allocator + Copy>(
+    modules: &[Module<'a, A>],
+    names: &Names<A>,
+    _layout: &Layout<'a>,
+    import: &Import<'a>,
+    place: Option<u32>,
+    image: Option<usize>,
+    ends: &mut Ends<'a, A>,
+    remembered: &mut Remembered<A>,
+    buffer: &mut Vec<u8, A>,
+) -> Result<Resolution, AllocError>
+    requires few { length modules.now ≤ 256 }
+    requires named { names_in names.now ≡ lowered (modules_view modules.now) }
+    requires few_exports { pairs_of (modules_view modules.now) ≤ 2 ^ 25 }
+    requires known { AreEnds (modules_view modules.now) ends.old }
+    requires image { image ≡ named (modules_view modules.now) import.now.«module».now }
+    requires placed { IfSome place (λ rva. IsNamedAt (image_of _layout.now) rva (import_view import.now)) }
+    requires remembered { AreRemembered (modules_view modules.now) (image_of _layout.now) remembered.old }
+    ensures exact { IfOk result (λ end. end ≡ resolve (modules_view modules.now) import.now.«module».now (key_view import.now.key)) }
+    ensures known { OnOk result (AreEnds (modules_view modules.now) ends.new) }
+    ensures remembered { OnOk result (AreRemembered (modules_view modules.now) (image_of _layout.now) remembered.new) }
+{
+    let query = query_of(import, image, place);
+    if let Some(end) = remembered.find(query) {
+        return Ok(end);
+    }
+    let end = resolve(modules, names, import, image, ends, buffer)?;
+    remembered.keep(query, end)?;
     Ok(end)
 }

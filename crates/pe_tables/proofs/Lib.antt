@@ -18,6 +18,7 @@ pub mod ForwarderEndings
 pub mod Forwarding
 pub mod HeldExports
 pub mod Holding
+pub mod ImportNames
 pub mod ImportOrder
 pub mod ImportPlaces
 pub mod ImportRows

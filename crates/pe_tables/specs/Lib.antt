@@ -15,6 +15,7 @@ pub mod Forwarder
 pub mod Forwarders
 pub mod Import
 pub mod ImportFaults
+pub mod ImportNames
 pub mod ImportPlaces
 pub mod ImportReading
 pub mod ImportView

@@ -42,14 +42,14 @@ pub(crate) struct Descriptor {
 
 impl Descriptor {
     /// Whether it ends the list: it has no name, or no slots.
-    fn is_null(self) -> bool
+    pub fn is_null(self) -> bool
         ensures { result ≡ is_null self }
     {
         self.name == 0 || self.addresses == 0
     }
 
     /// The RVA of the lookup table: the address table serves where there is none.
-    fn lookup_table(self) -> u32
+    pub fn lookup_table(self) -> u32
         ensures { result ≡ lookup_table self }
     {
         if self.lookup == 0 {
@@ -80,7 +80,7 @@ impl<'a, A: Allocator + Copy> FoundImports<'a, A> {
 }
 
 /// The value of the lookup entry at an RVA of the image, which has as many bytes as a slot.
-fn lookup_value(layout: &Layout, rva: u32) -> u64
+pub(crate) fn lookup_value(layout: &Layout, rva: u32) -> u64
     requires { rva + (image_of layout.now).slot_width ≤ (image_of layout.now).size }
     ensures { result ≡ number_at (image_of layout.now).slot_width (image_of layout.now) rva }
 {
@@ -92,7 +92,7 @@ fn lookup_value(layout: &Layout, rva: u32) -> u64
 }
 
 /// Whether the top bit of a lookup entry's value is set: it holds an ordinal.
-fn is_ordinal(layout: &Layout, value: u64) -> bool
+pub(crate) fn is_ordinal(layout: &Layout, value: u64) -> bool
     ensures { result ≡ is_ordinal (image_of layout.now) value }
 {
     value >> (8 * layout.slot_width() - 1) == 1
@@ -205,7 +205,7 @@ fn read_lookups<'a, A: Allocator + Copy>(
 }
 
 /// The descriptor at an RVA of the image.
-fn descriptor_at(layout: &Layout, rva: u32) -> Descriptor
+pub(crate) fn descriptor_at(layout: &Layout, rva: u32) -> Descriptor
     requires inside { rva + 20 ≤ (image_of layout.now).size }
     requires small { rva + 20 < 2 ^ 32 }
     ensures { result ≡ descriptor_at (image_of layout.now) rva }

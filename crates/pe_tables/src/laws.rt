@@ -23,6 +23,7 @@ ghost use Rattle.pe_tables.specs.Standing.{StandsWhole, IsFieldFault, view};
 ghost use Rattle.pe_tables.specs.declared.fixups.Fixup.{Fixup};
 ghost use Rattle.pe_tables.specs.Imports.{Import, imports_at, imports_of};
 ghost use Rattle.pe_tables.specs.ImportFaults.{import_tests, import_tests_at};
+ghost use Rattle.pe_tables.specs.ImportNames.{import_names_of, AreNamedAt};
 ghost use Rattle.pe_tables.specs.ImportPlaces.{IsInList, IsInTable, IsImported, IsApart, HasTexts, HasDescriptors, HasEntries, imports_in_order, table_rva, descriptor_rva};
 
 /// The fixups of a table are exactly the entries of types 1, 2, 3 and 10 of the blocks that are reached from its start.
@@ -80,6 +81,11 @@ pub fn keys_export_once()
 /// layout do.
 pub fn imports_are_named()
     ensures { (i : LaidOut) (d : Directory) (import : Import) → 0 < i.slot_width → Contains (imports_at i (Some d)) import ↔ IsImported i d import }
+{}
+
+/// Each import by name has the text that stands where `import_name_rvas` tells of it.
+pub fn imports_have_their_names()
+    ensures { (i : LaidOut) → AreNamedAt i (import_names_of i) (imports_of i) }
 {}
 
 /// The slots of the imports of an image without an import fault lie in the image, share no byte, and are at most 1,048,576.

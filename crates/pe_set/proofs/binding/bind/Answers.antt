@@ -11,6 +11,8 @@ use Rattle.pe_set.specs.SetView.{module_view, modules_view}
 use Rattle.pe_set.specs.declared.error.MapError.{MapError}
 use Rattle.pe_set.proofs.Asking.{next_here, gathered}
 use Rattle.pe_set.proofs.AskingErrors.{errors_past, errors_in, errors_all, error-whole}
+use Rattle.pe_tables.specs.Imports.{imports_of}
+use Rattle.pe_set.proofs.Owning.{own_at, own_image}
 use Rattle.pe_set.proofs.Searching.{own_imports}
 use Rattle.pe_set.proofs.binding.bind.Goals as goal
 
@@ -59,6 +61,12 @@ returns-clause-exact g c =
           ∙ ap (λ xs. c.loop-index.bindings.items ++ numbered (bindings_in s) i (map module_view xs)) (sym (drop_all i ms c.loop-index-test.false))
           ∙ c.loop-index.invariant.bound,
     )
+
+pub bind_imports-requires-clause-own : goal.bind_imports-requires-clause-own
+bind_imports-requires-clause-own g c =
+    let m = c.index-modules-index.result in
+    let own = own_at c.args.modules.now c.loop-index.index m c.loop-index-test.true c.index-modules-index.is c.requires.own in
+    ap (map import_view) c.as_slice.ensures.value ∙ sym (own_imports m) ∙ own ∙ ap imports_of (own_image m)
 
 pub loop-index-init : goal.loop-index-init
 loop-index-init g c =

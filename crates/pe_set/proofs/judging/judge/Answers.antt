@@ -1,5 +1,5 @@
 -- Each class is asked behind classes without a fault.
-use Rattle.std.proofs.Common.{◌≡◌, ◌∙◌, ◌≤◌, ◌^◌, List, length, ap, subst, sym, arith, inl, inr, None}
+use Rattle.std.proofs.Common.{◌≡◌, ◌∙◌, ◌≤◌, ◌^◌, All, List, length, ap, subst, sym, arith, inl, inr, None}
 use Rattle.std.proofs.lemmas.Result.{err_from_is_err_and}
 use Rattle.pe_view.specs.Faults.{first_standing}
 use Rattle.pe_set.specs.Bindings.{bindings_of}
@@ -11,6 +11,7 @@ use Rattle.pe_set.specs.SetErrors.{ErrorIs, first_error, imports_errors, set_err
 use Rattle.pe_set.specs.SetView.{entries_of, modules_view}
 use Rattle.pe_set.proofs.Classes.{few_images, count_modules}
 use Rattle.pe_set.proofs.Distinct.{few_entries, distinct}
+use Rattle.pe_set.proofs.Owning.{HasOwn, all_own}
 use Rattle.pe_set.proofs.Errors.{in_class, past, past_class}
 use Rattle.pe_set.proofs.judging.judge.Goals as goal
 
@@ -154,3 +155,8 @@ returns-clause-no_memory g c = λ e refused. absurd cc
 
 pub returns-clause-named : goal.returns-clause-named
 returns-clause-named g c = λ refused. c.in_ok-check_names.ensures.exact.0
+
+pub bind-requires-clause-own : goal.bind-requires-clause-own
+bind-requires-clause-own g c =
+    let es = entries_of c.args.set.now in
+    subst (λ (s : List Module). All HasOwn s) (sym (ap modules_view c.deref-3.ensures.value ∙ c.in_ok-modules.ensures.exact.1)) (all_own es)
