@@ -124,6 +124,7 @@ Exit statuses:
   2  bad command line
   3  reading or writing failed
   4  out of memory
+  5  a text was cut, by --most
 """
 
 
@@ -149,10 +150,14 @@ SILENT = Case()
 REBASED = Case(words=REBASE, target="open", printed="rebased 0x0000000020000000\n", is_made=True)
 FULL = Case(output="full", status=3, complained=OUTPUT_IS_FULL)
 
+DUMP_REFUSED = replace(
+    SILENT, words=DUMP, file=b"", status=1, printed="fault 2 image 0 file 0x00000000\n", complained=NO_BYTES
+)
+
 #: Commands that read one file.
 ENDS = [
     replace(SILENT, printed="accepted PE32 sections 0\n"),
-    replace(SILENT, words=DUMP, file=b"", status=1, printed="fault 2 image 0 file 0x00000000\n", complained=NO_BYTES),
+    DUMP_REFUSED,
     replace(
         SILENT,
         words=OBJECT,
@@ -172,6 +177,61 @@ ENDS = [
     replace(SILENT, words=DUMP, file=BROKEN, status=3, complained=READING_FAILED),
     FULL,
     replace(FULL, words=["--help"]),
+]
+
+#: The text of an object without sections and symbols.
+PLAIN_OBJECT = b"\x64\x86\0\0\x78\x56\x34\x12\0\0\0\0\0\0\0\0\0\0\x04\0"
+OBJECT_TEXT = "Machine 0x8664 AMD64\nTimeDateStamp 0x12345678\nCharacteristics 0x0004\nend\n"
+
+
+def of_most(value, reason="not a number of bytes, such as 65536 or 64K"):
+    """What is told of a value that `--most` of `dump` cannot have."""
+    return (
+        f"error: invalid value '{value}' for '--most <BYTES>': {reason}\n\n"
+        "Usage: petool dump [OPTIONS] <FILE>\n\nFor more information, try '--help'.\n"
+    )
+
+
+#: Texts of which a part is asked for.
+MOST = [
+    replace(SILENT, words=["object", "--most", most, "a.dll"], file=PLAIN_OBJECT, status=5, printed=f"{part}\n(cut after {count} bytes)\n")
+    for most, count, part in (
+        ("0", 0, ""),
+        ("1", 1, "M"),
+        ("10", 10, "Machine 0x"),
+        ("72", 72, OBJECT_TEXT[:72]),
+    )
+] + [
+    # a text that is no longer is whole
+    *(
+        replace(SILENT, words=["object", "--most", most, "a.dll"], file=PLAIN_OBJECT, printed=OBJECT_TEXT)
+        for most in ("73", "1K", "1M", "1G", "17179869183G", "18446744073709551615")
+    ),
+    *(
+        replace(SILENT, words=["dump", "--most", most, "a.dll"], status=2, complained=of_most(most))
+        for most in ("", "K", "1k", "0x10", "+1", "1KK", "17179869184G", "18446744073709551616")
+    ),
+    # each file has its own, whether it is refused or not
+    replace(
+        SILENT,
+        words=["json", "--most", "10", "a.dll", "A.DLL"],
+        file=b"",
+        status=5,
+        printed=2 * '{"schema":\n(cut after 10 bytes)\n',
+    ),
+    # the blank line between pages is of the second
+    replace(
+        SILENT,
+        words=["show", "--most", "5", "b.dll", "a.dll", "-"],
+        file=b"",
+        status=5,
+        printed="a.dll\n(cut after 5 bytes)\n\nstan\n(cut after 5 bytes)\n",
+        complained=NO_SUCH_FILE,
+    ),
+    # a fault is told where its line is whole, and an output that fails in any case
+    replace(DUMP_REFUSED, words=["dump", "--most", "100", "a.dll"]),
+    replace(FULL, words=["dump", "--most", "10", "a.dll"]),
+    replace(SILENT, words=["dump", "--most", "10", "a.dll"], output="lost", status=3),
 ]
 
 #: Commands that show files, of which several may be named.
@@ -525,6 +585,18 @@ class Ends(unittest.TestCase):
     def test_each_end_of_views_has_its_status_and_its_text(self):
         self.assert_ends(VIEW_ENDS)
 
+    def test_a_text_is_cut_where_no_more_is_asked_for(self):
+        self.assert_ends(MOST)
+
+    def test_no_character_is_cut(self):
+        name = "\u00e4\u20ac\U0001f600.dll"
+        (self.folder / name).write_bytes(b"")
+        for most in range(10):
+            with self.subTest(most=most):
+                whole = name.encode()[:most].decode(errors="ignore")
+                done = subprocess.run([PROGRAM, "show", "--most", str(most), name], cwd=self.folder, stdout=subprocess.PIPE)
+                self.assertEqual((done.stdout.decode(), done.returncode), (f"{whole}\n(cut after {most} bytes)\n", 5))
+
     def test_each_end_of_map_has_its_status_and_its_text(self):
         self.assert_ends(MAP_ENDS)
 
@@ -608,7 +680,7 @@ class Colours(unittest.TestCase):
         self.addCleanup(folder.cleanup)
         self.folder = pathlib.Path(folder.name)
 
-    def on_terminal(self, file, no_color):
+    def on_terminal(self, file, no_color, *words):
         """The page of a file on a terminal that changes no byte."""
         (self.folder / "a.dll").write_bytes(file)
         environment = {name: value for name, value in os.environ.items() if name != "NO_COLOR"}
@@ -616,7 +688,8 @@ class Colours(unittest.TestCase):
             environment["NO_COLOR"] = no_color
         reader, writer = pty.openpty()
         tty.setraw(writer)
-        with subprocess.Popen([PROGRAM, "show", "--all", "a.dll"], cwd=self.folder, env=environment, stdout=writer) as process:
+        command = [PROGRAM, "show", "--all", *words, "a.dll"]
+        with subprocess.Popen(command, cwd=self.folder, env=environment, stdout=writer) as process:
             os.close(writer)
             with open(reader, "rb", buffering=0) as terminal:
                 printed = b"".join(iter(lambda: self.part(terminal), b""))
@@ -646,6 +719,10 @@ class Colours(unittest.TestCase):
             with self.subTest(no_color=no_color):
                 self.assertEqual(self.on_terminal(HEADERS, no_color), ("\n".join(rows), 0))
                 self.assertEqual(self.on_terminal(b"", no_color), (RED_PAGE, 1))
+
+    def test_a_page_that_is_cut_ends_its_colours(self):
+        self.assertEqual(self.on_terminal(b"", None, "--most", "9"), ("\x1b[1;31ma.\x1b[0m\n(cut after 9 bytes)\n", 5))
+        self.assertEqual(self.on_terminal(b"", "1", "--most", "3"), ("a.d\n(cut after 3 bytes)\n", 5))
 
     def test_no_color_turns_them_off(self):
         for no_color in ("1", "0", "no colours"):

@@ -2,7 +2,7 @@
 
 use crate::input::{InputFile, name_of, open_file};
 use crate::messages::{STANDARD_OUTPUT, tell_failure, tell_fault};
-use crate::statuses::{DEVICE_FAILED, DONE, REFUSED};
+use crate::statuses::{CUT, DEVICE_FAILED, DONE, REFUSED};
 use crate::texts::{Engine, Printed, Text, print_text};
 use pe_tool::{Outcome, ToolError, status};
 use std::io::{Error, Input, Read};
@@ -35,10 +35,12 @@ fn tells_faults(engine: Engine) -> bool {
     matches!(engine, Engine::Show(_) | Engine::Json)
 }
 
-/// Runs an engine over a file, and answers the exit status: as an `Err` where standard output is lost.
+/// Runs an engine over a file for so many bytes of text at most, and answers the exit status: as an `Err` where standard output is
+/// lost.
 fn run_behind<R: Files + Input + Print + Eprint + Alloc>(
     rt: &R,
     engine: Engine,
+    most: Option<u64>,
     path: &str,
     is_headed: bool,
 ) -> Result<u8, u8>
@@ -51,11 +53,13 @@ where
                 engine,
                 name: name_of(path),
                 is_headed,
+                most,
                 file: &mut file,
             };
             let printed = print_text(rt, text);
             match printed.answer {
                 Ok(Outcome::Refused(_)) if tells_faults(engine) => Ok(status(&printed.answer)),
+                Err(ToolError::Write) if printed.is_cut => Ok(CUT),
                 Err(ToolError::Write) => Err(tell(rt, name_of(path), &file, printed)),
                 _ => Ok(tell(rt, name_of(path), &file, printed)),
             }
@@ -64,12 +68,17 @@ where
     }
 }
 
-/// Runs an engine over a file, and answers the exit status.
-pub fn run_file<R: Files + Input + Print + Eprint + Alloc>(rt: &R, engine: Engine, path: &str) -> u8
+/// Runs an engine over a file, for so many bytes of text at most, and answers the exit status.
+pub fn run_file<R: Files + Input + Print + Eprint + Alloc>(
+    rt: &R,
+    engine: Engine,
+    most: Option<u64>,
+    path: &str,
+) -> u8
 where
     R::A: Copy,
 {
-    match run_behind(rt, engine, path, false) {
+    match run_behind(rt, engine, most, path, false) {
         Ok(status) | Err(status) => status,
     }
 }
@@ -83,10 +92,17 @@ fn is_headed(engine: Engine, is_first: bool) -> bool {
     }
 }
 
-/// Runs an engine over files, one after the other while standard output takes what is written, and answers the worst exit status.
+/// Whether a page was printed where an engine ended with this status.
+fn has_text(status: u8) -> bool {
+    matches!(status, DONE | REFUSED | CUT)
+}
+
+/// Runs an engine over files, for so many bytes of the text of each at most, one after the other while standard output takes what is
+/// written, and answers the worst exit status.
 pub fn run_files<R: Files + Input + Print + Eprint + Alloc>(
     rt: &R,
     engine: Engine,
+    most: Option<u64>,
     paths: &[String],
 ) -> u8
 where
@@ -95,9 +111,9 @@ where
     let mut worst = DONE;
     let mut is_first = true;
     for path in paths {
-        match run_behind(rt, engine, path.as_str(), is_headed(engine, is_first)) {
+        match run_behind(rt, engine, most, path.as_str(), is_headed(engine, is_first)) {
             Ok(status) => {
-                is_first = is_first && status > REFUSED;
+                is_first = is_first && !has_text(status);
                 worst = worst.max(status);
             }
             Err(status) => return worst.max(status),

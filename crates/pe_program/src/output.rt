@@ -1,32 +1,87 @@
-//! `Output`: a writer that keeps the error of the call that failed.
+//! `Output`: a writer that keeps the error of the call that failed, and takes no more bytes than it may.
+
+ghost use Rattle.std.specs.Prelude.{◌≤◌, length};
 
 use std::io::{self, Error, ErrorKind, Write};
 
-/// A writer that keeps the error of the call that failed.
+/// A writer that keeps the error of the call that failed, and refuses all that is behind so many bytes.
 #[derive(Drop)]
 pub(crate) struct Output<W> {
     inner: W,
     error: Option<Error>,
+    /// How many bytes may still be written.
+    left: u64,
+    /// Whether more was to be written than may be.
+    is_cut: bool,
+}
+
+/// Whether bytes of a text are cut inside a character at an index.
+fn splits(bytes: &[u8], index: usize) -> bool {
+    match bytes.get(index) {
+        Some(byte) => *byte & 0b1100_0000 == 0b1000_0000,
+        None => false,
+    }
+}
+
+/// How many of the bytes of a text are written where so many may be: no character is cut, which has at most 4 bytes.
+fn fitting(bytes: &[u8], most: u64) -> usize
+    ensures { result ≤ length bytes.now }
+{
+    if bytes.len() as u64 <= most {
+        return bytes.len();
+    }
+    let mut count = most as usize;
+    for _ in 0..3 {
+        if splits(bytes, count) {
+            count = count.saturating_sub(1);
+        }
+    }
+    count.min(bytes.len())
 }
 
 impl<W: Write> Output<W> {
     /// A writer of which no call has failed.
     pub fn new(inner: W) -> Output<W> {
-        Output { inner, error: None }
+        Output::limited(inner, u64::MAX)
+    }
+
+    /// A writer of which no call has failed, for so many bytes.
+    pub fn limited(inner: W, most: u64) -> Output<W> {
+        Output {
+            inner,
+            error: None,
+            left: most,
+            is_cut: false,
+        }
     }
 
     /// The system's word for the call that failed.
     pub fn error(&self) -> Option<Error> {
         self.error
     }
+
+    /// Whether more was to be written than may be.
+    pub fn is_cut(&self) -> bool {
+        self.is_cut
+    }
+
+    /// Lets all bytes be written from now on.
+    pub fn lift(&mut self) {
+        self.left = u64::MAX;
+    }
 }
 
 impl<W: Write> Write for Output<W> {
     fn write(&mut self, bytes: &[u8]) -> io::Result<usize> {
-        let answer = self.inner.write(bytes);
+        let part = &bytes[..fitting(bytes, self.left)];
+        if part.is_empty() && !bytes.is_empty() {
+            self.is_cut = true;
+            return Err(Error::from(ErrorKind::WriteZero));
+        }
+        let answer = self.inner.write(part);
         match &answer {
             Ok(0) if !bytes.is_empty() => self.error = Some(Error::from(ErrorKind::WriteZero)),
-            Ok(_) => {}
+            Ok(count) => self.left = self.left.saturating_sub(*count as u64),
             Err(error) => self.error = Some(*error),
         }
         answer

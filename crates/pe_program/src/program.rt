@@ -36,17 +36,29 @@ pub fn run<R: Files + Input + Env + Print + Eprint + AllocGlobal>(rt: &R, is_ter
         Err(error) => return refuse_command_line(rt, error),
     };
     match parse_words(rt.alloc(), &words) {
-        Ok(Job::Check { file }) => run_file(rt, Engine::Check, file.as_str()),
-        Ok(Job::CheckEach { files }) => run_files(rt, Engine::Check, &files),
-        Ok(Job::Show { options, files }) => {
+        Ok(Job::Check { file }) => run_file(rt, Engine::Check, None, file.as_str()),
+        Ok(Job::CheckEach { files }) => run_files(rt, Engine::Check, None, &files),
+        Ok(
+            Job::Show {
+                options,
+                most,
+                files,
+            },
+        ) => {
             let options = options_of(rt, options, is_terminal);
-            run_files(rt, Engine::Show(options), &files)
+            run_files(rt, Engine::Show(options), most, &files)
         }
-        Ok(Job::Json { files }) => run_files(rt, Engine::Json, &files),
-        Ok(Job::At { file, place }) => run_file(rt, Engine::At(place), file.as_str()),
+        Ok(Job::Json { most, files }) => run_files(rt, Engine::Json, most, &files),
+        Ok(Job::At { file, place }) => run_file(rt, Engine::At(place), None, file.as_str()),
         Ok(Job::Explain { number }) => run_explain(rt, number),
-        Ok(Job::Dump { file }) => run_file(rt, Engine::Dump, file.as_str()),
-        Ok(Job::Object { file }) => run_file(rt, Engine::Object, file.as_str()),
+        Ok(Job::Dump { file }) => run_file(rt, Engine::Dump, None, file.as_str()),
+        Ok(Job::DumpMost { most, file }) => {
+            run_file(rt, Engine::Dump, Some(most), file.as_str())
+        }
+        Ok(Job::Object { file }) => run_file(rt, Engine::Object, None, file.as_str()),
+        Ok(Job::ObjectMost { most, file }) => {
+            run_file(rt, Engine::Object, Some(most), file.as_str())
+        }
         Ok(
             Job::Map {
                 policy,

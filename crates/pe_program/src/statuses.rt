@@ -14,3 +14,6 @@ pub(crate) const DEVICE_FAILED: u8 = 3;
 
 /// The exit status where memory was refused.
 pub(crate) const OUT_OF_MEMORY: u8 = 4;
+
+/// The exit status where a text was longer than it may be, and was cut.
+pub(crate) const CUT: u8 = 5;

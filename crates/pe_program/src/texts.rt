@@ -34,11 +34,12 @@ pub enum Engine {
 /// What to print, and of what.
 #[derive(Drop)]
 pub(crate) enum Text<'a, F> {
-    /// The text of an engine, of an open file, and whether a heading is to stand before it.
+    /// The text of an engine, of an open file: whether a heading is to stand before it, and how many bytes it has at most.
     File {
         engine: Engine,
         name: &'a str,
         is_headed: bool,
+        most: Option<u64>,
         file: F,
     },
     /// The report of `map`.
@@ -54,6 +55,36 @@ pub(crate) enum Text<'a, F> {
 pub(crate) struct Printed {
     pub answer: Result<Outcome, ToolError>,
     pub error: Option<Error>,
+    /// Whether the text was longer than it may be, and is there up to its limit, with a note.
+    pub is_cut: bool,
+}
+
+/// How many bytes of a text are printed at most.
+fn most_of<F>(text: &Text<'_, F>) -> u64 {
+    match text {
+        Text::File {
+            most: Some(most),
+            ..
+        } => *most,
+        _ => u64::MAX,
+    }
+}
+
+/// What ends the colours of a text that is cut.
+fn colours_end<F>(text: &Text<'_, F>) -> &'static str {
+    match text {
+        Text::File {
+            engine: Engine::Show(options),
+            ..
+        } if options.is_coloured => "\x1b[0m",
+        _ => "",
+    }
+}
+
+/// Writes the note behind a text that was cut.
+fn write_note(output: &mut Output<impl Write>, colours_end: &str, most: u64) -> io::Result<()> {
+    output.lift();
+    write!(output, "{colours_end}\n(cut after {most} bytes)\n")
 }
 
 /// What stands before the text of a file: its name, or a blank line before a page.
@@ -76,6 +107,7 @@ fn write_text<A: Allocator + Copy>(
             engine,
             name,
             is_headed,
+            most: _,
             file,
         } => {
             let mut reader = Counted::new(file);
@@ -111,6 +143,7 @@ pub(crate) fn flushed(
     Printed {
         answer,
         error: output.error(),
+        is_cut: output.is_cut() && output.error().is_none(),
     }
 }
 
@@ -118,9 +151,10 @@ pub(crate) fn flushed(
 pub(crate) const NO_ROOM: Printed = Printed {
     answer: Err(ToolError::Memory),
     error: None,
+    is_cut: false,
 };
 
-/// Runs the engine of a text, which is on standard output when it is done.
+/// Runs the engine of a text, which is on standard output when it is done, as far as it may be.
 pub(crate) fn print_text<R: Print + Alloc>(rt: &R, text: Text<'_, impl Read + Drop>) -> Printed
 where
     R::A: Copy,
@@ -128,7 +162,11 @@ where
     let Ok(buffer) = BufWriter::with_capacity(rt.alloc(), OUTPUT_BUFFER, io::writer(rt)) else {
         return NO_ROOM;
     };
-    let mut output = Output::new(buffer);
+    let (most, colours_end) = (most_of(&text), colours_end(&text));
+    let mut output = Output::limited(buffer, most);
     let answer = write_text(rt.alloc(), text, &mut output);
+    if output.is_cut() {
+        let _ = write_note(&mut output, colours_end, most);
+    }
     flushed(answer, &mut output)
 }

@@ -25,6 +25,7 @@ Exit statuses:
   2  bad command line
   3  reading or writing failed
   4  out of memory
+  5  a text was cut, by --most
 
 check, dump, object, at, map and rebase print a fault as a line, and explain it on standard error;
 show and json print it in words. petool explain N explains fault N.";
@@ -51,7 +52,10 @@ fn file_row(name: &str) -> Option<FileCommand> {
 }
 
 /// The command of this name, if there is one.
-fn command_named<'a>(alloc: Global, name: &str) -> Option<Result<Command<'a>, AllocError>> {
+pub(crate) fn command_named<'a>(
+    alloc: Global,
+    name: &str,
+) -> Option<Result<Command<'a>, AllocError>> {
     match name {
         "show" => Some(show_command(alloc)),
         "at" => Some(at_command(alloc)),

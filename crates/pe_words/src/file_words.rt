@@ -1,7 +1,8 @@
 //! The words of the commands that read files one by one: `show`, `check`, `dump`, `object` and `json`.
 
-use crate::builders::{flag, new_command, required_argument, with_argument};
-use crate::job::{Job, WordsError};
+use crate::builders::{argument, flag, new_command, required_argument, with_argument};
+use crate::job::Job;
+use crate::word_values::{BadValue, NoJob, size_of};
 use clap::{Arg, ArgAction, ArgMatches, Command};
 use pe_text::ShowOptions;
 use std::alloc::{AllocError, Global};
@@ -16,6 +17,8 @@ pub(crate) struct FileCommand {
     file: &'static str,
     /// Whether it takes several files.
     takes_several: bool,
+    /// Whether it has the option `--most`.
+    has_most: bool,
 }
 
 /// The command `show`.
@@ -24,35 +27,44 @@ pub(crate) const SHOW: FileCommand = FileCommand {
     about: "Prints a page on each image or object: what it is, its sections and its tables, or its first fault",
     file: "Images or objects, or - for standard input",
     takes_several: true,
+    has_most: true,
 };
 
-/// The commands of files that have no options.
+/// The commands of files that have no other options.
 pub(crate) const FILE_COMMANDS: [FileCommand; 4] = [
     FileCommand {
         name: "check",
         about: "Prints one line for each image: accepted, with its format and number of sections, or its first fault",
         file: "Images, or - for standard input",
         takes_several: true,
+        has_most: false,
     },
     FileCommand {
         name: "dump",
         about: "Prints an image's header fields, directories, sections, exports, imports and base relocations, one per line, or its first fault",
         file: "An image, or - for standard input",
         takes_several: false,
+        has_most: true,
     },
     FileCommand {
         name: "object",
         about: "Prints a COFF object's sections, relocations, symbols and auxiliary records, one per line, or its first fault",
         file: "An object, or - for standard input",
         takes_several: false,
+        has_most: true,
     },
     FileCommand {
         name: "json",
         about: "Prints each image or object, or its first fault, as one line of JSON",
         file: "Images or objects, or - for standard input",
         takes_several: true,
+        has_most: true,
     },
 ];
+
+/// What help says of `--most`.
+const MOST: &str =
+    "Prints at most so many bytes of each file's text, with K, M or G for 2^10, 2^20 or 2^30 of them; what is cut ends with a note";
 
 /// The options of `show`, and what help says of each.
 const SHOW_OPTIONS: [(&str, &str); 5] = [
@@ -76,12 +88,22 @@ fn file_argument<'a>(alloc: Global, row: FileCommand) -> Arg<'a> {
     }
 }
 
+/// The option `--most`.
+fn most_option<'a>(alloc: Global) -> Arg<'a> {
+    argument(alloc, "most", MOST)
+        .long("most")
+        .value_name("BYTES")
+}
+
 /// A command of files.
 pub(crate) fn file_command<'a>(alloc: Global, row: FileCommand) -> Result<Command<'a>, AllocError> {
-    with_argument(
-        Ok(new_command(alloc, row.name, row.about)),
-        file_argument(alloc, row),
-    )
+    let command = Ok(new_command(alloc, row.name, row.about));
+    let command = with_argument(command, file_argument(alloc, row));
+    if row.has_most {
+        with_argument(command, most_option(alloc))
+    } else {
+        command
+    }
 }
 
 /// The command `show`, with its options.
@@ -91,6 +113,16 @@ pub(crate) fn show_command<'a>(alloc: Global) -> Result<Command<'a>, AllocError>
         command = with_argument(command, flag(alloc, name, help));
     }
     command
+}
+
+/// What usage calls the command of this name, of those that have the option `--most`.
+pub(crate) fn usage_of(name: &str) -> &'static str {
+    match name {
+        "show" => "petool show",
+        "dump" => "petool dump",
+        "object" => "petool object",
+        _ => "petool json",
+    }
 }
 
 /// The file that a command names under this word.
@@ -103,7 +135,7 @@ pub(crate) fn file_of(
 }
 
 /// The files that a command names.
-fn files_of(alloc: Global, found: &ArgMatches<'_>) -> Result<Vec<String>, WordsError> {
+fn files_of(alloc: Global, found: &ArgMatches<'_>) -> Result<Vec<String>, AllocError> {
     let mut files = Vec::new(alloc);
     for value in found.get_strs("FILE").unwrap_or(&[]) {
         files.push(String::from_str(alloc, value)?)?;
@@ -123,6 +155,21 @@ fn options_of(found: &ArgMatches<'_>) -> ShowOptions {
     }
 }
 
+/// How many bytes `--most` asks for, if any.
+fn most_of<'a>(found: &ArgMatches<'a>) -> Result<Option<u64>, BadValue<'a>> {
+    let Some(value) = found.get_str("most") else {
+        return Ok(None);
+    };
+    match size_of(value) {
+        Some(size) => Ok(Some(size)),
+        None => Err(BadValue {
+            value,
+            argument: "--most <BYTES>",
+            reason: "not a number of bytes, such as 65536 or 64K",
+        }),
+    }
+}
+
 /// What the words of `check` ask for: one file, or several.
 fn check_job<P>(mut files: Vec<String>) -> Job<P> {
     if files.len() > 1 {
@@ -134,28 +181,55 @@ fn check_job<P>(mut files: Vec<String>) -> Job<P> {
     }
 }
 
-/// What the words of a command of files ask for, and `None` where it is another command.
-pub(crate) fn file_job<P>(
+/// What the words of `dump` ask for: the text of a file, or so many bytes of it.
+fn dump_job<P>(file: String, most: Option<u64>) -> Job<P> {
+    match most {
+        Some(most) => Job::DumpMost { most, file },
+        None => Job::Dump { file },
+    }
+}
+
+/// What the words of `object` ask for: the text of a file, or so many bytes of it.
+fn object_job<P>(file: String, most: Option<u64>) -> Job<P> {
+    match most {
+        Some(most) => Job::ObjectMost { most, file },
+        None => Job::Object { file },
+    }
+}
+
+/// What the words of a command of files ask for, with so many bytes of text at most, and `None` where it is another command.
+fn limited_job<P>(
     alloc: Global,
     name: &str,
     found: &ArgMatches<'_>,
-) -> Result<Option<Job<P>>, WordsError> {
+    most: Option<u64>,
+) -> Result<Option<Job<P>>, AllocError> {
     let job = match name {
         "show" => Job::Show {
             options: options_of(found),
+            most,
             files: files_of(alloc, found)?,
         },
         "json" => Job::Json {
+            most,
             files: files_of(alloc, found)?,
         },
         "check" => check_job(files_of(alloc, found)?),
-        "dump" => Job::Dump {
-            file: file_of(alloc, found, "FILE")?,
-        },
-        "object" => Job::Object {
-            file: file_of(alloc, found, "FILE")?,
-        },
+        "dump" => dump_job(file_of(alloc, found, "FILE")?, most),
+        "object" => object_job(file_of(alloc, found, "FILE")?, most),
         _ => return Ok(None),
     };
     Ok(Some(job))
+}
+
+/// What the words of a command of files ask for, and `None` where it is another command.
+pub(crate) fn file_job<'a, P>(
+    alloc: Global,
+    name: &str,
+    found: &ArgMatches<'a>,
+) -> Result<Option<Job<P>>, NoJob<'a>> {
+    match most_of(found) {
+        Ok(most) => Ok(limited_job(alloc, name, found, most)?),
+        Err(bad) => Err(NoJob::Bad(bad)),
+    }
 }

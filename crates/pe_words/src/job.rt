@@ -26,13 +26,15 @@ pub enum Job<P> {
     CheckEach {
         files: Vec<String>,
     },
-    /// `show FILE...`: write a page on each image or object. No word asks for colours.
+    /// `show FILE...`: write a page on each image or object, of so many bytes at most. No word asks for colours.
     Show {
         options: ShowOptions,
+        most: Option<u64>,
         files: Vec<String>,
     },
-    /// `json FILE...`: write what each image or object holds as a line of JSON.
+    /// `json FILE...`: write what each image or object holds as a line of JSON, of so many bytes at most.
     Json {
+        most: Option<u64>,
         files: Vec<String>,
     },
     /// `at FILE ADDRESS`: write what stands at a place of an image.
@@ -48,8 +50,18 @@ pub enum Job<P> {
     Dump {
         file: String,
     },
+    /// `dump --most BYTES FILE`: write so many bytes of that.
+    DumpMost {
+        most: u64,
+        file: String,
+    },
     /// `object FILE`: write what an object holds.
     Object {
+        file: String,
+    },
+    /// `object --most BYTES FILE`: write so many bytes of that.
+    ObjectMost {
+        most: u64,
         file: String,
     },
     /// `rebase HEX IN OUT`: write the file of an image at another base.

@@ -2,9 +2,9 @@
 
 use crate::builders::{argument, flag, new_command, required_argument, with_argument};
 use crate::job::MapFile;
-use crate::word_values::{BadValue, address_of};
+use crate::word_values::{BadValue, NoJob, address_of};
 use clap::{Arg, ArgAction, ArgMatches, Command};
-use std::alloc::{AllocError, AllocFailed, Global};
+use std::alloc::{AllocError, Global};
 
 /// The most bytes that a window may have.
 const MAX_COUNT: u32 = 4096;
@@ -41,24 +41,6 @@ pub(crate) struct MapWords {
     pub is_known: bool,
     pub window: Option<(u64, u32)>,
     pub files: Vec<MapFile>,
-}
-
-/// Why words of `map` ask for nothing.
-pub(crate) enum NoMap<'a> {
-    Bad(BadValue<'a>),
-    Memory,
-}
-
-impl<'a> From<AllocError> for NoMap<'a> {
-    fn from(_error: AllocError) -> NoMap<'a> {
-        NoMap::Memory
-    }
-}
-
-impl<'a, T: Drop> From<AllocFailed<T>> for NoMap<'a> {
-    fn from(_error: AllocFailed<T>) -> NoMap<'a> {
-        NoMap::Memory
-    }
 }
 
 /// The option `--window`.
@@ -143,14 +125,14 @@ fn parts_of(value: &str) -> Result<(u64, &str, &str), &'static str> {
 }
 
 /// The file that a word names.
-fn file_of<'a>(alloc: Global, value: &'a str) -> Result<MapFile, NoMap<'a>> {
+fn file_of<'a>(alloc: Global, value: &'a str) -> Result<MapFile, NoJob<'a>> {
     match parts_of(value) {
         Ok((base, path, name)) => Ok(MapFile {
             base,
             path: String::from_str(alloc, path)?,
             name: String::from_str(alloc, name)?,
         }),
-        Err(reason) => Err(NoMap::Bad(BadValue {
+        Err(reason) => Err(NoJob::Bad(BadValue {
             value,
             argument: "<HEX=FILE>...",
             reason,
@@ -159,7 +141,7 @@ fn file_of<'a>(alloc: Global, value: &'a str) -> Result<MapFile, NoMap<'a>> {
 }
 
 /// The files that are to be mapped.
-fn files_of<'a>(alloc: Global, found: &ArgMatches<'a>) -> Result<Vec<MapFile>, NoMap<'a>> {
+fn files_of<'a>(alloc: Global, found: &ArgMatches<'a>) -> Result<Vec<MapFile>, NoJob<'a>> {
     let mut files = Vec::new(alloc);
     for value in found.get_strs("HEX=FILE").unwrap_or(&[]) {
         files.push(file_of(alloc, value)?)?;
@@ -168,10 +150,10 @@ fn files_of<'a>(alloc: Global, found: &ArgMatches<'a>) -> Result<Vec<MapFile>, N
 }
 
 /// What words of `map` ask for.
-pub(crate) fn map_words<'a>(alloc: Global, found: &ArgMatches<'a>) -> Result<MapWords, NoMap<'a>> {
+pub(crate) fn map_words<'a>(alloc: Global, found: &ArgMatches<'a>) -> Result<MapWords, NoJob<'a>> {
     let window = match window_of(found) {
         Ok(window) => window,
-        Err(bad) => return Err(NoMap::Bad(bad)),
+        Err(bad) => return Err(NoJob::Bad(bad)),
     };
     Ok(MapWords {
         is_known: found.get_flag("known"),

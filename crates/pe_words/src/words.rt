@@ -1,12 +1,12 @@
 //! The words of the command line.
 
 use crate::at_words::{at_command, explain_command, number_of, place_of};
-use crate::commands::command;
-use crate::file_words::{file_job, file_of};
+use crate::commands::{command, command_named};
+use crate::file_words::{file_job, file_of, usage_of};
 use crate::job::{Job, WordsError};
-use crate::map_words::{MapWords, NoMap, map_command, map_words};
+use crate::map_words::{MapWords, map_command, map_words};
 use crate::rebase_words::{base_of, rebase_command};
-use crate::word_values::{BadValue, bad_value};
+use crate::word_values::{BadValue, NoJob, bad_value};
 use clap::error::ErrorKind;
 use clap::{ArgMatches, Command, Error};
 use std::alloc::Global;
@@ -53,8 +53,8 @@ fn map_job<P: Copy>(
             window,
             files,
         }),
-        Err(NoMap::Bad(bad)) => Err(value_refusal(alloc, map_command(alloc)?, "petool map", bad)),
-        Err(NoMap::Memory) => Err(WordsError::Memory),
+        Err(NoJob::Bad(bad)) => Err(value_refusal(alloc, map_command(alloc)?, "petool map", bad)),
+        Err(NoJob::Memory) => Err(WordsError::Memory),
     }
 }
 
@@ -97,6 +97,28 @@ fn no_command(alloc: Global) -> WordsError {
     }
 }
 
+/// What the program prints of a bad value of a command of files.
+fn file_refusal(alloc: Global, name: &str, bad: BadValue<'_>) -> WordsError {
+    match command_named(alloc, name) {
+        Some(Ok(command)) => value_refusal(alloc, command, usage_of(name), bad),
+        _ => WordsError::Memory,
+    }
+}
+
+/// What words of a command of files ask for.
+fn files_job<P: Copy>(
+    alloc: Global,
+    name: &str,
+    found: &ArgMatches<'_>,
+) -> Result<Job<P>, WordsError> {
+    match file_job(alloc, name, found) {
+        Ok(Some(job)) => Ok(job),
+        Ok(None) => Err(no_command(alloc)),
+        Err(NoJob::Bad(bad)) => Err(file_refusal(alloc, name, bad)),
+        Err(NoJob::Memory) => Err(WordsError::Memory),
+    }
+}
+
 /// What the words of a command ask for.
 fn job_of<P: Copy>(
     alloc: Global,
@@ -110,10 +132,7 @@ fn job_of<P: Copy>(
         "rebase" => rebase_job(alloc, found),
         "at" => at_job(alloc, found),
         "explain" => explain_job(alloc, found),
-        _ => match file_job(alloc, name, found)? {
-            Some(job) => Ok(job),
-            None => Err(no_command(alloc)),
-        },
+        _ => files_job(alloc, name, found),
     }
 }
 

@@ -41,8 +41,21 @@ fn print_files<R: Print>(rt: &R, command: &str, files: &[String]) -> Option<()> 
     Some(())
 }
 
+/// Prints how many bytes of a text are asked for, where not all are.
+fn print_most<R: Print>(rt: &R, most: Option<u64>) -> Option<()> {
+    match most {
+        Some(most) => println!(rt; "most {most}").ok(),
+        None => Some(()),
+    }
+}
+
 /// Prints what a page is to show, and of which files.
-fn print_show<R: Print>(rt: &R, options: ShowOptions, files: &[String]) -> Option<()> {
+fn print_show<R: Print>(
+    rt: &R,
+    options: ShowOptions,
+    most: Option<u64>,
+    files: &[String],
+) -> Option<()> {
     let ShowOptions {
         exports,
         imports,
@@ -53,7 +66,14 @@ fn print_show<R: Print>(rt: &R, options: ShowOptions, files: &[String]) -> Optio
     println!(rt;
         "exports {exports} imports {imports} relocations {relocations} symbols {symbols}"
     ).ok()?;
+    print_most(rt, most)?;
     print_files(rt, "show", files)
+}
+
+/// Prints how many bytes of the lines of files are asked for, and of which files.
+fn print_json<R: Print>(rt: &R, most: Option<u64>, files: &[String]) -> Option<()> {
+    print_most(rt, most)?;
+    print_files(rt, "json", files)
 }
 
 /// Prints a job.
@@ -61,12 +81,18 @@ fn print_job<R: Print>(rt: &R, job: &Job) -> Option<()> {
     match job {
         Job::Check { file } => println!(rt; "check {file}").ok(),
         Job::CheckEach { files } => print_files(rt, "check each", files),
-        Job::Show { options, files } => print_show(rt, *options, files),
-        Job::Json { files } => print_files(rt, "json", files),
+        Job::Show {
+            options,
+            most,
+            files,
+        } => print_show(rt, *options, *most, files),
+        Job::Json { most, files } => print_json(rt, *most, files),
         Job::At { file, place } => println!(rt; "at {file} {place:?}").ok(),
         Job::Explain { number } => println!(rt; "explain {number:?}").ok(),
         Job::Dump { file } => println!(rt; "dump {file}").ok(),
+        Job::DumpMost { most, file } => println!(rt; "dump {most} of {file}").ok(),
         Job::Object { file } => println!(rt; "object {file}").ok(),
+        Job::ObjectMost { most, file } => println!(rt; "object {most} of {file}").ok(),
         Job::Map {
             policy,
             window,
