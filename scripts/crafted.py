@@ -1,6 +1,6 @@
 #!/usr/bin/env python3
-"""Makes images whose tables share their texts, and objects whose records share texts or relocations: crafted.py FOLDER SIZE
-writes one file of each kind into the folder.
+"""Makes images whose tables share their texts, and objects whose records share texts or relocations, or whose names collide:
+crafted.py FOLDER SIZE writes one file of each kind into the folder, and each set into a folder of its own.
 
 SIZE is the length of the shared text in bytes, 1048576 for the largest files that the format allows; the numbers of entries
 are in proportion. So a file of a SIZE four times as large is four times as large.
@@ -70,6 +70,23 @@ def coff_object(sections, symbols, texts, relocations=b""):
     return coff + headers + relocations + records + struct.pack("<I", 4 + len(texts)) + texts
 
 
+#: Behind 9 bytes of any name these end it so that std's hasher of fixed seed, FoldHasher, gives 0.
+COLLIDING = bytes.fromhex("157c4a7fb979379e")
+
+
+def named_object(names, texts):
+    """An object of symbols that are named by the offsets of their names in these texts, and of nothing else."""
+    coff = struct.pack("<HHIIIHH", 0x8664, 0, 0, 20, len(names), 0, 0)
+    records = b"".join(struct.pack("<IIIHHBB", 0, 4 + name, 0, 0, 0, 2, 0) for name in names)
+    return coff + records + struct.pack("<I", 4 + len(texts)) + texts
+
+
+def object_of_names(names):
+    """An object of symbols with these names of one length."""
+    texts = b"".join(name + b"\0" for name in names)
+    return named_object(range(0, len(texts), len(texts) // len(names)), texts)
+
+
 def object_kinds(size):
     """The kinds of objects, by name: those that are refused are so by their last record. What shows the names of `shown_..` whole
     writes a product of two sizes; `show` writes a beginning of each."""
@@ -83,6 +100,10 @@ def object_kinds(size):
     yield "sections_refused", lambda: coff_object([(b"/4", 0)] * (size // 32) + [(b"/2", 0)], [0], text)
     yield "shown_symbols", lambda: coff_object([], [0] * (size // 4), text)
     yield "shown_sections", lambda: coff_object([(b"/4", 0)] * (size // 32), [0], text)
+    yield "names_colliding", lambda: object_of_names([b"%09d" % k + COLLIDING for k in range(size // 16)])
+    yield "names_one_end", lambda: object_of_names([b"%09d" % k + text[:247] for k in range(size // 256)])
+    yield "names_ends", lambda: named_object(range(min(size // 16, 5750)), text)
+    yield "names_ends_refused", lambda: named_object(range(size // 16), text)
 
 
 def kinds(size):
@@ -106,6 +127,25 @@ def kinds(size):
     yield "forwarders_ordinal", lambda: exports([], ordinal, [0] * count, inside=True)
 
 
+def importing(names, texts, count):
+    """A module `m` that exports these names of the texts, and a file that imports them in turn, so many times in all."""
+    lookups = [2 + names[k % len(names)] for k in range(count)]
+    return exports(names, texts, [16]), imports([0], [lookups], b"m\0" + bytes(2) + texts)
+
+
+def sets(size):
+    """The kinds of two files of which one imports from the other, by name."""
+    count = size // 16
+    text = b"a" * (size - 1) + b"\0"
+    length = size // 64
+    alike = b"".join(b"a" * length + bytes([33 + k, 0]) for k in range(90))
+    yield "one", lambda: importing([0], text, size)
+    yield "two", lambda: importing([0, size // 2], text, size)
+    yield "last_byte", lambda: importing([(length + 2) * k for k in range(90)], alike, size)
+    yield "ends_up", lambda: importing(list(range(count - 1, -1, -1)), text, count)
+    yield "ends_down", lambda: importing(list(range(count)), text, count)
+
+
 def main():
     folder, size = sys.argv[1], int(sys.argv[2])
     os.makedirs(folder, exist_ok=True)
@@ -113,6 +153,12 @@ def main():
         for name, make in made:
             with open(os.path.join(folder, f"{name}.{ending}"), "wb") as file:
                 file.write(make())
+    for name, make in sets(size):
+        inner = os.path.join(folder, f"set_{name}")
+        os.makedirs(inner, exist_ok=True)
+        for file, data in zip(("m", "c.dll"), make()):
+            with open(os.path.join(inner, file), "wb") as written:
+                written.write(data)
 
 
 if __name__ == "__main__":

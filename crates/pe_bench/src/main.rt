@@ -2,7 +2,7 @@
 //!
 //! The words of its command line are the workload's name, how many rounds it has, and the seed of its inputs; without words each
 //! workload has one round. Where one was not run, as no workload has its name or a call was refused, the status is 1. `bench/run`
-//! compares two builds of it.
+//! compares two builds of it. The workload `written` reads and writes the object on standard input; tests count what it costs.
 #![tactic(auto)]
 
 mod awkward;
@@ -21,8 +21,12 @@ mod texts;
 mod workloads;
 
 use crate::digest::Digest;
-use crate::workloads::{run_awkward, run_map, run_objects, run_open, run_rebase, run_texts};
+use crate::workloads::{
+    run_awkward, run_map, run_objects, run_open, run_rebase, run_texts, run_written,
+};
+use pe_tool::{Counted, read_whole};
 use std::alloc::Global;
+use std::io::Input;
 use std::process::ExitCode;
 use std::rt::Env;
 use std::{env, io};
@@ -49,6 +53,20 @@ fn run_workload(
     }
 }
 
+/// Prints the name of a workload and its number, or that it was not run. Answers whether it was.
+fn print_number<R: Print>(
+    rt: &R,
+    name: &str,
+    digest: Digest,
+    was_run: Option<()>,
+) -> io::Result<bool> {
+    match was_run {
+        Some(()) => println!(rt; "{name} {:016x}", digest.value())?,
+        None => println!(rt; "{name} was not run")?,
+    }
+    Ok(was_run.is_some())
+}
+
 /// Runs a workload and prints its name and its number. Answers whether it was run.
 fn print_workload<R: Print + AllocGlobal>(
     rt: &R,
@@ -57,13 +75,18 @@ fn print_workload<R: Print + AllocGlobal>(
     seed: u64,
 ) -> io::Result<bool> {
     let mut digest = Digest::new();
-    let was_run = run_workload(rt.alloc(), &mut digest, name, rounds, seed).is_some();
-    if was_run {
-        println!(rt; "{name} {:016x}", digest.value())?;
-    } else {
-        println!(rt; "{name} was not run")?;
-    }
-    Ok(was_run)
+    let was_run = run_workload(rt.alloc(), &mut digest, name, rounds, seed);
+    print_number(rt, name, digest, was_run)
+}
+
+/// Reads and writes the object on standard input, and prints what `print_workload` does.
+fn print_written<R: Print + Input + AllocGlobal>(rt: &R, rounds: u32) -> io::Result<bool> {
+    let mut digest = Digest::new();
+    let was_run = match read_whole(rt.alloc(), &mut Counted::new(rt.reader())) {
+        Ok(file) => run_written(rt.alloc(), &mut digest, &file, rounds),
+        Err(_) => None,
+    };
+    print_number(rt, "written", digest, was_run)
 }
 
 /// The number that a word of the command line writes.
@@ -83,11 +106,12 @@ fn print_all<R: Print + AllocGlobal>(rt: &R, seed: u64) -> io::Result<bool> {
 }
 
 /// Runs what the words name, and answers whether all of it was run.
-fn run<R: Print + Env + AllocGlobal>(rt: &R) -> io::Result<bool> {
+fn run<R: Print + Env + Input + AllocGlobal>(rt: &R) -> io::Result<bool> {
     let words: Vec<String> = env::args(rt)?.skip(1).collect(rt.alloc())?;
     let seed = u64::from(number_of(words.get(2)).unwrap_or(1));
     let rounds = number_of(words.get(1)).unwrap_or(1);
     match words.first() {
+        Some(name) if name.as_str() == "written" => print_written(rt, rounds),
         Some(name) => print_workload(rt, name, rounds, seed),
         None => print_all(rt, seed),
     }

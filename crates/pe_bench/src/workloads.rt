@@ -3,7 +3,7 @@
 //! `map` maps sets of libraries into memory, moves each image and reads all bytes. `open` opens such sets over their files, and reads
 //! here and there between moves. `texts` writes what `check`, `dump`, `show --all` and `json` say of libraries. `objects` writes
 //! objects, and reads them whole, as lines and as JSON. `rebase` moves the files of libraries to other bases. `awkward` maps and
-//! dumps sets as no linker makes them.
+//! dumps sets as no linker makes them. `written` is over an object that is given.
 
 mod awkward;
 mod map;
@@ -11,6 +11,7 @@ mod objects;
 mod open;
 mod rebase;
 mod texts;
+mod written;
 
 pub(crate) use awkward::run_awkward;
 pub(crate) use map::run_map;
@@ -18,3 +19,4 @@ pub(crate) use objects::run_objects;
 pub(crate) use open::run_open;
 pub(crate) use rebase::run_rebase;
 pub(crate) use texts::run_texts;
+pub(crate) use written::run_written;

@@ -1,0 +1,87 @@
+"""What files cost that were made to be dear: instructions, which valgrind counts, at one size and at four times that."""
+
+import importlib.util
+import os
+import pathlib
+import re
+import shutil
+import subprocess
+import tempfile
+import unittest
+
+from . import TOP
+
+PROGRAM = os.environ.get("PETOOL_PROGRAM")
+BENCHMARK = os.environ.get("PETOOL_BENCHMARK")
+
+_found = importlib.util.spec_from_file_location("crafted", TOP / "scripts" / "crafted.py")
+crafted = importlib.util.module_from_spec(_found)
+_found.loader.exec_module(crafted)
+
+#: The size of the smaller files, and how many times as much one of four times that may cost.
+SIZE, MOST = 40_000, 5
+
+
+def counted(*words, given=b""):
+    """How many instructions a program runs, and its exit status."""
+    command = ["valgrind", "--tool=callgrind", "--callgrind-out-file=/dev/null", *words]
+    run = subprocess.run(command, input=given, stdout=subprocess.DEVNULL, stderr=subprocess.PIPE)
+    told = re.search(rb"Collected : (\d+)", run.stderr)
+    if not told:
+        raise AssertionError(run.stderr.decode(errors="replace"))
+    return int(told.group(1)), run.returncode
+
+
+def made(kinds, name, size):
+    return dict(kinds(size))[name]()
+
+
+@unittest.skipUnless(shutil.which("valgrind"), "left out without valgrind")
+class Costs(unittest.TestCase):
+    def grows(self, status, count):
+        """Counts at both sizes; `status` is that of both."""
+        costs = []
+        for size in (SIZE, 4 * SIZE):
+            cost, left = count(size)
+            self.assertEqual(left, status)
+            costs.append(cost)
+        self.assertLessEqual(costs[1], MOST * costs[0], costs)
+
+    @unittest.skipUnless(BENCHMARK, "left out without program: PETOOL_BENCHMARK names none")
+    def test_an_object_is_written_whatever_its_names(self):
+        for name in ("names_colliding", "names_one_end"):
+            with self.subTest(name):
+                self.grows(0, lambda size: counted(BENCHMARK, "written", given=made(crafted.object_kinds, name, size)))
+
+    @unittest.skipUnless(PROGRAM, "left out without program: PETOOL_PROGRAM names none")
+    def test_imports_that_share_long_names_are_bound(self):
+        with tempfile.TemporaryDirectory() as folder:
+            for name in ("one", "two", "last_byte"):
+
+                def count(size):
+                    paths = [pathlib.Path(folder, file) for file in ("m", "c.dll")]
+                    for path, data in zip(paths, made(crafted.sets, name, size)):
+                        path.write_bytes(data)
+                    return counted(PROGRAM, "map", f"20000000={paths[0]}", f"40000000={paths[1]}")
+
+                with self.subTest(name):
+                    self.grows(0, count)
+
+    @unittest.skipUnless(PROGRAM, "left out without program: PETOOL_PROGRAM names none")
+    def test_a_text_ends_where_it_may_be_no_longer(self):
+        with tempfile.TemporaryDirectory() as folder:
+            for command, kinds, name in (
+                ("dump", crafted.kinds, "names_ends.dll"),
+                ("json", crafted.kinds, "names_ends.dll"),
+                ("show", crafted.object_kinds, "shown_symbols.obj"),
+                ("object", crafted.object_kinds, "shown_symbols.obj"),
+            ):
+                options = ["--symbols"] if command == "show" else []
+
+                def count(size):
+                    file = pathlib.Path(folder, name)
+                    file.write_bytes(made(kinds, name.split(".")[0], size))
+                    return counted(PROGRAM, command, "--most", "64K", *options, file)
+
+                with self.subTest(command):
+                    self.grows(5, count)
