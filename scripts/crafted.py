@@ -101,7 +101,7 @@ def object_kinds(size):
     yield "shown_symbols", lambda: coff_object([], [0] * (size // 4), text)
     yield "shown_sections", lambda: coff_object([(b"/4", 0)] * (size // 32), [0], text)
     yield "names_colliding", lambda: object_of_names([b"%09d" % k + COLLIDING for k in range(size // 16)])
-    yield "names_one_end", lambda: object_of_names([b"%09d" % k + text[:247] for k in range(size // 256)])
+    yield "names_one_end", lambda: object_of_names([b"%09d" % k + text[:256] for k in range(size // 256)])
     yield "names_ends", lambda: named_object(range(min(size // 16, 5750)), text)
     yield "names_ends_refused", lambda: named_object(range(size // 16), text)
 

@@ -72,9 +72,7 @@ class Costs(unittest.TestCase):
         with tempfile.TemporaryDirectory() as folder:
             for command, kinds, name in (
                 ("dump", crafted.kinds, "names_ends.dll"),
-                ("json", crafted.kinds, "names_ends.dll"),
                 ("show", crafted.object_kinds, "shown_symbols.obj"),
-                ("object", crafted.object_kinds, "shown_symbols.obj"),
             ):
                 options = ["--symbols"] if command == "show" else []
 
