@@ -52,7 +52,9 @@ class LeftOut(unittest.TestCase):
 
     def run_test(self, *words, **variables):
         """The status, and what is printed."""
-        environment = {"PATH": str(self.tools), "O": str(self.room / "made"), "PETOOL_PROGRAM": str(self.top / "program"), **variables}
+        program = str(self.top / "program")
+        environment = {"PATH": str(self.tools), "O": str(self.room / "made"), "PETOOL_PROGRAM": program, "PETOOL_BENCHMARK": program}
+        environment.update(variables)
         run = subprocess.run(["sh", self.top / "bindings" / "test", *words], env=environment, capture_output=True, text=True)
         return run.returncode, run.stdout + run.stderr
 
@@ -78,6 +80,8 @@ class LeftOut(unittest.TestCase):
     def test_a_program_that_is_not_there(self):
         line = "what compares with the program: left out without program: there is no /none"
         self.assert_left_out("program", line, PETOOL_PROGRAM="/none")
+        line = "what the benchmark counts: left out without program: there is no /none"
+        self.assert_left_out("program", line, PETOOL_BENCHMARK="/none")
 
     def test_a_command_that_is_not_there(self):
         (self.tools / "cargo").unlink()
