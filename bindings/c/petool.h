@@ -220,12 +220,12 @@ uint32_t petool_imports(const uint8_t *file, size_t len, petool_import *rows, si
 uint32_t petool_fixups(const uint8_t *file, size_t len, petool_fixup *rows, size_t room, size_t *count, petool_fault *fault);
 
 /* An index of rows by name, to look up many names: petool_index_exports sorts the rows that petool_export_names has filled, and
- * petool_find_export then returns the row with a name, or NULL. */
+ * petool_find_export then returns the row with a name, or NULL. Names are ordered by length, and those of one length by their bytes,
+ * so that names which share a string and end alike, as those of a crafted file may, are told apart without reading them. */
 static inline int petool_order_of_exports(const void *one, const void *other)
 {
     const petool_text a = ((const petool_export *)one)->name, b = ((const petool_export *)other)->name;
-    int order = memcmp(a.at, b.at, a.len < b.len ? a.len : b.len);
-    return order != 0 ? order : (a.len > b.len) - (a.len < b.len);
+    return a.len != b.len ? (a.len > b.len) - (a.len < b.len) : memcmp(a.at, b.at, a.len);
 }
 
 static inline void petool_index_exports(petool_export *rows, size_t count)

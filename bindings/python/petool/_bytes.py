@@ -153,8 +153,12 @@ class Rows(AbstractSequence, Generic[Row]):  # type: ignore[type-arg]
     def _at(self, index: int) -> Row:
         return self._make(*self._layout.struct.unpack_from(self._rows, index * self._layout.size))
 
+    def values(self) -> Iterator[Tuple[int, ...]]:
+        """The numbers of each row: nothing is made of them, and no text is copied."""
+        return self._layout.struct.iter_unpack(self._rows)
+
     def __iter__(self) -> Iterator[Row]:
-        for values in self._layout.struct.iter_unpack(self._rows):
+        for values in self.values():
             yield self._make(*values)
 
     def __repr__(self) -> str:

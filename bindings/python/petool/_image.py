@@ -163,12 +163,15 @@ def _section_of(record: _records.Section) -> Section:
     return Section(**values)
 
 
-def _export_maker(file: FileBytes, by_name: bool) -> Callable[..., Export]:
-    def target(kind: int, value: int, module: bytes, name: bytes) -> Target:
-        return Rva(value) if kind == _TARGET_RVA else Forward(module, value if kind == _TARGET_ORDINAL else name)
+def _target_of(file: FileBytes, kind: int, value: int, *texts: int) -> Target:
+    if kind == _TARGET_RVA:
+        return Rva(value)
+    return Forward(file.text(*texts[:2]), value if kind == _TARGET_ORDINAL else file.text(*texts[2:]))
 
-    def make(ordinal: int, at: int, length: int, kind: int, value: int, *texts: int) -> Export:
-        found = target(kind, value, file.text(*texts[:2]), file.text(*texts[2:]))
+
+def _export_maker(file: FileBytes, by_name: bool) -> Callable[..., Export]:
+    def make(ordinal: int, at: int, length: int, *target: int) -> Export:
+        found = _target_of(file, *target)
         return Export(file.text(at, length), None, found) if by_name else Export(None, ordinal, found)
 
     return make
@@ -185,12 +188,19 @@ class Exports(AbstractMapping):  # type: ignore[type-arg]
     """What an image exports: targets by name (bytes, or str as UTF-8) and by ordinal (int).
 
     KeyError if nothing is exported under a key. Its keys are the names, in the order of the name pointer table, and then the
-    ordinals, in the order of the export address table, so ``len()`` counts both. A dict is made when it is first needed.
+    ordinals, in the order of the export address table, so ``len()`` counts both. The first look-up makes a dict of where each key
+    is, and what was found is kept. The names of a crafted file may share strings, and be longer together than the file: then no
+    name is copied, and each that is looked up is a call of the library, which reads the table.
     """
 
-    def __init__(self, names: Sequence[Export], ordinals: Sequence[Export]) -> None:
-        self._names, self._ordinals = names, ordinals
-        self._targets: Optional[Dict[Union[bytes, int], Target]] = None
+    def __init__(self, file: FileBytes, names: memoryview, ordinals: memoryview, look_up: Callable[[bytes], Optional[Target]]) -> None:
+        self._file, self._look_up = file, look_up
+        self._names = Rows(names, LAYOUTS["export"], _export_maker(file, True))
+        self._ordinals = Rows(ordinals, LAYOUTS["export"], _export_maker(file, False))
+        self._name_rows: Optional[Dict[bytes, int]] = None
+        self._are_shared: Optional[bool] = None
+        self._ordinal_rows: Optional[Dict[int, int]] = None
+        self._found: Dict[Union[bytes, int], Target] = {}
 
     def names(self) -> Sequence[Export]:
         """The exports by name, each name once."""
@@ -200,25 +210,50 @@ class Exports(AbstractMapping):  # type: ignore[type-arg]
         """The exports by ordinal."""
         return self._ordinals
 
-    def _index(self) -> Dict[Union[bytes, int], Target]:
-        if self._targets is None:
-            targets: Dict[Union[bytes, int], Target] = {}
-            targets.update((it.name, it.target) for it in self._names if it.name is not None)
-            targets.update((it.ordinal, it.target) for it in self._ordinals if it.ordinal is not None)
-            self._targets = targets
-        return self._targets
+    def _each_name(self) -> Iterator[bytes]:
+        return (self._file.text(at, length) for _, at, length, *_ in self._names.values())
+
+    def _each_ordinal(self) -> Iterator[int]:
+        return (ordinal for ordinal, *_ in self._ordinals.values())
+
+    def _share_strings(self) -> bool:
+        if self._are_shared is None:
+            self._are_shared = sum(length for _, _, length, *_ in self._names.values()) > self._file.length
+        return self._are_shared
+
+    def _by_name(self, name: bytes) -> Optional[Target]:
+        if self._share_strings():
+            return self._look_up(name)
+        if self._name_rows is None:
+            self._name_rows = {it: row for row, it in enumerate(self._each_name())}
+        row = self._name_rows.get(name)
+        return None if row is None else self._names[row].target
+
+    def _by_ordinal(self, ordinal: int) -> Optional[Target]:
+        if self._ordinal_rows is None:
+            self._ordinal_rows = {it: row for row, it in enumerate(self._each_ordinal())}
+        row = self._ordinal_rows.get(ordinal)
+        return None if row is None else self._ordinals[row].target
 
     def __getitem__(self, key: Key) -> Target:
         try:
-            return self._index()[key.encode("utf-8") if isinstance(key, str) else key]
-        except (KeyError, UnicodeEncodeError):  # a str without a UTF-8 form names nothing
+            wanted = key.encode("utf-8") if isinstance(key, str) else key
+        except UnicodeEncodeError:  # a str without a UTF-8 form names nothing
             raise KeyError(key) from None
+        found = self._found.get(wanted)
+        if found is None:
+            found = self._by_name(wanted) if isinstance(wanted, bytes) else self._by_ordinal(wanted)
+            if found is None:
+                raise KeyError(key)
+            self._found[wanted] = found
+        return found
 
     def __iter__(self) -> Iterator[Union[bytes, int]]:
-        return iter(self._index())
+        yield from self._each_name()
+        yield from self._each_ordinal()
 
     def __len__(self) -> int:
-        return len(self._index())
+        return len(self._names) + len(self._ordinals)
 
     def __repr__(self) -> str:
         return f"<Exports: {len(self._names)} names, {len(self._ordinals)} ordinals>"
@@ -272,9 +307,16 @@ class Image(OfFile):
         if self._exports is None:
             names = self._rows(library.petool_export_names, LAYOUTS["export"], self._counts.names)
             ordinals = self._rows(library.petool_exports, LAYOUTS["export"], self._counts.exports)
-            by_name = Rows(names, LAYOUTS["export"], _export_maker(self._file, True))
-            self._exports = Exports(by_name, Rows(ordinals, LAYOUTS["export"], _export_maker(self._file, False)))
+            self._exports = Exports(self._file, names, ordinals, self._look_up)
         return self._exports
+
+    def _look_up(self, name: bytes) -> Optional[Target]:
+        """What a name exports, by the library, which reads the table for it."""
+        held, found = FileBytes(name), _records.Target(0, 0, _library.no_text(), _library.no_text())
+        if self._ask(library.petool_export_by_name, held.address, held.length, byref(found)) == _library.ABSENT:
+            return None
+        module, text = found.module, found.name
+        return _target_of(self._file, found.kind, found.value, module.at, module.len, text.at, text.len)
 
     @property
     def imports(self) -> Sequence[Import]:

@@ -1,6 +1,5 @@
 """What files cost that were made to be dear: instructions, which valgrind counts, at one size and at four times that."""
 
-import importlib.util
 import os
 import pathlib
 import re
@@ -9,14 +8,12 @@ import subprocess
 import tempfile
 import unittest
 
-from . import TOP
+from . import crafted
 
 PROGRAM = os.environ.get("PETOOL_PROGRAM")
 BENCHMARK = os.environ.get("PETOOL_BENCHMARK")
-
-_found = importlib.util.spec_from_file_location("crafted", TOP / "scripts" / "crafted.py")
-crafted = importlib.util.module_from_spec(_found)
-_found.loader.exec_module(crafted)
+#: The folder in which the library and its examples in C were built.
+EXAMPLES = pathlib.Path(os.environ.get("PETOOL_LIBRARY", "")).parent
 
 #: The size of the smaller files, and how many times as much one of four times that may cost.
 SIZE, MOST = 40_000, 5
@@ -66,6 +63,20 @@ class Costs(unittest.TestCase):
 
                 with self.subTest(name):
                     self.grows(0, count)
+
+    def test_exports_are_indexed_whatever_their_names(self):
+        with tempfile.TemporaryDirectory() as folder:
+
+            def count(size):
+                # the program imports the longest of many names, which are ends of one string
+                exporter = made(crafted.kinds, "names_ends", size)
+                program = crafted.imports([0], [[6]], b"m.dll\0" + bytes(2) + b"a" * (size - 1) + b"\0")
+                paths = [pathlib.Path(folder, file) for file in ("m.dll", "c.exe")]
+                for path, data in zip(paths, (exporter, program)):
+                    path.write_bytes(data)
+                return counted(EXAMPLES / "imports_closure", paths[1], folder)
+
+            self.grows(0, count)
 
     @unittest.skipUnless(PROGRAM, "left out without program: PETOOL_PROGRAM names none")
     def test_a_text_ends_where_it_may_be_no_longer(self):

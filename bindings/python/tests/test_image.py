@@ -5,12 +5,13 @@ import mmap
 import pickle
 import struct
 import tempfile
+import tracemalloc
 import unittest
 
 import petool
 from petool import Export, Forward, Import, Rva
 
-from . import DATA, data
+from . import DATA, crafted, data
 
 FORWARD_TO_NAME = Forward(b"m\x1f.\xff", b'n"m\\')
 FORWARD_TO_ORDINAL = Forward(b"\\o\x7f", 407)
@@ -82,6 +83,21 @@ class Values(unittest.TestCase):
         for key in ("plai", b"", 0, "\udcff"):
             with self.assertRaises(KeyError):
                 exports[key]
+
+    def test_names_that_share_a_string_are_not_copied(self):
+        # 4,096 names, which have 260 MB together
+        file = crafted.exports(list(range(4096)), b"a" * 65535 + b"\0", [16])
+        with petool.Image(file) as image:
+            exports = image.exports
+            tracemalloc.start()
+            self.addCleanup(tracemalloc.stop)
+            for length in (65535, 63000, 61440):
+                self.assertEqual(exports[b"a" * length], Rva(16))
+            self.assertEqual(exports["a" * 65000], Rva(16))
+            for key in (b"a" * 65536, b"a" * 61439, b"b", b"", "\udcff", 0, 2):
+                self.assertNotIn(key, exports)
+            self.assertEqual((len(exports), exports[1], next(iter(exports))), (4097, Rva(16), b"a" * 65535))
+            self.assertLess(tracemalloc.get_traced_memory()[1], 4 << 20)
 
     def test_imports(self):
         expected = [
