@@ -189,7 +189,7 @@ class Exports(AbstractMapping):  # type: ignore[type-arg]
 
     KeyError if nothing is exported under a key. Its keys are the names, in the order of the name pointer table, and then the
     ordinals, in the order of the export address table, so ``len()`` counts both. The first look-up makes a dict of where each key
-    is, and what was found is kept. The names of a crafted file may share strings, and be longer together than the file: then no
+    is, and an RVA that was found is kept. The names of a crafted file may share strings, and be longer together than the file: then no
     name is copied, and each that is looked up is a call of the library, which reads the table.
     """
 
@@ -245,7 +245,9 @@ class Exports(AbstractMapping):  # type: ignore[type-arg]
             found = self._by_name(wanted) if isinstance(wanted, bytes) else self._by_ordinal(wanted)
             if found is None:
                 raise KeyError(key)
-            self._found[wanted] = found
+            # no copy of a string is kept that others may share
+            if isinstance(found, Rva) and not (isinstance(wanted, bytes) and self._share_strings()):
+                self._found[wanted] = found
         return found
 
     def __iter__(self) -> Iterator[Union[bytes, int]]:

@@ -1,6 +1,7 @@
 """One image: the values of the small files, which were made by hand; vr.dll has another value in each field."""
 
 import array
+import itertools
 import mmap
 import pickle
 import struct
@@ -97,6 +98,17 @@ class Values(unittest.TestCase):
             for key in (b"a" * 65536, b"a" * 61439, b"b", b"", "\udcff", 0, 2):
                 self.assertNotIn(key, exports)
             self.assertEqual((len(exports), exports[1], next(iter(exports))), (4097, Rva(16), b"a" * 65535))
+            # 200 of them have 13 MB
+            self.assertEqual(set(itertools.islice(exports.values(), 200)), {Rva(16)})
+            self.assertLess(tracemalloc.get_traced_memory()[1], 4 << 20)
+
+    def test_forwarders_that_share_a_string_are_not_kept(self):
+        # 4,096 forwarders, each to the ordinal or name behind 32 KB of a module's name
+        with petool.Image(dict(crafted.kinds(65536))["forwarders_ends"]()) as image:
+            tracemalloc.start()
+            self.addCleanup(tracemalloc.stop)
+            lengths = [len(it.module) for it in itertools.islice(image.exports.values(), 400)]
+            self.assertGreater(sum(lengths), 10 << 20)
             self.assertLess(tracemalloc.get_traced_memory()[1], 4 << 20)
 
     def test_imports(self):
