@@ -29,6 +29,7 @@ pub mod LongTexts
 pub mod Lookups
 pub mod Meeting
 pub mod NameOrder
+pub mod NameTrails
 pub mod Named
 pub mod Names
 pub mod Neighbours

@@ -37,7 +37,7 @@ module _ {A : Type 0} where
       ∙ ap (option_and_then (λ n. longer nodes n (block text k))) (node_end nodes more text k (omega (arith, le)))
 
   -- a text and the last bytes before its end lead to one node
-  same_node : (nodes : List (Node A)) (file : List ℕ) (end : ℕ) (text : List ℕ) (k : ℕ) → length text ≤ end → text ≡ part_before file end (length text) → 256 * k ≤ length text
+  pub same_node : (nodes : List (Node A)) (file : List ℕ) (end : ℕ) (text : List ℕ) (k : ℕ) → length text ≤ end → text ≡ part_before file end (length text) → 256 * k ≤ length text
       → node_of nodes text k ≡ node_of nodes (part_before file end (256 * k)) k
   same_node nodes file end text k inside is le =
       let last : drop (length text - 256 * k) text ≡ part_before file end (256 * k) = ap (drop (length text - 256 * k)) is ∙ part_drop file end (length text) (256 * k) inside le in

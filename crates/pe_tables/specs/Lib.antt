@@ -23,6 +23,7 @@ pub mod Imports
 pub mod Key
 pub mod LongTexts
 pub mod NameIndex
+pub mod NameTrail
 pub mod Patch
 pub mod Patched
 pub mod Ranges

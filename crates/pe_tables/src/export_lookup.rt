@@ -1,6 +1,6 @@
 //! `Exports`: the exports of an image, looked up by ordinal and by name.
 
-ghost use Rattle.std.specs.Prelude.{◌≡◌, ◌<◌, ◌≤◌, ◌==◌, ℕ, [], Some, length, slice_index_or, IfSome, IsTrue, option_map, map, AllPairs};
+ghost use Rattle.std.specs.Prelude.{◌≡◌, ◌<◌, ◌≤◌, ◌==◌, ℕ, List, [], Some, length, slice_index_or, IfOk, IfSome, IsTrue, OnOk, option_map, map, AllPairs};
 ghost use Rattle.std.specs.List.{find};
 ghost use Rattle.std.specs.Str.{bytes_eq};
 ghost use Rattle.pe_tables.specs.NameIndex.{AreHeld, IsSearchable};
@@ -10,7 +10,9 @@ use crate::guesses::Guesses;
 use crate::key::Target;
 use crate::long_texts::BLOCK;
 use crate::name_index::NameIndex;
-use std::alloc::Allocator;
+use crate::name_trail::NameTrail;
+use pe_layout::Text;
+use std::alloc::{AllocError, Allocator};
 
 /// The exports of an image ("PE Format", The .edata Section).
 #[derive(Drop)]
@@ -100,6 +102,8 @@ impl<'a, A: Allocator + Copy> Exports<'a, A> {
     ghost use Rattle.pe_tables.specs.Exports.{target_at};
     ghost use Rattle.pe_tables.specs.ExportsView.{ordinal_view, exports_view};
     ghost use Rattle.pe_tables.specs.NameIndex.{export_view, held};
+    ghost use Rattle.pe_tables.specs.NameTrail.{IsTrailOf};
+    ghost use Rattle.pe_layout.specs.Span.{IsTextOf};
 
     /// No exports.
     pub(crate) fn new(alloc: A) -> Exports<'a, A>
@@ -190,6 +194,35 @@ impl<'a, A: Allocator + Copy> Exports<'a, A> {
             self.searched(name)
         } else {
             self.by_guess(name)
+        }
+    }
+
+    /// A trail of no name, for [`Exports::by_name_along`]. No memory is taken.
+    pub fn name_trail(&self, alloc: A) -> NameTrail<A>
+        ensures { (file : List ℕ) (end : ℕ) → IsTrailOf self.now file end result }
+    {
+        NameTrail {
+            nodes: Vec::new(alloc),
+        }
+    }
+
+    /// What a name exports, as [`Exports::by_name`] tells it, where names of another image's file are looked up that may be ends of one
+    /// string: the trail of those that end where this one does is handed in, and goes on to this name.
+    ///
+    /// So of all names with one end each block of 256 bytes is looked up once, and then each name costs two look-ups of less than a
+    /// block: no name is compared as a whole. Where memory for the trail is refused, it is of no use any more.
+    pub fn by_name_along(
+        &self,
+        name: Text,
+        trail: &mut NameTrail<A>,
+    ) -> Result<Option<Target<'a>>, AllocError>
+        ensures exact { (file : List ℕ) → IsTextOf file name.entry → IsTrailOf self.now file name.entry.end trail.old
+            → IfOk result (λ target. option_map target_view target ≡ target_at (exports_view self.now) (Name name.entry.bytes.now)) }
+        ensures follows { (file : List ℕ) → IsTextOf file name.entry → IsTrailOf self.now file name.entry.end trail.old → OnOk result (IsTrailOf self.now file name.entry.end trail.new) }
+    {
+        match self.names.get_along(name, &mut trail.nodes)? {
+            Some(target) => Ok(target),
+            None => Ok(None),
         }
     }
 

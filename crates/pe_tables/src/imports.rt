@@ -80,6 +80,7 @@ impl<'a, A: Allocator + Copy> FoundImports<'a, A> {
 }
 
 /// The value of the lookup entry at an RVA of the image, which has as many bytes as a slot.
+#[inline]
 pub(crate) fn lookup_value(layout: &Layout, rva: u32) -> u64
     requires { rva + (image_of layout.now).slot_width ≤ (image_of layout.now).size }
     ensures { result ≡ number_at (image_of layout.now).slot_width (image_of layout.now) rva }
@@ -92,6 +93,7 @@ pub(crate) fn lookup_value(layout: &Layout, rva: u32) -> u64
 }
 
 /// Whether the top bit of a lookup entry's value is set: it holds an ordinal.
+#[inline]
 pub(crate) fn is_ordinal(layout: &Layout, value: u64) -> bool
     ensures { result ≡ is_ordinal (image_of layout.now) value }
 {

@@ -1,12 +1,14 @@
 //! `LongTexts`: what each name of 256 bytes or more exports, by its blocks of 256 bytes from its end.
 
-ghost use Rattle.std.specs.Prelude.{◌≡◌, ◌+◌, ◌-◌, ◌*◌, ◌/◌, ◌≤◌, ◌<◌, ℕ, List, None, Some, length, OnOk, IfOk, slice_index_or, max, is_none, ◌∷◌, ◌++◌, ◌==◌, ◌&&◌, [], if◌then◌else◌};
+ghost use Rattle.std.specs.Prelude.{◌≡◌, ◌+◌, ◌-◌, ◌*◌, ◌/◌, ◌≤◌, ◌<◌, ℕ, List, Option, None, Some, length, OnOk, IfOk, slice_index_or, max, is_none, option_and_then, ◌∷◌, ◌++◌, ◌==◌, ◌&&◌, [], if◌then◌else◌};
 ghost use Rattle.std.specs.Str.{bytes_eq};
 ghost use Rattle.pe_layout.specs.Layout.{file_of};
 ghost use Rattle.pe_layout.specs.Span.{IsTextOf};
 ghost use Rattle.pe_tables.specs.LongTexts.{longer, held_at, node_of, block, front, long_held, IsTrie, Grows, Leads, IsPath, AreLongTextsOf};
+ghost use Rattle.pe_tables.specs.NameTrail.{node_after, Follows, IsTrail};
 
 use crate::key::Target;
+use crate::name_trail;
 use pe_layout::{Layout, Text};
 use std::alloc::{AllocError, Allocator};
 use std::collections::BTreeMap;
@@ -93,6 +95,46 @@ impl<'a, A: Allocator + Copy> LongTexts<'a, A> {
         ensures { result ≡ long_held self.now.nodes.items text.now }
     {
         self.held_at(self.node_of(text)?, front(text))
+    }
+
+    /// The node after one block more of a text than a trail has, where there is one.
+    fn next_node(&self, text: &[u8], trail: &[Option<usize>]) -> Option<usize>
+        requires { 256 * (length trail.now + 1) ≤ length text.now }
+        ensures { result ≡ option_and_then (λ node. longer self.now.nodes.items node (block text.now (length trail.now))) (node_after trail.now (length trail.now)) }
+    {
+        self.longer(name_trail::last_node(trail)?, block(text, trail.len()))
+    }
+
+    /// Goes on with a trail to the last block of a text.
+    fn extend(&self, text: &[u8], trail: &mut Vec<Option<usize>, A>) -> Result<(), AllocError>
+        ensures follows { Follows self.now.nodes.items text.now trail.old.items → OnOk result (Follows self.now.nodes.items text.now trail.new.items) }
+        ensures whole { OnOk result (length text.now / 256 ≤ length trail.new.items) }
+        ensures goes_on { OnOk result ((more : List (Option ℕ)) × (trail.new.items ≡ trail.old.items ++ more)) }
+        ensures needed { OnOk result (length trail.new.items ≤ max (length trail.old.items) (length text.now / 256)) }
+    {
+        while trail.len() < text.len() / BLOCK {
+            let next = self.next_node(text, trail);
+            trail.push(next)?;
+        }
+        Ok(())
+    }
+
+    /// What a text exports, if it is there, by the trail of its end in the file that it is of.
+    pub fn get_along(
+        &self,
+        text: Text,
+        trail: &mut Vec<Option<usize>, A>,
+    ) -> Result<Option<Option<Target<'a>>>, AllocError>
+        ensures exact { (file : List ℕ) → IsTextOf file text.entry → IsTrail self.now.nodes.items file text.entry.end trail.old.items
+            → IfOk result (λ held. held ≡ long_held self.now.nodes.items text.entry.bytes.now) }
+        ensures follows { (file : List ℕ) → IsTextOf file text.entry → IsTrail self.now.nodes.items file text.entry.end trail.old.items
+            → OnOk result (IsTrail self.now.nodes.items file text.entry.end trail.new.items) }
+    {
+        self.extend(text.bytes, trail)?;
+        match name_trail::last_node(&trail[..text.bytes.len() / BLOCK]) {
+            Some(node) => Ok(self.held_at(node, front(text.bytes))),
+            None => Ok(None),
+        }
     }
 
     /// No texts. No memory is taken.

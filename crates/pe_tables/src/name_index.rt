@@ -6,6 +6,7 @@ ghost use Rattle.pe_layout.specs.Layout.{file_of};
 ghost use Rattle.pe_layout.specs.Span.{IsTextOf};
 ghost use Rattle.pe_tables.specs.LongTexts.{AreLongTextsOf};
 ghost use Rattle.pe_tables.specs.NameIndex.{held, Learns};
+ghost use Rattle.pe_tables.specs.NameTrail.{IsTrail};
 
 use crate::key::Target;
 use crate::long_texts::{BLOCK, LongTexts};
@@ -66,6 +67,23 @@ impl<'a, A: Allocator + Copy> NameIndex<'a, A> {
         } else {
             self.long.get(text)
         }
+    }
+
+    /// What a text exports, if it is there, by the trail of its end in the file that it is of.
+    pub fn get_along(
+        &self,
+        text: Text,
+        trail: &mut Vec<Option<usize>, A>,
+    ) -> Result<Option<Option<Target<'a>>>, AllocError>
+        ensures exact { (file : List ℕ) → IsTextOf file text.entry → IsTrail self.now.long.nodes.items file text.entry.end trail.old.items
+            → IfOk result (λ found. found ≡ held self.now text.entry.bytes.now) }
+        ensures follows { (file : List ℕ) → IsTextOf file text.entry → IsTrail self.now.long.nodes.items file text.entry.end trail.old.items
+            → OnOk result (IsTrail self.now.long.nodes.items file text.entry.end trail.new.items) }
+    {
+        if text.bytes.len() < BLOCK {
+            return Ok(self.short.get(text.bytes));
+        }
+        self.long.get_along(text, trail)
     }
 
     /// Holds what a text of less than a block exports, unless it is there, and tells whether it is new.
