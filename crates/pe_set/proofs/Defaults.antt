@@ -12,4 +12,4 @@ abbrev pub no_import : Import
 no_import = record { «module» = record { ref_ptr = (0, 0); now = [] }; key = Ordinal 0; slot = 0 }
 
 abbrev pub no_standing : Standing
-no_standing = record { image = 0; number = 0; name = record { ref_ptr = (0, 0); now = [] } }
+no_standing = record { image = 0; number = 0; len = 0; name = record { ref_ptr = (0, 0); now = [] } }

@@ -34,4 +34,5 @@ pub mod SetRows
 pub mod Soundness
 pub mod Standings
 pub mod Staying
+pub mod Trailing
 pub mod Walking

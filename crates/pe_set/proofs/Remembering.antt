@@ -34,7 +34,7 @@ then_parts Less y e = absurd cc
 then_parts Equal y e = (refl, e)
 then_parts Greater y e = absurd cc
 
-same_query : (p q : ℕ × ℕ) → is_eq (query_cmp p q) ≡ true → (p.0 ≡ q.0) × (p.1 ≡ q.1)
+pub same_query : (p q : ℕ × ℕ) → is_eq (query_cmp p q) ≡ true → (p.0 ≡ q.0) × (p.1 ≡ q.1)
 same_query p q e = let parts = then_parts (nat_cmp p.0 q.0) (nat_cmp p.1 q.1) e in (same_number p.0 q.0 parts.0, same_number p.1 q.1 parts.1)
 
 module _ (s : List Module) (image : LaidOut) where

@@ -20,21 +20,27 @@ use Rattle.pe_set.specs.contracts.standing.StandingOrd.TheImpl.Laws.{total-law}
 abbrev pub compare : Standing → Standing → Ordering
 compare a b = cmp-value.it a b
 
--- places are compared by image, number and name
+-- places are compared by image, number, the length of the name, and the name
 abbrev by_view : Stand → Stand → Ordering
-by_view p q = ordering_then (nat_cmp p.0 q.0) (ordering_then (nat_cmp p.1 q.1) (slice_cmp nat_cmp p.2 q.2))
+by_view p q = ordering_then (nat_cmp p.0 q.0) (ordering_then (nat_cmp p.1 q.1) (ordering_then (nat_cmp p.2 q.2) (slice_cmp nat_cmp p.3 q.3)))
 
 compare_is : (a b : Standing) → compare a b ≡ by_view (stand_view a) (stand_view b)
 compare_is a b = refl
 
-abbrev nested : Standing → ℕ × (ℕ × List ℕ)
-nested at = (at.image, (at.number, at.name.now))
+abbrev nested : Standing → ℕ × (ℕ × (ℕ × List ℕ))
+nested at = (at.image, (at.number, (at.len, at.name.now)))
+
+abbrev by_name : ℕ × List ℕ → ℕ × List ℕ → Ordering
+by_name x y = ordering_then (nat_cmp x.0 y.0) (slice_cmp nat_cmp x.1 y.1)
+
+abbrev by_key : ℕ × (ℕ × List ℕ) → ℕ × (ℕ × List ℕ) → Ordering
+by_key x y = ordering_then (nat_cmp x.0 y.0) (by_name x.1 y.1)
 
 pub one_place : (a b : Standing) → compare a b ≡ Equal → stand_view a ≡ stand_view b
 one_place a b is =
-    let exact = exact_pairs nat_cmp (λ (x y : ℕ × List ℕ). ordering_then (nat_cmp x.0 y.0) (slice_cmp nat_cmp x.1 y.1)) exact_unsigned (exact_pairs nat_cmp (slice_cmp nat_cmp) exact_unsigned exact_bytes) in
+    let exact = exact_pairs nat_cmp by_key exact_unsigned (exact_pairs nat_cmp by_name exact_unsigned (exact_pairs nat_cmp (slice_cmp nat_cmp) exact_unsigned exact_bytes)) in
     let same : nested a ≡ nested b = exact (nested a) (nested b) (sym (compare_is a b) ∙ is) in
-    ap (λ (t : ℕ × (ℕ × List ℕ)). (t.0, t.1.0, t.1.1)) same
+    ap (λ (t : ℕ × (ℕ × (ℕ × List ℕ))). (t.0, t.1.0, t.1.1.0, t.1.1.1)) same
 
 pub tied_place : (a b : Standing) → stand_view a ≡ stand_view b → compare a b ≡ Equal
 tied_place a b same = compare_is a b ∙ ap (by_view (stand_view a)) (sym same) ∙ sym (compare_is a a) ∙ tied_itself total-law a

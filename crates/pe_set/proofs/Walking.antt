@@ -26,7 +26,7 @@ one_stand (i, Ordinal n) (j, Ordinal m) same =
     ap (λ (k : ℕ). (k, Ordinal n)) (ap (λ (at : Stand). at.0) same) ∙ ap (λ (k : ℕ). (j, Ordinal k)) (let is : n ≡ m = omega (arith, number) in is)
 one_stand (i, Ordinal n) (j, Name text) same = let number : suc n ≡ 0 = ap (λ (at : Stand). at.1) same in absurd (omega (arith, number))
 one_stand (i, Name text) (j, Ordinal n) same = let number : 0 ≡ suc n = ap (λ (at : Stand). at.1) same in absurd (omega (arith, number))
-one_stand (i, Name text) (j, Name other) same = ap (λ (k : ℕ). (k, Name text)) (ap (λ (at : Stand). at.0) same) ∙ ap (λ (t : List ℕ). (j, Name t)) (ap (λ (at : Stand). at.2) same)
+one_stand (i, Name text) (j, Name other) same = ap (λ (k : ℕ). (k, Name text)) (ap (λ (at : Stand). at.0) same) ∙ ap (λ (t : List ℕ). (j, Name t)) (ap (λ (at : Stand). at.3) same)
 
 -- ---- where a search stood after so many hops: at a forwarder
 abbrev pub Stood : List Module → List ℕ → Key → ℕ → Stand → Type 0
@@ -95,8 +95,8 @@ module _ (s : List Module) (from : List ℕ) (wanted : Key) where
 
     -- ---- its places are pairs of the set, and no more than these
     module _ (apart : AreApart path) where
-      stood_at : (i : ℕ) → i < length path → Stood s from wanted i (get_or path i (0, 0, []))
-      stood_at i lt = walked.stood i (get_or path i (0, 0, [])) (slice_get-get_or path i (0, 0, []) lt)
+      stood_at : (i : ℕ) → i < length path → Stood s from wanted i (get_or path i (0, 0, 0, []))
+      stood_at i lt = walked.stood i (get_or path i (0, 0, 0, [])) (slice_get-get_or path i (0, 0, 0, []) lt)
 
       abbrev pair_at : ℕ → ℕ
       pair_at i = number_of s (stands s from wanted i)
@@ -117,8 +117,8 @@ module _ (s : List Module) (from : List ℕ) (wanted : Key) where
           let q = stood_at b lt_b in
           let both = number_same s p.0.0 q.0.0 p.0.1 q.0.1 (Forward p.3 p.4) (Forward q.3 q.4) p.5 q.5 (sym (pair_is a lt_a) ∙ same ∙ pair_is b lt_b) in
           let one : p.0 ≡ q.0 = ap (λ (i : ℕ). (i, p.0.1)) both.0 ∙ ap (λ (k : Key). (q.0.0, k)) both.1 in
-          let there = slice_get-get_or path b (0, 0, []) lt_b ∙ ap (λ (at : Stand). Some at) (q.1 ∙ ap stand_of (sym one) ∙ sym p.1) in
-          apart a b (get_or path a (0, 0, [])) (slice_get-get_or path a (0, 0, []) lt_a) there
+          let there = slice_get-get_or path b (0, 0, 0, []) lt_b ∙ ap (λ (at : Stand). Some at) (q.1 ∙ ap stand_of (sym one) ∙ sym p.1) in
+          apart a b (get_or path a (0, 0, 0, [])) (slice_get-get_or path a (0, 0, 0, []) lt_a) there
 
       pub walk_fits : length path ≤ pairs_of s
       walk_fits = elim (cases_lt (pairs_of s) (length path)) [
@@ -147,8 +147,8 @@ module _ (s : List Module) (from : List ℕ) (wanted : Key) where
         not_between n above lt there =
             let k = first + n in
             let inside : first + n < length path = omega (arith, lt) in
-            let at = get_or path k (0, 0, []) in
-            let is = slice_get-get_or path k (0, 0, []) inside in
+            let at = get_or path k (0, 0, 0, []) in
+            let is = slice_get-get_or path k (0, 0, 0, []) inside in
             let one = apart first k (stand_of (i, key)) before (is ∙ ap (λ (at : Stand). Some at) (comes_to k at is there)) in
             omega (arith, one, above)
 

@@ -20,3 +20,4 @@ pub mod SetFaults
 pub mod SetView
 pub mod Sound
 pub mod StandView
+pub mod TrailsView

@@ -1,15 +1,15 @@
 -- Where a search stands, as it is looked up. No contract of a public function cites it.
-use Rattle.std.specs.Prelude.{ℕ, suc, List, []}
+use Rattle.std.specs.Prelude.{ℕ, suc, List, [], length}
 use Rattle.pe_tables.specs.Key.{Key, Ordinal, Name}
 use Rattle.pe_set.specs.declared.standing.Standing.{Standing}
 
--- an image's number, and a key as a number and a name
+-- an image's number, and a key as a number, and a name with its length
 abbrev pub Stand : Type 0
-Stand = ℕ × ℕ × List ℕ
+Stand = ℕ × ℕ × ℕ × List ℕ
 
 abbrev pub stand_view : Standing → Stand
-stand_view at = (at.image, at.number, at.name.now)
+stand_view at = (at.image, at.number, at.len, at.name.now)
 
 abbrev pub stand_of : ℕ × Key → Stand
-stand_of (i, Ordinal n) = (i, suc n, [])
-stand_of (i, Name text) = (i, 0, text)
+stand_of (i, Ordinal n) = (i, suc n, 0, [])
+stand_of (i, Name text) = (i, 0, length text, text)

@@ -21,6 +21,7 @@ use crate::module_names::Names;
 use crate::reading::Module;
 use crate::remembered::{Remembered, place_at, places_of};
 use crate::search::{Resolution, resolve_once};
+use crate::trails::Trails;
 use pe_layout::Layout;
 use pe_tables::Import;
 use pe_view::{Fault, Place};
@@ -102,6 +103,7 @@ fn bind_imports<'a, A: Allocator + Copy>(
     let mut image = names.find(buffer, name)?;
     let places = places_of(ends.alloc, layout, imports)?;
     let mut remembered = Remembered::new(ends.alloc);
+    let mut trails = Trails::new(ends.alloc);
     let mut index = 0usize;
     for import in imports {
         let beginning = names.beginning(import.module);
@@ -120,6 +122,7 @@ fn bind_imports<'a, A: Allocator + Copy>(
             image,
             ends,
             &mut remembered,
+            &mut trails,
             buffer,
         )?;
         if let Some(binding) = bound(policy, number, import.slot, resolution)? {

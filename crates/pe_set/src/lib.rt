@@ -28,6 +28,7 @@ mod reading;
 mod remembered;
 mod search;
 mod standing;
+mod trails;
 
 pub use binding::Binding;
 pub use entry::{Policy, SetEntry};

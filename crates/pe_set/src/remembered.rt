@@ -1,6 +1,6 @@
 //! `Remembered`: how the searches of an image's imports by long names ended, by where the names stand.
 
-ghost use Rattle.std.specs.Prelude.{◌≡◌, ℕ, List, Some, IfSome, IfOk, OnOk, map, slice_get};
+ghost use Rattle.std.specs.Prelude.{◌≡◌, ℕ, List, Some, IfSome, IfOk, IsTrue, OnOk, map, slice_get};
 ghost use Rattle.pe_layout.specs.Image.{LaidOut};
 ghost use Rattle.pe_layout.specs.Layout.{image_of};
 ghost use Rattle.pe_tables.specs.ImportNames.{AreNamedAt};
@@ -30,7 +30,9 @@ pub(crate) struct Remembered<A: Allocator> {
 }
 
 /// Whether an import has a long name.
-fn is_long(import: &Import) -> bool {
+fn is_long(import: &Import) -> bool
+    ensures { IsTrue result → (text : List ℕ) × (key_view import.now.key ≡ Name text) }
+{
     match import.key {
         pe_tables::Key::Name(name) => name.len() >= LONG,
         pe_tables::Key::Ordinal(_) => false,
@@ -73,10 +75,10 @@ pub(crate) fn query_of(
 {
     let rva = place?;
     let number = image?;
-    match import.key {
-        pe_tables::Key::Name(name) if name.len() >= LONG => Some((number, rva)),
-        _ => None,
+    if !is_long(import) {
+        return None;
     }
+    Some((number, rva))
 }
 
 impl<A: Allocator + Copy> Remembered<A> {

@@ -1,7 +1,7 @@
 //! The search from an import through forwarders: where it ends, or the length of the cycle that it runs in.
 
 ghost use Rattle.std.specs.Prelude.{◌≡◌, ◌^◌, ◌≤◌, [], length, option_map, IfOk, IfSome, OnOk};
-ghost use Rattle.pe_layout.specs.Layout.{image_of};
+ghost use Rattle.pe_layout.specs.Layout.{file_of, image_of};
 ghost use Rattle.pe_tables.specs.ImportNames.{IsNamedAt};
 ghost use Rattle.pe_tables.specs.ImportView.{import_view};
 ghost use Rattle.pe_tables.specs.Key.{key_view, target_view};
@@ -9,10 +9,11 @@ ghost use Rattle.pe_tables.specs.Exports.{target_at};
 ghost use Rattle.pe_set.specs.Set.{named};
 ghost use Rattle.pe_set.specs.SetView.{module_view, modules_view};
 ghost use Rattle.pe_set.specs.NamesView.{names_in, lowered};
-ghost use Rattle.pe_set.specs.Search.{resolve, pairs_of};
+ghost use Rattle.pe_set.specs.Search.{resolve, pairs_of, target_in};
 ghost use Rattle.pe_set.specs.EndsView.{AreEnds};
 ghost use Rattle.pe_set.specs.PathView.{path_view, IsPath, LeadsTo};
 ghost use Rattle.pe_set.specs.RememberedView.{AreRemembered};
+ghost use Rattle.pe_set.specs.TrailsView.{AreTrailsOf};
 
 use crate::ends::Ends;
 use crate::module_names::Names;
@@ -20,6 +21,7 @@ use crate::path::Path;
 use crate::reading::Module;
 use crate::remembered::{Remembered, query_of};
 use crate::standing::Standing;
+use crate::trails::Trails;
 use pe_layout::Layout;
 use pe_tables::{Import, Key, Target};
 use std::alloc::{AllocError, Allocator};
@@ -56,9 +58,25 @@ fn target<'a, A: Allocator + Copy>(image: &Module<'a, A>, key: Key) -> Option<Ta
     }
 }
 
-/// Where the search for what an import names ends. `image` is the number of the image that has the name of its module. The path,
-/// which has no forwarder yet, gets those to which the search comes, up to the first one whose end is known. `buffer` has room
-/// for names while it runs.
+/// What a module exports by a key, which may be known already.
+#[inline(always)]
+fn target_unless_known<'a, A: Allocator + Copy>(
+    known: Option<Option<Target<'a>>>,
+    image: &Module<'a, A>,
+    key: Key,
+) -> Option<Target<'a>>
+    requires { IfSome known (λ found. option_map target_view found ≡ target_at (module_view image.now).exports (key_view key)) }
+    ensures { option_map target_view result ≡ target_at (module_view image.now).exports (key_view key.entry) }
+{
+    match known {
+        Some(found) => found,
+        None => target(image, key),
+    }
+}
+
+/// Where the search for what an import names ends. `image` is the number of the image that has the name of its module, and `first`
+/// what this exports by the import's key, if that is known. The path, which has no forwarder yet, gets those to which the search comes,
+/// up to the first one whose end is known. `buffer` has room for names while it runs.
 ///
 /// A search that comes to a forwarder of its path runs in a cycle, which is as long as that is back.
 fn search<'a, A: Allocator + Copy>(
@@ -66,6 +84,7 @@ fn search<'a, A: Allocator + Copy>(
     names: &Names<A>,
     import: &Import<'a>,
     image: Option<usize>,
+    first: Option<Option<Target<'a>>>,
     ends: &Ends<'a, A>,
     path: &mut Path<'a, A>,
     buffer: &mut Vec<u8, A>,
@@ -75,14 +94,16 @@ fn search<'a, A: Allocator + Copy>(
     requires few_exports { pairs_of (modules_view modules.now) ≤ 2 ^ 25 }
     requires known { AreEnds (modules_view modules.now) ends.now }
     requires image { image ≡ named (modules_view modules.now) import.now.«module».now }
+    requires first { IfSome first (λ found. IfSome image (λ number. option_map target_view found ≡ target_in (modules_view modules.now) (key_view import.now.key) number)) }
     requires path { path_view path.old ≡ [] }
     requires whole { IsPath path.old }
     ensures exact { IfOk result (λ end. end ≡ resolve (modules_view modules.now) import.now.«module».now (key_view import.now.key)) }
     ensures leads { IfOk result (λ end. LeadsTo (modules_view modules.now) import.now.«module».now (key_view import.now.key) end (path_view path.new)) }
 {
     let (mut image, mut key) = (image, import.key);
+    let mut known = first;
     while let Some(number) = image {
-        match target(&modules[number], key) {
+        match target_unless_known(known, &modules[number], key) {
             None => return Ok(Resolution::Unknown),
             Some(Target::Rva(rva)) => {
                 return Ok(Resolution::Bound {
@@ -100,19 +121,22 @@ fn search<'a, A: Allocator + Copy>(
                 }
                 image = names.find_forwarded(buffer, module)?;
                 key = next;
+                known = None;
             }
         }
     }
     Ok(Resolution::Missing)
 }
 
-/// Where the search for what an import names ends. `image` is the number of the image that has the name of its module. It is kept
-/// for the forwarders to which the search comes that they end so. `buffer` has room for names while it runs.
+/// Where the search for what an import names ends. `image` is the number of the image that has the name of its module, and `first`
+/// what this exports by the import's key, if that is known. It is kept for the forwarders to which the search comes that they end so.
+/// `buffer` has room for names while it runs.
 pub(crate) fn resolve<'a, A: Allocator + Copy>(
     modules: &[Module<'a, A>],
     names: &Names<A>,
     import: &Import<'a>,
     image: Option<usize>,
+    first: Option<Option<Target<'a>>>,
     ends: &mut Ends<'a, A>,
     buffer: &mut Vec<u8, A>,
 ) -> Result<Resolution, AllocError>
@@ -121,11 +145,14 @@ pub(crate) fn resolve<'a, A: Allocator + Copy>(
     requires few_exports { pairs_of (modules_view modules.now) ≤ 2 ^ 25 }
     requires known { AreEnds (modules_view modules.now) ends.old }
     requires image { image ≡ named (modules_view modules.now) import.now.«module».now }
+    requires first { IfSome first (λ found. IfSome image (λ number. option_map target_view found ≡ target_in (modules_view modules.now) (key_view import.now.key) number)) }
     ensures exact { IfOk result (λ end. end ≡ resolve (modules_view modules.now) import.now.«module».now (key_view import.now.key)) }
     ensures known { OnOk result (AreEnds (modules_view modules.now) ends.new) }
 {
     let mut path = Path::new(ends.alloc);
-    let end = search(modules, names, import, image, ends, &mut path, buffer)?;
+    let end = search(
+        modules, names, import, image, first, ends, &mut path, buffer,
+    )?;
     if let Resolution::Endless { .. } = end {
         return Ok(end);
     }
@@ -136,16 +163,18 @@ pub(crate) fn resolve<'a, A: Allocator + Copy>(
 }
 
 /// Where the search for what an import of the image with this layout names ends. `place` is where its name stands, if that is known:
-/// then a long name is looked up once for all imports whose names stand there. `buffer` has room for names while it runs.
+/// then a long name is looked up once for all imports whose names stand there, and along the trail of those that end where it does.
+/// `buffer` has room for names while it runs.
 pub(crate) fn resolve_once<'a, A: Allocator + Copy>(
     modules: &[Module<'a, A>],
     names: &Names<A>,
-    _layout: &Layout<'a>,
+    layout: &Layout<'a>,
     import: &Import<'a>,
     place: Option<u32>,
     image: Option<usize>,
     ends: &mut Ends<'a, A>,
     remembered: &mut Remembered<A>,
+    trails: &mut Trails<A>,
     buffer: &mut Vec<u8, A>,
 ) -> Result<Resolution, AllocError>
     requires few { length modules.now ≤ 256 }
@@ -153,17 +182,20 @@ pub(crate) fn resolve_once<'a, A: Allocator + Copy>(
     requires few_exports { pairs_of (modules_view modules.now) ≤ 2 ^ 25 }
     requires known { AreEnds (modules_view modules.now) ends.old }
     requires image { image ≡ named (modules_view modules.now) import.now.«module».now }
-    requires placed { IfSome place (λ rva. IsNamedAt (image_of _layout.now) rva (import_view import.now)) }
-    requires remembered { AreRemembered (modules_view modules.now) (image_of _layout.now) remembered.old }
+    requires placed { IfSome place (λ rva. IsNamedAt (image_of layout.now) rva (import_view import.now)) }
+    requires remembered { AreRemembered (modules_view modules.now) (image_of layout.now) remembered.old }
+    requires trails { AreTrailsOf modules.now (file_of layout.now) trails.old }
     ensures exact { IfOk result (λ end. end ≡ resolve (modules_view modules.now) import.now.«module».now (key_view import.now.key)) }
     ensures known { OnOk result (AreEnds (modules_view modules.now) ends.new) }
-    ensures remembered { OnOk result (AreRemembered (modules_view modules.now) (image_of _layout.now) remembered.new) }
+    ensures remembered { OnOk result (AreRemembered (modules_view modules.now) (image_of layout.now) remembered.new) }
+    ensures trails { OnOk result (AreTrailsOf modules.now (file_of layout.now) trails.new) }
 {
     let query = query_of(import, image, place);
     if let Some(end) = remembered.find(query) {
         return Ok(end);
     }
-    let end = resolve(modules, names, import, image, ends, buffer)?;
+    let first = trails.first_target(modules, layout, query)?;
+    let end = resolve(modules, names, import, image, first, ends, buffer)?;
     remembered.keep(query, end)?;
     Ok(end)
 }

@@ -13,6 +13,9 @@ pub(crate) struct Standing<'a> {
     pub image: usize,
     /// 1 more than the ordinal; 0 where the key is a name.
     pub number: u32,
+    /// How many bytes the name has. It comes before the name, so that names of different lengths, as ends of one string, are told apart
+    /// unread.
+    pub len: usize,
     /// The name; no byte where the key is an ordinal.
     pub name: &'a [u8],
 }
@@ -29,6 +32,7 @@ impl<'a> Standing<'a> {
         Standing {
             image,
             number,
+            len: name.len(),
             name,
         }
     }

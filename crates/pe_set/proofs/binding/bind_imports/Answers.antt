@@ -13,10 +13,11 @@ use Rattle.pe_set.proofs.AskingErrors.{flat_past, flat_in, error-whole}
 use Rattle.std.specs.List.{flat_map, filter_map}
 use Rattle.std.proofs.lemmas.List.{drop_all, get_or-map, length-map}
 use Rattle.std.proofs.lemmas.Option.{slice_get-get_or}
-use Rattle.pe_layout.specs.Layout.{image_of}
+use Rattle.pe_layout.specs.Layout.{file_of, image_of}
 use Rattle.pe_tables.specs.ImportNames.{AreNamedAt}
 use Rattle.pe_tables.specs.Imports.{Import}
 use Rattle.pe_set.proofs.Owning.{named_here}
+use Rattle.pe_set.proofs.Trailing.{no_trails}
 use Rattle.pe_set.proofs.Defaults.{no_import}
 use Rattle.pe_set.proofs.binding.bind_imports.Goals as goal
 use Rattle.pe_set.proofs.binding.bind_imports.Goals.{in-Some+in_ok-push, in_default, then-ne+in_ok-image-2, else-ne}
@@ -46,6 +47,7 @@ loop-import-preserved g c =
     record {
       known = c.in_ok-resolution.ensures.known;
       remembered = c.in_ok-resolution.ensures.remembered;
+      trails = c.in_ok-resolution.ensures.trails;
       number = ap (λ (n : ℕ). n + 1) c.loop-import.invariant.number;
       image = elim c.if-ne.branch [
         | then-ne+in_ok-image-2 w ↦ w.image-is ∙ w.in_ok-image-2.ensures ∙ sym (ap (λ (text : Bor (List ℕ)). found (names_in c.args.names.now) text.now) w.name-is)
@@ -121,6 +123,7 @@ pub loop-import-init : goal.loop-import-init
 loop-import-init g c = record {
   known = c.requires.known;
   remembered = c.new-remembered.ensures (modules_view c.args.modules.now) (image_of c.args.layout.now);
+  trails = no_trails c.args.modules.now (file_of c.args.layout.now) c.new-trails.result (c.new-trails.ensures.texts (file_of c.args.layout.now)) c.new-trails.ensures.trails;
   number = refl;
   image = c.in_ok-image.ensures;
   rest = refl;

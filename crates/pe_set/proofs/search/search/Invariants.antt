@@ -1,7 +1,8 @@
 use Rattle.std.proofs.Common.{◌≡◌, ◌-◌, ℕ, List, length}
-use Rattle.pe_tables.specs.Key.{key_view}
+use Rattle.std.specs.Prelude.{IfSome, option_map}
+use Rattle.pe_tables.specs.Key.{key_view, target_view}
 use Rattle.pe_set.specs.Set.{named}
-use Rattle.pe_set.specs.Search.{pairs_of}
+use Rattle.pe_set.specs.Search.{pairs_of, target_in}
 use Rattle.pe_set.specs.SetView.{modules_view}
 use Rattle.pe_set.specs.PathView.{path_view, IsPath}
 use Rattle.pe_set.proofs.Walking.{Walked}
@@ -12,6 +13,7 @@ abbrev pub invariant-loop-image : goal.invariant-loop-image
 invariant-loop-image g l = record {
   name : List ℕ;
   here : l.image ≡ named (modules_view l.modules) name;
+  known : IfSome l.known (λ found. IfSome l.image (λ number. option_map target_view found ≡ target_in (modules_view l.modules) (key_view l.key) number));
   whole : IsPath l.path;
   walked : Walked (modules_view l.modules) l.import.«module».now (key_view l.import.key) (path_view l.path) name (key_view l.key);
 }

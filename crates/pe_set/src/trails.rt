@@ -1,0 +1,105 @@
+//! `Trails`: how far the long names by which an image imports have been looked up in the images that export them.
+
+ghost use Rattle.std.specs.Prelude.{◌≡◌, ◌<◌, ℕ, List, [], Some, length, slice_get, option_map, IfOk, IfSome, OnOk};
+ghost use Rattle.pe_view.specs.TextEnds.{AreEndsOf};
+ghost use Rattle.pe_layout.specs.Layout.{file_of, image_of};
+ghost use Rattle.pe_tables.specs.Key.{Name, target_view};
+ghost use Rattle.pe_tables.specs.NameTrail.{IsTrailOf};
+ghost use Rattle.pe_set.specs.RememberedView.{text_at};
+ghost use Rattle.pe_set.specs.Search.{target_in};
+ghost use Rattle.pe_set.specs.SetView.{modules_view};
+
+use crate::reading::Module;
+use pe_layout::Layout;
+use pe_tables::{NameTrail, Target};
+use pe_view::TextEnds;
+use std::alloc::{AllocError, Allocator};
+use std::collections::BTreeMap;
+
+/// The trails of the long names of one image's imports, in each exporter.
+///
+/// Names that are ends of one string share a trail, so each block of 256 bytes of the string is looked up once in an exporter, and each
+/// name costs log n steps and fewer than 512 bytes more. A trail takes 16 bytes for each block of its longest name.
+#[derive(Drop)]
+pub(crate) struct Trails<A: Allocator> {
+    alloc: A,
+    /// Where the image's strings end.
+    pub texts: TextEnds<A>,
+    /// The trails, by the number of the exporter and the file offset at which the names end.
+    pub trails: BTreeMap<(usize, u64), NameTrail<A>, A>,
+}
+
+impl<A: Allocator + Copy> Trails<A> {
+    ghost use Rattle.pe_set.specs.TrailsView.{AreTrailsOf};
+
+    /// No trail. No memory is taken.
+    pub fn new(alloc: A) -> Trails<A>
+        ensures texts { (file : List ℕ) → AreEndsOf file result.texts }
+        ensures trails { result.trails.entries ≡ [] }
+    {
+        Trails {
+            alloc,
+            texts: TextEnds::new(alloc),
+            trails: BTreeMap::new(alloc),
+        }
+    }
+
+    /// Takes out the trail of the names that have one end, in the exports of the image of a number.
+    fn take(&mut self, modules: &[Module<A>], number: usize, end: u64) -> NameTrail<A>
+        requires { number < length modules.now }
+        ensures trail { (file : List ℕ) → AreTrailsOf modules.now file self.old → IfSome (slice_get modules.now number) (λ m. IsTrailOf m.image.exports file end result) }
+        ensures known { (file : List ℕ) → AreTrailsOf modules.now file self.old → AreTrailsOf modules.now file self.new }
+    {
+        match self.trails.remove(&(number, end)) {
+            Some(trail) => trail,
+            None => modules[number].image.exports.name_trail(self.alloc),
+        }
+    }
+
+    /// What the image of a number exports by the name at an RVA of the image with this layout; nothing is known where there is no name.
+    #[inline(never)]
+    fn look_up<'a>(
+        &mut self,
+        modules: &[Module<'a, A>],
+        layout: &Layout<'a>,
+        number: usize,
+        rva: u32,
+    ) -> Result<Option<Option<Target<'a>>>, AllocError>
+        requires number { number < length modules.now }
+        requires known { AreTrailsOf modules.now (file_of layout.now) self.old }
+        ensures found { IfOk result (λ known. IfSome known (λ target. option_map target_view target ≡ target_in (modules_view modules.now) (Name (text_at (image_of layout.now) rva)) number)) }
+        ensures known { OnOk result (AreTrailsOf modules.now (file_of layout.now) self.new) }
+    {
+        let Some(text) = layout.text_at(&mut self.texts, rva) else {
+            return Ok(None);
+        };
+        let mut trail = self.take(modules, number, text.end);
+        let target = modules[number]
+            .image
+            .exports
+            .by_name_along(text, &mut trail)?;
+        self.trails.insert((number, text.end), trail)?;
+        Ok(Some(target))
+    }
+
+    /// What the first image to which a search comes exports by the import's name: the image of a number, by the name at an RVA. Nothing is
+    /// known where these are not.
+    #[inline(always)]
+    pub fn first_target<'a>(
+        &mut self,
+        modules: &[Module<'a, A>],
+        layout: &Layout<'a>,
+        query: Option<(usize, u32)>,
+    ) -> Result<Option<Option<Target<'a>>>, AllocError>
+        requires number { IfSome query (λ place. place.0 < length modules.now) }
+        requires known { AreTrailsOf modules.now (file_of layout.now) self.old }
+        ensures found { IfOk result (λ known. IfSome known (λ target. (place : ℕ × ℕ) × (query ≡ Some place)
+            × (option_map target_view target ≡ target_in (modules_view modules.now) (Name (text_at (image_of layout.now) place.1)) place.0))) }
+        ensures known { OnOk result (AreTrailsOf modules.now (file_of layout.now) self.new) }
+    {
+        match query {
+            Some((number, rva)) => self.look_up(modules, layout, number, rva),
+            None => Ok(None),
+        }
+    }
+}
