@@ -20,7 +20,7 @@ of_eight_bytes : number_bytes (U64 0x0807060504030201) ≡ 1 ∷ 2 ∷ 3 ∷ 4 �
 unfolding number_bytes
 of_eight_bytes = refl
 
--- one behind the other
+-- in sequence
 a_row : numbers_bytes (U16 0x0201 ∷ U8 3 ∷ U32 4 ∷ []) ≡ 1 ∷ 2 ∷ 3 ∷ 4 ∷ 0 ∷ 0 ∷ 0 ∷ []
 unfolding number_bytes
 a_row = refl

@@ -1,4 +1,4 @@
--- Numbers that were written are read back where they stand.
+-- Numbers that were written are read back at the same place.
 use Rattle.std.proofs.Common.{◌≡◌, ℕ, zero, suc, ◌+◌, ◌-◌, ◌*◌, ◌/◌, ◌%◌, ◌^◌, ◌<◌, ◌≤◌, List, [], ◌∷◌, ◌++◌, length, Some, None, refl, sym, ap, subst, append_assoc, ◌∙◌, arith, inl, inr, length-append}
 use Rattle.std.specs.Prelude.{nat_lt}
 use Rattle.std.specs.List.{AllByRecursion}
@@ -39,7 +39,7 @@ num_of_digits byte a j (suc w) v h =
     let split = mod-split (v / 256 ^ j) {m = 256 ^ w} {c = 256} (pow_pos256 w) (omega arith) in
     rw (first, rest, down, pow-suc 256 w, split) (omega arith)
 
--- a number that fits is the one in its own bytes
+-- a number that fits is read from its own bytes
 pub num_of_own_digits : (byte : ℕ → ℕ) (a w v : ℕ) → v < 256 ^ w → ((k : ℕ) → k < w → byte (a + k) ≡ digit v k) → num byte a w ≡ v
 num_of_own_digits byte a w v fits h =
     num_of_digits byte a 0 w v (λ k lt. h k lt ∙ ap (digit v) (omega arith))
@@ -65,7 +65,7 @@ digit_of : (n : Number) (k : ℕ) → k < width_of n → byte_of (number_bytes n
 unfolding number_bytes
 digit_of n k lt = get_or-map-range_with_len (digit (value_of n)) 0 (width_of n) k k 0 lt (omega arith)
 
--- what stands at an offset of numbers
+-- the number at an offset of a sequence
 record Stands (ns : List Number) (offset : ℕ) (x : Number) : Type 0 where
   inside : offset + width_of x ≤ numbers_size ns
   digits : (k : ℕ) → k < width_of x → byte_of (numbers_bytes ns) (offset + k) ≡ digit (value_of x) k
@@ -99,11 +99,11 @@ stands (n ∷ ns) (suc o) x fits at = elim (cases_Bool (nat_lt (suc o) (width_of
       })
 ]
 
--- it fits as all of them do
+-- a number of a sequence fits if all do
 pub number_fits : (ns : List Number) (offset : ℕ) (x : Number) → AllByRecursion NumberFits ns → beginning_at ns offset ≡ Some x → NumberFits x
 number_fits ns offset x fits at = (stands ns offset x fits at).fits
 
--- a number that stands at an offset of numbers is read back there
+-- a number at an offset of a sequence is read back there
 pub number_read : (file : List ℕ) (place : ℕ) (ns : List Number) (offset : ℕ) (x : Number) → AllByRecursion NumberFits ns → StandsAt file place (numbers_bytes ns) → beginning_at ns offset ≡ Some x
     → num (byte_of file) (place + offset) (width_of x) ≡ value_of x
 number_read file place ns offset x fits there at =

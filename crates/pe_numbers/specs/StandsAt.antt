@@ -1,4 +1,4 @@
--- Bytes that stand at a place of a file, part by part.
+-- Bytes at a place of a file, part by part.
 use Rattle.std.proofs.Common.{◌≡◌, ℕ, suc, zero, ◌+◌, ◌-◌, ◌*◌, ◌<◌, ◌≤◌, List, [], ◌∷◌, ◌++◌, length, take, drop, get_or, min, refl, sym, ap, subst, ◌∙◌, arith, length-append, length-drop}
 use Rattle.std.specs.List.{flat_map, AllByRecursion}
 use Rattle.std.proofs.Math.Nat.{mul-suc}
@@ -6,14 +6,14 @@ use Rattle.std.proofs.Math.Seq.{take-append_seam, take-length}
 use Rattle.std.proofs.lemmas.List.{take-take, get_or-take, get_or-drop, drop_at, drop-drop, drop-take, length-take}
 use Rattle.pe_view.specs.Number.{byte_of, num, part}
 
--- these bytes stand there
+-- the file has these bytes there
 abbrev pub StandsAt : List ℕ → ℕ → List ℕ → Type 0
 StandsAt file place bytes = part file place (length bytes) ≡ bytes
 
 pub stands_whole : (file : List ℕ) → StandsAt file 0 file
 stands_whole file = take-length file
 
--- behind bytes that end where they begin
+-- after bytes that end where they begin
 pub stands_behind : (before bytes rest : List ℕ) (place : ℕ) → length before ≡ place → StandsAt (before ++ (bytes ++ rest)) place bytes
 stands_behind before bytes rest place len = ap (λ (bs : List ℕ). take (length bytes) bs) (drop_at before (bytes ++ rest) place len) ∙ take-append_seam bytes rest
 
@@ -33,7 +33,7 @@ stands-back file place next xs ys stands is =
 pub stands_part : (file : List ℕ) (place len : ℕ) (bytes : List ℕ) → StandsAt file place bytes → len ≡ length bytes → part file place len ≡ bytes
 stands_part file place len bytes stands is = ap (λ (n : ℕ). part file place n) is ∙ stands
 
--- bytes of which there is one end inside the file
+-- bytes at a place, of which there is at least one, end inside the file
 pub stands_inside : (file : List ℕ) (place : ℕ) (bytes : List ℕ) → StandsAt file place bytes → 0 < length bytes → place + length bytes ≤ length file
 stands_inside file place bytes stands some =
     let least : min (length bytes) (length file - place) ≡ length bytes =
@@ -52,7 +52,7 @@ stands_num file place bytes offset (suc width) stands inside =
     let rest : num (byte_of file) (place + offset + 1) width ≡ num (byte_of bytes) (offset + 1) width = rw next (stands_num file place bytes (offset + 1) width stands (omega (arith, inside))) in
     rw (here, rest) refl
 
--- one of many, each of which takes as many bytes
+-- one of many of equal size
 module _ {X : Type 0} (bytes : X → List ℕ) (size : ℕ) (Ok : X → Type 0) (long : (x : X) → Ok x → length (bytes x) ≡ size) where
   pub stands_each : (file : List ℕ) (place k : ℕ) (xs : List X) (d : X) → AllByRecursion Ok xs → StandsAt file place (flat_map bytes xs) → k < length xs → StandsAt file (place + size * k) (bytes (get_or xs k d))
   stands_each file place k [] d ok stands lt = absurd (omega arith)

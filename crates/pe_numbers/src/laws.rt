@@ -1,4 +1,4 @@
-//! What the definitions mean, as laws: each function has an empty body, and its contract is the law.
+//! Laws about the definitions: each function has an empty body, and its contract is the law.
 
 ghost use Rattle.std.specs.Prelude.{◌≡◌, ◌+◌, ℕ, List, Some};
 ghost use Rattle.std.specs.List.{AllByRecursion};

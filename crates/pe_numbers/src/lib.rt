@@ -1,4 +1,4 @@
-//! Numbers written one after the other, as the format stores them: the lowest byte of each first.
+//! Numbers written in sequence, little-endian as the format stores them.
 //!
 //! ```text
 //! push_numbers(&mut bytes, &[U16(0x5a4d), U32(0x40)])?;

@@ -1,4 +1,4 @@
-//! Numbers in the widths that the format has, and their bytes.
+//! Numbers in the widths of the format's fields, and their bytes.
 
 ghost use Rattle.std.specs.Prelude.{◌≡◌, ◌+◌, ◌≤◌, ◌<◌, ◌^◌, ◌++◌, drop, length, OnErr, OnOk};
 ghost use Rattle.std.specs.Vec.{vec_capacity, vec_len};
@@ -7,7 +7,7 @@ ghost use Rattle.pe_numbers.specs.Numbers.{NumberFits, number_bytes, numbers_byt
 
 use std::alloc::{AllocError, Allocator};
 
-/// A number of a field of the format.
+/// A number with the width of its field.
 #[derive(Clone, Copy, Debug, PartialEq, Eq)]
 pub enum Number {
     /// Of one byte.
@@ -20,8 +20,8 @@ pub enum Number {
     U64(u64),
 }
 
-/// Writes a number's bytes to the front of a room, the lowest first, and answers how many they are.
-// (inlined, so that the width is a constant where the number's kind is known)
+/// Writes a number's bytes to the front of `room`, the lowest first, and returns how many there are. Inlined, so that the width is
+/// a constant wherever the caller knows the kind of number.
 #[inline(always)]
 #[tactic(auto, unfolding(crate::specs::Numbers::number_bytes))]
 fn write_number(room: &mut [u8], number: Number) -> usize
@@ -50,7 +50,7 @@ fn write_number(room: &mut [u8], number: Number) -> usize
     }
 }
 
-/// Adds a number's bytes, the lowest first.
+/// Appends a number's bytes, the lowest first.
 fn push_number<A: Allocator>(bytes: &mut Vec<u8, A>, number: Number) -> Result<(), AllocError>
     ensures bytes { OnOk result (bytes.new.items ≡ bytes.old.items ++ number_bytes number) }
     ensures fits { NumberFits number }
@@ -63,8 +63,8 @@ fn push_number<A: Allocator>(bytes: &mut Vec<u8, A>, number: Number) -> Result<(
     bytes.extend_from_slice(&room[..width])
 }
 
-/// Adds the bytes of numbers, one behind the other, the lowest byte of each first. It fails only where there is no room for
-/// all of them, and then the bytes of some may have been added.
+/// Appends the bytes of numbers in sequence, the lowest byte of each first. It fails only if it cannot allocate room for all of
+/// them; then the bytes of some may have been appended.
 pub fn push_numbers<A: Allocator>(
     bytes: &mut Vec<u8, A>,
     numbers: &[Number],
@@ -79,8 +79,7 @@ pub fn push_numbers<A: Allocator>(
     Ok(())
 }
 
-/// Writes the bytes of numbers into room for them, one behind the other, the lowest byte of each first.
-// (inlined, as its callers know the widths)
+/// Writes the bytes of numbers in sequence, the lowest byte of each first. Inlined, since callers know the widths.
 #[inline(always)]
 pub fn write_numbers(room: &mut [u8], numbers: &[Number])
     requires { length room.old ≡ numbers_size numbers.now }
@@ -93,9 +92,8 @@ pub fn write_numbers(room: &mut [u8], numbers: &[Number])
     }
 }
 
-/// Adds the bytes of numbers that take `N` bytes together, as [`push_numbers`] does, but all at once. It fails only where there
-/// is no room for them.
-// (inlined, as its callers know the widths)
+/// Appends the bytes of numbers that take `N` bytes together, as [`push_numbers`] does, but all at once. It fails only if it
+/// cannot allocate room for them. Inlined, since callers know the widths.
 #[inline(always)]
 pub fn push_record<const N: usize, A: Allocator>(
     bytes: &mut Vec<u8, A>,

@@ -1,4 +1,4 @@
--- Numbers in bytes, against byteorder's and against their digits.
+-- Numbers in bytes: equal to byteorder's, and by their digits.
 use Rattle.std.proofs.Common.{◌≡◌, ℕ, zero, suc, ◌+◌, ◌*◌, ◌/◌, ◌%◌, ◌^◌, ◌<◌, List, drop, refl, sym, ap, ◌∙◌, arith}
 use Rattle.std.specs.Prelude.{slice_index}
 use Rattle.std.proofs.Math.Nat.{div-div-eq-div-mul, pow-succ'}

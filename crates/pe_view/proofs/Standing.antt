@@ -1,4 +1,4 @@
--- What the first fault of a table of tests means.
+-- What the first fault of a list of tests means.
 use Rattle.std.proofs.Common.{◌≡◌, ℕ, zero, suc, ◌<◌, Bool, true, false, cond, List, [], ◌∷◌, Option, Some, None, refl, sym, ap, ◌∙◌, arith, inl, inr, ◌⊎◌}
 use Rattle.std.specs.Prelude.{slice_get, ◌↔◌}
 use Rattle.std.proofs.lemmas.Option.{same_Some}
@@ -31,7 +31,7 @@ some_test : (b : Bool) (x y : Fault) (rest : Option Fault) → cond b (Some x) r
 some_test true x y rest e = inl (refl, same_Some x y e)
 some_test false x y rest e = inr (refl, e)
 
--- the first fault is that of a test that stands, and none before it does
+-- the first fault is that of a test that holds, and no earlier test holds
 pub first_is_first : (tests : List Test) (y : Fault) → first_standing tests ≡ Some y → IsFirstStanding tests y
 first_is_first [] y e = absurd cc
 first_is_first (t ∷ tests) y e =

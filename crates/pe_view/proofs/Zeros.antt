@@ -1,4 +1,4 @@
--- Texts by the bytes that are not zero.
+-- Strings by the bytes that are not zero.
 use Rattle.std.proofs.Common.{◌≡◌, ◌≢◌, ℕ, zero, suc, ◌+◌, ◌-◌, ◌<◌, ◌≤◌, List, [], ◌∷◌, length, get_or, take, drop, Option, Some, None, refl, sym, ap, subst, ◌∙◌, arith, length-drop, true, false, inl, inr}
 use Rattle.std.specs.Prelude.{nat_le, option_map, slice_range}
 use Rattle.std.proofs.lemmas.Bool.{le-leb, leb-true, eqb-true, cases_Bool, cases_lt}
@@ -67,7 +67,7 @@ module _ (file : List ℕ) (offset end : ℕ) (inside : end ≤ length file) whe
   byte_at : (k : ℕ) → k < end - offset → get_or (slice_range file offset end) k 0 ≡ byte_of file (offset + k)
   byte_at k lt = get_or-take (end - offset) (drop offset file) k 0 lt ∙ get_or-drop offset file k 0
 
-  -- a text that was found tells of the bytes up to its end
+  -- the bytes up to the end of a string that was found are not zero
   pub record IsFound (text : List ℕ) : Type 0 where
     pub short : offset + length text < end
     pub none : HasNoZero file offset (offset + length text)
@@ -93,7 +93,7 @@ module _ (file : List ℕ) (offset end : ℕ) (inside : end ≤ length file) whe
       let here : offset + (k - offset) ≡ k = omega (arith, low) in
       none_zero (slice_range file offset end) (sym between ∙ is) (k - offset) (omega (arith, low, high, size)) (byte_at (k - offset) (omega (arith, low, high)) ∙ ap (byte_of file) here ∙ is_zero)
 
-  -- the first zero byte ends a text
+  -- the first zero byte ends a string
   pub text_at : (z : ℕ) → offset ≤ z → z < end → HasNoZero file offset z → byte_of file z ≡ 0 → text_between file offset end ≡ Some (part file offset (z - offset))
   text_at z low high none is_zero =
       let here : offset + (z - offset) ≡ z = omega (arith, low) in
@@ -110,7 +110,7 @@ module _ (file : List ℕ) (offset end : ℕ) (inside : end ≤ length file) whe
       ∙ zero_ended-none (slice_range file offset end)
       (λ k lt is. none (offset + k) (omega arith) (omega (arith, lt, high, size)) (sym (byte_at k (omega (arith, lt, size))) ∙ eqb-true _ _ is))
 
--- a text between two offsets is a part of the file
+-- a string between two offsets is a part of the file
 pub text_part : (file : List ℕ) (offset end : ℕ) (text : List ℕ) → text_between file offset end ≡ Some text → (offset + length text < end) × (text ≡ part file offset (length text))
 text_part file offset end text is = elim (cases_Bool (nat_le end (length file))) [
   | inl inside ↦ elim (cases_lt end offset) [

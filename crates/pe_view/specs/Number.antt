@@ -6,13 +6,13 @@ use Rattle.std.specs.List.{range_with_len}
 abbrev pub byte_of : List ℕ → ℕ → ℕ
 byte_of bytes offset = slice_index bytes offset
 
--- The number in the `width` bytes from a place on, where `byte` gives the byte at each place. So one word serves the
--- bytes of a file and those of a laid-out image.
+-- The number in the `width` bytes at a place, where `byte` gives the byte at each place: those of a file, or those of a laid-out
+-- image.
 abbrev pub num : (ℕ → ℕ) → ℕ → ℕ → ℕ
 num byte place zero = 0
 num byte place (suc width) = byte place + 256 * num byte (place + 1) width
 
--- byte k of a number, from the lowest on
+-- byte k of a number, from the lowest
 abbrev pub digit : ℕ → ℕ → ℕ
 digit v k = v / 256 ^ k % 256
 

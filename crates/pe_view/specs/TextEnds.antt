@@ -1,14 +1,14 @@
--- What is known of where the texts of a file end.
+-- The ranges without a zero byte that are known of a file.
 use Rattle.std.specs.Prelude.{◌≡◌, ◌≢◌, ℕ, ◌<◌, ◌≤◌, List, Some}
 use Rattle.std.specs.Ordering.{nat_cmp}
 use Rattle.std.specs.BTreeMap.{get}
 use Rattle.pe_view.specs.Number.{byte_of}
 use Rattle.pe_view.specs.declared.text_ends.TextEnds.{TextEnds}
 
--- no byte from one offset of a file up to another is zero
+-- no byte between two offsets of a file is zero
 abbrev pub HasNoZero : List ℕ → ℕ → ℕ → Type 0
 HasNoZero file start end = (offset : ℕ) → start ≤ offset → offset < end → byte_of file offset ≢ 0
 
--- what is kept are stretches of a file in which no byte is zero
+-- the ranges that are kept have no zero byte
 abbrev pub AreEndsOf : {A : Type 0} → List ℕ → TextEnds A → Type 0
 AreEndsOf file ends = (start end : ℕ) → get nat_cmp ends.starts end ≡ Some start → HasNoZero file start end

@@ -1,8 +1,8 @@
 //! The bytes of a file by offset, never past its end, and the faults by which a file is refused.
 //!
-//! A [`View`] reads numbers, byte ranges and zero-ended texts at file offsets and answers `None` for whatever passes the
-//! end of the file; [`TextEnds`] remembers where texts end, for many that may share their bytes; a [`Fault`] says which rule
-//! of the format a file breaks, in which image, and where; a [`Refusal`] is a fault, or want of memory:
+//! A [`View`] reads numbers, byte ranges and zero-terminated strings at file offsets, and returns `None` for anything past the end
+//! of the file; [`TextEnds`] remembers where strings end, for strings that may share bytes; a [`Fault`] says which rule of the
+//! format a file breaks, in which image, and where; a [`Refusal`] is a fault or out of memory:
 //!
 //! ```text
 //! let view = View::new(b"MZ\x90\x00");

@@ -1,16 +1,16 @@
-//! `Refusal`: a fault or out of memory, which is the error of calls that take memory.
+//! `Refusal`: the error of calls that allocate, a fault or out of memory.
 
 ghost use Rattle.std.specs.Prelude.{◌≡◌};
 
 use crate::fault::Fault;
 use std::alloc::{AllocError, AllocFailed};
 
-/// Why a call that takes memory gives no value.
+/// Why a call that allocates returns no value.
 #[derive(Clone, Copy, Debug, PartialEq, Eq)]
 pub enum Refusal {
-    /// A rule of the format does not hold: this is the first fault.
+    /// The file breaks a rule of the format; this is the first fault.
     Fault(Fault),
-    /// A growth of memory was refused.
+    /// An allocation failed.
     Memory,
 }
 

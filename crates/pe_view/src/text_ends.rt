@@ -12,17 +12,17 @@ use crate::view::View;
 use std::alloc::Allocator;
 use std::collections::BTreeMap;
 
-/// A text of fewer bytes is searched anew each time.
+/// A string shorter than this is searched each time, without a look-up.
 const SHORT: u64 = 256;
 
-/// Where the texts of a file end that were asked for: a text that begins inside one of them is not searched again.
+/// Where the strings of one file end, so that strings that share bytes are not searched again and again.
 ///
-/// It keeps the stretches of the file in which no zero byte was found, and no two of them have a byte in common. So each byte
-/// of the file is searched at most once, and 256 bytes for each text besides, and a call takes a few look-ups among the
-/// stretches, counted over all calls. Where memory is refused a stretch is not kept, and is searched again.
+/// It keeps disjoint ranges of the file without a zero byte. Each byte of the file is therefore searched at most once, apart from
+/// the first 256 of each string, and a call makes a few look-ups among the ranges (amortized). If an allocation fails, the range
+/// is not kept, and is searched again when needed.
 #[derive(Drop)]
 pub struct TextEnds<A: Allocator> {
-    /// Where a stretch begins, by the offset at which it ends.
+    /// Where each range begins, by the offset at which it ends.
     pub(crate) starts: BTreeMap<u64, u64, A>,
 }
 
@@ -34,7 +34,7 @@ fn is_zero(view: View<'_>, offset: u64) -> bool
     view.until_zero(offset, offset + 1).is_some()
 }
 
-/// The offset of the first zero byte from an offset on, or the end where there is none before it.
+/// The offset of the first zero byte from `offset` on, or `end` if there is none before it.
 fn first_zero(view: View<'_>, offset: u64, end: u64) -> u64
     requires before { offset < end }
     requires inside { end ≤ size_of view }
@@ -49,7 +49,7 @@ fn first_zero(view: View<'_>, offset: u64, end: u64) -> u64
 }
 
 impl<A: Allocator + Copy> TextEnds<A> {
-    /// Nothing is known of the file yet. No memory is taken.
+    /// Knows nothing of the file yet. Allocates nothing.
     pub fn new(alloc: A) -> TextEnds<A>
         ensures { (file : List ℕ) → AreEndsOf file result }
     {
@@ -58,7 +58,7 @@ impl<A: Allocator + Copy> TextEnds<A> {
         }
     }
 
-    /// The stretch that ends first behind an offset: where it begins and where it ends.
+    /// The range with the lowest end after `offset`: its start and end.
     fn first_behind(&self, offset: u64) -> Option<(u64, u64)>
         requires { offset < 2 ^ 64 - 1 }
         ensures { IfSome result (λ stretch. (offset < stretch.1) × (get nat_cmp self.now.starts stretch.1 ≡ Some stretch.0)) }
@@ -67,7 +67,7 @@ impl<A: Allocator + Copy> TextEnds<A> {
         Some((*start, *end))
     }
 
-    /// An offset behind this one, before which no zero byte stands from this one on.
+    /// An offset greater than `offset`, with no zero byte between the two.
     fn past(&self, view: View<'_>, offset: u64, end: u64) -> u64
         requires known { AreEndsOf (bytes_of view) self.now }
         requires before { offset < end }
@@ -83,7 +83,7 @@ impl<A: Allocator + Copy> TextEnds<A> {
         }
     }
 
-    /// Keeps that no zero byte stands between two offsets, in place of what is known of the bytes between them.
+    /// Records that there is no zero byte from `offset` up to `end`, merged with the ranges that overlap these bytes.
     fn keep(&mut self, offset: u64, end: u64)
         requires { offset < 2 ^ 64 - 1 }
         ensures { (file : List ℕ) → AreEndsOf file self.old → HasNoZero file offset end → AreEndsOf file self.new }
@@ -104,7 +104,8 @@ impl<A: Allocator + Copy> TextEnds<A> {
         }
     }
 
-    /// An offset from this one on, up to which no zero byte stands, where one does or that is not before the end.
+    /// The first zero byte from `offset` on if it is before `end`, otherwise an offset that is not before `end`; no byte before
+    /// the result is zero.
     fn zero_from(&mut self, view: View<'_>, offset: u64, end: u64) -> u64
         requires known { AreEndsOf (bytes_of view) self.old }
         requires before { offset < end }
@@ -122,9 +123,9 @@ impl<A: Allocator + Copy> TextEnds<A> {
         zero
     }
 
-    /// The bytes from `offset` up to the first zero byte before `end`, as [`View::until_zero`] answers them.
+    /// The bytes from `offset` up to the first zero byte before `end`, as [`View::until_zero`] returns them.
     ///
-    /// All calls are to hand in the view of the same file.
+    /// All calls must pass a view of the same file.
     pub fn until_zero<'a>(&mut self, view: View<'a>, offset: u64, end: u64) -> Option<&'a [u8]>
         requires { AreEndsOf (bytes_of view) self.old }
         ensures text { option_map (λ bytes. bytes.now) result ≡ text_between (bytes_of view.entry) offset end }

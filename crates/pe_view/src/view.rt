@@ -10,8 +10,8 @@ use byteorder::{ByteOrder, LittleEndian};
 
 /// The bytes of a whole file, read by offset and never past their end.
 ///
-/// Offsets and lengths count bytes, and every `u64` is a valid argument: no sum wraps. A call takes no memory, and
-/// the slices that it hands out are parts of the file.
+/// Offsets and lengths count bytes, and every `u64` is a valid argument: no sum overflows. No call allocates; slices that calls
+/// return are parts of the file.
 #[derive(Clone, Copy, Debug)]
 pub struct View<'a> {
     bytes: &'a [u8],
@@ -39,7 +39,7 @@ impl<'a> View<'a> {
         self.bytes.is_empty()
     }
 
-    /// The little-endian number in the 2 bytes at `offset`, or `None` where they pass the end.
+    /// The little-endian number in the 2 bytes at `offset`, or `None` if they pass the end.
     pub fn u16_at(&self, offset: u64) -> Option<u16>
         ensures { SomeIff result (offset + 2 ≤ size_of self.now) (num (byte_of (bytes_of self.now)) offset 2) }
     {
@@ -47,7 +47,7 @@ impl<'a> View<'a> {
         Some(LittleEndian::read_u16(bytes))
     }
 
-    /// The little-endian number in the 4 bytes at `offset`, or `None` where they pass the end.
+    /// The little-endian number in the 4 bytes at `offset`, or `None` if they pass the end.
     pub fn u32_at(&self, offset: u64) -> Option<u32>
         ensures { SomeIff result (offset + 4 ≤ size_of self.now) (num (byte_of (bytes_of self.now)) offset 4) }
     {
@@ -55,7 +55,7 @@ impl<'a> View<'a> {
         Some(LittleEndian::read_u32(bytes))
     }
 
-    /// The little-endian number in the 8 bytes at `offset`, or `None` where they pass the end.
+    /// The little-endian number in the 8 bytes at `offset`, or `None` if they pass the end.
     pub fn u64_at(&self, offset: u64) -> Option<u64>
         ensures { SomeIff result (offset + 8 ≤ size_of self.now) (num (byte_of (bytes_of self.now)) offset 8) }
     {
@@ -63,7 +63,7 @@ impl<'a> View<'a> {
         Some(LittleEndian::read_u64(bytes))
     }
 
-    /// The `len` bytes at `offset`, or `None` where they pass the end.
+    /// The `len` bytes at `offset`, or `None` if they pass the end.
     pub fn slice(&self, offset: u64, len: u64) -> Option<&'a [u8]>
         ensures inside { IsSome result ↔ (offset + len ≤ size_of self.now) }
         ensures value { IfSome result (λ bytes. bytes.now ≡ part (bytes_of self.now) offset len) }
@@ -76,8 +76,8 @@ impl<'a> View<'a> {
         Some(&self.bytes[start..start + len as usize])
     }
 
-    /// The bytes from `offset` up to the first zero byte before `end`, or `None` where there is no such zero byte or
-    /// `end` passes the end of the file.
+    /// The bytes from `offset` up to the first zero byte before `end`, or `None` if there is no such zero byte or `end` is past
+    /// the end of the file.
     pub fn until_zero(&self, offset: u64, end: u64) -> Option<&'a [u8]>
         ensures { option_map (λ bytes. bytes.now) result ≡ text_between (bytes_of self.now) offset end }
     {

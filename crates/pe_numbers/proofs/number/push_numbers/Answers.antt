@@ -1,4 +1,4 @@
--- One number more.
+-- One more number.
 use Rattle.std.proofs.Common.{◌∙◌, ◌+◌, ◌++◌, ℕ, List, drop, get_or, sym, ap, append_assoc, arith}
 use Rattle.std.proofs.lemmas.Result.{err_from_is_err_and}
 use Rattle.pe_numbers.specs.declared.number.Number.TheVariants.{U8}

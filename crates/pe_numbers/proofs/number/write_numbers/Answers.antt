@@ -1,4 +1,4 @@
--- One number more.
+-- One more number.
 use Rattle.std.proofs.Common.{◌∙◌, arith}
 use Rattle.pe_numbers.specs.declared.number.Number.TheVariants.{U8}
 use Rattle.pe_numbers.proofs.Writing.{fits_next, left_next, written_next}

@@ -1,4 +1,4 @@
--- The bytes of a stretch that begins no later.
+-- The bytes of a range that begins no later.
 use Rattle.std.proofs.Common.{rules}
 use Rattle.pe_view.proofs.text_ends.TextEnds.past.Goals as goal
 

@@ -1,4 +1,4 @@
--- The first bytes have a zero byte, or the stretch from there on tells where the first one stands.
+-- The first zero byte is among the first bytes, or is found from the end of the range on.
 use Rattle.std.proofs.Common.{◌≡◌, ◌+◌, ◌-◌, ℕ, List, Option, None, Some, length, sym, ap, ◌∙◌, arith}
 use Rattle.std.specs.Prelude.{option_map, IsSome, IfSome}
 use Rattle.std.specs.Borrow.{Bor}
