@@ -1,10 +1,10 @@
--- Names among the rows of a table, as the code holds these and as definitions do.
+-- Names looked up in a table of the code and in that of the definitions.
 use Rattle.std.proofs.Common.{◌≡◌, ◌==◌, ℕ, Bool, true, false, List, [], ◌∷◌, map, Some, option_map, cond, refl}
 use Rattle.std.specs.List.{find}
 use Rattle.pe_head.specs.Names.{name_in, name_view}
 use denote.Bor.{Bor}
 
--- the row as the code holds it
+-- a row of a table of the code
 abbrev Row : Type 0
 Row = ℕ × Bor (List ℕ)
 

@@ -1,4 +1,4 @@
--- What is true of the headers of a file without a fault, for the layers above.
+-- Facts about the headers of a file without a header fault, for the crates that use this one.
 use Rattle.std.proofs.Common.{◌≡◌, ℕ, zero, suc, ◌+◌, ◌*◌, ◌^◌, ◌<◌, ◌≤◌, Bool, true, false, cond, List, length, None, refl, inl, inr, arith}
 use Rattle.std.specs.Prelude.{nat_le, ◌==◌}
 use Rattle.std.proofs.lemmas.Bool.{or_parts, ltb-false, le-leb, cases_Bool}
@@ -9,7 +9,7 @@ use Rattle.pe_head.specs.Head.{head_of, is_pe32, optional_start, fixed_size, dir
 use Rattle.pe_head.specs.HeaderFaults.{head_tests}
 use Rattle.pe_head.specs.Optional.{image_base_offset, image_base_width}
 
--- the headers lie inside the file, and inside the image
+-- the headers are inside the file and the image
 pub headers_inside : (image : ℕ) (file : List ℕ) → first_standing (head_tests image file) ≡ None → ((head_of file).size_of_headers ≤ length file) × ((head_of file).size_of_headers ≤ (head_of file).size_of_image)
 unfolding head_tests
 headers_inside image file none =
@@ -17,7 +17,7 @@ headers_inside image file none =
     let more = or_parts _ _ parts.1 in
     (ltb-false _ _ more.0, ltb-false _ _ more.1)
 
--- how large the image is
+-- the greatest size of an image
 pub image_small : (image : ℕ) (file : List ℕ) → first_standing (head_tests image file) ≡ None → (head_of file).size_of_image ≤ 2 ^ 31
 unfolding head_tests
 image_small image file none = ltb-false _ _ (or_parts _ _ (none_stands (head_tests image file) 10 _ none refl)).1
@@ -29,8 +29,8 @@ image_base_number file = elim (cases_Bool (is_pe32 file)) [
   | inr pe32_plus ↦ rw pe32_plus refl
 ]
 
--- how the headers of a file nest: the optional header with its directories ends where the section table begins at the latest,
--- and that ends by SizeOfHeaders; the image is not empty
+-- How the headers of a file nest: the directories end at or before the section table, and this ends within SizeOfHeaders; the
+-- image is not empty.
 pub record HeadersNest (file : List ℕ) : Type 0 where
   pub optional : optional_start file + fixed_size file + 8 * directory_count file ≤ table_start file
   pub table : section_start file (coff_field file 2 2) ≤ field file 60 4

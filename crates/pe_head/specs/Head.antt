@@ -1,5 +1,5 @@
--- The headers of an image ("PE Format": COFF File Header, Optional Header, Section Table) as functions of the file's
--- bytes: each field is the number at an offset, of a width, which stand beside it.
+-- The headers of an image ("PE Format": COFF File Header, Optional Header, Section Table) as functions of the file's bytes: each
+-- field is the number at an offset, in a width.
 use Rattle.std.specs.Prelude.{ℕ, ◌+◌, ◌*◌, ◌==◌, Bool, min, map, List, None, Some, if◌then◌else◌}
 use Rattle.std.specs.List.{range_with_len}
 use Rattle.pe_view.specs.Number.{num, byte_of, part}
@@ -10,7 +10,7 @@ use Rattle.pe_head.specs.declared.section.SectionHeader.{SectionHeader}
 use Rattle.pe_head.specs.declared.headers.Headers.{Headers}
 use Rattle.pe_head.specs.Optional.{fixed_size_of}
 
--- p, where the signature stands
+-- p, the file offset of the signature
 abbrev pub pe_offset : List ℕ → ℕ
 pe_offset file = num (byte_of file) 0x3c 4
 
@@ -32,15 +32,15 @@ is_pe32 file = field file 0 2 == 0x10b
 abbrev pub magic_of : List ℕ → Magic
 magic_of file = if is_pe32 file then Pe32 else Pe32Plus
 
--- a field that PE32 and PE32+ hold at two offsets and in two widths
+-- a field whose offset and width differ between PE32 and PE32+
 abbrev pub either_field : List ℕ → ℕ → ℕ → ℕ → ℕ → ℕ
 either_field file offset width plus_offset plus_width = if is_pe32 file then field file offset width else field file plus_offset plus_width
 
--- how many bytes of the optional header come before its directories
+-- the size of the optional header before its directories
 abbrev pub fixed_size : List ℕ → ℕ
 fixed_size file = fixed_size_of (magic_of file)
 
--- how many directories the headers hold: NumberOfRvaAndSizes, and at most 16
+-- the number of directories in the headers: NumberOfRvaAndSizes, but at most 16
 abbrev pub directory_count : List ℕ → ℕ
 directory_count file = min (either_field file 92 4 108 4) 16
 
@@ -76,7 +76,7 @@ section_at file i =
       characteristics = field 36 4;
     }
 
--- the headers of a file: offsets count from the COFF header's and from the optional header's beginning
+-- the headers of a file; offsets are those in the COFF header and in the optional header
 abbrev pub head_of : List ℕ → Headers
 head_of file =
     record {
@@ -122,6 +122,6 @@ head_of file =
       sections = record { items = map (section_at file) (range_with_len 0 (coff_field file 2 2)) };
     }
 
--- where section i's header stands in the file
+-- the file offset of section i's header
 abbrev pub section_offset : Headers → ℕ → ℕ
 section_offset h i = h.pe_offset + 24 + h.size_of_optional_header + 40 * i

@@ -1,15 +1,15 @@
--- What may be wrong with the headers of a file, in the order in which it counts.
+-- The header faults, in the order in which they are tested.
 use Rattle.std.specs.Prelude.{ℕ, ◌+◌, ◌*◌, ◌^◌, ◌==◌, ◌&&◌, ◌||◌, Bool, not, nat_lt, nat_le, List, [], ◌∷◌, length, if◌then◌else◌}
 use Rattle.pe_view.specs.declared.fault.Place.TheVariants.{File}
 use Rattle.pe_view.specs.Number.{num, byte_of}
 use Rattle.pe_view.specs.Faults.{Test, test}
 use Rattle.pe_head.specs.Head.{pe_offset, coff_field, field, fixed_size, optional_start, directory_count, table_start, section_start}
 
--- a field of the optional header lies inside the file
+-- a field of the optional header is inside the file
 abbrev pub has_field : List ℕ → ℕ → ℕ → Bool
 has_field file offset width = nat_le (optional_start file + offset + width) (length file)
 
--- how many bytes the directories take; NumberOfRvaAndSizes counts as 0 where it isn't inside the file
+-- the size of the directories in bytes; NumberOfRvaAndSizes counts as 0 if it isn't inside the file
 abbrev pub directory_bytes : List ℕ → ℕ
 directory_bytes file = if nat_le (optional_start file + fixed_size file) (length file) then 8 * directory_count file else 0
 

@@ -11,11 +11,11 @@ Names = List (ℕ × List ℕ)
 abbrev pub name_in : Names → ℕ → Option (List ℕ)
 name_in names value = option_map (λ row. row.1) (find (λ row. row.0 == value) names)
 
--- a row of a table, as the code holds it
+-- a row of a table of the code
 abbrev pub name_view : ℕ × Bor (List ℕ) → ℕ × List ℕ
 name_view row = (row.0, row.1.now)
 
--- The tables of "PE Format". The code has them once more, and is proved to have these.
+-- The tables of "PE Format". The code has its own copy, which is proved equal to these.
 
 unfoldable pub machine_names : Names
 machine_names =

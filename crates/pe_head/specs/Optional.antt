@@ -3,12 +3,12 @@ use Rattle.std.specs.Prelude.{ℕ}
 use Rattle.pe_head.specs.declared.optional.Magic.{Magic}
 use Rattle.pe_head.specs.declared.optional.Magic.TheVariants.{Pe32, Pe32Plus}
 
--- how many bytes of the optional header come before its directories
+-- the size of the optional header before its directories
 abbrev pub fixed_size_of : Magic → ℕ
 fixed_size_of Pe32 = 96
 fixed_size_of Pe32Plus = 112
 
--- where ImageBase stands, from the optional header's beginning on, and how many bytes it has
+-- the offset of ImageBase in the optional header, and its size
 abbrev pub image_base_offset : Magic → ℕ
 image_base_offset Pe32 = 28
 image_base_offset Pe32Plus = 24

@@ -1,4 +1,4 @@
--- The small file V1: one section .data of 16 bytes. Rows of all layers compute on its bytes.
+-- The small file V1, with one section .data of 16 bytes. Examples in the proofs of several crates compute on its bytes.
 use Rattle.std.specs.Prelude.{ℕ, zero, suc, ◌+◌, List, [], ◌∷◌, ◌++◌, slice_set}
 use Rattle.std.specs.List.{range_with_len}
 
@@ -6,7 +6,7 @@ abbrev pub zeros : ℕ → List ℕ
 zeros zero = []
 zeros (suc n) = 0 ∷ zeros n
 
--- the bytes are written at the offset
+-- a file with the bytes written at the offset
 abbrev pub put : ℕ → List ℕ → List ℕ → List ℕ
 put o [] file = file
 put o (b ∷ bs) file = put (o + 1) bs (slice_set file o b)

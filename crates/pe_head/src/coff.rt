@@ -1,4 +1,4 @@
-//! Values of the COFF header's fields: `machine` for Machine, `characteristic` for Characteristics.
+//! Values of the COFF header's fields Machine (`machine`) and Characteristics (`characteristic`).
 
 /// Values of the COFF header's Machine field ("PE Format", Machine Types).
 pub mod machine {
@@ -6,17 +6,17 @@ pub mod machine {
     pub const I386: u16 = 0x14c;
     /// x64.
     pub const AMD64: u16 = 0x8664;
-    /// ARM64 little endian.
+    /// ARM64, little-endian.
     pub const ARM64: u16 = 0xaa64;
-    /// ARM little endian.
+    /// ARM, little-endian.
     pub const ARM: u16 = 0x1c0;
-    /// ARM Thumb-2 little endian.
+    /// ARM Thumb-2, little-endian.
     pub const ARMNT: u16 = 0x1c4;
 }
 
 /// Flags of the COFF header's Characteristics field ("PE Format", Characteristics).
 pub mod characteristic {
-    /// The image has no base relocations and must stand at its ImageBase.
+    /// The image has no base relocations and must be loaded at its ImageBase.
     pub const RELOCS_STRIPPED: u16 = 0x0001;
     /// The image can be run.
     pub const EXECUTABLE_IMAGE: u16 = 0x0002;
@@ -24,26 +24,26 @@ pub mod characteristic {
     pub const LINE_NUMS_STRIPPED: u16 = 0x0004;
     /// COFF symbols of local names were removed.
     pub const LOCAL_SYMS_STRIPPED: u16 = 0x0008;
-    /// Once: the working set is to be trimmed.
+    /// Obsolete: trim the working set.
     pub const AGGRESSIVE_WS_TRIM: u16 = 0x0010;
     /// The image can handle addresses above 2 GiB.
     pub const LARGE_ADDRESS_AWARE: u16 = 0x0020;
-    /// Once: the lowest byte of a number comes first.
+    /// Obsolete: little-endian.
     pub const BYTES_REVERSED_LO: u16 = 0x0080;
-    /// The machine is based on words of 32 bits.
+    /// The machine has 32-bit words.
     pub const MACHINE_32BIT: u16 = 0x0100;
-    /// Debug data was removed.
+    /// Debug information was removed.
     pub const DEBUG_STRIPPED: u16 = 0x0200;
-    /// On removable media the image is copied to the swap file first.
+    /// Copy the image to the swap file if it is on removable media.
     pub const REMOVABLE_RUN_FROM_SWAP: u16 = 0x0400;
-    /// On a network the image is copied to the swap file first.
+    /// Copy the image to the swap file if it is on a network.
     pub const NET_RUN_FROM_SWAP: u16 = 0x0800;
-    /// The image is a system file, and no program of a user.
+    /// The image is a system file, not a user program.
     pub const SYSTEM: u16 = 0x1000;
     /// The image is a dynamic-link library.
     pub const DLL: u16 = 0x2000;
-    /// The image is to run on one processor alone.
+    /// Run the image on a uniprocessor machine only.
     pub const UP_SYSTEM_ONLY: u16 = 0x4000;
-    /// Once: the highest byte of a number comes first.
+    /// Obsolete: big-endian.
     pub const BYTES_REVERSED_HI: u16 = 0x8000;
 }

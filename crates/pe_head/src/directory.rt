@@ -1,6 +1,6 @@
-//! `Directory`: the RVA and size of a table; and `directory_index`, the index of each table's directory.
+//! `Directory`: the RVA and size of a table; `directory_index`: the index of each table's directory.
 
-/// Where a table lies in the laid-out image ("PE Format", Optional Header Data Directories).
+/// Where a table is in the laid-out image ("PE Format", Optional Header Data Directories).
 #[derive(Clone, Copy, Debug, Default, PartialEq, Eq)]
 pub struct Directory {
     /// The table's RVA. For the certificate table it is a file offset.
@@ -9,7 +9,7 @@ pub struct Directory {
     pub size: u32,
 }
 
-/// The index of each table's directory.
+/// The index of each table's data directory.
 pub mod directory_index {
     /// The export table, `.edata`.
     pub const EXPORT: usize = 0;
@@ -19,13 +19,13 @@ pub mod directory_index {
     pub const RESOURCE: usize = 2;
     /// The exception table, `.pdata`.
     pub const EXCEPTION: usize = 3;
-    /// The attribute certificate table, whose place is a file offset.
+    /// The attribute certificate table, whose RVA field is a file offset.
     pub const CERTIFICATE: usize = 4;
     /// The base relocation table, `.reloc`.
     pub const BASE_RELOCATION: usize = 5;
     /// The debug data, `.debug`.
     pub const DEBUG: usize = 6;
-    /// Reserved, once the architecture.
+    /// Reserved; formerly the architecture.
     pub const ARCHITECTURE: usize = 7;
     /// The RVA of the value for the global pointer register.
     pub const GLOBAL_POINTER: usize = 8;

@@ -13,7 +13,7 @@ use crate::section::SectionHeader;
 use arrayvec::ArrayVec;
 use pe_view::View;
 
-/// The fields of the headers, each read by its offset, in a file that holds the whole optional header up to its
+/// The fields of the headers, each read at its offset, in a file long enough for the optional header's fields before its
 /// directories.
 #[derive(Clone, Copy)]
 pub(crate) struct Fields<'a> {
@@ -25,7 +25,7 @@ pub(crate) struct Fields<'a> {
     ghost inside: { optional_start (bytes_of view) + fixed_size (bytes_of view) ≤ size_of view },
 }
 
-/// The number in 2 bytes that the file holds.
+/// The number in 2 bytes inside the file.
 pub(crate) fn u16_in(view: View, offset: u64) -> u16
     requires { offset + 2 ≤ size_of view }
     ensures { result ≡ num (byte_of (bytes_of view.entry)) offset 2 }
@@ -33,7 +33,7 @@ pub(crate) fn u16_in(view: View, offset: u64) -> u16
     view.u16_at(offset).unwrap()
 }
 
-/// The number in 4 bytes that the file holds.
+/// The number in 4 bytes inside the file.
 pub(crate) fn u32_in(view: View, offset: u64) -> u32
     requires { offset + 4 ≤ size_of view }
     ensures { result ≡ num (byte_of (bytes_of view.entry)) offset 4 }
@@ -41,7 +41,7 @@ pub(crate) fn u32_in(view: View, offset: u64) -> u32
     view.u32_at(offset).unwrap()
 }
 
-/// The number in 8 bytes that the file holds.
+/// The number in 8 bytes inside the file.
 fn u64_in(view: View, offset: u64) -> u64
     requires { offset + 8 ≤ size_of view }
     ensures { result ≡ num (byte_of (bytes_of view.entry)) offset 8 }
@@ -49,7 +49,7 @@ fn u64_in(view: View, offset: u64) -> u64
     view.u64_at(offset).unwrap()
 }
 
-/// The 8 bytes of a section's name that the file holds.
+/// The 8 bytes of a section's name, which are inside the file.
 fn name_in(view: View, offset: u64) -> [u8; 8]
     requires { offset + 8 ≤ size_of view }
     ensures { result ≡ part (bytes_of view.entry) offset 8 }
@@ -80,7 +80,7 @@ impl<'a> Fields<'a> {
         self.offset
     }
 
-    /// A field of 2 bytes of the COFF header.
+    /// A 2-byte field of the COFF header.
     pub fn coff_u16(&self, offset: u64) -> u16
         requires { offset + 2 ≤ 20 }
         ensures { result ≡ coff_field (bytes_of self.now.view) offset 2 }
@@ -88,7 +88,7 @@ impl<'a> Fields<'a> {
         u16_in(self.view, u64::from(self.offset) + 4 + offset)
     }
 
-    /// A field of 4 bytes of the COFF header.
+    /// A 4-byte field of the COFF header.
     pub fn coff_u32(&self, offset: u64) -> u32
         requires { offset + 4 ≤ 20 }
         ensures { result ≡ coff_field (bytes_of self.now.view) offset 4 }
@@ -96,7 +96,7 @@ impl<'a> Fields<'a> {
         u32_in(self.view, u64::from(self.offset) + 4 + offset)
     }
 
-    /// Where what stands so many bytes behind the optional header's beginning is in the file.
+    /// The file offset of the byte at `offset` of the optional header.
     fn optional(&self, offset: u64) -> u64
         requires { offset < 2 ^ 32 }
         ensures { result ≡ optional_start (bytes_of self.now.view) + offset }
@@ -104,7 +104,7 @@ impl<'a> Fields<'a> {
         u64::from(self.offset) + 24 + offset
     }
 
-    /// A field of 1 byte that stands at one offset in both forms of the optional header.
+    /// A 1-byte field at the same offset in PE32 and PE32+.
     pub fn u8_at(&self, offset: u64) -> u8
         requires { offset + 1 ≤ 96 }
         ensures { result ≡ field (bytes_of self.now.view) offset 1 }
@@ -112,7 +112,7 @@ impl<'a> Fields<'a> {
         self.view.slice(self.optional(offset), 1).unwrap()[0]
     }
 
-    /// A field of 2 bytes that stands at one offset in both forms of the optional header.
+    /// A 2-byte field at the same offset in PE32 and PE32+.
     pub fn u16_at(&self, offset: u64) -> u16
         requires { offset + 2 ≤ 96 }
         ensures { result ≡ field (bytes_of self.now.view) offset 2 }
@@ -120,7 +120,7 @@ impl<'a> Fields<'a> {
         u16_in(self.view, self.optional(offset))
     }
 
-    /// A field of 4 bytes that stands at one offset in both forms of the optional header.
+    /// A 4-byte field at the same offset in PE32 and PE32+.
     pub fn u32_at(&self, offset: u64) -> u32
         requires { offset + 4 ≤ 96 }
         ensures { result ≡ field (bytes_of self.now.view) offset 4 }
@@ -128,7 +128,7 @@ impl<'a> Fields<'a> {
         u32_in(self.view, self.optional(offset))
     }
 
-    /// A field of 4 bytes at one of two offsets.
+    /// A 4-byte field at `offset` in PE32, and at `plus_offset` in PE32+.
     pub fn u32_either(&self, offset: u64, plus_offset: u64) -> u32
         requires fits { offset + 4 ≤ 96 }
         requires plus_fits { plus_offset + 4 ≤ 112 }
@@ -140,7 +140,7 @@ impl<'a> Fields<'a> {
         }
     }
 
-    /// A field of 4 bytes in PE32 and of 8 bytes in PE32+.
+    /// A field of 4 bytes in PE32 and 8 bytes in PE32+.
     pub fn u64_either(&self, offset: u64, plus_offset: u64) -> u64
         requires fits { offset + 4 ≤ 96 }
         requires plus_fits { plus_offset + 8 ≤ 112 }
@@ -152,14 +152,14 @@ impl<'a> Fields<'a> {
         }
     }
 
-    /// The bytes of the laid-out image.
+    /// The size of the laid-out image in bytes.
     pub fn size_of_image(&self) -> u32
         ensures { result ≡ field (bytes_of self.now.view) 56 4 }
     {
         self.u32_at(56)
     }
 
-    /// The bytes of the headers, as a piece of the laid-out image.
+    /// How many bytes of the laid-out image are headers.
     pub fn size_of_headers(&self) -> u32
         ensures { result ≡ field (bytes_of self.now.view) 60 4 }
     {
@@ -176,7 +176,7 @@ impl<'a> Fields<'a> {
         }
     }
 
-    /// Directory `index`, which the file holds.
+    /// Directory `index`, which is inside the file.
     fn directory(&self, index: u64) -> Directory
         requires small { index < 16 }
         requires held { optional_start (bytes_of self.now.view) + fixed_size (bytes_of self.now.view) + 8 * index + 8 ≤ size_of self.now.view }
@@ -189,7 +189,7 @@ impl<'a> Fields<'a> {
         }
     }
 
-    /// The header of section `index`, which the file holds.
+    /// The header of section `index`, which is inside the file.
     fn section(&self, index: u64) -> SectionHeader
         requires small { index < 96 }
         requires held { section_start (bytes_of self.now.view) (index + 1) ≤ size_of self.now.view }
@@ -236,7 +236,7 @@ impl<'a> Fields<'a> {
         sections
     }
 
-    /// All the headers, where the file holds the directories and the section table.
+    /// All headers of a file that has the directories and the section table.
     pub fn headers(&self) -> Headers
         requires directories { optional_start (bytes_of self.now.view) + fixed_size (bytes_of self.now.view) + 8 * directory_count (bytes_of self.now.view) ≤ size_of self.now.view }
         requires few { coff_field (bytes_of self.now.view) 2 2 ≤ 96 }

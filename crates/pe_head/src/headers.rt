@@ -7,8 +7,8 @@ use crate::optional::Magic;
 use crate::section::SectionHeader;
 use arrayvec::ArrayVec;
 
-/// Every field of an image's headers, in the order of "PE Format", with the greater of two widths where PE32 and PE32+
-/// differ. Offsets and sizes count bytes.
+/// Every field of an image's headers, in the order of "PE Format"; fields that are wider in PE32+ have that width. Offsets and
+/// sizes count bytes.
 #[derive(Debug, Drop)]
 pub struct Headers {
     /// The form of the optional header.

@@ -1,7 +1,7 @@
 //! The headers of an image: the COFF header, the optional header of PE32 and PE32+, the data directories and the section
 //! table.
 //!
-//! [`read_headers`] reads them all or answers the least of faults 1 to 12; it takes no memory:
+//! [`read_headers`] reads them all or returns the first of faults 1 to 12; it allocates nothing:
 //!
 //! ```text
 //! let headers = read_headers(View::new(file), 0)?;

@@ -1,4 +1,4 @@
-//! The names of values and flags, in the words of "PE Format".
+//! The names of values and flags, as "PE Format" has them.
 
 ghost use Rattle.std.specs.Prelude.{◌≡◌, ◌==◌, option_map, map};
 ghost use Rattle.std.specs.List.{find};
@@ -191,14 +191,14 @@ static DIRECTORIES: [Named; 16] = [
     (directory_index::RESERVED as u32, "reserved"),
 ];
 
-/// The row of a value among these.
+/// The row with this value.
 fn row_of(names: &'static [Named], value: u32) -> Option<&'static Named>
     ensures { option_map (λ row. row.now) result ≡ find (λ row. row.0 == value) names.now }
 {
     names.iter().find(|row| row.0 == value)
 }
 
-/// The name of a value in a table of names, and `None` of a value that is not there.
+/// The name of a value in a table of names, or `None` if it has none.
 #[tactic(auto, using(crate::proofs::Named::named))]
 pub fn name_among(names: &'static [Named], value: u32) -> Option<&'static str>
     ensures { option_map (λ name. name.now) result ≡ name_in (map name_view names.now) value }
@@ -209,43 +209,43 @@ pub fn name_among(names: &'static [Named], value: u32) -> Option<&'static str>
     }
 }
 
-/// The name of a machine, as `AMD64`, and `None` of a value that "PE Format" does not name.
+/// The name of a machine, like `AMD64`, or `None` if "PE Format" has none for this value.
 pub fn machine_name(machine: u16) -> Option<&'static str>
     ensures { option_map (λ name. name.now) result ≡ name_in machine_names machine }
 {
     name_among(&MACHINES, u32::from(machine))
 }
 
-/// The name of a subsystem, as `WINDOWS_GUI`, and `None` of a value that "PE Format" does not name.
+/// The name of a subsystem, like `WINDOWS_GUI`, or `None` if "PE Format" has none for this value.
 pub fn subsystem_name(subsystem: u16) -> Option<&'static str>
     ensures { option_map (λ name. name.now) result ≡ name_in subsystem_names subsystem }
 {
     name_among(&SUBSYSTEMS, u32::from(subsystem))
 }
 
-/// The name of one flag of Characteristics, as `DLL`, and `None` where "PE Format" names none.
+/// The name of one flag of Characteristics, like `DLL`, or `None` if "PE Format" has none.
 pub fn characteristic_name(flag: u16) -> Option<&'static str>
     ensures { option_map (λ name. name.now) result ≡ name_in characteristic_names flag }
 {
     name_among(&CHARACTERISTICS, u32::from(flag))
 }
 
-/// The name of one flag of DllCharacteristics, as `NX_COMPAT`, and `None` where "PE Format" names none.
+/// The name of one flag of DllCharacteristics, like `NX_COMPAT`, or `None` if "PE Format" has none.
 pub fn dll_characteristic_name(flag: u16) -> Option<&'static str>
     ensures { option_map (λ name. name.now) result ≡ name_in dll_characteristic_names flag }
 {
     name_among(&DLL_CHARACTERISTICS, u32::from(flag))
 }
 
-/// The name of one flag of a section, as `MEM_READ`, and `None` where "PE Format" names none. The alignment of an object's
-/// section, bits 20 to 23, is a number and has none.
+/// The name of one flag of a section, like `MEM_READ`, or `None` if "PE Format" has none. Bits 20 to 23, the alignment of an
+/// object's section, are a number and have no name.
 pub fn section_flag_name(flag: u32) -> Option<&'static str>
     ensures { option_map (λ name. name.now) result ≡ name_in section_flag_names flag }
 {
     name_among(&SECTION_FLAGS, flag)
 }
 
-/// What the table of a directory is called, as `base relocation`, and `None` from index 16 on.
+/// The name of a directory's table, like `base relocation`, or `None` from index 16 on.
 pub fn directory_name(index: u32) -> Option<&'static str>
     ensures { option_map (λ name. name.now) result ≡ name_in directory_names index }
 {

@@ -1,11 +1,11 @@
-//! `Magic`: the two forms of the optional header; and values of its Subsystem and DllCharacteristics fields.
+//! `Magic`: the two forms of the optional header; and values of its fields Subsystem and DllCharacteristics.
 
-/// Which of the two forms the optional header has ("PE Format", Optional Header).
+/// The form of the optional header ("PE Format", Optional Header).
 #[derive(Clone, Copy, Debug, PartialEq, Eq)]
 pub enum Magic {
-    /// PE32, of 32-bit addresses: the Magic field is 0x10b.
+    /// PE32, with 32-bit addresses: the field Magic is 0x10b.
     Pe32,
-    /// PE32+, of 64-bit addresses: the Magic field is 0x20b.
+    /// PE32+, with 64-bit addresses: the field Magic is 0x20b.
     Pe32Plus,
 }
 
@@ -13,7 +13,7 @@ impl Magic {
     ghost use Rattle.std.specs.Prelude.{◌≡◌};
     ghost use Rattle.pe_head.specs.Optional.{fixed_size_of, image_base_offset, image_base_width};
 
-    /// How many bytes of the optional header come before its data directories: 96 or 112.
+    /// The size in bytes of the optional header before its data directories: 96 or 112.
     pub fn fixed_size(self) -> u64
         ensures { result ≡ fixed_size_of self }
     {
@@ -23,7 +23,7 @@ impl Magic {
         }
     }
 
-    /// Where the field ImageBase stands, in bytes from the optional header's beginning on: 28 or 24.
+    /// The offset of ImageBase in the optional header: 28 or 24.
     pub fn image_base_offset(self) -> u64
         ensures { result ≡ image_base_offset self }
     {
@@ -33,7 +33,7 @@ impl Magic {
         }
     }
 
-    /// How many bytes the field ImageBase has: 4 or 8.
+    /// The size of ImageBase in bytes: 4 or 8.
     pub fn image_base_width(self) -> u64
         ensures { result ≡ image_base_width self }
     {
@@ -46,19 +46,19 @@ impl Magic {
 
 /// Values of the optional header's Subsystem field ("PE Format", Windows Subsystem).
 pub mod subsystem {
-    /// None is known.
+    /// An unknown subsystem.
     pub const UNKNOWN: u16 = 0;
-    /// Device drivers and native processes of Windows.
+    /// Device drivers and native Windows processes.
     pub const NATIVE: u16 = 1;
-    /// Windows with windows.
+    /// The Windows graphical user interface.
     pub const WINDOWS_GUI: u16 = 2;
-    /// Windows with a console.
+    /// The Windows console.
     pub const WINDOWS_CUI: u16 = 3;
-    /// OS/2 with a console.
+    /// The OS/2 console.
     pub const OS2_CUI: u16 = 5;
-    /// POSIX with a console.
+    /// The POSIX console.
     pub const POSIX_CUI: u16 = 7;
-    /// A native driver of Windows 9x.
+    /// A native Windows 9x driver.
     pub const NATIVE_WINDOWS: u16 = 8;
     /// Windows CE.
     pub const WINDOWS_CE_GUI: u16 = 9;
@@ -66,38 +66,38 @@ pub mod subsystem {
     pub const EFI_APPLICATION: u16 = 10;
     /// An EFI driver with boot services.
     pub const EFI_BOOT_SERVICE_DRIVER: u16 = 11;
-    /// An EFI driver with services at run time.
+    /// An EFI driver with run-time services.
     pub const EFI_RUNTIME_DRIVER: u16 = 12;
-    /// An EFI image in ROM.
+    /// An EFI ROM image.
     pub const EFI_ROM: u16 = 13;
     /// XBOX.
     pub const XBOX: u16 = 14;
-    /// An application that boots Windows.
+    /// A Windows boot application.
     pub const WINDOWS_BOOT_APPLICATION: u16 = 16;
 }
 
 /// Flags of the optional header's DllCharacteristics field ("PE Format", DLL Characteristics).
 pub mod dll_characteristic {
-    /// The image can handle addresses of 64 bits that are chosen at random.
+    /// The image can handle a 64-bit address space with high-entropy randomization.
     pub const HIGH_ENTROPY_VA: u16 = 0x0020;
-    /// The image can be moved when it is loaded.
+    /// The image can be relocated at load time.
     pub const DYNAMIC_BASE: u16 = 0x0040;
-    /// Its signature is always checked.
+    /// Code integrity checks are enforced.
     pub const FORCE_INTEGRITY: u16 = 0x0080;
-    /// Its data need not be run.
+    /// The image is compatible with non-executable data.
     pub const NX_COMPAT: u16 = 0x0100;
-    /// It is aware of isolation, but is not to be isolated.
+    /// The image is aware of isolation, but must not be isolated.
     pub const NO_ISOLATION: u16 = 0x0200;
-    /// It has no handlers of structured exceptions.
+    /// The image does not use structured exception handling.
     pub const NO_SEH: u16 = 0x0400;
-    /// It is not to be bound.
+    /// The image must not be bound.
     pub const NO_BIND: u16 = 0x0800;
-    /// It has to run in an app container.
+    /// The image must run in an AppContainer.
     pub const APPCONTAINER: u16 = 0x1000;
-    /// It is a WDM driver.
+    /// The image is a WDM driver.
     pub const WDM_DRIVER: u16 = 0x2000;
-    /// It supports control flow guard.
+    /// The image supports Control Flow Guard.
     pub const GUARD_CF: u16 = 0x4000;
-    /// It is aware of the terminal server.
+    /// The image is aware of Terminal Server.
     pub const TERMINAL_SERVER_AWARE: u16 = 0x8000;
 }

@@ -1,4 +1,4 @@
-//! `read_headers`: the headers of an image, or the least of faults 1 to 12.
+//! `read_headers`: the headers of an image, or the first of faults 1 to 12.
 
 ghost use Rattle.std.specs.Prelude.{◌≡◌, ◌+◌, ◌≤◌, ◌*◌, take, drop, slice_range, OnOk, ⊤};
 ghost use Rattle.pe_view.specs.View.{bytes_of, size_of};
@@ -11,19 +11,19 @@ use crate::headers::Headers;
 use crate::optional::Magic;
 use pe_view::{Fault, Place, View};
 
-/// The most bytes that a file may have: 2^32.
+/// The greatest size of a file in bytes: 2^32.
 const FILE_LIMIT: u64 = 0x1_0000_0000;
 
-/// The most bytes that a laid-out image may have: 2^31.
+/// The greatest size of a laid-out image in bytes: 2^31.
 const IMAGE_LIMIT: u32 = 0x8000_0000;
 
-/// The most sections that an image may have.
+/// The greatest number of sections.
 const SECTION_LIMIT: u16 = 96;
 
-/// `MZ`, which begins the file.
+/// `MZ`, the first two bytes of the file.
 const DOS_MAGIC: u16 = 0x5a4d;
 
-/// `PE\0\0`, which stands before the COFF header.
+/// `PE\0\0`, before the COFF header.
 const SIGNATURE: u32 = 0x4550;
 
 fn file_fault(number: u16, image: u16, offset: u64) -> Fault
@@ -36,7 +36,7 @@ fn file_fault(number: u16, image: u16, offset: u64) -> Fault
     }
 }
 
-/// Where the signature stands, unless one of faults 1 to 5 does.
+/// The file offset of the signature, or the first of faults 1 to 5.
 #[tactic(auto, unfolding(crate::specs::HeaderFaults::head_tests))]
 fn signature(view: View, image: u16) -> Result<u32, Fault>
     ensures exact { Answers (take 5 (head_tests image (bytes_of view.entry))) (λ offset. offset ≡ pe_offset (bytes_of view.entry)) result }
@@ -63,7 +63,7 @@ fn signature(view: View, image: u16) -> Result<u32, Fault>
     Ok(offset)
 }
 
-/// Which form the optional header has, unless one of faults 6 to 8 stands.
+/// The form of the optional header, or the first of faults 6 to 8.
 #[tactic(auto, unfolding(crate::specs::HeaderFaults::head_tests))]
 fn form(view: View, image: u16, offset: u32) -> Result<Magic, Fault>
     requires start { offset ≡ pe_offset (bytes_of view) }
@@ -91,7 +91,7 @@ fn form(view: View, image: u16, offset: u32) -> Result<Magic, Fault>
     Ok(magic)
 }
 
-/// Where the section table ends, unless one of faults 9 and 10 stands.
+/// Where the section table ends in the file, or the first of faults 9 and 10.
 #[tactic(auto, unfolding(crate::specs::HeaderFaults::head_tests))]
 fn table_end(view: View, image: u16, offset: u32) -> Result<u64, Fault>
     requires start { offset ≡ pe_offset (bytes_of view) }
@@ -113,7 +113,7 @@ fn table_end(view: View, image: u16, offset: u32) -> Result<u64, Fault>
     Ok(end)
 }
 
-/// That neither of faults 11 and 12 stands.
+/// Ok if neither fault 11 nor 12 holds.
 #[tactic(auto, unfolding(crate::specs::HeaderFaults::head_tests))]
 fn check_sizes(view: View, image: u16, fields: &Fields, table_end: u64) -> Result<(), Fault>
     requires same { fields.now.view ≡ view }
@@ -135,10 +135,10 @@ fn check_sizes(view: View, image: u16, fields: &Fields, table_end: u64) -> Resul
     Ok(())
 }
 
-/// The headers of a file, or the least of faults 1 to 12 that stands, named by the number `image`.
+/// The headers of a file, or the first of faults 1 to 12, whose image is the number `image`.
 ///
-/// A fault is asked only where no fault of a smaller number stands. Takes no memory. ("PE Format": MS-DOS Stub, Signature,
-/// COFF File Header, Optional Header, Section Table.)
+/// A fault is tested only if no fault with a smaller number holds. Allocates nothing. ("PE Format": MS-DOS Stub, Signature, COFF
+/// File Header, Optional Header, Section Table.)
 pub fn read_headers(view: View, image: u16) -> Result<Headers, Fault>
     ensures { Answers (head_tests image (bytes_of view.entry)) (λ headers. headers ≡ head_of (bytes_of view.entry)) result }
 {
@@ -147,6 +147,6 @@ pub fn read_headers(view: View, image: u16) -> Result<Headers, Fault>
     let table_end = table_end(view, image, offset)?;
     let fields = Fields::new(view, offset, magic);
     check_sizes(view, image, &fields, table_end)?;
-    // the headers are made once no fault is left, so that no answer drops them
+    // The large `Headers` are made only once no fault is left, so that no early return has to drop them.
     Ok(fields.headers())
 }

@@ -1,4 +1,4 @@
-//! `SectionHeader`: a row of the section table, with how many bytes it takes in the image and in the file; and its flags.
+//! `SectionHeader`: a row of the section table, with its sizes in the image and in the file; and its flags.
 
 /// A row of the section table ("PE Format", Section Table). Sizes count bytes.
 #[derive(Clone, Copy, Debug, Default, PartialEq, Eq)]
@@ -27,23 +27,23 @@ pub struct SectionHeader {
 
 /// Flags of a section ("PE Format", Section Flags).
 pub mod section_flag {
-    /// Once: the section is not filled up to the next boundary.
+    /// Obsolete: do not pad the section to the next boundary.
     pub const TYPE_NO_PAD: u32 = 0x0000_0008;
-    /// The section has code.
+    /// The section contains code.
     pub const CODE: u32 = 0x0000_0020;
-    /// The section has initialized data.
+    /// The section contains initialized data.
     pub const INITIALIZED_DATA: u32 = 0x0000_0040;
-    /// The section has uninitialized data.
+    /// The section contains uninitialized data.
     pub const UNINITIALIZED_DATA: u32 = 0x0000_0080;
     /// Reserved.
     pub const LNK_OTHER: u32 = 0x0000_0100;
-    /// The section has comments for the linker.
+    /// The section contains comments for the linker.
     pub const LNK_INFO: u32 = 0x0000_0200;
-    /// The section is no part of the image.
+    /// The section does not become part of the image.
     pub const LNK_REMOVE: u32 = 0x0000_0800;
-    /// The section has COMDAT data.
+    /// The section contains COMDAT data.
     pub const LNK_COMDAT: u32 = 0x0000_1000;
-    /// The section has data that are referred to by the global pointer.
+    /// The section contains data referenced through the global pointer.
     pub const GPREL: u32 = 0x0000_8000;
     /// Reserved.
     pub const PURGEABLE: u32 = 0x0002_0000;
@@ -51,17 +51,17 @@ pub mod section_flag {
     pub const LOCKED: u32 = 0x0004_0000;
     /// Reserved.
     pub const PRELOAD: u32 = 0x0008_0000;
-    /// The number of relocations stands in the first of them.
+    /// The number of relocations is in the first of them.
     pub const LNK_NRELOC_OVFL: u32 = 0x0100_0000;
     /// The section can be discarded when it is no longer needed.
     pub const DISCARDABLE: u32 = 0x0200_0000;
     /// The section cannot be cached.
     pub const NOT_CACHED: u32 = 0x0400_0000;
-    /// The section is not to be paged.
+    /// The section is not pageable.
     pub const NOT_PAGED: u32 = 0x0800_0000;
-    /// The section is one in memory for all processes.
+    /// The section is shared in memory.
     pub const SHARED: u32 = 0x1000_0000;
-    /// The section can be run.
+    /// The section can be executed as code.
     pub const EXECUTE: u32 = 0x2000_0000;
     /// The section can be read.
     pub const READ: u32 = 0x4000_0000;
@@ -73,7 +73,7 @@ impl SectionHeader {
     ghost use Rattle.std.specs.Prelude.{◌≡◌};
     ghost use Rattle.pe_head.specs.Section.{extent, rawlen};
 
-    /// How many bytes of the laid-out image the section takes: VirtualSize, or SizeOfRawData where VirtualSize is 0.
+    /// The section's size in the laid-out image: VirtualSize, or SizeOfRawData if VirtualSize is 0.
     pub fn extent(&self) -> u32
         ensures { result ≡ extent self.now }
     {
@@ -84,8 +84,8 @@ impl SectionHeader {
         }
     }
 
-    /// How many of these bytes, from the first on, come from the file: none where PointerToRawData is 0, else as many as
-    /// both the extent and SizeOfRawData have.
+    /// How many of these bytes, from the first on, come from the file: 0 if PointerToRawData is 0, otherwise the smaller of the
+    /// extent and SizeOfRawData.
     pub fn rawlen(&self) -> u32
         ensures { result ≡ rawlen self.now }
     {

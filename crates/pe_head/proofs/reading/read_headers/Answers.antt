@@ -1,4 +1,4 @@
--- The faults of each part of the table, one part after the other.
+-- The header faults, part by part of the list.
 use Rattle.std.proofs.Common.{◌∙◌, ap, lit≤}
 use Rattle.std.proofs.lemmas.Result.{err_from_is_err_and}
 use Rattle.pe_view.specs.View.{bytes_of}

@@ -1,4 +1,4 @@
--- Each field is what its reading answers.
+-- Each field is what reading it returns.
 use Rattle.std.proofs.Common.{◌≡◌, ◌∙◌, ℕ, map, ap, rules}
 use Rattle.std.specs.List.{range_with_len}
 use Rattle.pe_view.specs.View.{bytes_of}
