@@ -1,4 +1,4 @@
--- What is true of an image without faults 1 to 15.
+-- Facts about an image without faults 1 to 15.
 use Rattle.std.proofs.Common.{◌≡◌, ℕ, ◌^◌, ◌≤◌, List, length, None}
 use Rattle.pe_view.specs.Faults.{first_standing}
 use Rattle.pe_view.specs.FirstStanding.{none-append}

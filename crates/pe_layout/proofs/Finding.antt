@@ -24,7 +24,7 @@ module _ {X : Type 0} (p : X → Bool) (xs : List X) where
   pub first_passes : (i : ℕ) (d : X) → i < length xs → ((k : ℕ) → k < i → p (get_or xs k d) ≡ false) → p (get_or xs i d) ≡ true → (find p xs ≡ Some (get_or xs i d)) × (position p xs ≡ Some i)
   first_passes i d lt before here = found i d lt (position_or_len_is p xs i d (omega arith) before (λ _. here))
 
-  -- either way the element and its index are found together
+  -- the element and its index are found together or not at all
   pub found_both : ((find p xs ≡ None) × (position p xs ≡ None)) ⊎ ((i : ℕ) × ((x : X) × (find p xs ≡ Some x) × (position p xs ≡ Some i)))
   found_both =
       let i : ℕ = position_or_len p xs in
@@ -58,7 +58,7 @@ module _ (h : Headers) (size : ℕ) (placed : AllPlaced h size 0 h.sections.item
       (λ j below. past k (get_or h.sections.items j d) (let a = placed.apart j i d below lt in omega arith))
       (holds_in k (get_or h.sections.items i d) inside.low inside.high)
 
-  -- an RVA lies in section i
+  -- an RVA is in section i
   pub in_section : (i r : ℕ) (d : SectionHeader) → i < length h.sections.items → IsIn r (get_or h.sections.items i d) → IsInSectionAt h size r i (get_or h.sections.items i d)
   in_section i r d lt inside = record {
     index = (section_at i r d lt inside).1;
@@ -77,7 +77,7 @@ module _ (h : Headers) (size : ℕ) (placed : AllPlaced h size 0 h.sections.item
     | inr above ↦ short_of k (get_or h.sections.items j d) (after j above lt)
   ])
 
-  -- an RVA lies in the gap before section i
+  -- an RVA is in the gap before section i
   pub in_gap : (i r : ℕ) (d : SectionHeader) → i < length h.sections.items → ((j : ℕ) → j < i → end_of (get_or h.sections.items j d) ≤ r) → r < (get_or h.sections.items i d).virtual_address
       → IsInGap h r (get_or h.sections.items i d).virtual_address
   in_gap i r d lt before below =
@@ -89,7 +89,7 @@ module _ (h : Headers) (size : ℕ) (placed : AllPlaced h size 0 h.sections.item
         inside = let e = (placed.each i d lt).ends in omega arith;
       }
 
-  -- an RVA lies in the gap behind all sections
+  -- an RVA is in the gap after all sections
   pub in_last_gap : (r : ℕ) (d : SectionHeader) → ((j : ℕ) → j < length h.sections.items → end_of (get_or h.sections.items j d) ≤ r) → r < h.size_of_image → IsInGap h r h.size_of_image
   in_last_gap r d before below =
       let none = λ (k : ℕ) (le : r ≤ k). no_section (length h.sections.items) k d (λ j first. let b = before j first in omega arith) (λ j later inside. absurd (omega arith)) in

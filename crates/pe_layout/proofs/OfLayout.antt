@@ -1,4 +1,4 @@
--- What a layout's ghost fields say of its sections.
+-- What the ghost fields of a layout mean for its sections.
 use Rattle.pe_view.specs.View.{size_of}
 use Rattle.pe_layout.specs.declared.layout.Layout.{Layout}
 use Rattle.pe_layout.proofs.Placed.{AllPlaced, all_placed}

@@ -1,11 +1,11 @@
--- Bytes that a function gives place by place, as parts of a file and as zeros.
+-- Bytes given by a function of their place, as parts of a file and as zeros.
 use Rattle.std.proofs.Common.{◌≡◌, ℕ, zero, suc, ◌+◌, ◌<◌, ◌≤◌, List, [], ◌∷◌, ◌++◌, length, get_or, take, drop, Option, Some, None, refl, ap, ◌∙◌, arith}
 use Rattle.std.specs.Prelude.{map, replicate, option_map}
 use Rattle.std.specs.List.{range_with_len}
 use Rattle.std.proofs.lemmas.List.{drop_more}
 use Rattle.pe_view.specs.Text.{zero_ended}
 
--- bytes that are those of a part of the file
+-- bytes that are a part of the file
 pub map_is_part : (g : ℕ → ℕ) (file : List ℕ) (r o n : ℕ) → (0 < n → o + n ≤ length file) → ((k : ℕ) → k < n → g (r + k) ≡ get_or file (o + k) 0) → map g (range_with_len r n) ≡ take n (drop o file)
 map_is_part g file r o zero fits same = refl
 map_is_part g file r o (suc n) held same =
@@ -27,7 +27,7 @@ map_split g r (suc m) n =
     let e : r + 1 + m ≡ r + suc m = omega arith in
     rw (k, map_split g (r + 1) m n, e) refl
 
--- a text that runs into zeros
+-- a string that may run into zeros
 abbrev pub with_zeros : Option (List ℕ) → List ℕ → ℕ → Option (List ℕ)
 with_zeros (Some text) bytes n = Some text
 with_zeros None bytes zero = None

@@ -17,13 +17,13 @@ use Rattle.pe_layout.specs.Locating.{located, located_in, located_byte}
 use Rattle.pe_layout.proofs.Placed.{AllPlaced, all_placed, no_header}
 use Rattle.pe_layout.proofs.Finding.{in_section, none_passes, found_both}
 
--- the byte at an RVA behind the headers
+-- the byte at an RVA after the headers
 pub plain-behind : (h : Headers) (file : List ℕ) (r : ℕ) (s : Option SectionHeader) → h.size_of_headers ≤ r → section_of h r ≡ s → plain h file r ≡ section_byte file r s
 plain-behind h file r s le is =
     let test : nat_lt r h.size_of_headers ≡ false = le-ltb _ _ le in
     rw (test, is) refl
 
--- a section of the table in which an RVA lies
+-- a section of the table that contains an RVA
 section_found : (h : Headers) (size : ℕ) → AllPlaced h size 0 h.sections.items → (r k : ℕ) (s : SectionHeader) → slice_get h.sections.items k ≡ Some s → IsIn r s
     → (h.size_of_headers ≤ r) × (section_of h r ≡ Some s)
 section_found h size placed r k s at inside =
@@ -72,7 +72,7 @@ byte_at : (file : List ℕ) (b : Bool) (r byte : ℕ) (behind : Located) → loc
 byte_at file true r byte behind e = refl
 byte_at file false r byte behind e = e
 
--- what stands at an RVA says which byte it is
+-- what is at an RVA determines the byte there
 pub located-plain : (h : Headers) (file : List ℕ) (r : ℕ) → r < h.size_of_image → located_byte file (located h r) ≡ Some (plain h file r)
 located-plain h file r lt =
     let inside : nat_le h.size_of_image r ≡ false = lt-leb _ _ lt in

@@ -12,7 +12,7 @@ use Rattle.pe_layout.specs.Piece.{end_of}
 use Rattle.pe_layout.specs.SectionFaults.{section_tests, sections_tests}
 use Rattle.pe_layout.specs.Sections.{LieApart}
 
--- a section of which none of faults 13 to 15 stands, behind one that ends at `before`
+-- a section with none of faults 13 to 15, after one that ends at `before`
 pub record IsPlaced (h : Headers) (size before : ℕ) (s : SectionHeader) : Type 0 where
   pub raw : 0 < rawlen s → s.pointer_to_raw_data + rawlen s ≤ size
   pub ends : end_of s ≤ h.size_of_image
@@ -30,7 +30,7 @@ placed image h size before i s none =
       behind = ltb-false _ _ low_test.1;
     }
 
--- all sections are placed, and each begins where the one before it has ended
+-- all sections are placed, and each begins at or after the end of the one before
 pub record AllPlaced (h : Headers) (size before : ℕ) (ss : List SectionHeader) : Type 0 where
   pub each : (k : ℕ) (d : SectionHeader) → k < length ss → IsPlaced h size before (get_or ss k d)
   pub apart : (j k : ℕ) (d : SectionHeader) → j < k → k < length ss → end_of (get_or ss j d) ≤ (get_or ss k d).virtual_address
@@ -58,13 +58,13 @@ all_placed image h size before i (s ∷ ss) none =
     let rest = all_placed image h size (end_of s) (i + 1) ss parts.1 in
     record { each = placed_more h size before s ss p rest; apart = apart_more h size before s ss rest }
 
--- sections that lie apart begin one behind the other
+-- disjoint sections begin in ascending order
 pub starts_ascend : (ss : List SectionHeader) → LieApart ss → (i j : ℕ) (d : SectionHeader) → i ≤ j → j < length ss → (get_or ss i d).virtual_address ≤ (get_or ss j d).virtual_address
 starts_ascend ss apart i j d le lt = elim (cases_lt i j) [
   | inl below ↦ (let a = apart i j d below lt in omega arith)
   | inr above ↦ (let e : i ≡ j = omega arith in rw e (omega arith))
 ]
 
--- a header, for a list of them to be read by
+-- a header, as the default of a list of them
 pub no_header : SectionHeader
 no_header = record { name = []; virtual_size = 0; virtual_address = 0; size_of_raw_data = 0; pointer_to_raw_data = 0; pointer_to_relocations = 0; pointer_to_linenumbers = 0; number_of_relocations = 0; number_of_linenumbers = 0; characteristics = 0 }

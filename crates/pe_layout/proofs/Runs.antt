@@ -54,7 +54,7 @@ module _ (h : Headers) (file : List ℕ) (s : SectionHeader) where
       let place : s.pointer_to_raw_data + (r' + k - s.virtual_address) ≡ offset + k = omega arith in
       plain-behind h file (r' + k) (Some s) (omega arith) (found.section (r' + k) here) ∙ rw (test, place) refl)
 
-  -- the zeros behind it, from an RVA on
+  -- the zeros after it, from an RVA on
   pub zero_bytes : (r r' n : ℕ) → h.size_of_headers ≤ r → IsInSection h (length file) r s → r ≤ r' → rawlen s ≤ r' - s.virtual_address → r' + n ≤ end_of s
       → plain_bytes h file r' n ≡ replicate n 0
   zero_bytes r r' n past found later le lt =
@@ -87,7 +87,7 @@ module _ (h : Headers) (file : List ℕ) (s : SectionHeader) where
   by_test r o m n true raw zeros = raw refl
   by_test r o m n false raw zeros = zeros refl
 
-  -- what is left of a section
+  -- what remains of a section
   pub section_run : (r : ℕ) → h.size_of_headers ≤ r → IsInSection h (length file) r s → IsRun h file r (rest_of s r)
   section_run r past found =
       let low = found.inside.low in
@@ -135,7 +135,7 @@ fill_step g rva done more old buffer rest le is next =
     ∙ ap (λ (xs : List ℕ). xs ++ rest) first ∙ ap (λ (xs : List ℕ). front ++ xs) (next ∙ ap (λ (xs : List ℕ). written ++ xs) rest_is)
     ∙ sym (append_assoc front written (drop (done + more) old)) ∙ sym (ap (λ (xs : List ℕ). xs ++ drop (done + more) old) (map_split g rva done more))
 
--- one more run is added to the first bytes
+-- one more run is appended to the first bytes
 pub push_step : (g : ℕ → ℕ) (first run new : List ℕ) (start n : ℕ) → start ≡ length first → first ≡ map g (range_with_len 0 (length first)) → map g (range_with_len start n) ≡ run → new ≡ first ++ run
     → new ≡ map g (range_with_len 0 (length new))
 push_step g first run new start n here is next added =
@@ -146,7 +146,7 @@ push_step g first run new start n here is next added =
     ∙ ap (λ (xs : List ℕ). map g (range_with_len 0 (length first)) ++ xs) (sym next ∙ ap (λ (r : ℕ). map g (range_with_len r n)) place)
     ∙ sym (map_split g 0 (length first) n) ∙ ap (λ (m : ℕ). map g (range_with_len 0 m)) (sym all)
 
--- what holds of an answer that is Ok
+-- a fact about a result that is Ok
 pub on_ok : {T E : Type 0} (r : Result T E) (P : Type 0) → (is_ok r ≡ true → P) → OnOk r P
 on_ok (Ok x) P holds = holds refl
 on_ok (Err e) P holds = tt

@@ -1,4 +1,4 @@
--- The faults of sections, one section after the other.
+-- The faults of sections, section by section.
 use Rattle.std.proofs.Common.{◌≡◌, ℕ, ◌+◌, ◌<◌, ◌≤◌, List, length, get_or, drop, Some, None, ◌∙◌}
 use Rattle.std.proofs.lemmas.List.{at_drop_more, at_drop_all}
 use Rattle.pe_view.specs.declared.fault.Fault.{Fault}

@@ -1,4 +1,4 @@
--- The texts of an image are parts of its file.
+-- The strings of an image are parts of its file.
 use Rattle.std.proofs.Common.{◌≡◌, ℕ, zero, suc, ◌+◌, ◌-◌, ◌<◌, ◌≤◌, Bool, true, false, cond, List, [], ◌++◌, length, Option, Some, None, refl, sym, ap, ◌∙◌, arith, inl, inr}
 use Rattle.std.specs.Prelude.{nat_lt, nat_le, replicate, option_map, IsSome, IfSome, if◌then◌else◌}
 use Rattle.std.specs.Option.{option_or}
@@ -17,14 +17,14 @@ use Rattle.pe_layout.specs.declared.fill.Run.TheVariants.{Raw, Zeros}
 use Rattle.pe_layout.proofs.Parts.{map_split, with_zeros, zero_ended-zeros}
 use Rattle.pe_layout.proofs.Runs.{header_run, raw_bytes, zero_bytes, rawlen_le}
 
--- the text between two offsets of the file
+-- the string between two offsets of the file
 text_between-part : (file : List ℕ) (o m : ℕ) → o + m ≤ length file → text_between file o (o + m) ≡ zero_ended (part file o m)
 text_between-part file o m fits =
     let inside : nat_le (o + m) (length file) ≡ true = le-leb _ _ fits in
     let len : o + m - o ≡ m = omega arith in
     rw (inside, len) refl
 
--- the text of the headers
+-- the string at an RVA of the headers
 pub header_text : (h : Headers) (file : List ℕ) (r : ℕ) → h.size_of_headers ≤ length file → h.size_of_headers ≤ h.size_of_image → r < h.size_of_headers → text_between file r h.size_of_headers ≡ text h file r
 header_text h file r held fits lt =
     let outside : nat_le h.size_of_image r ≡ false = lt-leb _ _ (omega arith) in
@@ -35,7 +35,7 @@ header_text h file r held fits lt =
     ap (text_between file r) end ∙ text_between-part file r m (omega arith) ∙ sym (rw (outside, inside) (ap zero_ended bytes))
 
 module _ (h : Headers) (file : List ℕ) (s : SectionHeader) (r : ℕ) (past : h.size_of_headers ≤ r) (found : IsInSection h (length file) r s) where
-  -- the text in a section's raw data, by the search for its end
+  -- the string in a section's raw data, by the search for its end
   pub raw_text : (o m n : ℕ) → r - s.virtual_address < rawlen s → o ≡ s.pointer_to_raw_data + (r - s.virtual_address) → m ≡ rawlen s - (r - s.virtual_address) → n ≡ extent s - rawlen s
       → section_text h file r (Some s) ≡ with_zeros (text_between file o (o + m)) (part file o m) n
   raw_text o m n lt at some left =
@@ -57,7 +57,7 @@ with_zeros_some bytes (suc n) lt = refl
 pub with_zeros_none : (bytes : List ℕ) (n : ℕ) → n ≡ 0 → with_zeros None bytes n ≡ None
 with_zeros_none bytes n none = rw none refl
 
--- a text that ends in zeros, if any follow
+-- a string that ends in zeros, if any follow
 pub or_zeros : (t : Option (List ℕ)) (bytes : List ℕ) (less more : ℕ) → option_or t (if nat_lt less more then Some bytes else None) ≡ with_zeros t bytes (more - less)
 or_zeros (Some text) bytes less more = refl
 or_zeros None bytes less more = elim (cases_lt less more) [
@@ -65,7 +65,7 @@ or_zeros None bytes less more = elim (cases_lt less more) [
   | inr le ↦ (let none : nat_lt less more ≡ false = le-ltb _ _ le in rw none (sym (with_zeros_none bytes (more - less) (omega (arith, le)))))
 ]
 
--- a value that is there
+-- a value that is Some
 pub some_value : {X : Type 0} (view : X → List ℕ) (o : Option X) (bytes : List ℕ) → IsSome o → IfSome o (λ x. view x ≡ bytes) → option_map view o ≡ Some bytes
 some_value view None bytes some is = absurd cc
 some_value view (Some x) bytes some is = ap Some is
@@ -74,7 +74,7 @@ raw_by_test : (b : Bool) (o m o' m' n : ℕ) → Raw o m ≡ cond b (Raw o' m') 
 raw_by_test true o m o' m' n e = (refl, cc, cc)
 raw_by_test false o m o' m' n e = absurd cc
 
--- where what is left of a section is raw data
+-- what remains of a section is raw data
 pub rest_of-raw : (s : SectionHeader) (r o m : ℕ) → Raw o m ≡ rest_of s r → (r - s.virtual_address < rawlen s) × (o ≡ s.pointer_to_raw_data + (r - s.virtual_address)) × (m ≡ rawlen s - (r - s.virtual_address))
 rest_of-raw s r o m e =
     let p = raw_by_test (nat_lt (r - s.virtual_address) (rawlen s)) o m _ _ _ e in

@@ -1,4 +1,4 @@
--- A laid-out image, as its tables see it: nothing here speaks of sections or of file offsets.
+-- A laid-out image as its tables see it, without sections and file offsets.
 use Rattle.std.specs.Prelude.{ℕ, ◌+◌, ◌%◌, ◌==◌, ◌&&◌, ◌||◌, Bool, nat_le, List, map, Option, None, Some, slice_get, option_and_then, if◌then◌else◌}
 use Rattle.std.specs.List.{range_with_len}
 use Rattle.pe_view.specs.declared.fault.Fault.{Fault}
@@ -13,25 +13,25 @@ use Rattle.pe_layout.specs.Plain.{plain}
 use Rattle.pe_layout.specs.PieceText.{text}
 
 pub record LaidOut : Type 0 where
-  pub number : ℕ  -- the number that its faults bear
+  pub number : ℕ  -- the number by which its faults name it
   pub size : ℕ  -- SizeOfImage
   pub byte : ℕ → ℕ  -- the laid-out byte at each RVA below the size
-  pub text : ℕ → Option (List ℕ)  -- the zero-ended text at an RVA, where there is one
-  pub directory : ℕ → Option Directory  -- the directory of an index, where it is present
-  pub slot_width : ℕ  -- how many bytes an import address takes
+  pub text : ℕ → Option (List ℕ)  -- the zero-terminated string at an RVA, if there is one
+  pub directory : ℕ → Option Directory  -- the directory of an index, if its table is present
+  pub slot_width : ℕ  -- the size of an import address table entry
   pub image_base : ℕ
-  pub is_stripped : Bool  -- RELOCS_STRIPPED: it must stand at its ImageBase
+  pub is_stripped : Bool  -- RELOCS_STRIPPED: it must be loaded at its ImageBase
 
--- The directory of an index, where it is present: one that the headers hold, whose RVA is not 0. That of the base
--- relocations, number 5, is absent too where its Size is 0.
+-- The directory of an index, if present: one that the headers hold, whose RVA is not 0. The base relocation directory, index 5, is
+-- also absent if its Size is 0.
 abbrev pub directory_of : Headers → ℕ → Option Directory
 directory_of h i = option_and_then (λ d. if d.rva == 0 || (i == 5 && d.size == 0) then None else Some d) (slice_get h.directories.items i)
 
--- a slot holds an address, as ImageBase does
+-- an import address table entry has the width of an address, as ImageBase has
 abbrev pub slot_width_of : Magic → ℕ
 slot_width_of = image_base_width
 
--- the image that headers and a file lay out, under a number
+-- the image, with a number, that headers and a file lay out
 abbrev pub image_from : ℕ → Headers → List ℕ → LaidOut
 image_from number h file = record {
   number = number;
@@ -56,7 +56,7 @@ bytes_at i rva len = map i.byte (range_with_len rva len)
 abbrev pub number_at : ℕ → LaidOut → ℕ → ℕ
 number_at width i rva = num i.byte rva width
 
--- `len` bytes at an RVA are in the image
+-- `len` bytes at an RVA are inside the image
 abbrev pub is_inside : LaidOut → ℕ → ℕ → Bool
 is_inside i rva len = nat_le (rva + len) i.size
 

@@ -1,4 +1,4 @@
--- What a layout shows.
+-- A layout as contracts see it.
 use Rattle.std.specs.Prelude.{◌≡◌, ◌≤◌, ◌^◌, ℕ, List}
 use Rattle.pe_view.specs.View.{bytes_of}
 use Rattle.pe_head.specs.Head.{head_of}
@@ -14,7 +14,7 @@ headers_of l = l.headers
 abbrev pub file_of : Layout → List ℕ
 file_of l = bytes_of l.view
 
--- its image, which is all that tables need; what it is made of stays hidden from the layers above
+-- its image, which is all that tables need; other crates do not unfold it
 unfoldable pub image_of : Layout → LaidOut
 image_of l = image_from l.image (headers_of l) (file_of l)
 
@@ -23,7 +23,7 @@ pub size_small : (l : Layout) → (image_of l).size ≤ 2 ^ 31
 unfolding image_of
 size_small l = l.small
 
--- the layout of a file, under a number
+-- the layout of a file, with a number
 pub record IsLayoutOf (file : List ℕ) (image : ℕ) (l : Layout) : Type 0 where
   pub headers : headers_of l ≡ head_of file
   pub bytes : file_of l ≡ file

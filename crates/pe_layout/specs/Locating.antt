@@ -1,4 +1,4 @@
--- What stands at an RVA of a laid-out image.
+-- What is at an RVA of a laid-out image.
 use Rattle.std.specs.Prelude.{ℕ, ◌+◌, ◌-◌, nat_lt, nat_le, List, Option, None, Some, if◌then◌else◌}
 use Rattle.pe_view.specs.Number.{byte_of}
 use Rattle.pe_head.specs.declared.section.SectionHeader.{SectionHeader}
@@ -8,7 +8,7 @@ use Rattle.pe_layout.specs.Piece.{section_of, section_index}
 use Rattle.pe_layout.specs.declared.locate.Located.{Located}
 use Rattle.pe_layout.specs.declared.locate.Located.TheVariants.{Header, Raw, Zero, Gap, Outside}
 
--- in a section, by its index, or in none
+-- in the section with this index, or in none
 abbrev pub located_in : ℕ → Option ℕ → Option SectionHeader → Located
 located_in r (Some k) (Some s) = if nat_lt (r - s.virtual_address) (rawlen s) then Raw k (s.pointer_to_raw_data + (r - s.virtual_address)) else Zero k
 located_in r None s = Gap
@@ -19,7 +19,7 @@ located h r =
     if nat_le h.size_of_image r then Outside
     else (if nat_lt r h.size_of_headers then Header r else located_in r (section_index h r) (section_of h r))
 
--- where the file holds the byte that stands there, if it does
+-- the file offset of the byte there, if it comes from the file
 abbrev pub file_offset : Located → Option ℕ
 file_offset (Header offset) = Some offset
 file_offset (Raw k offset) = Some offset
@@ -27,7 +27,7 @@ file_offset (Zero k) = None
 file_offset Gap = None
 file_offset Outside = None
 
--- the byte that stands there, where the RVA is the image's
+-- the byte there, if the RVA is inside the image
 abbrev pub located_byte : List ℕ → Located → Option ℕ
 located_byte file (Header offset) = Some (byte_of file offset)
 located_byte file (Raw k offset) = Some (byte_of file offset)

@@ -7,7 +7,7 @@ use Rattle.pe_head.specs.declared.headers.Headers.{Headers}
 use Rattle.pe_head.specs.Section.{rawlen}
 use Rattle.pe_layout.specs.Piece.{end_of, section_of}
 
--- the byte at an RVA of a section, or of a gap: a section's first `rawlen` bytes are the file's, and all others are 0
+-- the byte at an RVA of a section or gap: a section's first `rawlen` bytes are the file's, and all others are 0
 abbrev pub section_byte : List ℕ → ℕ → Option SectionHeader → ℕ
 section_byte file r None = 0
 section_byte file r (Some s) = if nat_lt (r - s.virtual_address) (rawlen s) then byte_of file (s.pointer_to_raw_data + (r - s.virtual_address)) else 0
@@ -20,12 +20,12 @@ plain h file r = if nat_lt r h.size_of_headers then byte_of file r else section_
 abbrev pub plain_bytes : Headers → List ℕ → ℕ → ℕ → List ℕ
 plain_bytes h file r len = map (plain h file) (range_with_len r len)
 
--- an RVA lies in the section
+-- an RVA is in the section
 pub record IsIn (r : ℕ) (s : SectionHeader) : Type 0 where
   pub low : s.virtual_address ≤ r
   pub high : r < end_of s
 
--- What the bytes of an image are, piece by piece: whichever section an RVA lies in, it is the only one.
+-- The bytes of an image, piece by piece. An RVA is in at most one section.
 pub record IsLaidOut (h : Headers) (file : List ℕ) : Type 0 where
   pub headers : (r : ℕ) → r < h.size_of_headers → plain h file r ≡ byte_of file r
   pub raw : (r k : ℕ) (s : SectionHeader) → slice_get h.sections.items k ≡ Some s → IsIn r s → r - s.virtual_address < rawlen s → plain h file r ≡ byte_of file (s.pointer_to_raw_data + (r - s.virtual_address))

@@ -1,4 +1,4 @@
--- Runs: bytes of an image that come from one place. No contract of a public function cites it.
+-- Runs: bytes of an image with one source. No contract of a public function uses this module.
 use Rattle.std.specs.Prelude.{◌≡◌, ℕ, ◌+◌, ◌-◌, ◌<◌, ◌≤◌, nat_lt, List, length, replicate, if◌then◌else◌}
 use Rattle.pe_view.specs.Number.{part}
 use Rattle.pe_head.specs.declared.section.SectionHeader.{SectionHeader}
@@ -8,7 +8,7 @@ use Rattle.pe_layout.specs.Plain.{plain_bytes}
 use Rattle.pe_layout.specs.declared.fill.Run.{Run}
 use Rattle.pe_layout.specs.declared.fill.Run.TheVariants.{Raw, Zeros}
 
--- what is left of a section at an RVA: of its raw data, or of the zeros behind them
+-- what remains of a section at an RVA: of its raw data, or of the zero fill after that
 abbrev pub rest_of : SectionHeader → ℕ → Run
 rest_of s r =
     if nat_lt (r - s.virtual_address) (rawlen s)
@@ -21,7 +21,7 @@ pub record IsRunOf (h : Headers) (file : List ℕ) (r n : ℕ) (bytes : List ℕ
   pub inside : r + n ≤ h.size_of_image
   pub bytes_are : plain_bytes h file r n ≡ bytes
 
--- and the file holds them at an offset
+-- the n bytes at an RVA are those at an offset of the file
 pub record IsRawRun (h : Headers) (file : List ℕ) (r offset n : ℕ) : Type 0 where
   pub run : IsRunOf h file r n (part file offset n)
   pub held : offset + n ≤ length file

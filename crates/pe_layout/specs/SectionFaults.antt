@@ -1,4 +1,4 @@
--- What may be wrong with the sections of an image, in table order.
+-- The faults of an image's sections, in table order.
 use Rattle.std.specs.Prelude.{ℕ, ◌+◌, ◌&&◌, ◌||◌, nat_lt, List, [], ◌∷◌, ◌++◌, length}
 use Rattle.pe_view.specs.declared.fault.Place.TheVariants.{File}
 use Rattle.pe_view.specs.Faults.{Test, test}
@@ -9,7 +9,7 @@ use Rattle.pe_head.specs.Head.{head_of, section_offset}
 use Rattle.pe_head.specs.HeaderFaults.{head_tests}
 use Rattle.pe_layout.specs.Piece.{end_of}
 
--- faults 13 to 15 of section i, behind a section that ends at `before`, in a file of `size` bytes
+-- faults 13 to 15 of section i, after a section that ends at `before`, in a file of `size` bytes
 abbrev pub section_tests : ℕ → Headers → ℕ → ℕ → ℕ → SectionHeader → List Test
 section_tests image h size before i s =
     test 13 image (File (section_offset h i)) (nat_lt 0 (rawlen s) && nat_lt size (s.pointer_to_raw_data + rawlen s))

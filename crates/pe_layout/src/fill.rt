@@ -12,15 +12,15 @@ use crate::locate::Spot;
 use pe_head::SectionHeader;
 use std::alloc::{AllocError, Allocator};
 
-/// Bytes of an image that come from one place.
+/// Bytes of an image with one source.
 pub(crate) enum Run {
-    /// So many bytes of the file, from this offset on.
+    /// `len` bytes of the file, from the offset `file` on.
     Raw { file: u64, len: u32 },
-    /// So many zeros.
+    /// `len` zero bytes.
     Zeros { len: u32 },
 }
 
-/// What is left of a section at an RVA: of its raw data, or of the zeros behind them.
+/// What remains of a section at an RVA: of its raw data, or of the zero fill after that.
 pub(crate) fn rest_of(section: &SectionHeader, rva: u32) -> Run
     requires low { section.now.virtual_address ≤ rva }
     requires high { rva < end_of section.now }
@@ -59,7 +59,7 @@ impl<'a> Layout<'a> {
         }
     }
 
-    /// Fills the beginning of a buffer with what is left of the run at an RVA, and tells how many bytes these are.
+    /// Fills the beginning of a buffer from the run at an RVA, and returns how many bytes it wrote.
     #[tactic(auto, unfolding(crate::specs::Layout::image_of))]
     fn fill_run(&self, rva: u32, buffer: &mut [u8]) -> usize
         requires some { 0 < length buffer.old }
@@ -83,10 +83,10 @@ impl<'a> Layout<'a> {
         }
     }
 
-    /// Fills the buffer with the bytes from an RVA on and answers true, where they all lie inside the image; else answers
-    /// false and leaves the buffer as it was.
+    /// Fills the buffer with the bytes from an RVA on and returns true if they are all inside the image; otherwise returns false
+    /// and leaves the buffer as it was.
     ///
-    /// Each run of the image is copied at once.
+    /// Each run of the image is copied as a whole.
     #[tactic(auto, unfolding(crate::specs::Layout::image_of))]
     pub fn fill(&self, rva: u32, buffer: &mut [u8]) -> bool
         ensures fits { IsTrue result ↔ (rva + length buffer.old ≤ (image_of self.now).size) }
@@ -104,7 +104,7 @@ impl<'a> Layout<'a> {
         true
     }
 
-    /// Adds the run behind the first bytes of the image to them.
+    /// Appends the next run to the first bytes of the image.
     #[tactic(auto, unfolding(crate::specs::Layout::image_of))]
     fn push_run<A: Allocator + Copy>(&self, bytes: &mut Vec<u8, A>) -> Result<(), AllocError>
         requires first { bytes.old.items ≡ bytes_at (image_of self.now) 0 (length bytes.old.items) }
@@ -121,8 +121,8 @@ impl<'a> Layout<'a> {
         }
     }
 
-    /// All bytes of the image, SizeOfImage of them, in memory of their own. Each is written once: a run of the file is copied
-    /// and zero fill is cleared. The error is want of memory.
+    /// All SizeOfImage bytes of the image, in a new vector. Each is written once: raw data is copied, and zero fill cleared. The
+    /// error is out of memory.
     #[tactic(auto, unfolding(crate::specs::Layout::image_of))]
     pub fn bytes<A: Allocator + Copy>(&self, alloc: A) -> Result<Vec<u8, A>, AllocError>
         ensures { IfOk result (λ bytes. bytes.items ≡ bytes_at (image_of self.now) 0 (image_of self.now).size) }
@@ -135,7 +135,7 @@ impl<'a> Layout<'a> {
         Ok(bytes)
     }
 
-    /// The byte at an RVA, or `None` past the image.
+    /// The byte at an RVA, or `None` past the end of the image.
     #[tactic(auto, unfolding(crate::specs::Layout::image_of))]
     pub fn byte(&self, rva: u32) -> Option<u8>
         ensures { SomeIff result (rva < (image_of self.now).size) ((image_of self.now).byte rva) }
@@ -149,7 +149,7 @@ impl<'a> Layout<'a> {
         }
     }
 
-    /// The little-endian number in the 2 bytes at an RVA, or `None` where they pass the image.
+    /// The little-endian number in the 2 bytes at an RVA, or `None` if they pass the end of the image.
     #[tactic(auto, unfolding(crate::specs::Layout::image_of))]
     pub fn u16_at(&self, rva: u32) -> Option<u16>
         ensures { SomeIff result (rva + 2 ≤ (image_of self.now).size) (number_at 2 (image_of self.now) rva) }
@@ -161,7 +161,7 @@ impl<'a> Layout<'a> {
         Some(u16::from_le_bytes(bytes))
     }
 
-    /// The little-endian number in the 4 bytes at an RVA, or `None` where they pass the image.
+    /// The little-endian number in the 4 bytes at an RVA, or `None` if they pass the end of the image.
     #[tactic(auto, unfolding(crate::specs::Layout::image_of))]
     pub fn u32_at(&self, rva: u32) -> Option<u32>
         ensures { SomeIff result (rva + 4 ≤ (image_of self.now).size) (number_at 4 (image_of self.now) rva) }
@@ -173,7 +173,7 @@ impl<'a> Layout<'a> {
         Some(u32::from_le_bytes(bytes))
     }
 
-    /// The little-endian number in the 8 bytes at an RVA, or `None` where they pass the image.
+    /// The little-endian number in the 8 bytes at an RVA, or `None` if they pass the end of the image.
     #[tactic(auto, unfolding(crate::specs::Layout::image_of))]
     pub fn u64_at(&self, rva: u32) -> Option<u64>
         ensures { SomeIff result (rva + 8 ≤ (image_of self.now).size) (number_at 8 (image_of self.now) rva) }

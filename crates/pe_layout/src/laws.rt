@@ -1,4 +1,4 @@
-//! What the definitions mean, as laws: each function has an empty body, and its contract is the law.
+//! Laws about the definitions: each function has an empty body, and its contract is the law.
 
 ghost use Rattle.std.specs.Prelude.{◌≡◌, ◌+◌, ◌<◌, ◌≤◌, ◌^◌, ℕ, List, length, None, Some, All, AllPairs};
 ghost use Rattle.pe_view.specs.Faults.{first_standing};
@@ -17,7 +17,7 @@ pub fn bytes_by_pieces()
     ensures { (image : ℕ) (file : List ℕ) → first_standing (layout_tests image file) ≡ None → IsLaidOut (head_of file) file }
 {}
 
-/// What `locate` finds at an RVA says which byte is there.
+/// What `locate` returns for an RVA determines the byte there.
 pub fn located_is_plain()
     ensures { (h : Headers) (file : List ℕ) (r : ℕ) → r < h.size_of_image → located_byte file (located h r) ≡ Some (plain h file r) }
 {}
@@ -27,7 +27,8 @@ pub fn images_are_small()
     ensures { (image : ℕ) (file : List ℕ) → first_standing (layout_tests image file) ≡ None → (image_of_file image file).size ≤ 2 ^ 31 }
 {}
 
-/// The sections of an image without a fault lie after its headers, in the image and apart, and the file holds their raw data.
+/// The sections of an image without a fault are after its headers, inside the image and disjoint, and the file holds their raw
+/// data.
 pub fn sections_are_apart()
     ensures behind { (image : ℕ) (file : List ℕ) → first_standing (layout_tests image file) ≡ None → let h = head_of file in
         All (λ (s : SectionHeader). h.size_of_headers ≤ s.virtual_address) h.sections.items }

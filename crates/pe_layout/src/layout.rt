@@ -9,9 +9,9 @@ use crate::placing::check_sections;
 use pe_head::{Directory, Headers, characteristic, directory_index, read_headers};
 use pe_view::{Fault, View};
 
-/// An image as its headers and sections lay it out: SizeOfImage bytes, each of the headers, of a section's raw data, or 0.
+/// An image as its headers and sections lay it out: SizeOfImage bytes, each from the headers or a section's raw data, or 0.
 ///
-/// RVAs count bytes from the image's beginning. No call takes memory.
+/// RVAs count bytes from the beginning of the image. No call allocates.
 #[derive(Debug, Drop)]
 pub struct Layout<'a> {
     pub(crate) view: View<'a>,
@@ -30,7 +30,7 @@ impl<'a> Layout<'a> {
     ghost use Rattle.pe_layout.specs.Image.{is_inside};
     ghost use Rattle.pe_layout.specs.Layout.{headers_of, image_of, IsLayoutOf};
 
-    /// The layout of a file, or the first of faults 1 to 15: of the headers, and then of each section in table order.
+    /// The layout of a file, or the first of faults 1 to 15: those of the headers, then those of each section in table order.
     /// Faults name the image by the number `image`. ("PE Format": Optional Header, Section Table.)
     #[tactic(auto, unfolding(crate::specs::Layout::image_of))]
     pub fn new(view: View<'a>, image: u16) -> Result<Layout<'a>, Fault>
@@ -60,7 +60,7 @@ impl<'a> Layout<'a> {
         self.image
     }
 
-    /// How many bytes the image has: SizeOfImage.
+    /// The size of the image in bytes: SizeOfImage.
     #[tactic(auto, unfolding(crate::specs::Layout::image_of))]
     pub fn size(&self) -> u32
         ensures value { result ≡ (image_of self.now).size }
@@ -69,7 +69,7 @@ impl<'a> Layout<'a> {
         self.headers.size_of_image
     }
 
-    /// How many bytes a slot of the import address table has: 4 in PE32, 8 in PE32+.
+    /// The size of an import address table entry in bytes: 4 in PE32, 8 in PE32+.
     #[tactic(auto, unfolding(crate::specs::Layout::image_of))]
     pub fn slot_width(&self) -> u32
         ensures value { result ≡ (image_of self.now).slot_width }
@@ -78,7 +78,7 @@ impl<'a> Layout<'a> {
         self.headers.magic.image_base_width() as u32
     }
 
-    /// The address at which the image prefers to stand: ImageBase.
+    /// The preferred address of the image: ImageBase.
     #[tactic(auto, unfolding(crate::specs::Layout::image_of))]
     pub fn image_base(&self) -> u64
         ensures { result ≡ (image_of self.now).image_base }
@@ -86,7 +86,7 @@ impl<'a> Layout<'a> {
         self.headers.image_base
     }
 
-    /// Whether the image must stand at its ImageBase, having no base relocations: the flag RELOCS_STRIPPED.
+    /// Whether the image must be loaded at its ImageBase, since it has no base relocations: the flag RELOCS_STRIPPED.
     #[tactic(auto, unfolding(crate::specs::Layout::image_of))]
     pub fn is_stripped(&self) -> bool
         ensures { result ≡ (image_of self.now).is_stripped }
@@ -94,7 +94,8 @@ impl<'a> Layout<'a> {
         self.headers.characteristics % 2 == characteristic::RELOCS_STRIPPED
     }
 
-    /// Whether `len` bytes at an RVA are in the image, which has at most 2^31 bytes. No bytes are in it up to its end.
+    /// Whether `len` bytes at an RVA are inside the image, which has at most 2^31 bytes. For `len` 0 the RVA may be the image's
+    /// end.
     #[tactic(auto, unfolding(crate::specs::Layout::image_of))]
     pub fn contains(&self, rva: u32, len: u64) -> bool
         ensures value { result ≡ is_inside (image_of self.now) rva len }
@@ -104,8 +105,8 @@ impl<'a> Layout<'a> {
         len <= size && u64::from(rva) <= size - len
     }
 
-    /// The data directory of an index, where it is present: the headers hold it and its RVA is not 0. The base
-    /// relocation directory, number 5, is absent too where its Size is 0.
+    /// The data directory of an index if its table is present: the headers hold it and its RVA is not 0. The base relocation
+    /// directory, index 5, is also absent if its Size is 0.
     #[tactic(auto, unfolding(crate::specs::Layout::image_of))]
     pub fn directory(&self, index: usize) -> Option<Directory>
         ensures { result ≡ (image_of self.now).directory index }
@@ -118,8 +119,8 @@ impl<'a> Layout<'a> {
     }
 }
 
-/// Whether the table of a directory that the headers hold is absent: its RVA is 0, or it is that of base relocations and its
-/// Size is 0.
+/// Whether the table of a directory in the headers is absent: its RVA is 0, or it is the base relocation directory and its Size is
+/// 0.
 fn is_absent(index: usize, directory: Directory) -> bool
     ensures { result ≡ (directory.rva == 0 || (index == 5 && directory.size == 0)) }
 {

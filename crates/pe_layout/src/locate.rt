@@ -11,29 +11,29 @@ use crate::layout::Layout;
 use crate::placing::end_of;
 use pe_head::SectionHeader;
 
-/// What stands at an RVA of a laid-out image.
+/// What is at an RVA of a laid-out image.
 #[derive(Clone, Copy, Debug, PartialEq, Eq)]
 pub enum Located {
-    /// A byte of the headers, at this offset of the file.
+    /// A byte of the headers, at this file offset.
     Header { file: u64 },
-    /// A byte of a section's raw data: the section's index from 0, and the byte's offset in the file.
+    /// A byte of a section's raw data: the section's index from 0, and the byte's file offset.
     Raw { section: u8, file: u64 },
-    /// A byte of a section past its raw data: the section's index from 0.
+    /// A byte of a section after its raw data: the section's index from 0.
     Zero { section: u8 },
-    /// A byte of no piece.
+    /// A byte of the image in neither the headers nor a section.
     Gap,
     /// No byte of the image.
     Outside,
 }
 
-/// Where an RVA that is not the headers' lies.
+/// Where an RVA after the headers is.
 pub(crate) enum Spot<'s> {
-    /// In this section, of this index.
+    /// In this section.
     Section {
         index: u8,
         section: &'s SectionHeader,
     },
-    /// In a gap, which goes on up to this RVA at least.
+    /// In a gap, which goes on at least up to this RVA.
     Gap {
         end: u32,
     },
@@ -41,8 +41,8 @@ pub(crate) enum Spot<'s> {
 
 /// The index of the first section that ends after an RVA, or the number of sections.
 ///
-/// The last section that begins by the RVA is found by a binary search, and it alone is asked where it ends: those before it have
-/// ended where it begins.
+/// A binary search finds the last section that begins at or before the RVA. Only its end is compared: earlier sections end before
+/// it begins.
 fn first_ending_after(sections: &[SectionHeader], rva: u32) -> usize
     requires { LieApart sections.now }
     ensures bound { result ≤ length sections.now }
@@ -65,7 +65,7 @@ impl<'a> Layout<'a> {
     ghost use Rattle.pe_layout.specs.Locating.{located};
     ghost use Rattle.pe_layout.specs.Sections.{IsSpot};
 
-    /// Where an RVA of the image behind the headers lies.
+    /// Where an RVA of the image after the headers is.
     pub(crate) fn spot(&self, rva: u32) -> Spot<'_>
         requires { rva < (headers_of self.now).size_of_image }
         ensures { IsSpot (headers_of self.now) (size_of self.now.view) rva result }
@@ -89,7 +89,7 @@ impl<'a> Layout<'a> {
         }
     }
 
-    /// What stands at an RVA: the piece that holds it, and the file offset of the byte where the file holds it.
+    /// What is at an RVA: the piece that contains it, and the file offset of the byte if it comes from the file.
     pub fn locate(&self, rva: u32) -> Located
         ensures { result ≡ located (headers_of self.now) rva }
     {
@@ -108,7 +108,7 @@ impl<'a> Layout<'a> {
     }
 }
 
-/// What stands at an RVA of section `index`.
+/// What is at an RVA of section `index`.
 fn located_in(section: &SectionHeader, index: u8, rva: u32) -> Located
     requires { section.now.virtual_address ≤ rva }
     ensures { result ≡ located_in rva (Some index) (Some section.now) }

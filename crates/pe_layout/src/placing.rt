@@ -1,4 +1,4 @@
-//! Faults 13 to 15: where the sections of an image lie, section by section.
+//! Faults 13 to 15, of the places of sections, tested section by section.
 
 ghost use Rattle.std.specs.Prelude.{◌≡◌, ⊤};
 ghost use Rattle.pe_view.specs.Faults.{Answers};
@@ -15,8 +15,8 @@ pub(crate) fn end_of(section: &SectionHeader) -> u64
     u64::from(section.virtual_address) + u64::from(section.extent())
 }
 
-/// Where section `index` ends, unless one of faults 13 to 15 stands of it, behind a section that ends at `before`, in a
-/// file of `size` bytes.
+/// The end of section `index`, or the first of faults 13 to 15 that it has, after a section that ends at `before`, in a file of
+/// `size` bytes.
 fn check_section(
     headers: &Headers,
     index: u8,
@@ -48,7 +48,7 @@ fn check_section(
     Ok(end)
 }
 
-/// That none of faults 13 to 15 stands of any section, in a file of `size` bytes.
+/// Ok if no section has one of faults 13 to 15, in a file of `size` bytes.
 pub(crate) fn check_sections(headers: &Headers, size: u64, image: u16) -> Result<(), Fault>
     ensures { Answers (placing_tests image headers.now size) (λ _. ⊤) result }
 {

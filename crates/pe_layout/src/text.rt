@@ -17,27 +17,27 @@ use pe_head::SectionHeader;
 use pe_view::TextEnds;
 use std::alloc::Allocator;
 
-/// A zero-ended text of an image, as a slice of the file.
+/// A zero-terminated string of an image, as a slice of the file.
 #[derive(Clone, Copy, Debug)]
 pub struct Text<'a> {
     /// Its bytes, without its zero byte.
     pub bytes: &'a [u8],
-    /// The file offset at which they end. That of an empty text in a gap or in zero fill tells nothing.
+    /// The file offset of its end. For an empty string in a gap or in zero fill it means nothing.
     pub end: u64,
 }
 
-/// The bytes of the file among which a text ends.
+/// The bytes of the file in which a string ends.
 #[derive(Clone, Copy)]
 struct Span {
-    /// The file offset at which the text begins.
+    /// The file offset at which the string begins.
     start: u64,
-    /// The file offset up to which the piece has bytes of the file.
+    /// The file offset of the end of the piece's bytes in the file.
     end: u64,
-    /// Whether zeros stand behind these, which end the text at the latest.
+    /// Whether zero fill follows these bytes, so that the string ends there at the latest.
     zeros_follow: bool,
 }
 
-/// An empty text.
+/// An empty string.
 const EMPTY: Span = Span {
     start: 0,
     end: 0,
@@ -45,7 +45,7 @@ const EMPTY: Span = Span {
 };
 
 impl<'a> Layout<'a> {
-    /// The span of the text at an RVA of a section, which its zero fill ends at the latest.
+    /// The span of the string at an RVA of a section.
     fn section_span(&self, section: &SectionHeader, rva: u32) -> Span
         requires behind { (headers_of self.now).size_of_headers ≤ rva }
         requires found { IsInSection (headers_of self.now) (size_of self.now.view) rva section.now }
@@ -64,7 +64,7 @@ impl<'a> Layout<'a> {
         }
     }
 
-    /// The span of the text at an RVA of the image.
+    /// The span of the string at an RVA of the image, or `None` past its end.
     #[tactic(auto, unfolding(crate::specs::Layout::image_of))]
     fn span_at(&self, rva: u32) -> Option<Span>
         ensures inside { IfSome result (IsSpan (size_of self.now.view)) }
@@ -88,7 +88,7 @@ impl<'a> Layout<'a> {
         }
     }
 
-    /// The text of a span, by the bytes before its first zero byte.
+    /// The string of a span; `ended` has the bytes before its first zero byte, if it has one.
     fn text_of(&self, span: Span, ended: Option<&'a [u8]>) -> Option<Text<'a>>
         requires inside { IsSpan (size_of self.now.view) span }
         requires ended { option_map (λ bytes. bytes.now) ended ≡ text_between (file_of self.now) span.start span.end }
@@ -110,10 +110,11 @@ impl<'a> Layout<'a> {
         }
     }
 
-    /// The zero-ended text at an RVA, without its zero byte, as a slice of the file.
+    /// The zero-terminated string at an RVA, without its zero byte, as a slice of the file.
     ///
-    /// A text ends inside the piece in which it begins, else there is `None`; in a gap and in zero fill it is empty; past
-    /// the image there is none. The text is searched for its zero byte; [`Layout::text_at`] is for many texts.
+    /// It must end inside the piece in which it begins, otherwise the result is `None`; in a gap and in zero fill it is empty;
+    /// past the end of the image the result is `None`. Each call searches for the zero byte; [`Layout::text_at`] is for many
+    /// strings.
     pub fn name_at(&self, rva: u32) -> Option<&'a [u8]>
         ensures { option_map (λ text. text.now) result ≡ (image_of self.now).text rva }
     {
@@ -122,8 +123,8 @@ impl<'a> Layout<'a> {
         Some(text.bytes)
     }
 
-    /// The zero-ended text at an RVA, as [`Layout::name_at`] answers it, where many texts are asked for that may have bytes
-    /// in common: what is known of their ends is handed in, and what is found is added to it.
+    /// The zero-terminated string at an RVA, as [`Layout::name_at`] returns it, for many strings that may share bytes: `ends`
+    /// holds the known ends of this file's strings, and the call adds to it.
     pub fn text_at<A: Allocator + Copy>(&self, ends: &mut TextEnds<A>, rva: u32) -> Option<Text<'a>>
         requires { AreEndsOf (file_of self.now) ends.old }
         ensures text { option_map (λ text. text.bytes.now) result ≡ (image_of self.now).text rva }

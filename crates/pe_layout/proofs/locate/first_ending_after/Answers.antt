@@ -1,4 +1,4 @@
--- The sections that end by an RVA stand before all others: those that begin by it, or all of these but the last.
+-- The sections that end at or before an RVA come first: those that begin there or before, or all of these but the last.
 use Rattle.std.proofs.Common.{◌≡◌, ◌-◌, ◌<◌, ◌≤◌, Bool, ℕ, get_or, List, ap, ◌∙◌, arith, rules}
 use Rattle.std.proofs.Common.{inl, inr}
 use Rattle.std.specs.Prelude.{nat_le}

@@ -1,4 +1,4 @@
--- What is added are the bytes of the run.
+-- The appended bytes are those of the run.
 use Rattle.std.proofs.Common.{◌∙◌, ◌+◌, ◌-◌, ◌++◌, List, ℕ, Bool, cond, take, ap, sym, arith}
 use Rattle.std.specs.Prelude.{replicate, vec_len}
 use Rattle.std.proofs.lemmas.List.{take_all}

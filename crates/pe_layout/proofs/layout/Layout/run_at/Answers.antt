@@ -1,4 +1,4 @@
--- The run at an RVA, by the piece or gap in which it lies.
+-- The run at an RVA, by the piece or gap that contains it.
 use Rattle.std.proofs.Common.{arith, ◌-◌}
 use Rattle.pe_layout.specs.Layout.{file_of, image_of}
 use Rattle.pe_layout.proofs.Runs.{header_run, section_run, gap_run}

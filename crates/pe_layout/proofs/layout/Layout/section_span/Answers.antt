@@ -1,4 +1,4 @@
--- The bytes that are left of the raw data, or the zero fill behind them.
+-- The bytes that remain of the raw data, or the zero fill after it.
 use Rattle.std.proofs.Common.{◌≡◌, ◌∙◌, ◌+◌, ◌-◌, ap, sym, arith, refl, ℕ}
 use Rattle.pe_view.specs.Number.{part}
 use Rattle.pe_view.specs.Text.{text_between}

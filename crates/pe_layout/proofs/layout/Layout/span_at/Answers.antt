@@ -1,4 +1,4 @@
--- The bytes that are left of the headers.
+-- The bytes that remain of the headers.
 use Rattle.std.proofs.Common.{◌≡◌, ◌∙◌, Option, None, Some, List, ℕ, refl}
 use Rattle.std.specs.Option.{option_or}
 use Rattle.pe_layout.specs.Layout.{file_of, image_of}

@@ -1,4 +1,4 @@
--- Where the search among the sections says that an RVA lies.
+-- Where the search among the sections finds an RVA.
 use Rattle.std.proofs.Common.{arith}
 use Rattle.pe_view.specs.View.{size_of}
 use Rattle.pe_layout.proofs.Placed.{no_header}

@@ -1,4 +1,4 @@
--- A text ends before the end of its span.
+-- A string ends before the end of its span.
 use Rattle.std.proofs.Common.{◌∙◌, sym, ap, arith}
 use Rattle.std.specs.Prelude.{option_map}
 use Rattle.pe_layout.specs.Layout.{file_of}
