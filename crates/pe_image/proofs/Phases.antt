@@ -1,4 +1,4 @@
--- The phases in which an image is asked for its faults, one after another.
+-- The phases in which the faults of an image are tested.
 use Rattle.std.proofs.Common.{◌≡◌, ℕ, ◌<◌, ◌≤◌, List, ◌++◌, length, map, sym, ap, None, Result, Ok, Err, refl, ◌∙◌, arith}
 use Rattle.std.proofs.lemmas.Bool.{ltb-false}
 use Rattle.std.proofs.lemmas.Simd.{map-map}
@@ -19,7 +19,7 @@ use Rattle.pe_view.specs.declared.refusal.Refusal.{Refusal}
 use Rattle.pe_image.specs.declared.image.Image.{Image}
 use Rattle.pe_image.specs.ImageOf.{HoldsTablesOf, IsImageOf}
 
--- phases behind others without a fault
+-- phases after others without a fault
 pub behind : {X : Type 0} (front rest : List Test) (P Q : X → Type 0) (result : Result X Refusal) → first_standing front ≡ None → ((x : X) → P x → Q x)
     → AnswersOrWants rest P result → AnswersOrWants (front ++ rest) Q result
 behind front rest P Q (Ok x) none more answers = (first-past front rest none ∙ answers.0, more x answers.1)
@@ -33,11 +33,11 @@ has_bytes number file none =
     let enough : 64 ≤ length file = ltb-false _ _ (none_stands (head_tests number file) 1 _ head refl) in
     omega (arith, enough)
 
--- the slots of imports that have been read are those of the imports
+-- the slots of imports that were read are those of the image's imports
 pub own_slots : (imports : List Import) (listed : List table.Import) → map import_view imports ≡ listed → slots_of imports ≡ map (λ m. m.slot) listed
 own_slots imports listed e = sym (map-map (λ (m : table.Import). m.slot) import_view imports) ∙ ap (map (λ (m : table.Import). m.slot)) e
 
--- what was read of the tables of a file's layout is what the file's tables hold
+-- the tables of a file's layout that were read are those of the file
 pub tables_of_file : {A : Type 0} (number : ℕ) (file : List ℕ) (l : Layout) (i : Image A) → IsLayoutOf file number l → HoldsTablesOf l i → IsImageOf number file i
 tables_of_file number file l i laid tables =
     let is = laid.shows in record {

@@ -1,4 +1,4 @@
--- All that may be wrong with the file of an image.
+-- All faults of the file of an image.
 use Rattle.std.specs.Prelude.{ℕ, List, ◌++◌, map}
 use Rattle.pe_view.specs.Faults.{Test}
 use Rattle.pe_layout.specs.Image.{LaidOut, image_of_file}
@@ -12,7 +12,7 @@ use Rattle.pe_tables.specs.FixupFaults.{fixup_tests}
 abbrev pub import_slots : LaidOut → List ℕ
 import_slots i = map (λ m. m.slot) (imports_of i)
 
--- base relocations are asked behind imports without a fault, beside their slots
+-- base relocations are tested after the imports, with whose slots they are compared
 abbrev pub relocation_tests : LaidOut → List Test
 relocation_tests i = import_tests i ++ fixup_tests i (import_slots i)
 
@@ -20,6 +20,6 @@ relocation_tests i = import_tests i ++ fixup_tests i (import_slots i)
 unfoldable pub table_tests : LaidOut → List Test
 table_tests i = export_tests i ++ relocation_tests i
 
--- the tests of the file of an image that has a number, in the order in which its faults count: the image faults
+-- the tests of the file of an image with a number, in the order of its faults
 unfoldable pub image_tests : ℕ → List ℕ → List Test
 image_tests number file = layout_tests number file ++ table_tests (image_of_file number file)

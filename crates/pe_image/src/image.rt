@@ -1,4 +1,4 @@
-//! `read_image`: an image read whole, or its first fault; and `lay_out`, which reads its headers and sections alone.
+//! `read_image`: a whole image, or its first fault; and `lay_out`, which reads its headers and sections only.
 
 ghost use Rattle.std.specs.Prelude.{◌≡◌, ◌<◌, None, length, IsErrOf};
 ghost use Rattle.pe_view.specs.Faults.{first_standing, Answers, AnswersOrWants};
@@ -13,12 +13,12 @@ use pe_tables::{Exports, Fixup, Import, TableError, read_exports, read_fixups, r
 use pe_view::{Fault, View};
 use std::alloc::Allocator;
 
-/// An image without a fault, and what its tables hold. It borrows the image's file.
+/// An image without a fault, and the contents of its tables. It borrows the image's file.
 #[derive(Drop)]
 pub struct Image<'a, A: Allocator> {
     /// The headers and sections, and the bytes that they lay out.
     pub layout: Layout<'a>,
-    /// What the image exports, by ordinal and by name; nothing where it has no export table.
+    /// What the image exports, by ordinal and by name; empty if it has no export table.
     pub exports: Exports<'a, A>,
     /// What the image imports, in the order of its import table.
     pub imports: Vec<Import<'a>, A>,
@@ -27,15 +27,15 @@ pub struct Image<'a, A: Allocator> {
 }
 
 /// The layout of an image's file, or the first fault of its headers and sections (1 to 15), which names the image by `number`.
-/// No memory is taken. ("PE Format": Optional Header, Section Table.)
+/// Allocates nothing. ("PE Format": Optional Header, Section Table.)
 pub fn lay_out(file: &[u8], number: u16) -> Result<Layout<'_>, Fault>
     ensures { Answers (layout_tests number file.now) (IsLayoutOf file.now number) result }
 {
     Layout::new(View::new(file), number)
 }
 
-/// Reads the tables of a layout, each where the ones before have no fault, and keeps what they hold. [`crate::read_tables`] keeps
-/// them as far as they are whole, in a record of options, which takes room that is cleared at each call.
+/// Reads all tables of a layout. It does not use [`crate::read_tables`], whose record of options takes room that each call would
+/// have to clear.
 fn read_whole<A: Allocator + Copy>(alloc: A, layout: Layout<'_>) -> Result<Image<'_, A>, TableError>
     ensures { AnswersOrWants (table_tests (image_of layout.entry)) (HoldsTablesOf layout.entry) result }
 {
@@ -50,12 +50,12 @@ fn read_whole<A: Allocator + Copy>(alloc: A, layout: Layout<'_>) -> Result<Image
     })
 }
 
-/// Reads an image whole: `file` is all of its file, and faults name the image by `number`.
+/// Reads a whole image: `file` is its complete file, and faults name the image by `number`.
 ///
-/// Faults are asked phase by phase: headers and sections (1 to 15), exports (16 to 22), imports (24 to 32), base relocations
-/// beside the slots of the imports (33 to 38). The answer is [`TableError::Fault`] with the first one that stands, or
-/// [`TableError::Memory`] where a growth was refused, in a phase before which no fault stands; that never comes where one of
-/// faults 1 to 15 stands, and so never of an empty file. An error leaves nothing: all memory that was taken is given back.
+/// Faults are tested in phases: headers and sections (1 to 15), exports (16 to 22), imports (24 to 32), base relocations and how
+/// they overlap import address table entries (33 to 38). The error is [`TableError::Fault`] with the first fault, or
+/// [`TableError::Memory`] if an allocation failed and no earlier phase has a fault; it is never [`TableError::Memory`] for a file
+/// with one of faults 1 to 15, such as an empty file. On an error all memory is freed.
 ///
 /// ("PE Format": Optional Header, Section Table, The .edata Section, The .idata Section, The .reloc Section.)
 pub fn read_image<A: Allocator + Copy>(

@@ -1,7 +1,7 @@
-//! One image, read whole: its headers and sections, its exports, imports and base relocations.
+//! A whole image: its headers and sections, its exports, imports and base relocations.
 //!
-//! [`read_image`] asks a file for each fault that this library knows, in the one order in which they count, and keeps what it
-//! read where none stands. All callers that need an image whole read it by this call, so that they agree on what is accepted:
+//! [`read_image`] tests a file for each fault of images in the one fixed order, and returns what it read if there is none. All
+//! callers that need a whole image read it by this call, so that they agree on which files are accepted:
 //!
 //! ```text
 //! let image = read_image(alloc, file, 0)?;
@@ -12,8 +12,8 @@
 //! }
 //! ```
 //!
-//! [`lay_out`] and [`read_tables`] read a file as far as it goes without a fault: its headers and sections, and then each table
-//! before the first with one.
+//! [`lay_out`] and [`read_tables`] read as much of a file as comes before its first fault: its headers and sections, and then each
+//! table before the first with a fault.
 #![tactic(auto)]
 
 mod image;

@@ -1,4 +1,4 @@
-//! The import that a slot of the import address table belongs to: `import_at`.
+//! `import_at`: the import that an import address table entry belongs to.
 
 ghost use Rattle.std.specs.Prelude.{◌≡◌, ◌==◌, IsTrue, IsErrOf, map, option_map};
 ghost use Rattle.std.specs.List.{find};
@@ -14,7 +14,7 @@ use pe_layout::Layout;
 use pe_tables::{Import, TableError, read_imports};
 use std::alloc::Allocator;
 
-/// The first of these imports with a slot.
+/// The first of these imports with this slot.
 fn with_slot<'a>(imports: &[Import<'a>], slot: u32) -> Option<Import<'a>>
     ensures { option_map import_view result ≡ find (λ m. m.slot == slot) (map import_view imports.now) }
 {
@@ -26,8 +26,8 @@ fn with_slot<'a>(imports: &[Import<'a>], slot: u32) -> Option<Import<'a>>
     None
 }
 
-/// The import whose slot of the import address table is at this RVA, `None` where no import has it; or the first fault of the
-/// imports (24 to 32), or want of memory. No other table is read. ("PE Format": The .idata Section.)
+/// The import whose import address table entry is at this RVA, or `None` if there is none; or the first fault of the imports (24
+/// to 32), or out of memory. No other table is read. ("PE Format": The .idata Section.)
 pub fn import_at<'a, A: Allocator + Copy>(
     alloc: A,
     layout: &Layout<'a>,

@@ -1,4 +1,4 @@
-//! `read_tables`: an image's tables up to the first with a fault; and `read_relocations`, its base relocations alone.
+//! `read_tables`: an image's tables before the first with a fault; and `read_relocations`, its base relocations only.
 
 ghost use Rattle.std.specs.Prelude.{◌≡◌, None, Some, option_map, IsErrOf, IfOk, OnErr};
 ghost use Rattle.pe_view.specs.Faults.{AnswersOrWants};
@@ -14,16 +14,16 @@ use pe_tables::{Exports, Fixup, Import, TableError, read_exports, read_fixups, r
 use pe_view::Fault;
 use std::alloc::{AllocError, Allocator};
 
-/// What was read of an image's tables up to the first fault that stands of them. It borrows the image's file.
+/// The tables of an image before the first with a fault. It borrows the image's file.
 #[derive(Drop)]
 pub struct Tables<'a, A: Allocator> {
-    /// What the image exports, unless one of faults 16 to 22 stands.
+    /// What the image exports, unless it has one of faults 16 to 22.
     pub exports: Option<Exports<'a, A>>,
-    /// What it imports, in the order of its import table, unless one of the faults up to 32 stands.
+    /// What it imports, in the order of its import table, unless it has one of faults 16 to 32.
     pub imports: Option<Vec<Import<'a>, A>>,
-    /// The fields that change with its base, in the order of its base relocation table, unless one of the faults up to 38 stands.
+    /// The fields that change with its base, in the order of its base relocation table, unless it has one of faults 16 to 38.
     pub fixups: Option<Vec<Fixup, A>>,
-    /// The first of faults 16 to 38, if one stands.
+    /// The first of faults 16 to 38, if there is one.
     pub fault: Option<Fault>,
 }
 
@@ -48,11 +48,11 @@ fn tables_before<'a, A: Allocator>(
     }
 }
 
-/// Reads the tables of an image as far as they are whole: exports, imports, and base relocations beside the slots of the imports.
+/// Reads an image's tables up to the first with a fault: exports, imports, and base relocations, which may not overlap import
+/// address table entries.
 ///
-/// Faults are asked table by table (16 to 22, 24 to 32, 33 to 38), each where the tables before have none; a table behind the first
-/// fault is not read. An error is want of memory alone, and leaves nothing. ("PE Format": The .edata Section, The .idata Section,
-/// The .reloc Section.)
+/// Faults are tested table by table (16 to 22, 24 to 32, 33 to 38); tables after the first fault are not read. The only error is
+/// out of memory; then all memory is freed. ("PE Format": The .edata Section, The .idata Section, The .reloc Section.)
 pub fn read_tables<'a, A: Allocator + Copy>(
     alloc: A,
     layout: &Layout<'a>,
@@ -79,8 +79,9 @@ pub fn read_tables<'a, A: Allocator + Copy>(
     }
 }
 
-/// The base relocations of an image, beside the slots of its imports, or the first fault of the imports (24 to 32) and of the base
-/// relocation table (33 to 38), or want of memory. ("PE Format": The .reloc Section.)
+/// The base relocations of an image, or the first fault of the imports (24 to 32) and then of the base relocation table (33 to
+/// 38), or out of memory. Imports are read first, since no fixup may overlap an import address table entry. ("PE Format": The
+/// .reloc Section.)
 pub fn read_relocations<A: Allocator + Copy>(
     alloc: A,
     layout: &Layout,

@@ -1,4 +1,4 @@
--- Each phase is asked behind phases without a fault.
+-- Each phase comes after phases without a fault.
 use Rattle.std.proofs.Common.{◌∙◌, ◌≡◌, None, List, ℕ, ap, subst, refl}
 use Rattle.std.proofs.lemmas.Result.{err_from_is_err_and}
 use Rattle.pe_view.specs.Faults.{first_standing, Refuses}

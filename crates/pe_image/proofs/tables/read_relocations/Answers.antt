@@ -1,4 +1,4 @@
--- Base relocations are asked behind imports without a fault, beside their slots.
+-- Base relocations come after imports without a fault, and are compared with their slots.
 use Rattle.std.proofs.Common.{◌≡◌, ℕ, List, IsTrue, inl, inr, ap, subst, ◌∙◌}
 use Rattle.std.proofs.lemmas.Result.{err_from_is_err_and}
 use Rattle.pe_view.specs.Faults.{AnswersOrWants}

@@ -1,4 +1,4 @@
--- A table behind the first fault is not read.
+-- A table after the first fault is not read.
 use Rattle.std.proofs.Common.{◌≡◌, ◌∙◌, List, ℕ, ◌++◌, None, IsTrue, inl, inr, ap, sym, subst}
 use Rattle.std.proofs.lemmas.Result.{on_err_weaker}
 use Rattle.pe_view.specs.Faults.{first_standing, Refuses}
