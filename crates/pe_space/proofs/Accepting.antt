@@ -1,4 +1,4 @@
--- What a space of an accepted set rests on: its fields and slots, and where its images stand.
+-- Facts about an accepted set that a space needs: its fields and slots, and the bases of its images.
 use Rattle.std.proofs.Common.{◌≡◌, ◌∙◌, ◌+◌, ◌%◌, ◌<◌, ◌≤◌, ◌^◌, ℕ, zero, suc, List, [], ◌∷◌, length, map, refl, sym, ap, subst, Some, arith, inl, inr}
 use Rattle.std.specs.Prelude.{pos, ◌-ℤ◌, slice_get, AllPairs, slice_index_or}
 use Rattle.std.proofs.lemmas.Bool.{cases_lt}
@@ -130,7 +130,7 @@ module _ (s : List Module) (sound : IsSound s) where
     | inr past ↦ subst (λ (g : SpaceImage). g.size ≤ 2 ^ 31) (sym (past_end s j past)) (omega arith)
   ]
 
-  -- each image is small
+  -- each image has at most 2^31 bytes
   pub small : (j : ℕ) → (nth_image (laid_out s).images j).size ≤ 2 ^ 31
   unfolding laid_out
   small = small_from
@@ -140,11 +140,11 @@ module _ (s : List Module) (sound : IsSound s) where
       let few = fine.few in
       record { inside = each_of_all (λ (f : Fixup). f.field + width_of f.kind ≤ m.image.size) m.fixups fine.inside; few = omega (arith, few) }
 
-  -- the fields of each image are fit
+  -- the fields of each image fit
   pub fit : Each FieldsFit s
   fit = each_map IsSoundImage FieldsFit s fit_of (each_of_all IsSoundImage s sound.images)
 
-  -- the fields of each lie in it
+  -- the fields of each image are inside it
   pub fields_inside : (j : ℕ) (m : Module) → slice_get s j ≡ Some m → Each (λ (f : Fixup). f.field + width_of f.kind ≤ m.image.size) m.fixups
   fields_inside j m at = each_of_all (λ (f : Fixup). f.field + width_of f.kind ≤ m.image.size) m.fixups (all_got IsSoundImage s j m sound.images at).inside
 

@@ -1,4 +1,4 @@
--- What stands at an address, and from it on.
+-- The byte at an address, and the bytes from it on.
 use Rattle.std.proofs.Common.{◌≡◌, ℕ, zero, suc, ◌+◌, ◌-◌, ◌<◌, ◌≤◌, Bool, true, false, cond, List, [], ◌∷◌, length, map, drop, take, get_or, refl, ap, ◌∙◌, sym, subst, arith}
 use Rattle.std.specs.Prelude.{Option, None, Some, unwrap_or, Ok, Err, nat_le}
 use Rattle.std.proofs.lemmas.Bool.{leb-true}
@@ -18,17 +18,17 @@ use Rattle.pe_space.proofs.Ordering.{placed_inside, placed_is}
 use Rattle.pe_space.proofs.SlotsAndFields.{is_in-true, true-is_in}
 use Rattle.pe_space.proofs.MemoryWrites.{image_read, memory_read}
 
--- image k of these holds the address
+-- image k of these contains the address
 abbrev pub Holds : List SpaceImage → ℕ → ℕ → Type 0
 Holds images a k = (k < length images) × (is_in (nth_image images k).base (nth_image images k).size a ≡ true)
 
--- where an image of a content stands
+-- the place of an image of a content
 pub placed_at : (images : List SpaceImage) (k : ℕ) → placement_at (map placement_of images) k ≡ placement_of (nth_image images k)
 placed_at [] k = refl
 placed_at (m ∷ images) zero = refl
 placed_at (m ∷ images) (suc k) = placed_at images k
 
--- the images of a content, as they stand
+-- the images of a content are disjoint
 pub stand_apart : (c : Content) → ImagesApart c → StandApart (map placement_of c.images)
 stand_apart c placed =
     let count = length-map c.images placement_of in
@@ -47,29 +47,29 @@ holder_inside n images a j h =
     let count = length-map images placement_of in
     (held.0, held.1, (omega (arith, held.2.0, count), subst (λ (p : Placement). is_in p.base p.size a ≡ true) (placed_at images held.0) held.2.1))
 
--- no two images hold an address
+-- no two images contain the same address
 pub holder_is : (c : Content) (a j : ℕ) → ImagesApart c → Holds c.images a j → holder_from 0 c.images a ≡ Some j
 holder_is c a j placed here =
     let count = length-map c.images placement_of in
     placed_is (map placement_of c.images) a j (stand_apart c placed)
     (omega (arith, here.0, count), subst (λ (p : Placement). is_in p.base p.size a ≡ true) (sym (placed_at c.images j)) here.1)
 
--- where the images of memories stand
+-- the places of images in memory
 pub placed_so : (hs xs : List InMemory) → xs ≡ hs → map placement_of (images_of hs) ≡ map (λ (h : InMemory). placement_of h.image) xs
 placed_so hs xs same = map-map placement_of (λ (h : InMemory). h.image) hs ∙ ap (map (λ (h : InMemory). placement_of h.image)) (sym same)
 
--- they are in the order of their bases, and no two are at one address
+-- they are ordered by base and disjoint
 pub kept_order : {order : List NumberAt} {slots : List Binding} (hs xs : List InMemory) (bs : List Binding) {lent : List NumberAt} → MappedSpaceHolds hs order bs slots → xs ≡ hs → lent ≡ order → IsByBase (map (λ (h : InMemory). placement_of h.image) xs) lent
 kept_order {order = order} hs xs bs kept same lent_is = rw lent_is (subst (λ (ps : List Placement). IsByBase ps order) (placed_so hs xs same) kept.by_base)
 
 pub kept_apart : {order : List NumberAt} {slots : List Binding} (hs xs : List InMemory) (bs : List Binding) → MappedSpaceHolds hs order bs slots → xs ≡ hs → StandApart (map (λ (h : InMemory). placement_of h.image) xs)
 kept_apart hs xs bs kept same = subst StandApart (placed_so hs xs same) (stand_apart (mapped_content hs bs) kept.placed)
 
--- the number that a search of them gave
+-- the number that a search of them returned
 pub held_by : (hs xs : List InMemory) (a : ℕ) (o : Option ℕ) → xs ≡ hs → o ≡ placed_from 0 (map (λ (h : InMemory). placement_of h.image) xs) a → holder_from 0 (images_of hs) a ≡ o
 held_by hs xs a o same is = ap (λ (ps : List Placement). placed_from 0 ps a) (placed_so hs xs same) ∙ sym is
 
--- what is known of the image that holds an address
+-- facts about the image that contains an address
 pub record Found (hs : List InMemory) (bs : List Binding) (a j : ℕ) (h : InMemory) : Type 0 where
   pub low : h.image.base ≤ a
   pub high : a < h.image.base + h.image.size
@@ -93,7 +93,7 @@ found_at hs bs a j h found is =
       memory = memory_read hs j h lt is;
     }
 
--- a byte of the image that holds an address
+-- a byte of the image that contains an address
 pub byte_here : {order : List NumberAt} {slots : List Binding} (hs : List InMemory) (bs : List Binding) (a j : ℕ) (h : InMemory) → MappedSpaceHolds hs order bs slots → Found hs bs a j h → (b : ℕ) → h.image.base ≤ b → b < h.image.base + h.image.size
     → byte_at (mapped_content hs bs) b ≡ Some (get_or h.memory (b - h.image.base) 0)
 byte_here hs bs a j h kept found b low high =
@@ -118,7 +118,7 @@ bytes_here hs bs a j h kept found (suc n) b r e fits len =
 pub size_here : {order : List NumberAt} {slots : List Binding} (hs : List InMemory) (bs : List Binding) (a j : ℕ) (h : InMemory) → MappedSpaceHolds hs order bs slots → Found hs bs a j h → h.image.size ≡ length h.memory
 size_here hs bs a j h kept found = ap (λ (m : SpaceImage). m.size) found.image ∙ sym (kept.memory_holds.lengths j) ∙ ap length (sym found.memory)
 
--- where a window lies
+-- where a window is
 lies_step : (ps : List Placement) (a n j k : ℕ) (t : Bool) → nat_le (a + n) ((placement_at ps k).base + (placement_at ps k).size) ≡ t → cond t (Ok k) (Err (window_fault k a)) ≡ Ok j
     → (k ≡ j) × (a + n ≤ (placement_at ps k).base + (placement_at ps k).size)
 lies_step ps a n j k true is h = (cc, leb-true _ _ is)
@@ -140,7 +140,7 @@ window_place images a n j h =
     let at = holder_inside 0 images a j (window_lies images a n j h).0 in
     omega (arith, at.1, at.2.0)
 
--- the image in which it lies
+-- the image that contains it
 pub found_window : (hs : List InMemory) (bs : List Binding) (a n j : ℕ) (h : InMemory) → window_image (map placement_of (images_of hs)) a n ≡ Ok j → h ≡ get_or hs j h
     → Found hs bs a j h × (a - h.image.base + n ≤ h.image.size)
 found_window hs bs a n j h lies is =
@@ -150,7 +150,7 @@ found_window hs bs a n j h lies is =
     let fits : a + n ≤ h.image.base + h.image.size = subst (λ (m : SpaceImage). a + n ≤ m.base + m.size) (sym found.image) both.1 in
     (found, omega arith)
 
--- the bytes of a window, in that image
+-- the bytes of a window in that image
 pub window_here : {order : List NumberAt} {slots : List Binding} (hs : List InMemory) (bs : List Binding) (a n j : ℕ) (h : InMemory) → MappedSpaceHolds hs order bs slots → Found hs bs a j h → a - h.image.base + n ≤ h.image.size
     → bytes_from (mapped_content hs bs) a n ≡ take n (drop (a - h.image.base) h.memory)
 window_here hs bs a n j h kept found fits =

@@ -1,4 +1,4 @@
--- What a move is asked: where an image is to stand beside all others.
+-- The tests of a move: the place of an image, alone and beside all others.
 use Rattle.std.proofs.Common.{◌≡◌, ◌∙◌, ◌+◌, ◌%◌, ◌&&◌, ◌<◌, ℕ, zero, suc, Bool, true, cond, not, List, [], ◌∷◌, map, length, get_or, ◌≤◌, ◌^◌, false, None, Some, refl, sym, ap, arith}
 use Rattle.std.specs.Prelude.{nat_lt, ◌==◌}
 use Rattle.std.proofs.lemmas.List.{length-map}
@@ -13,7 +13,7 @@ use Rattle.pe_head.specs.declared.optional.Magic.{Magic}
 use Rattle.pe_head.specs.declared.optional.Magic.TheVariants.{Pe32, Pe32Plus}
 use Rattle.pe_set.specs.Placement.{Placement, address_limit, overlap, base_tests, placement_at, others_than, move_tests}
 
--- where the image of a number stands
+-- the place of the image with a number
 pub own_at : {X : Type 0} (place : X → Placement) (xs : List X) (own : X) (i : ℕ) → i < length xs → own ≡ get_or xs i own → placement_at (map place xs) i ≡ place own
 own_at place [] own i lt is = absurd (omega arith)
 own_at place (x ∷ xs) own zero lt is = ap place (sym is)
@@ -32,7 +32,7 @@ pub limit_le : (magic : Magic) → address_limit magic ≤ 2 ^ 64
 limit_le Pe32 = omega arith
 limit_le Pe32Plus = omega arith
 
--- ---- what is asked of a base alone, and then beside other images
+-- ---- the tests of a base alone, and then beside other images
 alone_some : (a b c d : Bool) (f g h k fault : Fault) → cond a (Some f) (cond b (Some g) (cond c (Some h) None)) ≡ Some fault → Some fault ≡ cond a (Some f) (cond b (Some g) (cond c (Some h) (cond d (Some k) None)))
 alone_some true b c d f g h k fault is = sym is
 alone_some false true c d f g h k fault is = sym is
@@ -61,7 +61,7 @@ base_alone_none others i p b is met =
     ap (λ (t : Bool). cond t (Some (at_base i p 47)) None) (sym met)
     ∙ alone_none (not (p.base % 65536 == 0)) (nat_lt (address_limit p.magic) (p.base + p.size)) (p.is_stripped && not (p.base == p.image_base)) (list_any (overlap p) others) (at_base i p 44) (at_base i p 45) (at_base i p 46) (at_base i p 47) is
 
--- the addresses reach so far
+-- the image ends inside the address space
 pub base_room : (i : ℕ) (p : Placement) → first_standing (base_tests [] i p) ≡ None → p.base + p.size ≤ 2 ^ 64
 base_room i p none =
     let room = ltb-false (address_limit p.magic) (p.base + p.size) (none_stands (base_tests [] i p) 1 _ none refl) in

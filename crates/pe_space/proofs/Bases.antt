@@ -1,4 +1,4 @@
--- What is kept of a set, at other bases.
+-- The content of a set at other bases.
 use Rattle.std.proofs.Common.{◌≡◌, ◌∙◌, ℕ, zero, suc, List, [], ◌∷◌, length, map, refl, sym, ap}
 use Rattle.std.proofs.lemmas.List.FromFn.{length-map-range_with_len}
 use Rattle.pe_set.specs.Bindings.{bindings_of}
@@ -37,7 +37,7 @@ pub whole_at : (s : List Module) (j : ℕ) → length (nth_image (laid_out s).im
 unfolding laid_out
 whole_at s j = whole_from s j
 
--- what is kept says at each address what the set defines there
+-- the content has at each address the byte that the set defines there
 pub bytes_defined : (s : List Module) (a : ℕ) → IsSound s → byte_at (content_of s) a ≡ defined_byte s a
 unfolding content_of
 bytes_defined s a sound = address_same (laid_out s) a (fields_and_slots s sound) (whole_at s) ∙ laid_defined s (fields_inside s sound) a

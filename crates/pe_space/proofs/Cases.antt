@@ -1,4 +1,4 @@
--- The byte of an address by where it stands.
+-- The byte at an address, by what it belongs to.
 use Rattle.std.proofs.Common.{◌≡◌, ◌∙◌, ◌+◌, ◌-◌, ◌<◌, ◌≤◌, ◌⊎◌, ℕ, suc, Bool, true, false, cond, List, [], ◌∷◌, length, map, Option, None, Some, refl, sym, ap, subst, arith, inl, inr}
 use Rattle.std.specs.Prelude.{pos, ◌-ℤ◌, slice_get, Contains}
 use Rattle.std.specs.List.{find}
@@ -35,7 +35,7 @@ module _ (s : List Module) (sound : IsSound s) where
   abbrev c : Content
   c = record { images = map image_content s; bindings = bindings_of s }
 
-  -- what stands at an address of an image is what its content says there
+  -- the byte at an address of an image is the one in its content
   here : (i r : ℕ) (m : Module) → HasByte s i m r → defined_byte s (m.base + r) ≡ Some (byte_in c i r)
   unfolding laid_out
   here i r m has =

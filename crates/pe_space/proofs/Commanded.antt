@@ -1,4 +1,4 @@
--- After commands a space of an accepted set is that of the same files at other bases, and these are accepted there.
+-- After commands a space of an accepted set is that of the same files at other bases, where these are accepted.
 use Rattle.std.proofs.Common.{◌≡◌, ◌∙◌, ◌+◌, ℕ, zero, suc, List, [], ◌∷◌, map, None, Some, refl, sym, ap}
 use Rattle.std.specs.Prelude.{Option, slice_set}
 use Rattle.std.proofs.lemmas.Simd.{map-map}
@@ -25,7 +25,7 @@ own_bases : (es : List Entry) → at_bases (sets.bases_of es) es ≡ es
 own_bases [] = refl
 own_bases (e ∷ es) = ap (λ (rest : List Entry). e ∷ rest) (own_bases es)
 
--- bases that were put one after the other are put at once
+-- changing bases twice is changing them once to the second ones
 put_twice : (later first : List ℕ) (es : List Entry) → at_bases (sets.bases_of (at_bases later (at_bases first es))) es ≡ at_bases later (at_bases first es)
 put_twice [] [] [] = refl
 put_twice [] (b ∷ first) [] = refl
@@ -36,7 +36,7 @@ put_twice (b ∷ later) [] (e ∷ es) = ap (λ (rest : List Entry). record e { b
 put_twice [] (d ∷ first) (e ∷ es) = ap (λ (rest : List Entry). record e { base = d } ∷ rest) (put_twice [] first es)
 put_twice (b ∷ later) (d ∷ first) (e ∷ es) = ap (λ (rest : List Entry). record e { base = b } ∷ rest) (put_twice later first es)
 
--- the second are the files of the first, at their own bases
+-- the second entries have the files of the first, at their own bases
 abbrev AreSame : List Entry → List Entry → Type 0
 AreSame es now = at_bases (sets.bases_of now) es ≡ now
 
@@ -45,7 +45,7 @@ same_later es now later first second =
     let whole : later ≡ at_bases (sets.bases_of later) (at_bases (sets.bases_of now) es) = sym second ∙ ap (at_bases (sets.bases_of later)) (sym first) in
     ap (λ (x : List Entry). at_bases (sets.bases_of x) es) whole ∙ put_twice (sets.bases_of later) (sets.bases_of now) es ∙ sym whole
 
--- ---- where the images of a content stand
+-- ---- the places of a content's images
 content_places : (s : List Module) → map placement_of (content_of s).images ≡ map sets.placement_of s
 unfolding content_of laid_out
 content_places s = placements_bared 0 (bindings_of s) (map image_content s) ∙ map-map placement_of image_content s
@@ -63,7 +63,7 @@ content_bases es =
     ∙ map-map (λ (p : Placement). p.base) sets.placement_of s
     ∙ bases_from 0 es
 
--- ---- a move puts one base
+-- ---- a move changes one base
 own_images : (images : List SpaceImage) → kept.images_at (map (λ (m : SpaceImage). m.base) images) images ≡ images
 own_images [] = refl
 own_images (m ∷ images) = ap (λ (rest : List SpaceImage). m ∷ rest) (own_images images)
@@ -76,7 +76,7 @@ one_base (m ∷ images) (suc i) base = ap (λ (rest : List SpaceImage). m ∷ re
 moved_is : (c : Content) (i base : ℕ) → moved c i base ≡ kept.set_at (slice_set (kept.bases_of c) i base) c
 moved_is c i base = ap (λ (images : List SpaceImage). record c { images = images }) (one_base c.images i base)
 
--- an accepted set whose space has this content, of the same files
+-- an accepted set of the same files whose space has this content
 pub record Serves (policy : Policy) (es : List Entry) (c : Content) : Type 0 where
   pub now : List Entry
   pub same : AreSame es now
@@ -121,6 +121,6 @@ module _ (policy : Policy)
         content = ap (after_all commands) one.content ∙ rest.content;
       }
 
--- the files at the bases of the content are those
+-- the files at the bases of the content are these
 pub served_now : (policy : Policy) (es : List Entry) (c : Content) (served : Serves policy es c) → at_bases (kept.bases_of c) es ≡ served.now
 served_now policy es c served = ap (λ (x : Content). at_bases (kept.bases_of x) es) served.content ∙ ap (λ (bs : List ℕ). at_bases bs es) (content_bases served.now) ∙ served.same

@@ -1,4 +1,4 @@
--- The fields and slots that cover a place of an image, and windows on which they are laid.
+-- The fields and slots that cover a place of an image, and windows over which they are written.
 use Rattle.std.proofs.Common.{◌≡◌, ℕ, zero, suc, ◌+◌, ◌-◌, ◌<◌, ◌≤◌, ◌⊎◌, Bool, true, List, [], ◌∷◌, length, get_or, refl, ap, ◌∙◌, sym, subst, arith, inl, inr, Option, Some, None}
 use Rattle.std.specs.List.{find, Contains}
 use Rattle.std.proofs.lemmas.List.FromFn.{get_or-map-range_with_len, length-map-range_with_len}
@@ -49,7 +49,7 @@ field_at image f r sound c low high =
     ap (fixed_byte image r) (each_contains _ image.fixups f (finds_each FieldsApart image.fixups sound.apart) c (in_field r) (true-is_in f.field (width_of f.kind) r low high)
     (λ g apart passes. clash f g r low high apart passes))
 
--- before any field is laid on
+-- before any field is written
 pub fields_still : (image : SpaceImage) (i : layout.LaidOut) (fields : List Fixup) (start n : ℕ) (window : List ℕ) → window ≡ layout.bytes_at i start n
     → image.plain ≡ layout.bytes_at i 0 i.size → start + n ≤ i.size
     → ((f : Fixup) → Contains image.fixups f → start < f.field + 8 → f.field < start + n → Contains fields f)
@@ -76,12 +76,12 @@ pub slot_width_small : (magic : Magic) → slot_width magic ≤ 8
 slot_width_small Pe32 = omega arith
 slot_width_small Pe32Plus = omega arith
 
--- an RVA is one of a slot of this width
+-- an RVA is inside a slot of this width
 abbrev pub in_slot_of : ℕ → ℕ → Binding → Bool
 in_slot_of width r b = is_in b.slot width r
 
 module _ (c : Content) (fields_and_slots : FieldsAndSlotsApart c) (whole : (j : ℕ) → length (nth_image c.images j).plain ≡ (nth_image c.images j).size) (j : ℕ) (here : j < length c.images) where
-  -- before any slot is laid on
+  -- before any slot is written
   pub slots_still : (width : ℕ) (slots : List Binding) (start n : ℕ) (window : List ℕ) → width ≡ slot_width (nth_image c.images j).magic
       → window ≡ fixed_bytes (nth_image c.images j) start n
       → ((b : Binding) → Contains c.bindings b → b.image ≡ j → start < b.slot + 8 → b.slot < start + n → Contains slots b)

@@ -1,4 +1,4 @@
--- What is kept of a set says at each address what the set defines.
+-- The content of a set has at each address the byte that the set defines.
 use Rattle.std.proofs.Common.{◌≡◌, ◌∙◌, ◌+◌, ◌-◌, ◌*◌, ◌<◌, ◌≤◌, ℕ, zero, suc, Bool, true, false, cond, List, [], ◌∷◌, length, map, get_or, Option, None, Some, refl, sym, ap, subst, arith, inl, inr}
 use Rattle.std.specs.Prelude.{pos, ◌-ℤ◌, slice_get, unwrap_or, ◌==◌, Result, Ok, Err}
 use Rattle.std.specs.Option.{option_map_or}
@@ -116,7 +116,7 @@ module _ (c : Content) (fields_and_slots : FieldsAndSlotsApart c) (whole : (j : 
   pub base_same : (nth_image (unbound c).images i).base ≡ own.base
   base_same = ap (λ (m : SpaceImage). m.base) bare_is
 
--- the same byte stands at each address
+-- the byte at each address is the same
 pub address_same : (c : Content) (a : ℕ) → FieldsAndSlotsApart c → ((j : ℕ) → length (nth_image c.images j).plain ≡ (nth_image c.images j).size) → byte_at (unbound c) a ≡ byte_at c a
 address_same c a fields_and_slots whole =
     ap (byte_held (unbound c) a) (holder_bared c.bindings c.images a) ∙ by_holder (holder_from 0 c.images a) refl
@@ -131,18 +131,18 @@ address_same c a fields_and_slots whole =
         ap (λ (b : ℕ). Some (byte_in (unbound c) j (a - b))) (base_same c fields_and_slots whole j lt)
         ∙ ap (λ (n : ℕ). Some n) (byte_same c fields_and_slots whole j lt (a - (nth_image c.images j).base))
 
--- the same bytes stand in each window
+-- the bytes in each window are the same
 pub bytes_same : (c : Content) (n a : ℕ) → FieldsAndSlotsApart c → ((j : ℕ) → length (nth_image c.images j).plain ≡ (nth_image c.images j).size) → bytes_from (unbound c) a n ≡ bytes_from c a n
 bytes_same c zero a fields_and_slots whole = refl
 bytes_same c (suc n) a fields_and_slots whole =
     ap (λ (o : Option ℕ). unwrap_or o 0 ∷ bytes_from (unbound c) (a + 1) n) (address_same c a fields_and_slots whole)
     ∙ ap (λ (xs : List ℕ). unwrap_or (byte_at c a) 0 ∷ xs) (bytes_same c n (a + 1) fields_and_slots whole)
 
--- where no image stands
+-- outside images
 pub byte_nowhere : (c : Content) (a : ℕ) → holder_from 0 c.images a ≡ None → byte_at (unbound c) a ≡ None
 byte_nowhere c a none = ap (byte_held (unbound c) a) (holder_bared c.bindings c.images a ∙ none)
 
--- what a window holds, by where it lies
+-- the bytes of a window, by where it is
 pub window_told : (c : Content) (a n : ℕ) (o : Result ℕ Fault) → (n == 0) ≡ false → window_image (map placement_of c.images) a n ≡ o → window_at (unbound c) a n ≡ window_in (unbound c) a n o
 window_told c a n o some is =
     ap (λ (b : Bool). cond b (Ok []) (window_in (unbound c) a n (window_image (map placement_of (unbound c).images) a n))) some
@@ -205,17 +205,17 @@ module _ (s : List Module) (inside : (j : ℕ) (m : Module) → slice_get s j �
       let next : (i : ℕ) (q : Module) → slice_get t i ≡ Some q → slice_get s (n + 1 + i) ≡ Some q = (λ i q got. let there : n + suc i ≡ n + 1 + i = omega arith in subst (λ (k : ℕ). slice_get s k ≡ Some q) there (tail (suc i) q got)) in
       at_step n m a (holder_from (n + 1) (map image_content t) a) (defined_from s (n + 1) t a) (is_in m.base m.image.size a) at refl (at_from (n + 1) t a next)
 
-  -- what the files lay out stands at each address as the set defines it
+  -- the files as they are laid out have at each address the byte that the set defines
   pub laid_defined : (a : ℕ) → byte_at (laid_out s) a ≡ defined_byte s a
   unfolding laid_out defined_byte
   laid_defined a = at_from 0 s a (λ i m at. let here : 0 + i ≡ i = omega arith in subst (λ (k : ℕ). slice_get s k ≡ Some m) (sym here) at)
 
--- which image holds what was asked
+-- which image contains the bytes
 pub image_told : (c s : Content) (a n : ℕ) (o : Result ℕ Fault) → unbound c ≡ s → o ≡ image_at s a n → window_image (map placement_of c.images) a n ≡ o
 image_told c s a n o view is =
     ap (λ (ps : List Placement). window_image ps a n) (sym (placements_bared 0 c.bindings c.images)) ∙ ap (λ (x : Content). image_at x a n) view ∙ sym is
 
--- a window that no image holds
+-- a window that no image contains
 pub window_refused : (s : Content) (a n : ℕ) (fault : Fault) → (n == 0) ≡ false → Err fault ≡ image_at s a n → window_at s a n ≡ Err fault
 window_refused s a n fault some is =
     ap (λ (b : Bool). cond b (Ok []) (window_in s a n (image_at s a n))) some ∙ ap (window_in s a n) (sym is)

@@ -1,4 +1,4 @@
--- Images over files: which of them holds an address, what windows hold, and what an accepted move leaves.
+-- Images over files: which of them contains an address, the bytes of windows, and the state after an accepted move.
 use Rattle.std.proofs.Common.{◌≡◌, ℕ, zero, suc, ◌+◌, ◌-◌, ◌<◌, ◌≤◌, ◌^◌, List, length, map, get_or, refl, ap, ◌∙◌, sym, subst, arith, [], ◌∷◌, ◌++◌, take, length-append, inl, inr}
 use Rattle.std.specs.Prelude.{Option, Some, None, unwrap_or, Ok, slice_set}
 use Rattle.std.specs.List.{range_with_len}
@@ -30,7 +30,7 @@ use Rattle.pe_space.proofs.SlotsAndFields.{is_in-true, true-is_in}
 pub image_at : (images : List SpaceImage) (i : ℕ) (m : SpaceImage) → i < length images → m ≡ get_or images i m → m ≡ nth_image images i
 image_at images i m lt is = is ∙ get_or_default images i m no_image lt
 
--- where an export stands
+-- the address of an export
 pub address_fits : (c : Content) (b : Binding) → ImagesApart c → IsSlot c.images b → (nth_image c.images b.exporter).base + b.rva < 2 ^ 64
 address_fits c b placed slot =
     let target = slot.target in
@@ -48,7 +48,7 @@ still_there c s j view lt = let n = length-unbound_images 0 c.bindings c.images 
 pub same_size : (c s : Content) (j : ℕ) → unbound c ≡ s → j < length c.images → (nth_image s.images j).size ≡ (nth_image c.images j).size
 same_size c s j view lt = ap (λ (x : Content). (nth_image x.images j).size) (sym view) ∙ ap (λ (m : SpaceImage). m.size) (image_bared 0 c.bindings c.images j lt)
 
--- what is known of the image that holds an address
+-- facts about the image that contains an address
 pub record FoundAt (images : List SpaceImage) (a j : ℕ) (m : SpaceImage) : Type 0 where
   pub held : holder_from 0 images a ≡ Some j
   pub low : m.base ≤ a
@@ -72,18 +72,18 @@ found_at images l a j m same found is =
       image = image;
     }
 
--- the images are in the order of their bases, and no two are at one address
+-- the images are ordered by base and disjoint
 pub filed_order : {order : List NumberAt} {bs slots : List Binding} {counts : List ℕ} (images l : List SpaceImage) {lent : List NumberAt} → FileSpaceHolds images order bs slots counts → l ≡ images → lent ≡ order → IsByBase (map placement_of l) lent
 filed_order images l kept same lent_is = rw (same, lent_is) kept.by_base
 
 pub filed_apart : {order : List NumberAt} {bs slots : List Binding} {counts : List ℕ} (images l : List SpaceImage) → FileSpaceHolds images order bs slots counts → l ≡ images → StandApart (map placement_of l)
 filed_apart {bs = bs} images l kept same = rw same (stand_apart (file_content images bs) kept.placed)
 
--- where the images of the content stand
+-- the places of the content's images
 pub placed_so : (images l : List SpaceImage) (bs : List Binding) → l ≡ images → map placement_of l ≡ map placement_of (unbound (file_content images bs)).images
 placed_so images l bs same = ap (map placement_of) same ∙ sym (placements_bared 0 bs images)
 
--- the image in which a window lies
+-- the image that contains a window
 pub found_window : (images : List SpaceImage) (a n j : ℕ) (m : SpaceImage) → window_image (map placement_of images) a n ≡ Ok j → m ≡ get_or images j m → FoundAt images a j m × (a - m.base + n ≤ m.size)
 found_window images a n j m lies is =
     let both = window_lies images a n j lies in
@@ -99,7 +99,7 @@ module _ (images : List SpaceImage) (order : List NumberAt) (bs slots : List Bin
   same : (r : ℕ) → byte_in (unbound c) j r ≡ byte_in c j r
   same r = byte_same c kept.fields_and_slots kept.whole j found.place r
 
-  -- the bytes from an address on, as those of the image that holds it
+  -- the bytes from an address on, as those of the image that contains it
   bytes_there : (n b r : ℕ) → b ≡ (nth_image c.images j).base + r → r + n ≤ (nth_image c.images j).size → bytes_from c b n ≡ map (byte_in (unbound c) j) (range_with_len r n)
   bytes_there zero b r e fits = refl
   bytes_there (suc n) b r e fits =
@@ -118,7 +118,7 @@ module _ (images : List SpaceImage) (order : List NumberAt) (bs slots : List Bin
       ∙ ap (λ (x : SpaceImage). Some (byte_in c j (a - x.base))) (sym found.image)
       ∙ ap (λ (n : ℕ). Some n) (sym (same (a - m.base)))
 
-  -- the bytes of a window, in that image
+  -- the bytes of a window in that image
   pub window_found : (n : ℕ) → a - m.base + n ≤ m.size → bytes_from (unbound c) a n ≡ bytes_in (unbound c) j (a - m.base) n
   unfolding bytes_in
   window_found n fits =
@@ -128,7 +128,7 @@ module _ (images : List SpaceImage) (order : List NumberAt) (bs slots : List Bin
       bytes_same c n a kept.fields_and_slots kept.whole ∙ bytes_there n a (a - m.base) (omega arith) (omega arith)
 
 -- ---- moves
--- what asking about them gave
+-- the result of testing them
 pub fault_so : (images l : List SpaceImage) (bs : List Binding) (i base : ℕ) → l ≡ images → move_fault (file_content images bs) i base ≡ first_standing (move_tests (map placement_of l) i base)
 fault_so images l bs i base same = ap (λ (x : List SpaceImage). first_standing (move_tests (map placement_of x) i base)) (sym same)
 
@@ -156,14 +156,14 @@ filed_moved images order order_after bs slots counts i base m new kept none is m
       ap unbound content ∙ bare_moved c i base,
     )
 
--- ---- how many slots end in each image
+-- ---- how many slots are bound to each image
 all_zero : (xs : List ℕ) → ((j : ℕ) → get_or xs j 0 ≡ 0) → (j : ℕ) → get_or (xs ++ 0 ∷ []) j 0 ≡ 0
 all_zero [] zeros zero = refl
 all_zero [] zeros (suc j) = refl
 all_zero (x ∷ xs) zeros zero = zeros 0
 all_zero (x ∷ xs) zeros (suc j) = all_zero xs (λ k. zeros (suc k)) j
 
--- so many counts of 0
+-- a count of 0 for each image
 pub record AreZeros (n : ℕ) (counts : List ℕ) : Type 0 where
   pub count : length counts ≡ n
   pub zeros : (j : ℕ) → get_or counts j 0 ≡ 0
@@ -180,7 +180,7 @@ zeros_more n counts so_far = record {
 pub zeros_all : (n : ℕ) (counts : List ℕ) → AreZeros n counts → SlotCounts n [] counts
 zeros_all n counts zeros = record { count = zeros.count; each = λ j lt. zeros.zeros j }
 
--- one slot further on
+-- one more slot
 pub counts_more : (n k : ℕ) (bs : List Binding) (d : Binding) (counts : List ℕ) → k < length bs → (get_or bs k d).exporter < n → SlotCounts n (take k bs) counts
     → SlotCounts n (take (k + 1) bs) (slice_set counts (get_or bs k d).exporter (get_or counts (get_or bs k d).exporter 0 + 1))
 counts_more n k bs d counts lt small so_far = record {

@@ -36,13 +36,13 @@ pub modules_count : (es : List Entry) → length (modules_of es) ≡ length es
 unfolding modules_of
 modules_count es = count_from 0 es
 
--- what holds of all holds of the one at a place
+-- a fact about all holds for the one at an index
 pub all_got : {X : Type 0} (P : X → Type 0) (xs : List X) (j : ℕ) (x : X) → All P xs → slice_get xs j ≡ Some x → P x
 all_got P [] j x all at = absurd cc
 all_got P (y ∷ xs) zero x all at = subst P (same_Some y x at) (all 0 y (omega arith))
 all_got P (y ∷ xs) (suc j) x all at = all_got P xs j x (λ k d lt. all (suc k) d (omega arith)) at
 
--- of two at different places, too
+-- and one about pairs holds for two at different indices
 pub pair_got : {X : Type 0} (R : X → X → Type 0) (xs : List X) (i j : ℕ) (x y : X) → AllPairs R xs → i < j → slice_get xs i ≡ Some x → slice_get xs j ≡ Some y → R x y
 pair_got R [] i j x y all lt at_i at_j = absurd cc
 pair_got R (z ∷ xs) i zero x y all lt at_i at_j = absurd (omega arith)

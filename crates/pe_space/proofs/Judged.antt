@@ -1,4 +1,4 @@
--- What a set that was accepted gives to those who keep its images, one by one.
+-- Facts about an accepted set, for callers that turn its images into others one by one.
 use Rattle.std.proofs.Common.{◌≡◌, ◌∙◌, ◌≤◌, ◌++◌, [], ◌∷◌, ℕ, List, map, length, ap, sym, refl, append_assoc, append-nil, arith, length-append}
 use Rattle.std.proofs.lemmas.List.{length-map}
 use Rattle.pe_set.specs.Bindings.{bindings_of}
@@ -16,12 +16,12 @@ pub none_left : {X : Type 0} (xs : List X) → length xs ≡ 0 → xs ≡ []
 none_left [] e = refl
 none_left (x ∷ xs) e = absurd (omega (arith, e))
 
--- with 0 in its bound slots what is laid out is the set's content
+-- with 0 in its bound slots, what is laid out is the set's content
 pub content_is : (c : Content) (s : List Module) → c ≡ laid_out s → unbound c ≡ content_of s
 unfolding content_of
 content_is c s is = ap unbound is
 
--- it has few images, as many as entries
+-- it has at most 256 entries, and as many images
 pub few_entries : (set : List SetEntry) → IsSound (modules_of (entries_of set)) → length set ≤ 256
 few_entries set sound =
     let few = sound.few in
@@ -31,7 +31,7 @@ few_entries set sound =
 pub count_modules : {A : Type 0} (set : List SetEntry) (ms : List (code_module.Module A)) → modules_view ms ≡ modules_of (entries_of set) → length ms ≡ length set
 count_modules set ms is = sym (length-map ms module_view) ∙ ap length is ∙ modules_count (entries_of set) ∙ length-map set entry_view
 
--- an empty set has no image, and no slot that is bound
+-- an empty set has no image and no bound slot
 pub no_images : {Y : Type 0} (make : Module → Y) (set : List SetEntry) → length set ≡ 0 → length (map make (modules_of (entries_of set))) ≡ 0
 unfolding modules_of
 no_images make [] none = refl
@@ -44,11 +44,11 @@ no_bindings (e ∷ set) none = absurd (omega (arith, none))
 
 -- ---- images that are made one by one, each by `make`
 module _ {A Y : Type 0} (make : Module → Y) where
-  -- what is made, and what is left to make
+  -- the images that are made, and those that are left
   abbrev pub made_and_left : List Y → List (code_module.Module A) → List Y
   made_and_left made left = made ++ map make (modules_view left)
 
-  -- one more is made
+  -- one more image is made
   pub one_more : (made after : List Y) (own : code_module.Module A) (left rest : List (code_module.Module A)) (y : Y) (all : List Y) → made_and_left made left ≡ all
       → left ≡ own ∷ rest → y ≡ make (module_view own) → after ≡ made ++ y ∷ [] → made_and_left after rest ≡ all
   one_more made after own left rest y all so_far next is added =
@@ -58,11 +58,11 @@ module _ {A Y : Type 0} (make : Module → Y) where
       ∙ ap (made_and_left made) (sym next)
       ∙ so_far
 
-  -- all are made
+  -- all images are made
   pub all_made : (made : List Y) (left : List (code_module.Module A)) (n : ℕ) (s : List Module) → made_and_left made left ≡ map make s → length left ≡ n → n ≡ 0 → made ≡ map make s
   all_made made left n s so_far count none = sym (append-nil made) ∙ ap (made_and_left made) (sym (none_left left (count ∙ none))) ∙ so_far
 
-  -- none is left of an empty set
+  -- no image is left of an empty set
   pub none_to_make : (set : List SetEntry) (made : List Y) (left : List (code_module.Module A)) → made_and_left made left ≡ map make (modules_of (entries_of set)) → length set ≡ 0 → length left ≡ 0
   none_to_make set made left so_far none =
       let whole = ap length so_far ∙ length-map (modules_of (entries_of set)) make ∙ modules_count (entries_of set) ∙ length-map set entry_view in

@@ -8,7 +8,7 @@ pub each_map : {X : Type 0} (P Q : X → Type 0) (xs : List X) → ((x : X) → 
 each_map P Q [] f e = tt
 each_map P Q (x ∷ xs) f e = (f x e.0, each_map P Q xs f e.1)
 
--- what holds of each one is what holds of all that the list contains
+-- a fact about each element is one about all that the list contains
 pub each_in : {X : Type 0} (P : X → Type 0) (xs : List X) → ((x : X) → Contains xs x → P x) → Each P xs
 each_in P [] f = tt
 each_in P (x ∷ xs) f = (f x (zero, omega arith, refl), each_in P xs (λ y held. let lt = held.1 in f y (suc held.0, omega arith, held.2)))
@@ -37,7 +37,7 @@ pub find_in : {X : Type 0} (p : X → Bool) (xs : List X) (x : X) → find p xs 
 find_in p [] x h = cc
 find_in p (y ∷ xs) x h = in_step p y xs x (p y) refl (find_in p xs x) h
 
--- what a search finds passes the test, and has what each element has
+-- what a search finds passes the test, and has the properties of all elements
 pub found : {X : Type 0} (P : X → Type 0) (p : X → Bool) (xs : List X) (x : X) → Each P xs → find p xs ≡ Some x → (p x ≡ true) × P x
 found P p [] x e h = cc
 found P p (y ∷ ys) x e h =
@@ -48,7 +48,7 @@ found P p (y ∷ ys) x e h =
     ] is in
     step (p y) refl h
 
--- where no two elements both pass, a search for one that passes finds it
+-- if no two elements both pass, a search for one that passes finds it
 abbrev pub Finds : {X : Type 0} → (X → X → Type 0) → List X → X → Type 0
 Finds {X} R xs x = (p : X → Bool) → p x ≡ true → ((y : X) → R y x → p y ≡ true → ⊥) → find p xs ≡ Some x
 
@@ -56,7 +56,7 @@ finds_first : {X : Type 0} (R : X → X → Type 0) (x : X) (xs : List X) (y : X
 finds_first R x xs y r f p is never true h = absurd (never x r h)
 finds_first R x xs y r f p is never false h = f p is never
 
--- of no element before it does R hold with x and the test pass
+-- for no element before x does R hold with x and the test pass
 pub finds_each : {X : Type 0} (R : X → X → Type 0) (xs : List X) → EachPair R xs → Each (Finds R xs) xs
 finds_each R [] e = tt
 finds_each {X = X} R (x ∷ xs) e = (
@@ -77,7 +77,7 @@ none_first : {X : Type 0} (p : X → Bool) (x : X) (xs : List X) (b : Bool) → 
 none_first p x xs true h never rest = absurd (never h)
 none_first p x xs false h never rest = rest
 
--- a search that nothing passes finds nothing
+-- a search finds nothing if nothing passes
 pub none_found : {X : Type 0} (p : X → Bool) (xs : List X) → Each (λ x. p x ≡ true → ⊥) xs → find p xs ≡ None
 none_found p [] e = refl
 none_found p (x ∷ xs) e = none_first p x xs (p x) refl e.0 (none_found p xs e.1)
@@ -91,13 +91,13 @@ or_false : (a b : Bool) → (a || b) ≡ false → (a ≡ false) × (b ≡ false
 or_false true b h = cc
 or_false false b h = (refl, h)
 
--- a test that none of some items passes is passed by none of them
+-- if none of some items passes a test, no item of them does
 any_free : {X : Type 0} (p : X → Bool) (xs : List X) (d : X) (k : ℕ) → list_any p xs ≡ false → k < length xs → p (get_or xs k d) ≡ false
 any_free p [] d k none lt = absurd (omega arith)
 any_free p (x ∷ xs) d zero none lt = (or_false (p x) (list_any p xs) none).0
 any_free p (x ∷ xs) d (suc k) none lt = any_free p xs d k (or_false (p x) (list_any p xs) none).1 (omega arith)
 
--- nor of those but one by any other
+-- the same for all items but one
 pub others_free : {X : Type 0} (p : X → Bool) (xs : List X) (d : X) (i k : ℕ) → list_any p (take i xs ++ drop (suc i) xs) ≡ false → k < length xs → (k ≡ i → ⊥) → p (get_or xs k d) ≡ false
 others_free p [] d i k none lt ne = absurd (omega arith)
 others_free p (x ∷ xs) d zero zero none lt ne = absurd (ne refl)

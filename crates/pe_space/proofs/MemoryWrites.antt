@@ -8,7 +8,7 @@ use Rattle.pe_space.specs.Memory.{patch, bytes, memory_of, put_slot, address_of,
 use Rattle.pe_space.specs.InMemory.{InMemory, images_of, memories_of}
 use Rattle.pe_space.specs.FieldsAndSlots.{IsSlot}
 
--- what is read at a place
+-- the image that is read at an index
 pub image_read : (hs : List InMemory) (i : ℕ) (h : InMemory) → i < length hs → h ≡ get_or hs i h → h.image ≡ nth_image (images_of hs) i
 image_read hs i h lt is = ap (λ (x : InMemory). x.image) is ∙ sym (get_or-map (λ (x : InMemory). x.image) hs i h no_image lt)
 
@@ -44,7 +44,7 @@ put_here hs b v r new slot is made =
     made ∙ ap (λ (x : InMemory). record x { memory = patch x.memory b.slot (bytes (slot_width x.image.magic) v) }) (sym is) in
     put_step hs b v r new (in_list hs hs (images_of hs) b.image refl refl slot.image) is from_r
 
--- one slot further on
+-- one more slot
 pub bind_step : (images : List SpaceImage) (hs after : List InMemory) (k : ℕ) (bs : List Binding) (d : Binding) (v : ℕ) (end : List (List ℕ))
     → k < length bs → images_of hs ≡ images → v ≡ address_of images (get_or bs k d)
     → images_of after ≡ images_of hs → memories_of after ≡ put_slot (images_of hs) (get_or bs k d) v (memories_of hs)

@@ -1,4 +1,4 @@
--- An accepted move leaves what a space keeps.
+-- An accepted move keeps what a space must hold.
 use Rattle.std.proofs.Common.{◌≡◌, ℕ, zero, suc, ◌+◌, ◌%◌, ◌<◌, ◌≤◌, ◌^◌, ◌⊎◌, Bool, true, false, cond, not, ◌&&◌, List, [], ◌∷◌, map, length, get_or, refl, ap, ◌∙◌, sym, subst, arith, inl, inr}
 use Rattle.std.specs.Prelude.{slice_set, None, nat_lt, ◌==◌, pos, ◌-ℤ◌}
 use Rattle.std.proofs.lemmas.Bool.{cases_eq, eqb-true}
@@ -45,7 +45,7 @@ apart_unless_meets a n b m h = elim (and_false (nat_lt a (b + m)) (nat_lt b (a +
   | inr before ↦ inl (ltb-false b (a + n) before)
 ]
 
--- what an accepted move shows
+-- facts about an accepted move
 pub record Accepts (c : Content) (i base : ℕ) : Type 0 where
   pub image : i < length c.images
   pub aligned : base % 65536 ≡ 0
@@ -138,7 +138,7 @@ rebased_content hs bs i base h new lt is made =
           ∙ ap (shifted_all (pos base -ℤ pos (nth_image (images_of hs) i).base) (nth_image (images_of hs) i).fixups) (memory_read hs i h lt is)),
     )
 
--- slots that were lent from those in the order of their exporters
+-- the slots in the part of a list that is ordered by exporter
 pub ending_from : (c : Content) (slots l lent : List Binding) (i : ℕ) → IsOrdered exporter_of c.bindings slots → l ≡ slots
     → ((b : Binding) → Contains lent b → Contains l b × (b.exporter ≡ i)) → ((b : Binding) → Contains l b → b.exporter ≡ i → Contains lent b) → AreEnding c i lent
 ending_from c slots l lent i ordered same held all = record {
@@ -151,7 +151,7 @@ ending_from c slots l lent i ordered same held all = record {
 pub count_ending : (bs slots l : List Binding) (i n : ℕ) → IsOrdered exporter_of bs slots → l ≡ slots → n ≡ count_by (ends_in i) l → n ≡ count_by (ends_in i) bs
 count_ending bs slots l i n ordered same is = is ∙ ap (count_by (ends_in i)) same ∙ sum_by-IsPermutation (λ (b : Binding). cond (ends_in i b) 1 0) bs slots ordered.same
 
--- where the image has been put at its base: what is asked of the slots before they are bound, and what is kept once they are
+-- after the image got its base: what holds of the slots before they are bound, and after that
 module _ (hs first : List InMemory) (order : List NumberAt) (bs slots : List Binding) (i base : ℕ) (h new : InMemory) (kept : MappedSpaceHolds hs order bs slots) (none : move_fault (mapped_content hs bs) i base ≡ None)
     (is : h ≡ get_or hs i h) (made : new ≡ rebased_image base h) (first_is : first ≡ slice_set hs i new) where
   abbrev c : Content

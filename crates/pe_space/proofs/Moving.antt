@@ -1,4 +1,5 @@
--- A move rewrites the fields of one image and the slots that end in it, and then the memory is that of the content with the new base.
+-- A move rewrites the fields of one image and the slots bound to its exports; then the memory is that of the content with the new
+-- base.
 use Rattle.std.proofs.Common.{◌≡◌, ℕ, ◌+◌, ◌-◌, ◌%◌, ◌<◌, ◌≤◌, ◌⊎◌, List, [], length, get_or, refl, ap, ◌∙◌, sym, subst, arith, inl, inr}
 use Rattle.std.specs.Prelude.{Option, Some, None, pos, ◌-ℤ◌, slice_set}
 use Rattle.std.specs.List.{find, Contains}
@@ -25,7 +26,7 @@ image_moved c i base lt = get_or-set_same c.images i (record (nth_image c.images
 pub image_kept : (c : Content) (i base j : ℕ) → (j ≡ i → ⊥) → nth_image (moved c i base).images j ≡ nth_image c.images j
 image_kept c i base j ne = get_or-set_other c.images i j (record (nth_image c.images i) { base = base }) no_image ne
 
--- what does not read the base stays
+-- what does not depend on the base is unchanged
 pub part_kept : {A : Type 0} (part : SpaceImage → A) (c : Content) (i base j : ℕ) → i < length c.images → ((image : SpaceImage) → part (record image { base = base }) ≡ part image) → part (nth_image (moved c i base).images j) ≡ part (nth_image c.images j)
 part_kept part c i base j lt same = elim (cases_eq j i) [
   | inl here ↦ rw here (ap part (image_moved c i base lt) ∙ same (nth_image c.images i))
@@ -63,14 +64,14 @@ tied_moved c i base lt fields_and_slots = record {
       target = rw (size b.exporter) s.target;
     }
 
--- the place of image j is one of a slot that ends in image i
+-- the place of image j is in a slot that is bound to image i
 pub record InEnding (c : Content) (i j r : ℕ) : Type 0 where
   pub slot : Binding
   pub bound : Contains c.bindings slot
   pub ends : slot.exporter ≡ i
   pub at : IsAt c.images j r slot
 
--- a move changes a byte only in a field of the image and in a slot that ends in it
+-- a move changes bytes only in a field of the image and in slots bound to its exports
 pub changes : (c : Content) (i base : ℕ) → i < length c.images → (j r : ℕ)
     → (byte_in c j r ≡ byte_in (moved c i base) j r) ⊎ (((j ≡ i) × InField r (nth_image c.images i).fixups) ⊎ InEnding c i j r)
 changes c i base lt j r = by_slot (find (in_slot j (nth_image c.images j).magic r) c.bindings) refl
@@ -105,7 +106,7 @@ changes c i base lt j r = by_slot (find (in_slot j (nth_image c.images j).magic 
       | inr ne ↦ inl (ap (byte_by c j r) h ∙ ap (λ (m : SpaceImage). digit (m.base + b.rva) (r - b.slot)) (sym (image_kept c i base b.exporter ne)) ∙ sym (now ∙ ap (byte_by (moved c i base) j r) h))
     ]
 
--- some slots are those that end in an image
+-- these slots are those bound to image i
 pub record AreEnding (c : Content) (i : ℕ) (bs : List Binding) : Type 0 where
   pub held : (b : Binding) → Contains bs b → Contains c.bindings b × (b.exporter ≡ i)
   pub all : (b : Binding) → Contains c.bindings b → b.exporter ≡ i → Contains bs b

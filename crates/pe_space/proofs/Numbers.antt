@@ -3,7 +3,7 @@ use Rattle.std.proofs.Common.{◌≡◌, ℕ, zero, suc, ◌+◌, ◌*◌, ◌/�
 use Rattle.std.proofs.Math.Nat.{add-mul, add_assoc, div-add-mod', div-div-eq-div-mul, div-one, mod-eq_of_lt, mod-lt, mul-add-mod_self_right, mul-le-mul_right, mul_assoc, one-le-pow, pow-suc, pow-succ'}
 use Rattle.pe_space.specs.Number.{digit, number_in}
 
--- the number depends on its bytes alone
+-- the number depends only on its bytes
 pub same_number : (xs ys : List ℕ) (a b w : ℕ) → ((k : ℕ) → k < w → get_or xs (a + k) 0 ≡ get_or ys (b + k) 0) → number_in xs a w ≡ number_in ys b w
 same_number xs ys a b zero h = refl
 same_number xs ys a b (suc w) h =
@@ -28,7 +28,7 @@ mod-split n {m} {c} hm hc =
 pub pow_pos256 : (n : ℕ) → zero < 256 ^ n
 pow_pos256 n = let h = one-le-pow n 256 (omega arith) in omega arith
 
--- the number in bytes that are those of v from byte j on is what is left of v
+-- the number in bytes that are those of v from byte j on is v without its lowest j bytes
 pub number_of_digits : (xs : List ℕ) (a j w v : ℕ) → ((k : ℕ) → k < w → get_or xs (a + k) 0 ≡ digit v (j + k)) → number_in xs a w ≡ v / 256 ^ j % 256 ^ w
 number_of_digits xs a j zero v h = omega arith
 number_of_digits xs a j (suc w) v h =
@@ -38,7 +38,7 @@ number_of_digits xs a j (suc w) v h =
     let split = mod-split (v / 256 ^ j) {m = 256 ^ w} {c = 256} (pow_pos256 w) (omega arith) in
     rw (first, rest, down, pow-suc 256 w, split) (omega arith)
 
--- a number that fits is the one in its own bytes
+-- a number that fits is read from its own bytes
 pub number_of_own_digits : (xs : List ℕ) (a w v : ℕ) → v < 256 ^ w → ((k : ℕ) → k < w → get_or xs (a + k) 0 ≡ digit v k) → number_in xs a w ≡ v
 number_of_own_digits xs a w v fits h =
     number_of_digits xs a 0 w v (λ k lt. (let e : 0 + k ≡ k = omega arith in rw e (h k lt)))

@@ -1,4 +1,4 @@
--- The images of a space in the order of their bases: which of them holds an address, and whether one would overlap another.
+-- The images of a space in the order of their bases: which of them contains an address, and whether one would overlap another.
 use Rattle.std.proofs.Common.{◌≡◌, ◌∙◌, ℕ, zero, suc, ◌+◌, ◌-◌, ◌<◌, ◌≤◌, Bool, true, false, cond, ◌&&◌, List, [], ◌∷◌, ◌++◌, length, map, get_or, refl, ap, sym, subst, arith, inl, inr, ltb, append_assoc, append-nil, length-append}
 use Rattle.std.specs.Prelude.{Option, None, Some, nat_lt, slice_get, slice_set}
 use Rattle.std.specs.List.{list_any, Contains}
@@ -18,8 +18,8 @@ use Rattle.pe_space.specs.declared.by_base.NumberAt.{NumberAt}
 use Rattle.pe_space.proofs.Lists.{none_of_others, one_of_others}
 use Rattle.pe_space.proofs.SlotsAndFields.{is_in-true, true-is_in}
 
--- ---- the image that holds an address
--- image k of these holds the address
+-- ---- the image that contains an address
+-- image k of these contains the address
 abbrev pub HoldsAt : List Placement → ℕ → ℕ → Type 0
 HoldsAt ps a k = (k < length ps) × (is_in (placement_at ps k).base (placement_at ps k).size a ≡ true)
 
@@ -41,7 +41,7 @@ placed_some n [] a k h = absurd (let lt = h.0 in omega arith)
 placed_some n (p ∷ ps) a zero h = some_step n ps a (is_in p.base p.size a) (λ no_hit. let is = h.1 in cc)
 placed_some n (p ∷ ps) a (suc k) h = some_step n ps a (is_in p.base p.size a) (λ _. placed_some (n + 1) ps a k (let lt = h.0 in omega arith, h.1))
 
--- no two images hold an address
+-- no two images contain the same address
 pub placed_is : (ps : List Placement) (a j : ℕ) → StandApart ps → HoldsAt ps a j → placed_from 0 ps a ≡ Some j
 placed_is ps a j stand here =
     let some = placed_some 0 ps a j here in
@@ -62,7 +62,7 @@ placed_none ps a never = by (placed_from 0 ps a) refl
     by None is = refl
     by (Some j) is = let held = placed_inside 0 ps a j is in absurd (never held.0 held.2)
 
--- ---- a search from the last of them on, for one that is not image i
+-- ---- a search from the last of them back, for one that is not image i
 get_or-before : {X : Type 0} (xs ys : List X) (k : ℕ) (d : X) → k < length xs → get_or (xs ++ ys) k d ≡ get_or xs k d
 get_or-before [] ys k d lt = absurd (omega (arith, lt))
 get_or-before (x ∷ xs) ys zero d lt = refl
@@ -72,7 +72,7 @@ get_or-behind : {X : Type 0} (xs : List X) (y : X) (ys : List X) (d : X) → get
 get_or-behind [] y ys d = refl
 get_or-behind (x ∷ xs) y ys d = get_or-behind xs y ys d
 
--- what is left of them, and behind it image i alone
+-- the images that are left, after which only image i comes
 pub record AllButOwn (i : ℕ) (near left : List NumberAt) : Type 0 where
   pub behind : List NumberAt
   pub parts : near ≡ left ++ behind
@@ -103,25 +103,25 @@ and_no true = refl
 and_no false = refl
 
 -- ---- images in the order of their bases
--- those that begin at an address or before it
+-- those that begin at or before an address
 pub record AreUpTo (order near : List NumberAt) (most : ℕ) : Type 0 where
   pub held : (at : NumberAt) → Contains near at → Contains order at × (at.base ≤ most)
   pub all : (at : NumberAt) → Contains order at → at.base ≤ most → Contains near at
   pub ascend : IsNonDecreasingBy base_of near
 
 module _ (ps : List Placement) (order near : List NumberAt) (most : ℕ) (by_base : IsByBase ps order) (stand : StandApart ps) (up_to : AreUpTo order near most) where
-  -- image k begins by then
+  -- image k begins at or before it
   near_at : (k : ℕ) → k < length ps → (placement_at ps k).base ≤ most → Contains near (numbered ps k)
   near_at k lt low = up_to.all (numbered ps k) (by_base.all k lt) low
 
-  -- where none begins by then, none holds the address
+  -- if none begins at or before it, none contains the address
   pub none_near : length near ≡ 0 → placed_from 0 ps most ≡ None
   none_near empty = placed_none ps most (λ k held.
       let range = is_in-true _ _ most held.1 in
       let there = (near_at k held.0 range.0).1 in
       omega (arith, there, empty))
 
-  -- what is known of one of them
+  -- facts about one of them
   pub record IsNear (at : NumberAt) : Type 0 where
     pub place : at.number < length ps
     pub base : (placement_at ps at.number).base ≡ at.base
@@ -133,7 +133,7 @@ module _ (ps : List Placement) (order near : List NumberAt) (most : ℕ) (by_bas
       let it = by_base.own at own.0 in
       record { place = it.0; base = sym (ap base_of it.1); low = own.1 }
 
-  -- an image that begins by then and is not behind this one ends before it, unless it is this one
+  -- an image that begins there or before, and not after this one, ends before this one, unless it is the same
   ends_before : (at : NumberAt) (n k q : ℕ) → IsNear at → n < length near → get_or near n at ≡ at → k < length ps → (k ≡ at.number → ⊥) → q ≤ n → get_or near q (numbered ps k) ≡ numbered ps k
       → (placement_at ps k).base + (placement_at ps k).size ≤ at.base
   ends_before at n k q is lt here below ne le there =
@@ -143,7 +143,7 @@ module _ (ps : List Placement) (order near : List NumberAt) (most : ℕ) (by_bas
       let base = is.base in
       elim (stand.apart k at.number below is.place ne) [ inl before ↦ omega arith | inr after ↦ absurd (omega arith) ]
 
-  -- the last of them holds the address, or none does
+  -- the last of them contains the address, or none does
   pub last_holds : (at : NumberAt) (n : ℕ) → length near ≡ n + 1 → get_or near n at ≡ at → most < (placement_at ps at.number).base + (placement_at ps at.number).size → placed_from 0 ps most ≡ Some at.number
   last_holds at n count here high =
       let is = near_one at (n, omega (arith, count), here) in
@@ -165,7 +165,7 @@ module _ (ps : List Placement) (order near : List NumberAt) (most : ℕ) (by_bas
             omega arith
       ])
 
-  -- an image that would stand up to this address overlaps the last of the others that begin by then, or none
+  -- an image that would end at this address overlaps the last of the others that begin at or before it, or none
   module _ (i base size : ℕ) (some : 0 < size) (last : base + size ≡ most + 1) where
     abbrev test : Placement → Bool
     test other = meets base size other.base other.size
@@ -179,7 +179,7 @@ module _ (ps : List Placement) (order near : List NumberAt) (most : ℕ) (by_bas
     before : (k : ℕ) → (placement_at ps k).base + (placement_at ps k).size ≤ base → test (placement_at ps k) ≡ false
     before k le = rw (le-ltb base ((placement_at ps k).base + (placement_at ps k).size) le) refl
 
-    -- where the others that begin by then end by its base, it overlaps none
+    -- if the others that begin at or before it end at or before its base, it overlaps none
     none_overlaps : ((k : ℕ) → k < length ps → (k ≡ i → ⊥) → (placement_at ps k).base ≤ most → (placement_at ps k).base + (placement_at ps k).size ≤ base) → list_any test (others_than i ps) ≡ false
     none_overlaps never = none_of_others test ps no_placement i (λ k lt ne. elim (cases_lt most (placement_at ps k).base) [
       | inl over ↦ past k over
@@ -217,7 +217,7 @@ module _ (ps : List Placement) (order near : List NumberAt) (most : ℕ) (by_bas
       pub none_found : near ≡ behind → false ≡ list_any test (others_than i ps)
       none_found all = sym (none_overlaps (λ k lt ne by_then. absurd (ne (all_own (numbered ps k) (subst (λ (l : List NumberAt). Contains l (numbered ps k)) all (near_at k lt by_then))))))
 
--- the last of a list
+-- the last element of a list
 pub none_last : {X : Type 0} (xs : List X) → slice_get xs (length xs - 1) ≡ None → length xs ≡ 0
 none_last [] is = refl
 none_last (x ∷ xs) is = absurd (let some = slice_get-get_or (x ∷ xs) (length (x ∷ xs) - 1) x (omega arith) in cc)
@@ -259,7 +259,7 @@ first_all ps xs ys first ordered = record {
   ascend = ordered.ascend;
 }
 
--- a list that is changed one by one
+-- a list whose elements are changed one by one
 pub record AreChanged {X : Type 0} (f : X → X) (xs ys : List X) (n : ℕ) : Type 0 where
   pub count : length ys ≡ length xs
   pub changed : (k : ℕ) (d : X) → k < n → get_or ys k d ≡ f (get_or xs k d)

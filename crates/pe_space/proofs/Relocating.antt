@@ -8,7 +8,7 @@ use Rattle.pe_space.specs.Number.{number_in, shift}
 use Rattle.pe_space.specs.Content.{width_of}
 use Rattle.pe_space.proofs.Defining.{number_plain}
 
--- what a look-up gives
+-- the value that a look-up returned
 pub value_of_some : {X : Type 0} (o : Option X) (P : Type 0) (v x : X) → SomeIff o P v → o ≡ Some x → x ≡ v
 value_of_some o P v x h e = (subst (λ (t : Option _). SomeIff t P v) e h).1
 
@@ -16,7 +16,7 @@ number_is : (i : layout.LaidOut) (field v : ℕ) (kind k : FixupKind) → kind �
     → v ≡ number_in (layout.bytes_at i 0 i.size) field (width_of kind)
 number_is i field v kind k is read inside = read ∙ ap (λ (t : FixupKind). layout.number_at (width_of t) i field) (sym is) ∙ sym (number_plain i field (width_of kind) inside)
 
--- a field's number, as it is read and shifted by the field's kind
+-- a field's number, as it is read and relocated by the fixup's kind
 pub relocated_is : (i : layout.LaidOut) (f : Fixup) (k : FixupKind) (base from v r : ℕ) → f.kind ≡ k → v ≡ layout.number_at (width_of k) i f.field → f.field + width_of f.kind ≤ i.size
     → from ≡ i.image_base → r ≡ shift k v (pos base -ℤ pos from) → r ≡ shift f.kind (number_in (layout.bytes_at i 0 i.size) f.field (width_of f.kind)) (pos base -ℤ pos i.image_base)
 relocated_is i f k base from v r is read inside origin shifted =

@@ -1,4 +1,4 @@
--- The bytes of slots and fields: what stands in a slot, what in a field, whatever else the image holds.
+-- The bytes of slots and fields, whatever else the image holds.
 use Rattle.std.proofs.Common.{◌≡◌, ℕ, ◌+◌, ◌-◌, ◌<◌, ◌≤◌, Bool, true, false, cond, ◌==◌, ◌&&◌, List, [], ◌∷◌, refl, ap, ◌∙◌, sym, subst, arith, inl, inr}
 use Rattle.std.specs.Prelude.{Some, nat_le, nat_lt, pos, ◌-ℤ◌}
 use Rattle.std.specs.List.{find, Contains}
@@ -58,7 +58,7 @@ no_slot c j fields_and_slots =
       | inr ne ↦ each_all _ (nth_image c.images j).fixups (λ f same. absurd (ne same))
     ]
 
--- the number that a field holds
+-- the number in a field
 abbrev pub value_of : SpaceImage → Fixup → ℕ
 value_of image f = shift f.kind (number_in image.plain f.field (width_of f.kind)) (pos image.base -ℤ pos image.image_base)
 

@@ -1,4 +1,4 @@
--- Small sets as the definitions see them, written out: the bytes that they define, and those of what is kept of them.
+-- Examples: small sets as the definitions see them, the bytes that they define, and those of their contents.
 use Rattle.std.proofs.Common.{◌≡◌, ℕ, ◌-◌, false, List, [], ◌∷◌, Some, None, get_or, refl, codes}
 use Rattle.std.specs.Prelude.{Ok, Err}
 use Rattle.pe_view.specs.declared.fault.Place.TheVariants.{Address}
@@ -20,7 +20,7 @@ use Rattle.pe_space.specs.Ordered.{slot_of}
 use Rattle.pe_space.specs.SetContent.{defined_byte}
 use Rattle.pe_space.specs.Windows.{laid_on, fixed_bytes, bytes_in}
 
--- an image of 0x3000 bytes, of which those from an RVA on are these
+-- an image of 0x3000 bytes, with these bytes from an RVA on
 abbrev image : ℕ → List ℕ → ℕ → LaidOut
 image at bytes image_base = record {
   number = 0;
@@ -47,7 +47,7 @@ field_32 = record { entry = 0x2008; field = 0x1008; kind = Bits32 }
 abbrev field_64 : Fixup
 field_64 = record { entry = 0x2008; field = 0x1008; kind = Bits64 }
 
--- it holds 0x10001008, its image stands 0x10000000 above its ImageBase
+-- it holds 0x10001008; its image is 0x10000000 above its ImageBase
 abbrev moved_up : List Module
 moved_up = with_field 0x20000000 Pe32 (0x08 ∷ 0x10 ∷ 0x00 ∷ 0x10 ∷ 0x0c ∷ []) 0x10000000 field_32
 
@@ -75,7 +75,7 @@ before_image : defined_byte moved_up 0x1fffffff ≡ None
 unfolding defined_byte
 before_image = refl
 
--- a field of 4 bytes that passes 2^32 keeps its fifth byte
+-- relocating a field of 4 bytes past 2^32 does not change the fifth byte
 abbrev carried : List Module
 carried = with_field 0x10010000 Pe32 (0xff ∷ 0xff ∷ 0xff ∷ 0xff ∷ 0x0c ∷ []) 0x10000000 field_32
 
@@ -87,7 +87,7 @@ carry_past : defined_byte carried 0x1001100c ≡ Some 0x0c
 unfolding defined_byte bindings_of
 carry_past = refl
 
--- a field of 8 bytes, whose image stands below its ImageBase
+-- a field of 8 bytes in an image below its ImageBase
 abbrev moved_down : List Module
 moved_down = with_field 0x140000000 Pe32Plus (0x00 ∷ 0x10 ∷ 0x00 ∷ 0x80 ∷ 0x01 ∷ []) 0x180000000 field_64
 
@@ -155,7 +155,7 @@ past_slot : defined_byte three 0x401034 ≡ Some 0
 unfolding defined_byte bindings_of resolve
 past_slot = refl
 
--- without `b.dll` the slot holds what its file gives
+-- without `b.dll` the slot has the bytes of its file
 left_alone : defined_byte (forwarding ∷ importing ∷ []) 0x401030 ≡ Some 0x38
 unfolding defined_byte bindings_of resolve
 left_alone = refl
@@ -189,7 +189,7 @@ first_base = refl
 no_second_size : size_at four 1 ≡ None
 no_second_size = refl
 
--- a window of its bytes begins or ends anywhere
+-- a window may begin and end anywhere
 whole_in : bytes_in four 0 0 4 ≡ 2 ∷ 0 ∷ 1 ∷ 0 ∷ []
 unfolding bytes_in
 whole_in = refl
@@ -198,7 +198,7 @@ last_three : bytes_in four 0 1 3 ≡ 0 ∷ 1 ∷ 0 ∷ []
 unfolding bytes_in
 last_three = refl
 
--- its plain bytes stand where no slot is bound
+-- plain bytes outside bound slots
 plain_in : fixed_bytes (nth_image four.images 0) 1 2 ≡ 2 ∷ 3 ∷ []
 unfolding fixed_bytes
 plain_in = refl
@@ -219,7 +219,7 @@ behind_its_middle : fixed_bytes with_first_field 2 3 ≡ 0x00 ∷ 0x20 ∷ 0x0c 
 unfolding fixed_bytes shift
 behind_its_middle = refl
 
--- ---- a number laid on a window
+-- ---- a number written over a window
 laid_whole : laid_on 0x1000 0x1001 2 0x2211 (9 ∷ 9 ∷ 9 ∷ 9 ∷ []) ≡ 9 ∷ 0x11 ∷ 0x22 ∷ 9 ∷ []
 laid_whole = refl
 

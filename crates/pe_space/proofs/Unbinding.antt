@@ -18,7 +18,7 @@ unbound_images-images_at j bs (base ∷ bases) (image ∷ images) = ap (λ (xs :
 pub content_at_bases : (bases : List ℕ) (s : Content) → set_at bases (unbound s) ≡ unbound (set_at bases s)
 content_at_bases bases s = ap (λ (xs : List SpaceImage). record s { images = xs }) (sym (unbound_images-images_at 0 s.bindings bases s.images))
 
--- ---- bytes outside all slots stay
+-- ---- bytes outside all slots are unchanged
 bare_step : (j w : ℕ) (b : Binding) (xs : List ℕ) (r : ℕ) → (b.image ≡ j → (b.slot + w ≤ length xs) × ((r < b.slot) ⊎ (b.slot + w ≤ r)))
     → (get_or (cond (b.image == j) (patch xs b.slot (bytes w 0)) xs) r 0 ≡ get_or xs r 0)
 bare_step j w b xs r h = elim (eqb_tells b.image j) [
@@ -41,7 +41,7 @@ bare_same j w r (b ∷ bs) xs h =
     (each_map (λ (e : Binding). e.image ≡ j → (e.slot + w ≤ length xs) × ((r < e.slot) ⊎ (e.slot + w ≤ r))) _ bs (λ e f same. (rw len (f same).0, (f same).1)) h.1)
     ∙ bare_step j w b xs r h.0
 
--- ---- the images without what stands in bound slots
+-- ---- the images without the bytes in bound slots
 pub image_bared : (n : ℕ) (bs : List Binding) (images : List SpaceImage) (i : ℕ) → i < length images
     → nth_image (unbound_images n bs images) i ≡ record (nth_image images i) { plain = without_slots (n + i) (slot_width (nth_image images i).magic) bs (nth_image images i).plain }
 image_bared n bs [] i lt = absurd (omega arith)

@@ -1,4 +1,4 @@
--- A window that is answered has the byte of each of its addresses.
+-- A window has the byte of each of its addresses.
 use Rattle.std.proofs.Common.{◌≡◌, ℕ, zero, suc, ◌+◌, ◌-◌, ◌<◌, ◌==◌, Bool, true, false, cond, List, [], ◌∷◌, length, map, get_or, refl, ap, ◌∙◌, sym, subst, arith}
 use Rattle.std.specs.Prelude.{Option, Some, unwrap_or, Result, Ok, Err}
 use Rattle.std.proofs.lemmas.Bool.{eqb-true}
@@ -9,7 +9,7 @@ use Rattle.pe_space.specs.Content.{Content, placement_of, nth_image, is_in, plac
 use Rattle.pe_space.proofs.Addressing.{Holds, holder_inside, placed_at, window_lies}
 use Rattle.pe_space.proofs.SlotsAndFields.{is_in-true, true-is_in}
 
--- ---- where an image stands, one is found
+-- if an image contains the address, one is found
 first_of : (b : Bool) (n : ℕ) (o : Option ℕ) → (j : ℕ) × (o ≡ Some j) → (j : ℕ) × (cond b (Some n) o ≡ Some j)
 first_of true n o later = (n, refl)
 first_of false n o later = later
@@ -25,7 +25,7 @@ some_byte c a k holds =
     let found = someone 0 (map placement_of c.images) a k (omega (arith, count, holds.0)) (subst (λ (p : Placement). is_in p.base p.size a ≡ true) (sym (placed_at c.images k)) holds.1) in
     (byte_in c found.0 (a - (nth_image c.images found.0).base), ap (byte_held c a) found.1)
 
--- each byte of a window that lies in an image
+-- each byte of a window inside an image
 in_window : (c : Content) (a n j k : ℕ) → image_at c a n ≡ Ok j → k < n → (v : ℕ) × (byte_at c (a + k) ≡ Some v)
 in_window c a n j k lies lt =
     let both = window_lies c.images a n j lies in
@@ -36,7 +36,7 @@ in_window c a n j k lies lt =
     let high = both.1 in
     some_byte c (a + k) j (holds.0, true-is_in (nth_image c.images j).base (nth_image c.images j).size (a + k) (omega (arith, low)) (omega (arith, lt, high)))
 
--- ---- what is answered
+-- ---- the bytes of a window
 counted : (c : Content) (a n : ℕ) → length (bytes_from c a n) ≡ n
 counted c a zero = refl
 counted c a (suc n) = ap (λ k. suc k) (counted c (a + 1) n)

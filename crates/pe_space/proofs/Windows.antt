@@ -1,4 +1,4 @@
--- Numbers laid on a window, as far as they lie in it.
+-- Numbers written over a window, as far as they are inside it.
 use Rattle.std.proofs.Common.{◌≡◌, ℕ, zero, suc, ◌+◌, ◌-◌, ◌<◌, ◌≤◌, ◌⊎◌, Bool, true, false, cond, List, [], ◌∷◌, length, map, take, drop, get_or, refl, ap, ◌∙◌, sym, subst, arith, rules, inl, inr, length-append, length-drop}
 use Rattle.std.specs.List.{range_with_len}
 use Rattle.std.specs.Int.{bytes_low_first}
@@ -49,13 +49,13 @@ pub laid_outside : (start place w v : ℕ) (xs : List ℕ) (k r : ℕ) → k < l
 laid_outside start place w v xs k r lt e out =
     get_or-laid_on start place w v xs k r lt e ∙ ap (λ (t : Bool). cond t (digit v (r - place)) (get_or xs k 0)) (not_in place w r out)
 
--- nothing of the number lies in the window
+-- no byte of the number is inside the window
 pub laid_nowhere : (start place w v : ℕ) (xs : List ℕ) → ((k : ℕ) → k < length xs → (start + k < place) ⊎ (place + w ≤ start + k)) → xs ≡ laid_on start place w v xs
 laid_nowhere start place w v xs off =
     ext_get_or 0 xs (laid_on start place w v xs) (sym (length-laid_on start place w v xs))
     (λ k lt. sym (laid_outside start place w v xs k (start + k) lt refl (off k lt)))
 
--- a place of a list, part of which is written over
+-- an element of a list, part of which is overwritten
 mid_below : (a k : ℕ) (xs ys : List ℕ) (r : ℕ) → r < a → a + k ≤ length xs → length ys ≡ k → get_or (put_mid a k xs ys) r 0 ≡ get_or xs r 0
 mid_below a k xs ys r below fits len = search (rules, places)
 
@@ -68,7 +68,7 @@ mid_at a k xs ys j small fits len = search (rules, places)
 length-mid : (a k : ℕ) (xs ys : List ℕ) → a + k ≤ length xs → length ys ≡ k → length (put_mid a k xs ys) ≡ length xs
 length-mid a k xs ys fits len = omega (arith, length-append {A = ℕ}, length-drop {A = ℕ}, length-take-le a xs (omega arith))
 
--- where a number's bytes from `first` up to `end` are written
+-- the bytes of a number from `first` up to `end` are written
 pub record IsCut (start place w n first end : ℕ) : Type 0 where
   pub some : first < end
   pub after_start : start ≤ first
@@ -141,12 +141,12 @@ laid_cut start place w v first end xs ys narrow cut is =
               ∙ sym (laid_outside start place w v xs k (start + k) lt refl (above k lt (omega arith)))
         ]
 
--- ---- a window on which elements are laid one after the other
+-- ---- a window over which elements are written in sequence
 abbrev pub AnyOf : {X : Type 0} → (X → Bool) → List X → Type 0
 AnyOf p [] = ⊥
 AnyOf p (x ∷ xs) = (p x ≡ true) ⊎ AnyOf p xs
 
--- each place is right, or lies in an element that is still to be laid on
+-- each byte is right, or in an element that is still to be written
 abbrev pub Still : {X : Type 0} → (ℕ → ℕ) → (ℕ → X → Bool) → ℕ → List X → List ℕ → Type 0
 Still T covers start xs window = (k : ℕ) → k < length window → (get_or window k 0 ≡ T (start + k)) ⊎ AnyOf (covers (start + k)) xs
 

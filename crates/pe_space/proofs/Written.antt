@@ -1,4 +1,4 @@
--- Fields and slots that are written one by one, against the bytes that are wanted.
+-- Fields and slots written one by one, compared with the wanted bytes.
 use Rattle.std.proofs.Common.{◌≡◌, ℕ, zero, suc, ◌+◌, ◌-◌, ◌<◌, ◌≤◌, ◌⊎◌, ℤ, List, [], ◌∷◌, length, get_or, refl, ap, ◌∙◌, sym, subst, arith, inl, inr}
 use Rattle.std.specs.List.{Contains}
 use Rattle.std.proofs.lemmas.Bool.{cases_lt, cases_eq}
@@ -21,7 +21,7 @@ cases_in at w r = elim (cases_lt r at) [
   | inr up ↦ elim (cases_lt r (at + w)) [ inl inside ↦ inl (up, inside) | inr high ↦ inr (inr high) ]
 ]
 
--- the place lies in one of these fields
+-- the place is inside one of these fields
 abbrev pub InField : ℕ → List Fixup → Type 0
 InField r [] = ⊥
 InField r (f ∷ fs) = ((f.field ≤ r) × (r < f.field + width_of f.kind)) ⊎ InField r fs
@@ -40,7 +40,7 @@ pub shifted_out : (d : ℤ) (f : Fixup) (xs : List ℕ) (r : ℕ) → f.field + 
 unfolding shifted_at
 shifted_out d f xs r fits out = written_out xs f.field (width_of f.kind) _ r fits out
 
--- a field apart from it keeps its number
+-- a field disjoint from it keeps its number
 pub shifted_other : (d : ℤ) (f g : Fixup) (xs : List ℕ) → f.field + width_of f.kind ≤ length xs → FieldsApart f g
     → number_in (with_shifted d f xs) g.field (width_of g.kind) ≡ number_in xs g.field (width_of g.kind)
 shifted_other d f g xs fits apart =
@@ -57,7 +57,7 @@ length-shifted_all d (f ∷ fs) xs fit =
     length-shifted_all d fs (with_shifted d f xs) (each_map (λ (g : Fixup). g.field + width_of g.kind ≤ length xs) (λ (g : Fixup). g.field + width_of g.kind ≤ length (with_shifted d f xs)) fs (λ g h. omega arith) fit.1)
     ∙ same
 
--- what is wrong so far lies in a field that is still to come, or in Q
+-- a byte that is still wrong is in a field that is still to be written, or in Q
 abbrev pub StillFields : (ℕ → ℕ) → (ℕ → Type 0) → ℕ → List Fixup → List ℕ → Type 0
 StillFields T Q size fs xs = (r : ℕ) → r < size → (get_or xs r 0 ≡ T r) ⊎ (InField r fs ⊎ Q r)
 
@@ -75,7 +75,7 @@ field_done d size T Q f fs xs fits wanted still r lt = elim (cases_in f.field (w
   ]
 ]
 
--- fields that are shifted one by one hold what is wanted
+-- fields that are relocated one by one have the wanted bytes
 pub laid_fields : (d : ℤ) (size : ℕ) (T : ℕ → ℕ) (Q : ℕ → Type 0) (old : Fixup → ℕ) (fs : List Fixup) (xs : List ℕ)
     → Each (λ (f : Fixup). f.field + width_of f.kind ≤ length xs) fs
     → EachPair FieldsApart fs
@@ -102,13 +102,13 @@ laid_fields d size T Q old (f ∷ fs) xs fit apart held wanted still =
 abbrev pub width_in : List SpaceImage → Binding → ℕ
 width_in images b = slot_width (nth_image images b.image).magic
 
--- the place of image j is one of this slot's
+-- the place of image j is inside this slot
 pub record IsAt (images : List SpaceImage) (j r : ℕ) (b : Binding) : Type 0 where
   pub image : b.image ≡ j
   pub low : b.slot ≤ r
   pub high : r < b.slot + width_in images b
 
--- the place of image j lies in one of these slots
+-- the place of image j is inside one of these slots
 abbrev pub InSlot : List SpaceImage → ℕ → ℕ → List Binding → Type 0
 InSlot images j r [] = ⊥
 InSlot images j r (b ∷ bs) = IsAt images j r b ⊎ InSlot images j r bs
@@ -118,7 +118,7 @@ in_one images j r [] b (k, lt, is) at = absurd (omega (arith, lt))
 in_one images j r (e ∷ bs) b (zero, lt, is) at = inl (subst (IsAt images j r) (sym is) at)
 in_one images j r (e ∷ bs) b (suc k, lt, is) at = inr (in_one images j r bs b (k, omega (arith, lt), is) at)
 
--- the slot lies in a memory
+-- the slot is inside a memory
 pub record Fits (images : List SpaceImage) (ms : List (List ℕ)) (b : Binding) : Type 0 where
   pub image : b.image < length ms
   pub inside : b.slot + width_in images b ≤ length (memory_of ms b.image)
@@ -167,7 +167,7 @@ put_fits images b e v ms fits h =
     let c = h.inside in
     record { image = omega arith; inside = omega arith }
 
--- what is wrong so far lies in a slot that is still to come
+-- a byte that is still wrong is in a slot that is still to be written
 abbrev pub StillSlots : List SpaceImage → (ℕ → ℕ → ℕ) → (ℕ → ℕ) → List Binding → List (List ℕ) → Type 0
 StillSlots images T size bs ms = (j r : ℕ) → r < size j → (get_or (memory_of ms j) r 0 ≡ T j r) ⊎ InSlot images j r bs
 
@@ -191,7 +191,7 @@ slot_done images v T size b bs ms fits wanted still j r lt = elim (cases_eq j b.
   ]
 ]
 
--- slots that are written one by one hold what is wanted
+-- slots that are written one by one have the wanted bytes
 pub laid_slots : (images : List SpaceImage) (T : ℕ → ℕ → ℕ) (size : ℕ → ℕ) (bs : List Binding) (ms : List (List ℕ))
     → Each (Fits images ms) bs
     → Each (λ (b : Binding). (r : ℕ) → b.slot ≤ r → r < b.slot + width_in images b → T b.image r ≡ digit (address_of images b) (r - b.slot)) bs

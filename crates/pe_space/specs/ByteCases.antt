@@ -1,4 +1,4 @@
--- Where a byte of an image of a set stands: in a bound slot, in a field, or in neither.
+-- What a byte of an image of a set belongs to: a bound slot, a field, or neither.
 use Rattle.std.specs.Prelude.{◌≡◌, ◌+◌, ◌<◌, ◌≤◌, ◌⊎◌, ℕ, List, Some, Contains, slice_get}
 use Rattle.pe_layout.specs.Image.{slot_width_of}
 use Rattle.pe_tables.specs.Fixups.{width_of}
@@ -12,19 +12,19 @@ pub record HasByte (s : List Module) (i : ℕ) (m : Module) (r : ℕ) : Type 0 w
   pub image : slice_get s i ≡ Some m
   pub inside : r < m.image.size
 
--- at this RVA of image i stands byte k of a bound slot
+-- byte k of a bound slot is at this RVA of image i
 pub record InBoundSlot (s : List Module) (i : ℕ) (m : Module) (r : ℕ) (b : Binding) (k : ℕ) : Type 0 where
   pub bound : Contains (bindings_of s) b
   pub image : b.image ≡ i
   pub small : k < slot_width_of m.magic
   pub place : r ≡ b.slot + k
 
--- at this RVA of an image stands byte k of a fixup's field
+-- byte k of a fixup's field is at this RVA of an image
 pub record InFixup (m : Module) (r : ℕ) (f : Fixup) (k : ℕ) : Type 0 where
   pub fixup : Contains m.fixups f
   pub small : k < width_of f.kind
   pub place : r ≡ f.field + k
 
--- no image of a set holds an address
+-- no image of a set contains an address
 abbrev pub IsOutside : List Module → ℕ → Type 0
 IsOutside s a = (i : ℕ) (m : Module) → slice_get s i ≡ Some m → (a < m.base) ⊎ (m.base + m.image.size ≤ a)

@@ -1,4 +1,4 @@
--- What commands answer, and what they leave.
+-- What commands return, and how they change a space.
 use Rattle.std.specs.Prelude.{ℕ, List, [], ◌∷◌, Option, None, Some, Result, Ok, Err}
 use Rattle.pe_view.specs.declared.fault.Fault.{Fault}
 use Rattle.pe_space.specs.declared.reply.Command.{Command}
@@ -26,7 +26,7 @@ abbrev pub moved_unless : Content → ℕ → ℕ → Option Fault → Content
 moved_unless c i base None = moved c i base
 moved_unless c i base (Some fault) = c
 
--- a move that is accepted changes one base, and nothing else changes anything
+-- an accepted move changes one base; no other command changes anything
 abbrev pub after : Command → Content → Content
 after (Byte address) c = c
 after (Window address count) c = c

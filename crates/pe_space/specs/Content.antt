@@ -1,4 +1,4 @@
--- What a space of images is, whatever keeps their bytes: which byte stands at which address.
+-- The content of a space of images, however it stores their bytes: the byte at each address.
 use Rattle.std.specs.Prelude.{ℕ, zero, suc, ◌+◌, ◌-◌, Bool, false, ◌&&◌, nat_le, ◌==◌, if◌then◌else◌, pos, ◌-ℤ◌, List, [], ◌∷◌, map, slice_index, slice_index_or, slice_get, Option, None, Some, unwrap_or, Result, Ok, Err}
 use Rattle.std.specs.Option.{option_map}
 use Rattle.std.specs.List.{find}
@@ -15,7 +15,7 @@ use Rattle.pe_set.specs.Placement.{Placement, placement_at}
 use Rattle.pe_set.specs.declared.binding.Binding.{Binding}
 use Rattle.pe_space.specs.Number.{digit, number_in, shift}
 
--- one image: where it stands, what its headers say, its bytes before any fixup, and its fixups
+-- one image: its base, facts from its headers, its bytes before any fixup, and its fixups
 pub record SpaceImage : Type 0 where
   pub base : ℕ
   pub size : ℕ
@@ -25,7 +25,7 @@ pub record SpaceImage : Type 0 where
   pub plain : List ℕ
   pub fixups : List Fixup
 
--- the images, and the slots that are bound, by image and then in import order
+-- the images, and the bound slots, by image and then in import order
 pub record Content : Type 0 where
   pub images : List SpaceImage
   pub bindings : List Binding
@@ -33,7 +33,7 @@ pub record Content : Type 0 where
 abbrev pub placement_of : SpaceImage → Placement
 placement_of i = record { base = i.base; size = i.size; magic = i.magic; image_base = i.image_base; is_stripped = i.is_stripped }
 
--- an RVA of image j, which has this Magic, is one of a bound slot
+-- an RVA of image j, which has this Magic, is inside a bound slot
 abbrev pub in_slot : ℕ → Magic → ℕ → Binding → Bool
 in_slot j magic r b = (b.image == j) && is_in b.slot (slot_width magic) r
 
@@ -44,7 +44,7 @@ no_image = record { base = 0; size = 0; magic = Pe32; image_base = 0; is_strippe
 abbrev pub nth_image : List SpaceImage → ℕ → SpaceImage
 nth_image images j = slice_index_or images j no_image
 
--- the byte of an image at an RVA outside its bound slots: of the relocated field in which it is, else the plain one
+-- the byte of an image at an RVA outside its bound slots: of a relocated field, or else the plain byte
 abbrev pub fixed_byte : SpaceImage → ℕ → Option Fixup → ℕ
 fixed_byte image r None = slice_index image.plain r
 fixed_byte image r (Some f) = digit (shift f.kind (number_in image.plain f.field (width_of f.kind)) (pos image.base -ℤ pos image.image_base)) (r - f.field)
@@ -53,16 +53,16 @@ abbrev pub byte_by : Content → ℕ → ℕ → Option Binding → ℕ
 byte_by c j r None = fixed_byte (nth_image c.images j) r (find (in_field r) (nth_image c.images j).fixups)
 byte_by c j r (Some b) = digit ((nth_image c.images b.exporter).base + b.rva) (r - b.slot)
 
--- the byte of image j at an RVA: of the address in the bound slot in which it is, else as above
+-- the byte of image j at an RVA: of the address in a bound slot, or else as above
 abbrev pub byte_in : Content → ℕ → ℕ → ℕ
 byte_in c j r = byte_by c j r (find (in_slot j (nth_image c.images j).magic r) c.bindings)
 
--- the number of the image that holds an address, of images whose numbers begin at n
+-- the number of the image that contains an address, among images numbered from n on
 abbrev pub placed_from : ℕ → List Placement → ℕ → Option ℕ
 placed_from n [] a = None
 placed_from n (p ∷ ps) a = if is_in p.base p.size a then Some n else placed_from (n + 1) ps a
 
--- where the image of a number stands, and how many bytes it has, if there is one
+-- the base and the size of the image with a number, if there is one
 abbrev pub base_in : List Placement → ℕ → Option ℕ
 base_in ps i = option_map (λ (p : Placement). p.base) (slice_get ps i)
 
@@ -76,7 +76,7 @@ abbrev pub byte_held : Content → ℕ → Option ℕ → Option ℕ
 byte_held c a None = None
 byte_held c a (Some j) = Some (byte_in c j (a - (nth_image c.images j).base))
 
--- the byte at an address, where an image stands
+-- the byte at an address, if an image contains it
 abbrev pub byte_at : Content → ℕ → Option ℕ
 byte_at c a = byte_held c a (holder_from 0 c.images a)
 
@@ -92,15 +92,15 @@ abbrev pub bytes_from : Content → ℕ → ℕ → List ℕ
 bytes_from c a zero = []
 bytes_from c a (suc n) = unwrap_or (byte_at c a) 0 ∷ bytes_from c (a + 1) n
 
--- fault 54 of image i, which holds the address
+-- fault 54 of image i, which contains the address
 abbrev pub window_fault : ℕ → ℕ → Fault
 window_fault i a = record { number = 54; image = i; place = Address a }
 
--- the image that fault 54 names where none holds the address
+-- the image that fault 54 names if none contains the address
 abbrev pub nowhere : ℕ
 nowhere = 65535
 
--- the image in which n bytes from an address on lie, of images that stand so, by the image that holds the address
+-- the image that contains n bytes from an address on, given the image that contains the address
 abbrev pub window_image_by : List Placement → ℕ → ℕ → Option ℕ → Result ℕ Fault
 window_image_by ps a n None = Err (window_fault nowhere a)
 window_image_by ps a n (Some j) = if nat_le (a + n) ((placement_at ps j).base + (placement_at ps j).size) then Ok j else Err (window_fault j a)
@@ -108,7 +108,7 @@ window_image_by ps a n (Some j) = if nat_le (a + n) ((placement_at ps j).base + 
 abbrev pub window_image : List Placement → ℕ → ℕ → Result ℕ Fault
 window_image ps a n = window_image_by ps a n (placed_from 0 ps a)
 
--- the image of a content that holds them
+-- the same, for the images of a content
 abbrev pub image_at : Content → ℕ → ℕ → Result ℕ Fault
 image_at c a n = window_image (map placement_of c.images) a n
 
@@ -116,6 +116,6 @@ abbrev pub window_in : Content → ℕ → ℕ → Result ℕ Fault → Result (
 window_in c a n (Ok j) = Ok (bytes_from c a n)
 window_in c a n (Err fault) = Err fault
 
--- the bytes of a window, which is empty or lies in one image
+-- the bytes of a window, which is empty or inside one image
 abbrev pub window_at : Content → ℕ → ℕ → Result (List ℕ) Fault
 window_at c a n = if n == 0 then Ok [] else window_in c a n (image_at c a n)

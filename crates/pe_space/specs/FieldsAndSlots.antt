@@ -1,4 +1,4 @@
--- What holds of each content that was accepted, and of the memory that keeps it. No contract of a public function cites it.
+-- Facts about each accepted content, and about the memory that stores it. No contract of a public function uses this module.
 use Rattle.std.specs.Prelude.{ℕ, ◌+◌, ◌≡◌, ◌<◌, ◌≤◌, ◌⊎◌, List, [], ◌∷◌, length, slice_index}
 use Rattle.pe_tables.specs.declared.fixups.Fixup.{Fixup}
 use Rattle.pe_set.specs.declared.binding.Binding.{Binding}
@@ -21,12 +21,12 @@ EachPair R (x ∷ xs) = Each (R x) xs × EachPair R xs
 abbrev pub FieldsApart : Fixup → Fixup → Type 0
 FieldsApart f g = Apart f.field (width_of f.kind) g.field (width_of g.kind)
 
--- the fields lie in the image, and no two of them meet
+-- the fields are inside the image and disjoint
 pub record IsImage (image : SpaceImage) : Type 0 where
   pub inside : Each (λ f. f.field + width_of f.kind ≤ image.size) image.fixups
   pub apart : EachPair FieldsApart image.fixups
 
--- the slot lies in its image and meets no field, and its export lies in an image
+-- the slot is inside its image, overlaps no field, and its export is inside an image
 pub record IsSlot (images : List SpaceImage) (b : Binding) : Type 0 where
   pub image : b.image < length images
   pub inside : b.slot + slot_width (nth_image images b.image).magic ≤ (nth_image images b.image).size
@@ -37,13 +37,13 @@ pub record IsSlot (images : List SpaceImage) (b : Binding) : Type 0 where
 abbrev pub SlotsApart : List SpaceImage → Binding → Binding → Type 0
 SlotsApart images b e = b.image ≡ e.image → Apart b.slot (slot_width (nth_image images b.image).magic) e.slot (slot_width (nth_image images b.image).magic)
 
--- fields and slots are in order, wherever the images stand
+-- fields and slots are inside their images and disjoint, at all bases
 pub record FieldsAndSlotsApart (c : Content) : Type 0 where
   pub images : (j : ℕ) → IsImage (nth_image c.images j)
   pub slots : Each (IsSlot c.images) c.bindings
   pub apart : EachPair (SlotsApart c.images) c.bindings
 
--- the memories hold what the content says
+-- the memories store the content
 pub record MemoryHolds (c : Content) (ms : List (List ℕ)) : Type 0 where
   pub count : length ms ≡ length c.images
   pub lengths : (j : ℕ) → length (memory_of ms j) ≡ (nth_image c.images j).size

@@ -1,4 +1,4 @@
--- What the fields of a space over files keep. No contract of a public function cites it.
+-- What the fields of a space over files hold. No contract of a public function uses this module.
 use Rattle.std.specs.Prelude.{ℕ, List, ◌≡◌, ◌<◌, ◌≤◌, ◌^◌, length, map, count_by, slice_index}
 use Rattle.pe_set.specs.declared.binding.Binding.{Binding}
 use Rattle.pe_space.specs.ByBase.{IsByBase}
@@ -12,7 +12,7 @@ use Rattle.pe_space.specs.declared.by_base.NumberAt.{NumberAt}
 abbrev pub file_content : List SpaceImage → List Binding → Content
 file_content images bs = record { images = images; bindings = bs }
 
--- how many slots end in each of n images
+-- how many slots are bound to each of n images
 pub record SlotCounts (n : ℕ) (bs : List Binding) (counts : List ℕ) : Type 0 where
   pub count : length counts ≡ n
   pub each : (j : ℕ) → j < n → slice_index counts j ≡ count_by (ends_in j) bs

@@ -1,10 +1,10 @@
--- The images of a space share no address. No contract of a public function cites it.
+-- The images of a space do not overlap. No contract of a public function uses this module.
 use Rattle.std.specs.Prelude.{ℕ, ◌+◌, ◌%◌, ◌^◌, ◌≡◌, ◌<◌, ◌≤◌, length}
 use Rattle.pe_set.specs.Placement.{address_limit}
 use Rattle.pe_space.specs.Content.{Content, nth_image}
 use Rattle.pe_space.specs.FieldsAndSlots.{Apart}
 
--- the images stand where they may
+-- the images have valid bases
 pub record ImagesApart (c : Content) : Type 0 where
   pub few : length c.images ≤ 256
   pub few_slots : length c.bindings < 2 ^ 32

@@ -1,4 +1,4 @@
--- An image with the memory that holds it. No contract of a public function cites it.
+-- An image with its memory. No contract of a public function uses this module.
 use Rattle.std.specs.Prelude.{ℕ, pos, ◌-ℤ◌, List, map, Bool, length}
 use Rattle.pe_head.specs.declared.optional.Magic.{Magic}
 use Rattle.pe_tables.specs.declared.fixups.Fixup.{Fixup}
@@ -9,7 +9,7 @@ pub record InMemory : Type 0 where
   pub image : SpaceImage
   pub memory : List ℕ
 
--- with each field moved on to the new base
+-- with each field relocated to the new base
 abbrev pub rebased_image : ℕ → InMemory → InMemory
 rebased_image base h = record { image = record h.image { base = base }; memory = shifted_all (pos base -ℤ pos h.image.base) h.image.fixups h.memory }
 

@@ -1,4 +1,4 @@
--- What the fields of a mapped space keep. No contract of a public function cites it.
+-- What the fields of a mapped space hold. No contract of a public function uses this module.
 use Rattle.std.specs.Prelude.{ℕ, List, ◌≡◌, length, map, pos, ◌-ℤ◌}
 use Rattle.pe_set.specs.declared.binding.Binding.{Binding}
 use Rattle.pe_space.specs.ByBase.{IsByBase}
@@ -21,7 +21,7 @@ pub record MappedSpaceHolds (hs : List InMemory) (order : List NumberAt) (bs slo
   pub by_base : IsByBase (map placement_of (images_of hs)) order
   pub by_exporter : IsOrdered exporter_of bs slots
 
--- the memories hold the plain bytes with each field moved on from ImageBase, and no slot is bound
+-- the memories have the plain bytes with each field relocated from ImageBase, and no slot is bound
 pub record SlotsUnbound (c : Content) (ms : List (List ℕ)) : Type 0 where
   pub count : length ms ≡ length c.images
   pub whole : (j : ℕ) → length (nth_image c.images j).plain ≡ (nth_image c.images j).size

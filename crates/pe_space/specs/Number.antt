@@ -1,4 +1,4 @@
--- Numbers in the bytes of an image, the lowest byte first. No contract of a public function cites it.
+-- Numbers in the bytes of an image, the lowest byte first. No contract of a public function uses this module.
 use Rattle.std.specs.Prelude.{ℕ, List}
 use Rattle.pe_view.specs.Number.{num, byte_of}
 pub use Rattle.pe_view.specs.Number.{digit}

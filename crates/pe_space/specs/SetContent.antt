@@ -1,4 +1,4 @@
--- What is kept of a set, and the bytes that it defines.
+-- The content of a space of a set, and the bytes that the set defines.
 use Rattle.std.specs.Prelude.{[], ◌∷◌, ℕ, ◌+◌, ◌-◌, List, map, Option, None, Some, slice_get, if◌then◌else◌}
 use Rattle.std.specs.Option.{option_map_or}
 use Rattle.std.specs.List.{find}
@@ -27,7 +27,7 @@ image_content m = record {
 unfoldable pub laid_out : List Module → Content
 laid_out s = record { images = map image_content s; bindings = bindings_of s }
 
--- what is kept of them: their bytes with 0 in bound slots
+-- the content of a space of them: their bytes, with 0 in bound slots
 unfoldable pub content_of : List Module → Content
 content_of s = unbound (laid_out s)
 
@@ -44,12 +44,12 @@ byte_of_image s m r (Some b) = slot_byte s b (r - b.slot)
 abbrev pub byte_in_image : List Module → ℕ → ℕ → Module → ℕ
 byte_in_image s i r m = byte_of_image s m r (find (in_slot i m.magic r) (bindings_of s))
 
--- the byte at an address, by the first of the images from number n on that holds it
+-- the byte at an address, from the first image from number n on that contains it
 abbrev pub defined_from : List Module → ℕ → List Module → ℕ → Option ℕ
 defined_from s n [] address = None
 defined_from s n (m ∷ ms) address =
     if is_in m.base m.image.size address then Some (byte_in_image s n (address - m.base) m) else defined_from s (n + 1) ms address
 
--- the byte at an address, where an image holds it
+-- the byte at an address, if an image contains it
 unfoldable pub defined_byte : List Module → ℕ → Option ℕ
 defined_byte s address = defined_from s 0 s address

@@ -1,4 +1,4 @@
--- What `map` and `open_space` answer.
+-- What `map` and `open_space` return.
 use Rattle.std.specs.Prelude.{◌≡◌, ℕ, List, None}
 use Rattle.pe_set.specs.Set.{Entry, modules_of, at_bases}
 use Rattle.pe_set.specs.SetErrors.{set_error}
@@ -7,8 +7,8 @@ use Rattle.pe_space.specs.Content.{Content, byte_at}
 use Rattle.pe_space.specs.SetContent.{content_of, defined_byte}
 use Rattle.pe_space.specs.Unbound.{set_at}
 
--- a space of these entries: it keeps what is kept of their files, and at all bases at which they are accepted each address holds
--- the byte that they define there
+-- a space of these entries: it has the content of their files, and at all bases at which these are accepted each address has the
+-- byte that they define there
 pub record IsSpaceOf (policy : Policy) (es : List Entry) (space : Content) : Type 0 where
   pub content : space ≡ content_of (modules_of es)
   pub bytes : (bases : List ℕ) (a : ℕ) → set_error policy (at_bases bases es) ≡ None → byte_at (set_at bases space) a ≡ defined_byte (modules_of (at_bases bases es)) a

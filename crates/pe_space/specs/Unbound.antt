@@ -1,4 +1,4 @@
--- A content with 0 in the bytes of its bound slots: two contents that hold the same addresses for ever are then one.
+-- A content with 0 in the bytes of its bound slots, so that contents that differ only there become equal.
 use Rattle.std.specs.Prelude.{ℕ, ◌+◌, ◌==◌, if◌then◌else◌, List, [], ◌∷◌, map}
 use Rattle.pe_set.specs.declared.binding.Binding.{Binding}
 use Rattle.pe_space.specs.Content.{SpaceImage, Content, slot_width}
@@ -13,7 +13,7 @@ abbrev pub unbound_images : ℕ → List Binding → List SpaceImage → List Sp
 unbound_images j bs [] = []
 unbound_images j bs (image ∷ images) = record image { plain = without_slots j (slot_width image.magic) bs image.plain } ∷ unbound_images (j + 1) bs images
 
--- what is kept of files
+-- the content that a space keeps
 abbrev pub unbound : Content → Content
 unbound s = record s { images = unbound_images 0 s.bindings s.images }
 
@@ -26,6 +26,6 @@ images_at (base ∷ bases) (image ∷ images) = record image { base = base } ∷
 abbrev pub set_at : List ℕ → Content → Content
 set_at bases s = record s { images = images_at bases s.images }
 
--- where the images of a content stand
+-- the bases of a content's images
 abbrev pub bases_of : Content → List ℕ
 bases_of c = map (λ (image : SpaceImage). image.base) c.images

@@ -1,4 +1,4 @@
-//! The images of a space in the order of their bases, in which one is found by binary search.
+//! The images of a space in the order of their bases, for binary search.
 
 ghost use Rattle.std.specs.Prelude.{◌≡◌, ◌<◌, ◌≤◌, List, IfOk, IsOk, length, map, slice_set};
 ghost use Rattle.pe_set.specs.Placement.{Placement, placement_at};
@@ -48,7 +48,7 @@ pub(crate) fn by_base<P: Placed, A: Allocator + Copy>(
     Ok(order)
 }
 
-/// Gives the image of a number another base. There are at most 256 images, and each is looked at.
+/// Changes the base of the image with this number. There are at most 256 images, and each is compared.
 fn set_base(order: &mut [NumberAt], number: u16, base: u64)
     ensures { order.new ≡ map (with_base number base) order.old }
 {
@@ -59,7 +59,7 @@ fn set_base(order: &mut [NumberAt], number: u16, base: u64)
     }
 }
 
-/// Puts the image of a number at another base.
+/// Changes the base of the image with this number, and keeps the order.
 pub(crate) fn rebase(order: &mut [NumberAt], number: u16, base: u64)
     ensures { (ps : List Placement) → number < length ps → IsByBase ps order.old → IsByBase (slice_set ps number (record (placement_at ps number) { base = base })) order.new }
 {

@@ -1,4 +1,4 @@
-//! Numbers in the memory of images.
+//! Numbers in the bytes of images.
 
 ghost use Rattle.std.specs.Prelude.{◌≡◌, ◌+◌, ◌≤◌, length, pos, ◌-ℤ◌};
 ghost use Rattle.pe_layout.specs.Image.{slot_width_of};
@@ -9,14 +9,14 @@ ghost use Rattle.pe_space.specs.FieldsAndSlots.{Each};
 use pe_head::Magic;
 use pe_tables::{Fixup, shift_field};
 
-/// How many bytes a slot has.
+/// The size of a slot in bytes.
 pub(crate) fn slot_width(magic: Magic) -> usize
     ensures { result ≡ slot_width_of magic }
 {
     magic.image_base_width() as usize
 }
 
-/// Moves fields on from one base to another.
+/// Relocates fields from one base to another.
 pub(crate) fn shift_fields(memory: &mut [u8], fixups: &[Fixup], from: u64, to: u64)
     requires { Each (λ f. f.field + width_of f.kind ≤ length memory.old) fixups.now }
     ensures { memory.new ≡ shifted_all (pos to -ℤ pos from) fixups.now memory.old }

@@ -7,7 +7,7 @@ use crate::reply::{Bytes, Command, Reply, Stopped};
 use crate::space::Space;
 use std::alloc::{AllocError, Allocator};
 
-/// Carries out one command, once there is memory for its reply.
+/// Carries out one command, for whose reply room has been allocated.
 fn carry_out<A: Allocator + Copy, S: Space>(
     alloc: A,
     space: &mut S,
@@ -34,11 +34,11 @@ fn carry_out<A: Allocator + Copy, S: Space>(
     }
 }
 
-/// Carries out commands in their order and answers their replies, which depend on what the space holds, and not on how it keeps
-/// it.
+/// Carries out commands in order and returns their replies, which depend on the content of the space and not on how it is stored.
 ///
-/// Room for a reply, and for its bytes, is made before its command is carried out. Where a growth of memory is refused the
-/// answer is [`Stopped`], and exactly the commands that it counts were carried out; it never comes of no commands.
+/// Room for a reply and its bytes is allocated before its command is carried out, so that no command is left half reported. If an
+/// allocation fails, the error is [`Stopped`], and exactly the commands that it counts were carried out. It never comes for an
+/// empty list.
 pub fn run<A: Allocator + Copy, S: Space>(
     alloc: A,
     space: &mut S,

@@ -1,4 +1,4 @@
-//! `FileImage`: an image whose bytes stay in its file, with its fixups in the order of their fields.
+//! `FileImage`: an image whose bytes stay in its file, with its fixups ordered by field.
 
 ghost use Rattle.std.specs.Prelude.{◌≡◌, ◌+◌, ◌≤◌, ◌<◌, length, pos, ◌-ℤ◌, Contains};
 ghost use Rattle.pe_set.specs.SetView.{module_view};
@@ -21,8 +21,7 @@ use std::alloc::Allocator;
 use std::marker::Model;
 use std::snapshot::Snapshot;
 
-/// An image whose bytes stay in its file. `fixups` are in the order of their fields; `listed`, of which proofs alone speak, are
-/// the same in the order of their table.
+/// An image whose bytes stay in its file. `fixups` are ordered by field; `listed`, for proofs only, has the same in table order.
 #[derive(Drop)]
 pub(crate) struct FileImage<'a, A: Allocator> {
     base: u64,
@@ -99,12 +98,12 @@ impl<'a, A: Allocator + Copy> FileImage<'a, A> {
         }
     }
 
-    /// Guesses where its fields stand.
+    /// Guesses where its fields are in `fixups`.
     pub(crate) fn hint_fields(&self, alloc: A) -> Hints<A> {
         Hints::of::<ByField, _>(alloc, self.fixups.as_slice(), 0)
     }
 
-    /// The fixups whose fields may meet the bytes from RVA `start` up to `end`. `guess` is how many fields may stand before them.
+    /// The fixups whose fields may overlap the bytes from RVA `start` up to `end`. `guess` is how many may come before them.
     fn fixups_in(&self, guess: Option<usize>, start: u32, end: u64) -> &[Fixup]
         requires { start ≤ end }
         ensures held { (fixup : Fixup) → Contains result.now fixup → Contains self.now.fixups fixup }
@@ -114,7 +113,7 @@ impl<'a, A: Allocator + Copy> FileImage<'a, A> {
         between::<ByField, _>(self.fixups.as_slice(), guess, low, end)
     }
 
-    /// The number in a field: that of the file, moved on from ImageBase to the base.
+    /// The relocated number of a field: that in the file plus the difference of the base and ImageBase.
     fn relocated(&self, fixup: Fixup) -> u64
         requires { fixup.field + width_of fixup.kind ≤ self.now.size }
         ensures { result ≡ shift fixup.kind (number_in self.now.plain fixup.field (width_of fixup.kind)) (pos self.now.base -ℤ pos self.now.image_base) }
@@ -137,8 +136,8 @@ impl<'a, A: Allocator + Copy> FileImage<'a, A> {
         }
     }
 
-    /// Fills a window with the bytes from RVA `start` on, as they stand before slots are bound: those of the file, on which the
-    /// fields that meet the window are laid. `guess` is how many fields may stand before those.
+    /// Fills a window with the bytes from RVA `start` on, without bound slots: the file's bytes, with the fields that overlap the
+    /// window written over them. `guess` is how many fixups may come before those.
     pub(crate) fn read(&self, guess: Option<usize>, start: u32, window: &mut [u8])
         requires sound { IsImage self.now }
         requires inside { start + length window.old ≤ self.now.size }
@@ -158,14 +157,14 @@ impl<'a, A: Allocator + Copy> FileImage<'a, A> {
         }
     }
 
-    /// How many fields it has.
+    /// How many fixups it has.
     pub(crate) fn field_count(&self) -> u32
         ensures { result ≡ length self.now.fixups }
     {
         self.fixups.len() as u32
     }
 
-    /// Puts it at another base.
+    /// Changes its base.
     pub(crate) fn rebase(&mut self, base: u64)
         ensures { self.new ≡ record self.old { base = base } }
     {

@@ -22,7 +22,7 @@ use pe_view::Fault;
 use std::alloc::{AllocError, Allocator};
 use std::marker::Model;
 
-/// As many counts of 0 as there are images.
+/// A count of 0 for each image.
 fn no_slots<A: Allocator + Copy>(alloc: A, images: usize) -> Result<Vec<u32, A>, AllocError>
     ensures counts { IfOk result (λ counts. SlotCounts images [] counts.items) }
     ensures empty { images ≡ 0 → IsOk result }
@@ -34,7 +34,7 @@ fn no_slots<A: Allocator + Copy>(alloc: A, images: usize) -> Result<Vec<u32, A>,
     Ok(counts)
 }
 
-/// How many of the bound slots end in each image.
+/// How many bound slots each image is the exporter of.
 fn count_slots<A: Allocator + Copy>(
     alloc: A,
     images: usize,
@@ -52,7 +52,7 @@ fn count_slots<A: Allocator + Copy>(
     Ok(counts)
 }
 
-/// Guesses where the fields of each image stand, or none where memory for a list of them is refused.
+/// Guesses where the fields of each image are, or an empty list if memory for it ran out.
 fn hint_fields<A: Allocator + Copy>(alloc: A, images: &[FileImage<A>]) -> Vec<Hints<A>, A> {
     let Ok(mut hints) = Vec::with_capacity(alloc, images.len()) else {
         return Vec::new(alloc);
@@ -63,8 +63,8 @@ fn hint_fields<A: Allocator + Copy>(alloc: A, images: &[FileImage<A>]) -> Vec<Hi
     hints
 }
 
-/// Guesses where the slots of each image stand among all slots, which are in the order of their images, or none where memory for a
-/// list of them is refused.
+/// Guesses where the slots of each image are among all slots, which are ordered by image, or an empty list if memory for it ran
+/// out.
 fn hint_slots<A: Allocator + Copy>(alloc: A, images: usize, slots: &[Binding]) -> Vec<Hints<A>, A> {
     let Ok(mut hints) = Vec::with_capacity(alloc, images) else {
         return Vec::new(alloc);
@@ -79,9 +79,9 @@ fn hint_slots<A: Allocator + Copy>(alloc: A, images: usize, slots: &[Binding]) -
     hints
 }
 
-/// Images whose bytes stay in their files, which it borrows. `order` has the images by their bases, `slots` the bindings by image,
-/// and those of an image by slot; `counts` tells how many end in each image. `field_hints` guess by image where its fields stand,
-/// and `slot_hints` where among the slots its own do.
+/// Images whose bytes stay in their files, which it borrows. `order` has the images by base, `slots` the bindings by image and
+/// then by slot; `counts` has how many slots are bound to each image. `field_hints` guess where the fields of each image are, and
+/// `slot_hints` where its slots are among all.
 #[derive(Drop)]
 pub struct FileSpace<'a, A: Allocator> {
     images: Vec<FileImage<'a, A>, A>,
@@ -107,7 +107,7 @@ impl<'a, A: Allocator> Model for FileSpace<'a, A> {
 }
 
 impl<'a, A: Allocator + Copy> FileSpace<'a, A> {
-    /// A space of images, whose slots are bound so.
+    /// A space of images with these bindings.
     pub(crate) fn new(
         alloc: A,
         images: Vec<FileImage<'a, A>, A>,
@@ -136,13 +136,13 @@ impl<'a, A: Allocator + Copy> FileSpace<'a, A> {
         })
     }
 
-    /// A guess of how many fields of an image stand before those that may meet its bytes from RVA `start` on.
+    /// A guess of how many fields of an image come before those that may overlap its bytes from RVA `start` on.
     fn fields_before(&self, number: u16, start: u32) -> Option<usize> {
         let low = start.saturating_sub(REACH);
         guess_of(&self.field_hints, number, u64::from(low))
     }
 
-    /// The bound slots of an image that may meet its bytes from RVA `start` up to `end`.
+    /// The bound slots of an image that may overlap its bytes from RVA `start` up to `end`.
     fn slots_in(&self, number: u16, start: u32, end: u64) -> &[Binding]
         requires order { start ≤ end }
         requires small { end ≤ 2 ^ 32 }
@@ -155,8 +155,8 @@ impl<'a, A: Allocator + Copy> FileSpace<'a, A> {
         between::<BySlot, _>(self.slots.as_slice(), guess, low, image_start + end)
     }
 
-    /// Fills a window with the bytes of an image from RVA `start` on: the slots that meet the window are laid on those that
-    /// stand there before slots are bound.
+    /// Fills a window with the bytes of an image from RVA `start` on: its bytes without bound slots, and then the slots that
+    /// overlap the window are written over them.
     fn read(&self, number: u16, start: u32, window: &mut [u8])
         requires number { number < length self.now.images }
         requires inside { start + length window.old ≤ (nth_image self.now.images number).size }

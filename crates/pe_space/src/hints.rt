@@ -1,30 +1,30 @@
-//! Guesses where a search among ascending keys may begin.
+//! Guesses of where to begin a search in a list ordered by key.
 
 use crate::ordered::{FEW, Order};
 use std::alloc::{AllocError, Allocator};
 
-/// What is kept in place of a guess where none helps.
+/// The entry for a range of keys for which no guess helps.
 const NONE: u32 = u32::MAX;
 
-/// Guesses of how many items of a list by ascending keys stand before a key, made for some of its items that stand together. A
-/// search looks whether a guess is right before it begins there, so that nothing rests on them but how long it takes.
+/// Guesses of how many items of an ordered list come before a key, made for a run of its items. A search tests a guess before it
+/// begins there, so that a wrong one costs time only, and no proof mentions guesses.
 ///
-/// The keys are cut into stretches of a power of two, as many as there are items or up to twice as many, and 4 bytes are kept for
-/// each.
+/// The keys are divided into ranges whose size is a power of two: at least as many ranges as items, and at most twice as many.
+/// Each takes 4 bytes.
 #[derive(Drop)]
 pub(crate) struct Hints<A: Allocator> {
-    /// The least key.
+    /// The lowest key.
     first: u64,
-    /// How many bits of a key tell where it stands in its stretch.
+    /// The size of a range is 2 to this power.
     shift: u32,
-    /// How many items of the list stand before each stretch, or [`NONE`] where too many stand in it to be looked at one after the
-    /// other. It is empty where there are few items, or where its memory was refused.
+    /// How many items of the list come before each range, or [`NONE`] for a range with too many items to be compared one by one.
+    /// Empty if there are few items, or if memory ran out.
     guesses: Vec<u32, A>,
-    /// The guess for a key of no stretch.
+    /// The guess for a key past the last range.
     beyond: u32,
 }
 
-/// So many bits that a range of keys has as many stretches as there are items, or up to twice as many.
+/// The power of two for which there are at least as many ranges as items, and at most twice as many.
 fn shift_of(range: u64, items: usize) -> u32 {
     match range.checked_div(items as u64) {
         Some(share) => share.checked_ilog2().unwrap_or(0),
@@ -32,13 +32,13 @@ fn shift_of(range: u64, items: usize) -> u32 {
     }
 }
 
-/// A place in a list in 32 bits, or [`NONE`].
+/// An index of the list in 32 bits, or [`NONE`].
 fn place(index: usize) -> u32 {
     u32::try_from(index).unwrap_or(NONE)
 }
 
 impl<A: Allocator + Copy> Hints<A> {
-    /// Guesses for these items by ascending keys, behind `start` others of their list.
+    /// Guesses for these items, ordered by key, which come after `start` others in their list.
     pub(crate) fn of<O: Order<T>, T>(alloc: A, items: &[T], start: usize) -> Hints<A> {
         let mut hints = Hints {
             first: 0,
@@ -53,13 +53,13 @@ impl<A: Allocator + Copy> Hints<A> {
         hints
     }
 
-    /// The number of a key's stretch.
+    /// The number of a key's range.
     fn stretch(&self, key: u64) -> usize {
         let behind = key.saturating_sub(self.first);
         behind.checked_shr(self.shift).unwrap_or(0) as usize
     }
 
-    /// Counts how many items stand before each stretch, behind `start` others, unless memory for the counts is refused.
+    /// Counts how many items come before each range, `start` of them before these. The error is out of memory.
     fn count<O: Order<T>, T>(&mut self, items: &[T], start: u32) -> Result<(), AllocError> {
         let (Some(first), Some(last)) = (items.first(), items.last()) else {
             return Ok(());
@@ -78,7 +78,7 @@ impl<A: Allocator + Copy> Hints<A> {
         Ok(())
     }
 
-    /// Notes an item of a key, with how many stand before it, after the items before it.
+    /// Counts the next item, with how many come before it. Items must come in order.
     fn note(&mut self, key: u64, before: u32) -> Result<(), AllocError> {
         let stretch = self.stretch(key);
         let Some(guess) = self.guesses.get_mut(stretch) else {
@@ -91,8 +91,8 @@ impl<A: Allocator + Copy> Hints<A> {
         Ok(())
     }
 
-    /// A guess of how many items stand before a key: those before its stretch, where so few stand in the stretch that they are looked
-    /// at one after the other.
+    /// A guess of how many items come before a key: those before its range. `None` if the range has too many items to be compared
+    /// one by one.
     fn guess(&self, key: u64) -> Option<usize> {
         let guess = match self.guesses.get(self.stretch(key)) {
             Some(guess) => *guess,
@@ -105,7 +105,7 @@ impl<A: Allocator + Copy> Hints<A> {
     }
 }
 
-/// The guess for a key of an image, by the guesses of the images.
+/// The guess for a key of an image, from the guesses of all images.
 pub(crate) fn guess_of<A: Allocator + Copy>(
     hints: &[Hints<A>],
     number: u16,

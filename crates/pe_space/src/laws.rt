@@ -1,4 +1,4 @@
-//! What the definitions mean, as laws: their contracts are the laws, and a body at most names the laws below on which one rests.
+//! Laws about the definitions: their contracts are the laws, and a body at most names laws of other crates that one needs.
 
 ghost use Rattle.std.specs.Prelude.{◌≡◌, ◌+◌, ◌<◌, ℕ, List, None, Some, Ok, length, slice_get, slice_index};
 ghost use Rattle.pe_view.specs.Number.{digit};
@@ -16,8 +16,8 @@ ghost use Rattle.pe_space.specs.Content.{Content, byte_at, window_at};
 ghost use Rattle.pe_space.specs.declared.reply.Command.{Command};
 ghost use Rattle.pe_space.specs.SetContent.{content_of, defined_byte};
 
-/// The byte that an accepted set defines at an address is, in a bound slot, one of the address that the slot holds; in a field,
-/// one of the number relocated from ImageBase to the base of the image; elsewhere the one that the file lays out. Outside images
+/// The byte that an accepted set defines at an address is, in a bound slot, a byte of the address that the slot holds; in a field,
+/// a byte of the number relocated from ImageBase to the image's base; otherwise the byte that the file lays out. Outside images
 /// there is none.
 pub fn bytes_stand_by_cases()
     ensures slot { (policy : Policy) (es : List Entry) (i r k : ℕ) (m exporter : Module) (b : Binding) → set_error policy es ≡ None → let s = modules_of es in
@@ -32,13 +32,13 @@ pub fn bytes_stand_by_cases()
     pe_set::laws::accepted_sets_are_sound();
 }
 
-/// A window has as many bytes as it was asked for, and each is the one at its address, where an image is.
+/// A window has as many bytes as requested, and each is the byte at its address, in an image.
 pub fn windows_have_each_byte()
     ensures count { (c : Content) (address n : ℕ) (bytes : List ℕ) → window_at c address n ≡ Ok bytes → length bytes ≡ n }
     ensures each { (c : Content) (address n k : ℕ) (bytes : List ℕ) → window_at c address n ≡ Ok bytes → k < n → byte_at c (address + k) ≡ Some (slice_index bytes k) }
 {}
 
-/// Other bases change the bases of what is kept of a set and nothing else, so that it is right at all bases.
+/// Other bases change only the bases in the content of a set, so that the content is right at all bases.
 pub fn content_serves_at_all_bases()
     ensures content { (bases : List ℕ) (es : List Entry) → set_at bases (content_of (modules_of es)) ≡ content_of (modules_of (at_bases bases es)) }
     ensures bindings { (es : List Entry) → (content_of (modules_of es)).bindings ≡ bindings_of (modules_of es) }
@@ -49,9 +49,9 @@ pub fn content_serves_at_all_bases()
     pe_set::laws::bases_change_no_binding();
 }
 
-/// After any list of commands, with accepted and refused moves, the files are accepted at the bases of that moment, and a space
-/// of an accepted set holds what the same files give there: so each address holds the byte that the format defines for the files
-/// at their current bases, also if the space holds no file.
+/// After any list of commands, with accepted and refused moves, the files are accepted at the current bases, and the space has the
+/// content of the same files there: each address has the byte that the format defines for the files at their current bases, even
+/// if the space no longer has the files.
 pub fn commands_keep_what_files_define()
     ensures accepted { (policy : Policy) (es : List Entry) (commands : List Command) → set_error policy es ≡ None → let c = after_all commands (content_of (modules_of es)) in
         set_error policy (at_bases (bases_of c) es) ≡ None }

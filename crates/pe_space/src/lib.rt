@@ -1,8 +1,8 @@
 //! Images in one address space: each at its base, with its fields relocated and its imports bound.
 //!
-//! [`map`] judges a set of files and lays them out in memory, or answers the set's first fault. From then on the space tells
-//! which byte stands at which address. [`open_space`] judges by the same rules, and the space that it gives tells the same; it
-//! leaves the bytes in their files, and moves an image without rewriting them.
+//! [`map`] checks a set of files and lays them out in memory, or returns the set's first fault. The space then has the byte at
+//! each address. [`open_space`] checks by the same rules and has the same bytes, but leaves them in their files, and moves an
+//! image without rewriting them.
 //!
 //! ```text
 //! let set = [SetEntry { name: b"a.dll", file, base: 0x1000_0000 }];

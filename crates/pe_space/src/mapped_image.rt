@@ -15,7 +15,7 @@ use std::alloc::Allocator;
 use std::marker::Model;
 use std::snapshot::Snapshot;
 
-/// An image in memory. `plain` is what its memory held before fields and slots were written: proofs alone speak of it.
+/// An image in memory. `plain`, for proofs only, is its memory before fields and slots were written.
 #[derive(Drop)]
 pub(crate) struct MappedImage<A: Allocator> {
     base: u64,
@@ -72,7 +72,7 @@ impl<A: Allocator + Copy> Placed for MappedImage<A> {
 }
 
 impl<A: Allocator + Copy> MappedImage<A> {
-    /// An image at a base, by its plain bytes: its fields are moved on from its ImageBase, and its slots are still to be bound.
+    /// An image at a base, from its plain bytes: fields are relocated from ImageBase, and slots are not yet bound.
     pub(crate) fn new(
         base: u64,
         size: u32,
@@ -110,7 +110,7 @@ impl<A: Allocator + Copy> MappedImage<A> {
         self.memory[rva]
     }
 
-    /// The bytes from an RVA on, as many as the buffer has.
+    /// The bytes from an RVA on, enough to fill the buffer.
     pub(crate) fn read(&self, rva: usize, buffer: &mut [u8])
         requires { rva + length buffer.old ≤ self.now.image.size }
         ensures { buffer.new ≡ slice_range self.now.memory rva (rva + length buffer.old) }
@@ -118,14 +118,14 @@ impl<A: Allocator + Copy> MappedImage<A> {
         buffer.copy_from_slice(&self.memory[rva..rva + buffer.len()]);
     }
 
-    /// How many fields it has.
+    /// How many fixups it has.
     pub(crate) fn field_count(&self) -> u32
         ensures { result ≡ length self.now.image.fixups }
     {
         self.fixups.len() as u32
     }
 
-    /// Moves each field on to a new base.
+    /// Relocates each field to a new base.
     pub(crate) fn rebase(&mut self, base: u64)
         ensures { self.new ≡ rebased_image base self.old }
     {

@@ -22,8 +22,8 @@ use pe_view::Fault;
 use std::alloc::{AllocError, Allocator};
 use std::marker::Model;
 
-/// Images in memory, each with its bytes as they stand at its base. It owns its bytes and borrows no file. `order` has the images
-/// by their bases, `slots` the bindings by the images in which they end.
+/// Images in memory, each with its bytes for its base. It owns its bytes and borrows no file. `order` has the images by base,
+/// `slots` the bindings by exporter.
 #[derive(Drop)]
 pub struct MappedSpace<A: Allocator> {
     images: Vec<MappedImage<A>, A>,
@@ -54,7 +54,7 @@ fn put_address<A: Allocator + Copy>(images: &mut [MappedImage<A>], binding: &Bin
     images[binding.image as usize].put_slot(binding.slot, address);
 }
 
-/// Writes the address of its export into each of these slots.
+/// Writes the address of its export into each slot.
 fn bind<A: Allocator + Copy>(images: &mut [MappedImage<A>], slots: &[Binding])
     requires slots { Each (IsSlot (images_of images.old)) slots.now }
     requires room { (j : ℕ) → (nth_image (images_of images.old) j).base + (nth_image (images_of images.old) j).size ≤ 2 ^ 64 }
@@ -67,7 +67,7 @@ fn bind<A: Allocator + Copy>(images: &mut [MappedImage<A>], slots: &[Binding])
     }
 }
 
-/// The slots that end in an image, among slots in the order of the images in which they end.
+/// The slots bound to exports of an image, among bindings ordered by exporter.
 fn slots_of(slots: &[Binding], exporter: u16) -> &[Binding]
     requires { IsNonDecreasingBy exporter_of slots.now }
     ensures held { (b : Binding) → Contains result.now b → Contains slots.now b × (b.exporter ≡ exporter) }
@@ -79,7 +79,7 @@ fn slots_of(slots: &[Binding], exporter: u16) -> &[Binding]
 }
 
 impl<A: Allocator + Copy> MappedSpace<A> {
-    /// A space of images whose slots are still to be bound.
+    /// A space of images whose slots are not yet bound.
     pub(crate) fn new(
         alloc: A,
         mut images: Vec<MappedImage<A>, A>,

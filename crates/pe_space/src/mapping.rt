@@ -13,7 +13,7 @@ use crate::mapped_space::MappedSpace;
 use pe_set::{Accepted, MapError, Module, Policy, SetEntry, judge};
 use std::alloc::{AllocError, Allocator};
 
-/// Lays an image out in memory at its base, with its fields moved on.
+/// Lays out an image in memory at its base, with its fields relocated.
 #[tactic(auto, unfolding(pe_set::specs::SetView::module_view))]
 fn place<A: Allocator + Copy>(alloc: A, own: Module<A>) -> Result<MappedImage<A>, AllocError>
     requires { FieldsFit (module_view own) }
@@ -34,14 +34,14 @@ fn place<A: Allocator + Copy>(alloc: A, own: Module<A>) -> Result<MappedImage<A>
 
 /// Maps a set of images: each at its base, with its fields relocated and its imports bound.
 ///
-/// The files are judged as they are handed in, each under the number of its entry. Faults are asked class by class, each class
-/// where the ones before have none: the names of the entries (41, 42); the image faults of each file, image by image; where the
-/// images stand (43 to 47); their imports (48 to 50), image by image and in the order of each one's imports. The answer is
-/// [`MapError::Fault`] with the first fault that stands, or, where that is 50, [`MapError::Cycle`] with the fault and the length of
-/// the cycle of forwarders, or [`MapError::Memory`] where a growth was refused: never where a name has a fault, and so never of over
-/// 256 entries, and never of no entry. An error leaves nothing: all memory that was taken is given back.
+/// The files are numbered in the order of the set. Faults are tested class by class: the names of the entries (41, 42); the image
+/// faults of each file, image by image; where the images are mapped (43 to 47); their imports (48 to 50), image by image and in
+/// import order. A class is tested only if earlier ones have no fault. The error is [`MapError::Fault`] with the first fault; for
+/// fault 50 it is [`MapError::Cycle`], which adds the length of the cycle of forwarders; it is [`MapError::Memory`] if an
+/// allocation failed, but never if a name has a fault, so never for more than 256 entries, and never for no entries. On an error
+/// all memory is freed.
 ///
-/// Under [`Policy::Known`] an import whose search comes to a module that is not in the set leaves its slot as its file lays it
+/// With [`Policy::Known`], an import whose search comes to a module that is not in the set leaves its slot as its file lays it
 /// out.
 ///
 /// ("PE Format": Base Relocation Types, Import Address Table, Export Address Table.)

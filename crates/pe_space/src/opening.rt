@@ -12,12 +12,12 @@ use crate::file_space::FileSpace;
 use pe_set::{Accepted, MapError, Policy, SetEntry, judge};
 use std::alloc::Allocator;
 
-/// Opens a set of images as a space that keeps their bytes in their files, which it borrows: each image at its base, with its
+/// Opens a set of images as a space that leaves their bytes in their files, which it borrows: each image at its base, with its
 /// fields relocated and its imports bound.
 ///
-/// The files are judged like those of [`map`], and the answer is a space of the same content, the same first fault or cycle, or
-/// [`MapError::Memory`] in the same cases. What takes memory is a record of each fixup and two of each bound slot, with 4 to 8
-/// bytes for each by which they are found, beside what judging takes for a while.
+/// The files are checked as by [`map`], and the result is a space with the same content, the same first fault or cycle, or
+/// [`MapError::Memory`] in the same cases. The space keeps a record for each fixup and two for each bound slot, with 4 to 8 bytes
+/// for finding each; checking allocates more for a while.
 pub fn open_space<'a, A: Allocator + Copy>(
     alloc: A,
     set: &'a [SetEntry<'a>],

@@ -1,4 +1,4 @@
-//! Images at their bases: which one holds an address or a window, and the faults of a move.
+//! Images at their bases: which one contains an address or a window, and the faults of a move.
 
 ghost use Rattle.std.specs.Prelude.{◌≡◌, ◌+◌, ◌<◌, ◌≤◌, ◌^◌, length, map, IfSome, IfOk};
 ghost use Rattle.std.specs.List.{list_any};
@@ -13,18 +13,18 @@ use crate::ordered::at_most;
 use pe_set::{Placed, base_fault};
 use pe_view::{Fault, Place};
 
-/// The image that fault 54 names where no image holds the window's address.
+/// The image that fault 54 names if no image contains the window's address.
 const NO_IMAGE: u16 = u16::MAX;
 
-/// The address behind an image's last byte.
+/// The address after an image's last byte.
 fn end<P: Placed>(image: &P) -> u128
     ensures { result ≡ (P.placement image.now).base + (P.placement image.now).size }
 {
     u128::from(image.base()) + u128::from(image.size())
 }
 
-/// The number of the image that holds an address: the last one that begins there or before it, if it reaches so far. `order` has
-/// the images by their bases; the search takes log n steps.
+/// The number of the image that contains an address: the last one that begins there or before it, if it is long enough. `order`
+/// has the images by base; the search takes log n steps.
 pub(crate) fn holder<P: Placed>(images: &[P], order: &[NumberAt], address: u64) -> Option<u16>
     requires order { IsByBase (map P.placement images.now) order.now }
     requires apart { StandApart (map P.placement images.now) }
@@ -39,7 +39,7 @@ pub(crate) fn holder<P: Placed>(images: &[P], order: &[NumberAt], address: u64) 
     }
 }
 
-/// Fault 54 of a window at an address, which names the image that holds the address.
+/// Fault 54 of a window at an address, with the image that contains the address.
 fn window_fault(image: u16, address: u64) -> Fault
     ensures { result ≡ window_fault image address }
 {
@@ -50,7 +50,7 @@ fn window_fault(image: u16, address: u64) -> Fault
     }
 }
 
-/// The number of the image in which a window lies that has this many bytes, or fault 54.
+/// The number of the image that contains a window of this size, or fault 54.
 pub(crate) fn window_image<P: Placed>(
     images: &[P],
     order: &[NumberAt],
@@ -71,8 +71,8 @@ pub(crate) fn window_image<P: Placed>(
     Ok(number)
 }
 
-/// Whether the image of a number, which has this many bytes, would have an address in common with another one if it stood at a
-/// base: the last other one that begins by its end would, or none.
+/// Whether an image of this number and size would overlap another one at this base. Only the last other image that begins before
+/// its end can overlap it, if any does.
 fn overlaps_another<P: Placed>(
     images: &[P],
     order: &[NumberAt],
@@ -95,7 +95,7 @@ fn overlaps_another<P: Placed>(
     false
 }
 
-/// The first fault of a move of an image to a base: 55, 44 to 47.
+/// The first fault of a move of an image to a base: 55, then 44 to 47.
 pub(crate) fn move_fault<P: Placed>(
     images: &[P],
     order: &[NumberAt],
@@ -127,14 +127,14 @@ pub(crate) fn move_fault<P: Placed>(
     }
 }
 
-/// The base of the image that has a number.
+/// The base of the image with this number.
 pub(crate) fn base_of<P: Placed>(images: &[P], number: u16) -> Option<u64>
     ensures { result ≡ base_in (map P.placement images.now) number }
 {
     images.get(number as usize).map(|image| image.base())
 }
 
-/// The size of the image that has a number.
+/// The size of the image with this number.
 pub(crate) fn size_of<P: Placed>(images: &[P], number: u16) -> Option<u32>
     ensures { result ≡ size_in (map P.placement images.now) number }
 {

@@ -1,4 +1,4 @@
-//! `Command` and `Reply`: what a list of commands may ask of a space, and what it gets.
+//! `Command` and `Reply`: the calls that a list of commands makes, and what each returned.
 
 ghost use Rattle.std.specs.Prelude.{◌≡◌, List, ℕ};
 
@@ -12,11 +12,11 @@ use std::marker::Model;
 pub enum Command {
     /// The byte at an address.
     Byte(u64),
-    /// So many bytes from an address on.
+    /// Bytes from an address on.
     Window {
-        /// The address of the first one.
+        /// The address of the first byte.
         address: u64,
-        /// How many there are.
+        /// How many bytes.
         count: u32,
     },
     /// Move an image to another base.
@@ -26,7 +26,7 @@ pub enum Command {
         /// The new base.
         base: u64,
     },
-    /// Where the image of this number stands.
+    /// The base of the image with this number.
     Base(u16),
 }
 
@@ -57,24 +57,24 @@ impl<A: Allocator> Bytes<A> {
     }
 }
 
-/// What the call of a command answered.
+/// What the call of a command returned.
 #[derive(Drop)]
 pub enum Reply<A: Allocator> {
-    /// The byte, or `None` where no image stands.
+    /// The byte, or `None` outside images.
     Byte(Option<u8>),
     /// The bytes of a window.
     Bytes(Bytes<A>),
-    /// What a move rewrote.
+    /// How much a move changed.
     Moved(Moved),
-    /// Where the image stands, or `None` past the last one.
+    /// The image's base, or `None` for a number past the last image.
     Base(Option<u64>),
-    /// The fault by which a window or a move was refused.
+    /// The fault that refused a window or a move.
     Refused(Fault),
 }
 
-/// A growth of memory was refused.
+/// An allocation failed.
 #[derive(Clone, Copy, Debug, PartialEq, Eq)]
 pub struct Stopped {
-    /// How many commands were carried out: the first ones, and no other.
+    /// How many commands were carried out: exactly the first `done`.
     pub done: usize,
 }

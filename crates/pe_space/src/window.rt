@@ -1,13 +1,13 @@
-//! Numbers laid on windows of an image's bytes.
+//! Numbers written over windows of an image's bytes.
 
 ghost use Rattle.std.specs.Prelude.{◌≡◌, ◌≤◌};
 ghost use Rattle.pe_space.specs.Windows.{laid_on};
 
-/// How far before a byte a field or a slot that covers it may begin.
+/// How many bytes before a byte a field or slot that covers it may begin, since both take at most 8 bytes.
 pub(crate) const REACH: u32 = 7;
 
-/// Lays the lowest bytes of a number, which stand at RVA `place`, on a window of the bytes from RVA `start` on: those of them
-/// that lie in the window.
+/// Writes the lowest `width` bytes of a number, which belong at RVA `place`, into a window of the bytes from RVA `start` on, as
+/// far as they are inside it.
 pub(crate) fn lay_on(window: &mut [u8], start: u32, place: u32, value: u64, width: usize)
     requires { width ≤ 8 }
     ensures { window.new ≡ laid_on start place width value window.old }

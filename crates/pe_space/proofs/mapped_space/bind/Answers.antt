@@ -11,12 +11,12 @@ use Rattle.pe_space.proofs.mapped_space.bind.Goals as goal
 abbrev no_slot : Binding
 no_slot = record { image = 0; slot = 0; exporter = 0; rva = 0 }
 
--- the slot at an index is one of these images
+-- the slot at an index belongs to one of these images
 slot_at : (first hs : List InMemory) (slots : List Binding) (i : ℕ) → images_of hs ≡ images_of first → Each (IsSlot (images_of first)) slots → i < length slots
     → IsSlot (images_of hs) (get_or slots i no_slot)
 slot_at first hs slots i same each within = rw same (each_at (IsSlot (images_of first)) slots i no_slot each within)
 
--- its export stands at the sum of two numbers
+-- the address of its export is the sum of two numbers
 stands : (first hs : List InMemory) (h : InMemory) (b : Binding) (base rva : ℕ) → images_of hs ≡ images_of first → IsSlot (images_of hs) b → h ≡ get_or hs b.exporter h
     → base ≡ (get_or hs b.exporter h).image.base → rva ≡ b.rva → base + rva ≡ address_of (images_of first) b
 stands first hs h b base rva same slot is of_base of_rva =
@@ -26,7 +26,7 @@ stands first hs h b base rva same slot is of_base of_rva =
     ∙ ap (λ (images : List SpaceImage). (nth_image images b.exporter).base) same in
     rw (base_is, of_rva) refl
 
--- which is an address
+-- which fits into an address
 fits : (images : List SpaceImage) (b : Binding) (address : ℕ) → IsSlot images b → ((j : ℕ) → (nth_image images j).base + (nth_image images j).size ≤ 2 ^ 64)
     → address ≡ address_of images b → address < 2 ^ 64
 fits images b address slot room is = let end = room b.exporter in let target = slot.target in omega arith

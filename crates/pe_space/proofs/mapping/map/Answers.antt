@@ -17,7 +17,7 @@ use Rattle.pe_space.proofs.Accepting.{fit, fields_and_slots, placed, content_fre
 use Rattle.pe_space.proofs.Judged.{made_and_left}
 use Rattle.pe_space.proofs.mapping.map.Goals as goal
 
--- what has been placed and bound is what the set lays out
+-- the images that are placed and bound are what the set lays out
 kept_is : (hs : List InMemory) (bs : List Binding) (s : List Module) → hs ≡ map relocated_of s → bs ≡ bindings_of s → mapped_content hs bs ≡ laid_out s
 kept_is hs bs s placed bound = ap (λ (x : List InMemory). mapped_content x bs) placed ∙ ap (mapped_content (map relocated_of s)) bound ∙ content_fresh s
 

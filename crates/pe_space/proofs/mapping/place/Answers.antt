@@ -1,4 +1,4 @@
--- An image's bytes are as many as its SizeOfImage.
+-- An image has SizeOfImage bytes.
 use Rattle.std.proofs.Common.{◌∙◌, ◌+◌, ◌≤◌, ℕ, length, sym, ap, subst}
 use Rattle.std.proofs.lemmas.List.FromFn.{length-map-range_with_len}
 use Rattle.pe_layout.specs.Layout.{image_of}

@@ -16,7 +16,7 @@ use Rattle.pe_space.proofs.Accepting.{fit, fields_and_slots, placed, small}
 use Rattle.pe_space.proofs.Judged.{made_and_left}
 use Rattle.pe_space.proofs.opening.open_space.Goals as goal
 
--- what has been opened and bound is what the set lays out
+-- the images that are opened and bound are what the set lays out
 filed_is : (images : List SpaceImage) (bs : List Binding) (s : List Module) → images ≡ map image_content s → bs ≡ bindings_of s → file_content images bs ≡ laid_out s
 unfolding laid_out
 filed_is images bs s opened bound = ap (λ (x : List SpaceImage). file_content x bs) opened ∙ ap (file_content (map image_content s)) bound

@@ -18,7 +18,7 @@ use Rattle.pe_space.proofs.file_image.FileImage.read.Goals as goal
 no_fixup : Fixup
 no_fixup = record { entry = 0; field = 0; kind = Bits32 }
 
--- where a test is true, what was said of that holds
+-- if a test is true, the fact that it implies holds
 given : (b : Bool) (P : Type 0) → IsTrue b → OnTrue b P → P
 given true P t h = h
 given false P t h = cc

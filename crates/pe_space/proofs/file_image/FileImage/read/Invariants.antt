@@ -4,7 +4,7 @@ use Rattle.pe_space.specs.Windows.{fixed_at}
 use Rattle.pe_space.proofs.Windows.{Still}
 use Rattle.pe_space.proofs.file_image.FileImage.read.Given as goal
 
--- each place of the window is right, or lies in a field that is still to be laid on
+-- each byte of the window is right, or in a field that is still to be written
 abbrev pub invariant-loop-fixup : goal.invariant-loop-fixup
 invariant-loop-fixup g l = record {
   len : length l.window ≡ length l.fn.window;

@@ -4,7 +4,7 @@ use Rattle.pe_space.proofs.Covering.{in_slot_of}
 use Rattle.pe_space.proofs.Windows.{Still}
 use Rattle.pe_space.proofs.file_space.FileSpace.read.Given as goal
 
--- each place of the window is right, or lies in a slot that is still to be laid on
+-- each byte of the window is right, or in a slot that is still to be written
 abbrev pub invariant-loop-slot : goal.invariant-loop-slot
 invariant-loop-slot g l = record {
   len : length l.window ≡ length l.fn.window;
