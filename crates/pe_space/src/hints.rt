@@ -9,8 +9,7 @@ const NONE: u32 = u32::MAX;
 /// Guesses of how many items of an ordered list come before a key, made for a run of its items. A search tests a guess before it
 /// begins there, so that a wrong one costs time only, and no proof mentions guesses.
 ///
-/// The keys are divided into ranges whose size is a power of two: at least as many ranges as items, and at most twice as many.
-/// Each takes 4 bytes.
+/// The keys are divided into ranges whose size is a power of two, at most twice as many ranges as items. Each takes 4 bytes.
 #[derive(Drop)]
 pub(crate) struct Hints<A: Allocator> {
     /// The lowest key.
@@ -24,7 +23,7 @@ pub(crate) struct Hints<A: Allocator> {
     beyond: u32,
 }
 
-/// The power of two for which there are at least as many ranges as items, and at most twice as many.
+/// The power of two with which there are about as many ranges as items, and at most twice as many.
 fn shift_of(range: u64, items: usize) -> u32 {
     match range.checked_div(items as u64) {
         Some(share) => share.checked_ilog2().unwrap_or(0),

@@ -1,4 +1,4 @@
--- An image that stood at one base and is read again at another.
+-- An image for one base that is relocated again to another.
 use Rattle.std.proofs.Common.{◌≡◌, ℕ, ◌+◌, ◌-◌, ◌%◌, ◌<◌, true, false, List, length, get_or, Option, Some, None, refl, ap, ◌∙◌, inl, inr, arith}
 use Rattle.std.specs.Prelude.{find, AllPairs, pos, ◌-ℤ◌, Contains}
 use Rattle.pe_view.specs.Number.{digit}
@@ -11,8 +11,8 @@ use Rattle.pe_write.proofs.Lists.{found, find_first, in_range, below_range, abov
 use Rattle.pe_numbers.specs.ReadBack.{num_of_own_digits}
 use Rattle.pe_write.proofs.Whole.{FieldsApart}
 
--- The image of g is that of i at the base, a multiple of 65,536, wherever `free` holds, and it has the same fixups; their fields are free and share
--- no byte.
+-- The image of g is that of i relocated to the base, a multiple of 65,536, wherever `free` holds, and it has the same fixups;
+-- their fields are free and disjoint.
 pub record IsRebasedImage (free : ℕ → Type 0) (i g : LaidOut) (base : ℕ) : Type 0 where
   pub aligned : base % 65536 ≡ 0
   pub image_base : g.image_base ≡ base
@@ -25,14 +25,14 @@ apart_fails : (e f : Fixup) (k : ℕ) → k < width_of f.kind → FieldsApart e 
 apart_fails e f k small (inl low) = above_range e.field (width_of e.kind) (f.field + k) (omega arith)
 apart_fails e f k small (inr high) = below_range e.field (width_of e.kind) (f.field + k) (omega arith)
 
--- where fields share no byte, a search for a byte of one finds it
+-- if fields are disjoint, a search for a byte of one finds it
 own : (fs : List Fixup) (f : Fixup) (k : ℕ) → AllPairs FieldsApart fs → (j : ℕ) → j < length fs → ((d : Fixup) → get_or fs j d ≡ f) → k < width_of f.kind → find (in_field (f.field + k)) fs ≡ Some f
 own fs f k apart j lt is small =
     let here : in_field (f.field + k) (get_or fs j f) ≡ true = rw (is f) (in_range f.field (width_of f.kind) (f.field + k) (omega arith) (omega arith)) in
     find_first (in_field (f.field + k)) fs j f lt (λ n below. apart_fails (get_or fs n f) f k small (rw (is f) at (apart n j f below lt))) here ∙ ap Some (is f)
 
 module _ (Free : ℕ → Type 0) (i g : LaidOut) (base : ℕ) (s : IsRebasedImage Free i g base) where
-  -- what a field holds in the new image
+  -- the number of a field in the new image
   field_number : (f : Fixup) → (j : ℕ) → j < length (fixups_of i) → ((d : Fixup) → get_or (fixups_of i) j d ≡ f) → number_at (width_of f.kind) g f.field ≡ shifted i base f
   field_number f j lt is =
       let contains : Contains (fixups_of i) f = (j, lt, is f) in
@@ -49,7 +49,7 @@ module _ (Free : ℕ → Type 0) (i g : LaidOut) (base : ℕ) (s : IsRebasedImag
       ∙ shift-shift (number_at (width_of f.kind) i f.field) f.kind i.image_base base at s.aligned aligned in
       ap (λ (v : ℕ). digit v (r - f.field)) value
 
-  -- at every base that is a multiple of 65,536 the new image is as the old one
+  -- relocated to any base that is a multiple of 65,536, the new image is as the old one
   pub relocated-again : (at r : ℕ) → at % 65536 ≡ 0 → Free r → relocated g at r ≡ relocated i at r
   relocated-again at r aligned free =
       ap (λ (fs : List Fixup). relocated_by g at r (find (in_field r) fs)) s.fixups

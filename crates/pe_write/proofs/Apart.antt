@@ -1,4 +1,4 @@
--- How raw data lies where fault 52 does not stand of any section.
+-- How raw data lies if fault 52 holds for no section.
 use Rattle.std.proofs.Common.{◌≡◌, ℕ, zero, suc, ◌+◌, ◌<◌, ◌≤◌, ◌⊎◌, Bool, true, false, List, [], ◌∷◌, ◌++◌, length, get_or, None, refl, inl, inr, arith, length-append}
 use Rattle.std.specs.Prelude.{◌&&◌}
 use Rattle.std.specs.List.{list_any}
@@ -18,7 +18,7 @@ pub record Apart (s t : SectionHeader) : Type 0 where
 pub flip : (s t : SectionHeader) → Apart s t → Apart t s
 flip s t a = record { apart = λ some other. elim (a.apart other some) [ inl below ↦ inr below | inr above ↦ inl above ] }
 
--- raw data lies behind the headers, and apart from one another
+-- raw data is after the headers and disjoint
 pub record RawApart (h : Headers) (before ss : List SectionHeader) : Type 0 where
   pub starts : (k : ℕ) (d : SectionHeader) → k < length ss → 0 < rawlen (get_or ss k d) → h.size_of_headers ≤ (get_or ss k d).pointer_to_raw_data
   pub behind : (j k : ℕ) (d : SectionHeader) → j < length before → k < length ss → Apart (get_or before j d) (get_or ss k d)

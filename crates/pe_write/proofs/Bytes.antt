@@ -24,7 +24,7 @@ byte_kept ws file o none = elim (cases_lt o (length file)) [
 pub byte_written : (ws : List Write) (file : List ℕ) (o : ℕ) (w : Write) → o < length file → find (covers o) ws ≡ Some w → byte_of (with_writes ws file) o ≡ digit w.value (o - w.offset)
 byte_written ws file o w lt some = byte-writes ws file o lt ∙ ap (byte_by file o) some
 
--- numbers of the same bytes
+-- numbers of equal bytes
 pub same_num : (f g : ℕ → ℕ) (a b w : ℕ) → ((k : ℕ) → k < w → f (a + k) ≡ g (b + k)) → num f a w ≡ num g b w
 same_num f g a b zero same = refl
 same_num f g a b (suc w) same =

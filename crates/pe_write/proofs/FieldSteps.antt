@@ -1,4 +1,4 @@
--- Fields in raw data, one after the other.
+-- Fields in raw data, field by field.
 use Rattle.std.proofs.Common.{◌≡◌, ℕ, ◌+◌, ◌-◌, ◌<◌, ◌≤◌, true, false, List, [], ◌∷◌, length, get_or, drop, Some, None, ◌∙◌, ap, arith}
 use Rattle.std.specs.Prelude.{nat_le, ℤ}
 use Rattle.std.proofs.lemmas.Bool.{and_parts, leb-true, false_from_ne_true}
@@ -24,7 +24,7 @@ keeps_parts f s is =
     let p = and_parts (nat_le s.virtual_address f.field) (nat_le (f.field + width_of f.kind) (s.virtual_address + rawlen s)) is in
     (leb-true _ _ p.0, leb-true _ _ p.1)
 
--- a field and the section that keeps it
+-- a field and the section whose raw data contains it
 pub record IsSpot (h : Headers) (n : ℕ) (f : Fixup) (s : SectionHeader) : Type 0 where
   pub low : s.virtual_address ≤ f.field
   pub fits : s.pointer_to_raw_data + (f.field - s.virtual_address) + width_of f.kind ≤ n

@@ -1,4 +1,4 @@
--- The headers of a file of which only ImageBase and CheckSum were written.
+-- The headers of a file in which only ImageBase and CheckSum were written.
 use Rattle.std.proofs.Common.{◌≡◌, ℕ, zero, suc, ◌+◌, ◌*◌, ◌<◌, ◌≤◌, ◌⊎◌, Bool, true, false, cond, List, [], ◌∷◌, ◌++◌, length, refl, ap, ◌∙◌, inl, inr, arith, Some, None}
 use Rattle.std.specs.Prelude.{map, min, ◌==◌, ◌&&◌, ◌||◌, nat_le, if◌then◌else◌}
 use Rattle.std.specs.List.{range_with_len}
@@ -17,7 +17,7 @@ use Rattle.pe_layout.specs.Piece.{end_of}
 use Rattle.pe_write.specs.Rebase.{rebased_head}
 use Rattle.pe_layout.specs.SectionFaults.{section_tests, sections_tests, placing_tests, layout_tests}
 
--- the bytes that neither field has stay
+-- bytes outside both fields are unchanged
 pub record KeepsHead (g file : List ℕ) (base : ℕ) : Type 0 where
   pub len : length g ≡ length file
   pub late : 16 ≤ pe_offset file
@@ -30,7 +30,7 @@ pub record KeepsHead (g file : List ℕ) (base : ℕ) : Type 0 where
   pub base_64 : is_pe32 file ≡ false → num (byte_of g) (optional_start file + 24) 8 ≡ base
   pub sum : num (byte_of g) (optional_start file + 64) 4 ≡ 0
 
--- an offset and a width in the optional header that meet neither field, and pass not its fixed part
+-- an offset and a width in the optional header that overlap neither field, and do not extend past its fixed part
 abbrev clear : ℕ → ℕ → ℕ → Bool
 clear fixed o w = nat_le (o + w) fixed && ((nat_le (o + w) 24 || nat_le 32 o) && (nat_le (o + w) 64 || nat_le 68 o))
 
@@ -98,7 +98,7 @@ module _ (g file : List ℕ) (base : ℕ) (s : KeepsHead g file base) where
   count-kept : directory_count g ≡ directory_count file
   count-kept = ap (λ (n : ℕ). min n 16) (either-kept 92 4 108 4 refl refl)
 
-  -- what lies behind the fixed part and before the sections' end
+  -- what is after the fixed part and before the end of the section table
   far-kept : (o w : ℕ) → 68 ≤ o → optional_start file + o + w ≤ field file 60 4 → field g o w ≡ field file o w
   far-kept o w far held =
       ap (λ (p : ℕ). num (byte_of g) (p + 24 + o) w) p-kept
@@ -251,7 +251,7 @@ unfolding sections_tests
 sections_same image h base n before i [] = refl
 sections_same image h base n before i (s ∷ ss) = ap (λ (ts : List Test). section_tests image h n before i s ++ ts) (sections_same image h base n (end_of s) (i + 1) ss)
 
--- the same of faults 1 to 15 stand
+-- the same of faults 1 to 15 hold
 pub layout_tests-kept : (g file : List ℕ) (base image : ℕ) → KeepsHead g file base → layout_tests image g ≡ layout_tests image file
 layout_tests-kept g file base image s =
     ap (λ (ts : List Test). ts ++ placing_tests image (head_of g) (length g)) (head_tests-kept g file base s image)

@@ -1,4 +1,4 @@
--- Fields that lie in the raw data of a section.
+-- Fields inside the raw data of a section.
 use Rattle.std.proofs.Common.{◌≡◌, ℕ, ◌+◌, ◌-◌, ◌<◌, ◌≤◌, Bool, true, false, cond, List, [], ◌∷◌, length, get_or, Some, None, refl, ap, ◌∙◌, arith}
 use Rattle.std.specs.Prelude.{min, ◌==◌, nat_le, nat_lt}
 use Rattle.std.proofs.lemmas.Bool.{leb-true, and_from, and_parts, and_right, le-leb, le-ltb, lt-ltb}
@@ -32,7 +32,7 @@ cond_most false e r = omega arith
 pub rawlen_most : (s : SectionHeader) → rawlen s ≤ extent s
 rawlen_most s = cond_most (s.pointer_to_raw_data == 0) (extent s) s.size_of_raw_data
 
--- the section whose raw data a field is a part of
+-- the section whose raw data contains a field
 pub record Kept (h : Headers) (f : Fixup) : Type 0 where
   pub section : SectionHeader
   pub index : ℕ
@@ -54,14 +54,14 @@ unfolding fields_tests
 all_kept h [] none = tt
 all_kept h (f ∷ fs) none = (kept h f (none_stands (fields_tests h (f ∷ fs)) 0 _ none refl), all_kept h fs (none-append (field_test h f ∷ []) (fields_tests h fs) none).1)
 
--- what a rebase rests on: sections apart in the image and in the file
+-- facts that a rebase needs: the sections are disjoint in the image and in the file
 pub record Lies (h : Headers) (n : ℕ) : Type 0 where
   pub held : h.size_of_headers ≤ n
   pub own : h.pe_offset + 24 + 68 ≤ h.size_of_headers
   pub laid : AreLaid h n
   pub apart : RawApart h [] h.sections.items
 
--- a field's place, and the section that both lie in
+-- a field's file offset, and the section that contains it
 pub record Where (h : Headers) (n : ℕ) (f : Fixup) (s : SectionHeader) : Type 0 where
   pub place : place_of h f ≡ s.pointer_to_raw_data + (f.field - s.virtual_address)
   pub some : 0 < rawlen s
@@ -93,7 +93,7 @@ where_at h n f l k =
 ends_first : (r : ℕ) (s : SectionHeader) → end_of s ≤ r → holds r s ≡ false
 ends_first r s le = let test : nat_lt r (end_of s) ≡ false = le-ltb _ _ le in rw test (and_right (nat_le s.virtual_address r) false refl)
 
--- the section in which an RVA lies
+-- the section that contains an RVA
 pub section_found : (h : Headers) (n : ℕ) → AreLaid h n → (r k : ℕ) (s : SectionHeader) → k < length h.sections.items → get_or h.sections.items k s ≡ s → s.virtual_address ≤ r → r < end_of s → section_of h r ≡ Some s
 section_found h n laid r k s lt is low high =
     find_first (holds r) h.sections.items k s lt
@@ -101,7 +101,7 @@ section_found h n laid r k s lt is low high =
     (rw is (and_from _ _ (le-leb _ _ low) (lt-ltb _ _ high)))
     ∙ ap Some is
 
--- a section that holds a byte of a field is the one that keeps the field
+-- a section that contains a byte of a field contains all of it
 pub holder : (h : Headers) (n r : ℕ) (f : Fixup) → Lies h n → (k : Kept h f) → in_field r f ≡ true → section_of h r ≡ Some k.section
 holder h n r f l k is =
     let p = range_parts f.field (width_of f.kind) r is in

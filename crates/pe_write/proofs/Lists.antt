@@ -28,7 +28,7 @@ range_parts start len r is = let p = and_parts _ _ is in (leb-true _ _ p.0, ltb-
 pub out_of_range : (start len r : ℕ) → (start ≤ r → r < start + len → ⊥) → is_in start len r ≡ false
 out_of_range start len r never = false_from_ne_true _ (λ is. let p = range_parts start len r is in never p.0 p.1)
 
--- a place before a range
+-- a number before a range
 pub below_range : (start len r : ℕ) → r < start → is_in start len r ≡ false
 below_range start len r lt = out_of_range start len r (λ low high. omega arith)
 
@@ -54,7 +54,7 @@ pub found : {X : Type 0} (p : X → Bool) (xs : List X) (x : X) → find p xs �
 found p [] x e = absurd cc
 found p (y ∷ xs) x e = found_step p y xs x (found p xs x) (p y) refl e
 
--- what was found has what each element has
+-- what was found has the properties of all elements
 pub each_at : {X : Type 0} (P : X → Type 0) (xs : List X) (k : ℕ) (d : X) → k < length xs → Each P xs → P (get_or xs k d)
 each_at P [] k d lt e = absurd (omega arith)
 each_at P (x ∷ xs) zero d lt e = e.0

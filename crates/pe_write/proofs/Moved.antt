@@ -28,13 +28,13 @@ pub image_base_ends : (m : Magic) → image_base_offset m + image_base_width m �
 image_base_ends Pe32 = omega arith
 image_base_ends Pe32Plus = omega arith
 
--- the byte at an RVA behind the headers
+-- the byte at an RVA after the headers
 pub plain-behind : (h : Headers) (file : List ℕ) (r : ℕ) (s : Option SectionHeader) → h.size_of_headers ≤ r → section_of h r ≡ s → plain h file r ≡ section_byte file r s
 plain-behind h file r s le is =
     let test : nat_lt r h.size_of_headers ≡ false = le-ltb _ _ le in
     rw (test, is) refl
 
--- what lies behind the headers is free
+-- what is after the headers is free
 pub free_behind : (h : Headers) (n o : ℕ) → Lies h n → h.size_of_headers ≤ o → IsFree h o
 free_behind h n o l le =
     let own = l.own in
@@ -60,11 +60,11 @@ module _ (h : Headers) (file : List ℕ) (base : ℕ) (l : Lies h (length file))
   no_field r lt = find_none _ _ (each_map (Kept h) (λ f. in_field r f ≡ false) (fixups_of (image_from 0 h file))
       (λ f k. let w = where_at h (length file) f l k in let a = w.low in let b = w.behind in below_range f.field (width_of f.kind) r (omega arith)) kept)
 
-  -- a free byte of the headers stays
+  -- a free byte of the headers is unchanged
   pub header_kept : (o : ℕ) → o < h.size_of_headers → IsFree h o → byte_of (rebased_from h file base) o ≡ byte_of file o
   header_kept o lt free = byte_kept (rebase_writes h (image_from 0 h file) base) file o (covering o free ∙ ap (option_map (field_write h (image_from 0 h file) base)) (headers_free o lt))
 
--- a byte of a section's raw data: in the image at r, in the file at o
+-- a byte of a section's raw data: at r in the image, at o in the file
 record Raw (h : Headers) (n r o : ℕ) (s : SectionHeader) : Type 0 where
   index : ℕ
   inside : index < length h.sections.items
@@ -86,7 +86,7 @@ raw_at h n r s l is lt =
     let starts : h.size_of_headers ≤ s.pointer_to_raw_data = rw same at (l.apart.starts at.place s at.inside (rw same some)) in
     record { index = at.place; inside = at.inside; is = at.is; section = is; low = leb-true _ _ parts.0; raw = lt; place = refl; held = omega arith; behind = omega arith }
 
--- a byte that is raw data of two sections is so of one
+-- sections with a byte of raw data in common are one section
 same_section : (h : Headers) (n r o : ℕ) (f : Fixup) (s : SectionHeader) → Lies h n → Raw h n r o s → (k : Kept h f) → covers o (record { offset = place_of h f; width = width_of f.kind; value = 0 }) ≡ true → k.section ≡ s
 same_section h n r o f s l q k is =
     let p = range_parts (place_of h f) (width_of f.kind) o is in
@@ -129,7 +129,7 @@ from_field h n r o f s w q is =
 where_in : (h : Headers) (n : ℕ) (f : Fixup) (s : SectionHeader) → Lies h n → (k : Kept h f) → k.section ≡ s → Where h n f s
 where_in h n f s l k e = subst (Where h n f) e (where_at h n f l k)
 
--- a write of a field covers a byte of the file exactly where the field has that byte of the image
+-- a write of a field covers a byte of the file exactly if the field has that byte of the image
 covers_field : (h : Headers) (n r o : ℕ) (f : Fixup) (s : SectionHeader) → Lies h n → Raw h n r o s → Kept h f → is_in (place_of h f) (width_of f.kind) o ≡ in_field r f
 covers_field h n r o f s l q k =
     same_bool _ _ (λ is. into_field h n r o f s (where_in h n f s l k (same_section h n r o f s l q k is)) q is)
@@ -139,7 +139,7 @@ place_in_field : (h : Headers) (n r o : ℕ) (f : Fixup) (s : SectionHeader) →
 place_in_field h n r o f s l q k is = (from_field h n r o f s (where_in h n f s l k (same_Some k.section s (sym (holder h n r f l k is) ∙ q.section))) q is).1
 
 module _ (h : Headers) (file : List ℕ) (base : ℕ) (l : Lies h (length file)) (kept : Each (Kept h) (fixups_of (image_from 0 h file))) where
-  -- no field reaches where nothing is raw data
+  -- no field covers a place without raw data
   unheld : (r : ℕ) → ((f : Fixup) → (k : Kept h f) → in_field r f ≡ true → ⊥) → find (in_field r) (fixups_of (image_from 0 h file)) ≡ None
   unheld r never = find_none _ _ (each_map (Kept h) (λ f. in_field r f ≡ false) (fixups_of (image_from 0 h file)) (λ f k. false_from_ne_true _ (never f k)) kept)
 
@@ -204,7 +204,7 @@ module _ (h : Headers) (file : List ℕ) (base : ℕ) (l : Lies h (length file))
     ]
   ]
 
-  -- the laid-out image of the new file is the old one at the base
+  -- the laid-out image of the new file is the old one relocated to the base
   pub plain-rebased : (r : ℕ) → IsFree h r → plain h (rebased_from h file base) r ≡ relocated (image_from 0 h file) base r
   plain-rebased r free = elim (cases_lt r h.size_of_headers) [
     | inl lt ↦ in_header r free lt

@@ -1,4 +1,4 @@
--- The number under which an image's faults are told bears on nothing that stands at a base.
+-- Relocated bytes do not depend on the number with which an image's faults are reported.
 use Rattle.std.proofs.Common.{◌≡◌, ◌∙◌, ◌+◌, ℕ, zero, suc, List, Option, None, Some, cond, refl, ap, ◌∷◌, []}
 use Rattle.std.specs.Prelude.{find}
 use Rattle.std.specs.List.{flat_map}

@@ -1,4 +1,4 @@
--- None of faults 1 to 15 stands of a written file.
+-- A written file has none of faults 1 to 15.
 use Rattle.std.proofs.Common.{◌≡◌, ℕ, ◌+◌, ◌*◌, ◌^◌, ◌<◌, ◌≤◌, Bool, true, false, cond, List, length, None, refl, ap, ◌∙◌, arith}
 use Rattle.std.specs.Prelude.{nat_lt, nat_le, ◌==◌, ◌&&◌, ◌||◌, min}
 use Rattle.std.proofs.lemmas.Bool.{le-ltb, le-leb, or_from, and_from, ne_eqb, eq-eqb}

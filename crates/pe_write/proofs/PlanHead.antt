@@ -14,7 +14,7 @@ use Rattle.pe_head.specs.Head.{pe_offset, coff_field, field, is_pe32, magic_of, 
 use Rattle.pe_write.specs.declared.plan.Plan.{Plan}
 use Rattle.pe_write.specs.PlanHeaders.{header_numbers, optional_size, magic_number, base_of_data_of}
 
--- every field of the headers up to the directories
+-- every header field before the directories
 pub record Read {A : Type 0} (plan : Plan A) (g : List ℕ) : Type 0 where
   pub mz : num (byte_of g) 0 2 ≡ 0x5a4d
   pub signature : num (byte_of g) (pe_offset g) 4 ≡ 0x4550
@@ -78,7 +78,7 @@ data_of Pe32Plus true x is zero_is = absurd cc
 data_of Pe32Plus false x is zero_is = refl
 
 module _ {A : Type 0} (plan : Plan A) (g : List ℕ) (fits : AllByRecursion NumberFits (header_numbers plan)) (there : StandsAt g 0 (numbers_bytes (header_numbers plan))) where
-  -- the numbers of the plan in a form
+  -- the numbers of the plan, by its form
   abbrev formed : Magic → List Number
   formed m = header_numbers (record plan { magic = m })
 
@@ -97,14 +97,14 @@ module _ {A : Type 0} (plan : Plan A) (g : List ℕ) (fits : AllByRecursion Numb
   magic-is : magic_of g ≡ plan.magic
   magic-is = ap (λ (v : ℕ). cond (v == 0x10b) Pe32 Pe32Plus) (field-is 0 (U16 (magic_number plan.magic)) 0x58 refl refl) ∙ form_of plan.magic
 
-  -- a field that stands at one place in both forms
+  -- a field at the same offset in both forms
   same-is : (o : ℕ) (x : Number) (place : ℕ) → 0 + place ≡ 0x40 + 24 + o → beginning_at (formed Pe32) place ≡ Some x → beginning_at (formed Pe32Plus) place ≡ Some x → field g o (width_of x) ≡ value_of x
   same-is o x place is narrow wide = field-is o x place is (by_form (λ m. beginning_at (formed m) place ≡ Some x) narrow wide plan.magic)
 
   in_form : (m : Magic) (o : ℕ) (x : Number) (place : ℕ) → 0 + place ≡ 0x40 + 24 + o → beginning_at (formed m) place ≡ Some x → plan.magic ≡ m → field g o (width_of x) ≡ value_of x
   in_form m o x place is written form = field-is o x place is (subst (λ (m : Magic). beginning_at (formed m) place ≡ Some x) (sym form) written)
 
-  -- one that does not
+  -- a field at two offsets
   form-is : (o p : ℕ) (x y : Number) (v : ℕ) → value_of x ≡ v → value_of y ≡ v → beginning_at (formed Pe32) (0x58 + o) ≡ Some x → beginning_at (formed Pe32Plus) (0x58 + p) ≡ Some y
       → either_field g o (width_of x) p (width_of y) ≡ v
   form-is o p x y v narrow wide one other =
@@ -112,7 +112,7 @@ module _ {A : Type 0} (plan : Plan A) (g : List ℕ) (fits : AllByRecursion Numb
       (λ m. in_form Pe32 o x (0x58 + o) (omega arith) one m ∙ narrow)
       (λ m. in_form Pe32Plus p y (0x58 + p) (omega arith) other m ∙ wide)
 
-  -- what a file that begins with the plan's numbers holds
+  -- the fields of a file that begins with the plan's numbers
   pub read : Read plan g
   read = record {
     mz = at 0 0 (U16 0x5a4d) refl refl;

@@ -1,4 +1,4 @@
--- What the file of a plan is, by the plan's own tests.
+-- Facts about the file of a plan, from the plan's own tests.
 use Rattle.std.proofs.Common.{◌≡◌, ℕ, zero, suc, ◌-◌, ◌^◌, ◌<◌, ◌≤◌, false, List, [], ◌∷◌, ◌++◌, length, take, None, refl, sym, ap, ◌∙◌, arith}
 use Rattle.std.specs.Prelude.{replicate, nat_lt, ◌==◌}
 use Rattle.std.specs.List.{flat_map}
@@ -97,7 +97,7 @@ module _ {A : Type 0} (plan : Plan A) (none : first_standing (plan_tests plan) �
     pub lays_out : (r : ℕ) → plain (head_of (plan_file plan)) (plan_file plan) r ≡ planned plan r
     lays_out r = ap (λ (h : Headers). plain h (plan_file plan) r) (head-planned plan fits) ∙ plain-planned plan fits alignment_some table_held r
 
-    -- the parts, one behind the other
+    -- the parts in sequence
     pub made : (front table headers whole : List ℕ) (n m : ℕ) → length table ≡ n → front ≡ numbers_bytes (header_numbers plan) → table ≡ front ++ flat_map section_bytes (plan_sections plan)
         → headers ≡ take plan.size_of_headers table ++ replicate (plan.size_of_headers - n) 0
         → m ≡ plan.size_of_headers → whole ≡ headers ++ data_from plan.file_alignment m plan.sections.items → whole ≡ plan_file plan

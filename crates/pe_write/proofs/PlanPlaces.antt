@@ -1,4 +1,4 @@
--- Sections that lie where they may have none of faults 13 to 15.
+-- Sections with valid places have none of faults 13 to 15.
 use Rattle.std.proofs.Common.{◌≡◌, ℕ, ◌+◌, ◌<◌, ◌≤◌, Bool, true, false, cond, List, [], ◌∷◌, None, refl, inl, inr, arith}
 use Rattle.std.specs.Prelude.{nat_lt, min, ◌==◌, ◌&&◌}
 use Rattle.std.proofs.lemmas.Bool.{cases_Bool, le-ltb, or_parts}
@@ -27,7 +27,7 @@ and_none true c is = is
 and_none false c is = refl
 
 module _ (a : ℕ) (some : 0 < a) where
-  -- fault 13 does not stand of a section that ends by n
+  -- fault 13 does not hold for a section that ends at or before n
   held : (n end : ℕ) (s : PlanSection) → raw_end a end s ≤ n → (nat_lt 0 (rawlen (header_from a end s)) && nat_lt n (raw_start a end s + rawlen (header_from a end s))) ≡ false
   held n end s le = elim (cases_Bool (is_empty s)) [
     | inl empty ↦ (let none = empty_rawlen a some end s empty in rw none refl)

@@ -20,7 +20,7 @@ use Rattle.pe_write.specs.PlanHeaders.{directory_numbers, section_bytes, section
 use Rattle.pe_write.specs.PlanFits.{IsRow, IsPlan}
 use Rattle.pe_write.proofs.PlanHead.{Read, read, either_is}
 
--- a header that no list holds
+-- the default of a list of headers
 no_section : SectionHeader
 no_section = record { name = []; virtual_size = 0; virtual_address = 0; size_of_raw_data = 0; pointer_to_raw_data = 0; pointer_to_relocations = 0; pointer_to_linenumbers = 0; number_of_relocations = 0; number_of_linenumbers = 0; characteristics = 0 }
 
@@ -65,7 +65,7 @@ section_by : (name : List ℕ) (a b c e f i j l m : ℕ) (s : SectionHeader) →
     → s ≡ record { name = name; virtual_size = a; virtual_address = b; size_of_raw_data = c; pointer_to_raw_data = e; pointer_to_relocations = f; pointer_to_linenumbers = i; number_of_relocations = j; number_of_linenumbers = l; characteristics = m }
 section_by name a b c e f i j l m s p q r t u v w x y z = rw (p, q, r, t, u, v, w, x, y, z) refl
 
--- a row of the section table that stands at a place
+-- a row of the section table at an offset
 section_made : (g : List ℕ) (at k : ℕ) (s : SectionHeader) → section_start g k ≡ at → IsRow s → StandsAt g at (section_bytes s) → s ≡ section_at g k
 section_made g at k s start fits there =
     let name = fits.name in

@@ -31,7 +31,7 @@ narrow_by {A = A} plan Pe32 is fits =
     subst Narrow same (λ f. let small = number_fits (header_numbers (record plan { magic = Pe32 })) 0x74 (U32 plan.image_base) f refl in le-ltb _ _ (omega arith)) fits
 narrow_by plan Pe32Plus is fits = ap (λ (m : Magic). is_wide m plan.image_base) is
 
--- of sections without faults 14 and 15 each lies where it may
+-- sections without faults 14 and 15 have valid places
 places_none : (h : Headers) (n before i : ℕ) (ss : List SectionHeader) → first_standing (sections_tests 0 h n before i ss) ≡ None → first_standing (places_tests h.size_of_image h.size_of_headers before ss) ≡ None
 unfolding places_tests sections_tests
 places_none h n before i [] none = refl

@@ -1,4 +1,4 @@
--- Plans of small files, computed.
+-- Examples: plans of small files, computed.
 use Rattle.std.proofs.Common.{◌≡◌, ℕ, ◌<◌, ◌^◌, List, [], ◌∷◌, ◌++◌, length, replicate, Some, None, refl, arith}
 use denote.RawPtr.{Ptr}
 use Rattle.std.specs.Prelude.{map}
@@ -16,7 +16,7 @@ use Rattle.pe_write.specs.PlanHeaders.{plan_file, planned}
 use Rattle.pe_numbers.specs.Numbers.{number_bytes}
 use Rattle.pe_write.specs.PlanFile.{headers_from, file_end}
 
--- a section whose pointer is of no account
+-- a section of which only `raw.now` matters, not the address of the slice
 abbrev section : List ℕ → ℕ → ℕ → List ℕ → PlanSection
 section name size rva bytes = record { name = name; virtual_size = size; virtual_address = rva; raw = record { ref_ptr = (0, 0); now = bytes }; flags = 0xc0000040 }
 
@@ -78,7 +78,7 @@ module _ {A : Type 0} (place : Ptr) (alloc : A) where
   unfolding plan_tests places_tests
   at_4_gib = refl
 
-  -- one byte, from 2 GiB on and filled up to 4 GiB, and from one byte later on
+  -- one byte that begins at 2 GiB and is padded to 4 GiB, and one that begins a byte later
   at_most_4_gib : first_standing (plan_tests (record (plan_of (data_section (7 ∷ []) ∷ []) (omega arith)) { file_alignment = 0x80000000 })) ≡ None
   unfolding plan_tests places_tests
   at_most_4_gib = refl
@@ -87,7 +87,7 @@ module _ {A : Type 0} (place : Ptr) (alloc : A) where
   unfolding plan_tests places_tests
   over_4_gib = refl
 
-  -- the section's last byte in the image, and the next, which the file has and the image does not
+  -- the section's last byte in the image, and the next, which is in the file and not in the image
   last_byte : planned plan 0x100f ≡ 0x0f
   unfolding number_bytes
   last_byte = refl

@@ -1,4 +1,4 @@
--- A written file has no fault, and lays out what was planned.
+-- A written file has no fault, and lays out the planned bytes.
 use Rattle.std.proofs.Common.{◌≡◌, ℕ, suc, ◌-◌, ◌*◌, ◌<◌, ◌≤◌, true, false, List, [], ◌∷◌, ◌++◌, length, refl, sym, ap, subst, arith, append_assoc, length-append, inl, inr}
 use Rattle.std.specs.Prelude.{replicate, nat_lt}
 use Rattle.std.specs.List.{flat_map, AllByRecursion}
@@ -40,7 +40,7 @@ table-there plan =
     subst (λ (g : List ℕ). StandsAt g 0 (table_bytes plan)) (sym (append_assoc (table_bytes plan) zeros rest)) (stands_behind [] (table_bytes plan) (zeros ++ rest) 0 refl)
 
 module _ {A : Type 0} (plan : Plan A) (fits : IsPlan plan) where
-  -- the section table ends at
+  -- where the section table ends
   pub table-end : length (table_bytes plan) ≡ table_end plan.magic (length plan.sections.items)
   table-end =
       let front = length-numbers (header_numbers plan) in

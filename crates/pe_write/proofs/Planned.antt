@@ -12,7 +12,7 @@ use Rattle.pe_layout.specs.Plain.{section_byte}
 use Rattle.pe_write.specs.declared.plan.PlanSection.{PlanSection}
 use Rattle.pe_write.specs.PlanFile.{align_up, is_empty, raw_size, raw_start, raw_end, header_from, headers_from, raw_bytes, data_from, file_end, planned_from}
 
--- a multiple that is not below, and less than an alignment above
+-- a multiple that is not below, and less than one alignment above
 pub align_least : (a v : ℕ) → 0 < a → v ≤ align_up a v
 align_least a v some =
     let whole = div-add-mod' (v + a - 1) a in
@@ -31,7 +31,7 @@ byte-zeros n o = elim (cases_lt o n) [
   | inr past ↦ get_or_past (replicate n 0) o 0 (omega (arith, length-replicate {A = ℕ} n 0))
 ]
 
--- bytes and zeros behind them
+-- bytes with zeros after them
 filled : (raw : List ℕ) (n k : ℕ) → byte_of (raw ++ replicate n 0) k ≡ byte_of raw k
 filled raw n k = elim (cases_lt k (length raw)) [
   | inl lt ↦ byte-left raw (replicate n 0) k lt
@@ -116,7 +116,7 @@ module _ (a : ℕ) (some : 0 < a) where
     | inr full ↦ (let least = align_least a end some in let e : raw_end a end s ≡ align_up a end + raw_size a s = rw full refl in omega arith)
   ]
 
-  -- behind the headers, the file lays out what was planned
+  -- after the headers, the file lays out the planned bytes
   pub sections_planned : (before : List ℕ) (end : ℕ) (ss : List PlanSection) (r : ℕ) → length before ≡ end → 0 < end
       → section_byte (before ++ data_from a end ss) r (find (holds r) (headers_from a end ss)) ≡ planned_from a end ss r
   sections_planned before end [] r len here = refl
@@ -129,7 +129,7 @@ module _ (a : ℕ) (some : 0 < a) where
       ∙ sections_planned more (raw_end a end s) ss r (rest_at before rest end s len) (end_some end s here) in
       by_holds (before ++ (raw_bytes a end s ++ rest)) r (byte_of s.raw.now (r - s.virtual_address)) (planned_from a (raw_end a end s) ss r) (header_from a end s) found (holds r (header_from a end s)) (here_planned before rest end r s len here) there
 
-  -- the file ends where its data does
+  -- the file ends where its raw data does
   pub data_end : (before : List ℕ) (end : ℕ) (ss : List PlanSection) → length before ≡ end → length (before ++ data_from a end ss) ≡ file_end a end ss
   data_end before end [] len = omega (arith, length-append before [])
   data_end before end (s ∷ ss) len =

@@ -1,4 +1,4 @@
--- What a plan lays out, place by place.
+-- The laid-out bytes of a plan, place by place.
 use Rattle.std.proofs.Common.{◌≡◌, ℕ, zero, suc, ◌-◌, ◌≤◌, true, false, List, [], ◌∷◌, Some, None, refl, sym, ap, arith, subst}
 use Rattle.std.specs.Prelude.{slice_get, nat_lt}
 use Rattle.std.proofs.lemmas.Bool.{and_from, and_parts, le-leb, lt-ltb, leb-true, ltb-true, ltb-false, or_parts, false_from_ne_true}
@@ -20,7 +20,7 @@ is_held : (r : ℕ) (h : SectionHeader) → holds r h ≡ true → IsIn r h
 is_held r h is = let p = and_parts _ _ is in record { low = leb-true _ _ p.0; high = ltb-true _ _ p.1 }
 
 module _ (image headers : ℕ) where
-  -- a section lies behind the headers and behind the one before
+  -- a section is after the headers and after the previous one
   pub lies_behind : (before : ℕ) (s : SectionHeader) (ss : List SectionHeader) → first_standing (places_tests image headers before (s ∷ ss)) ≡ None
       → ((headers ≤ s.virtual_address) × (before ≤ s.virtual_address)) × (first_standing (places_tests image headers (end_of s) ss) ≡ None)
   unfolding places_tests
@@ -30,7 +30,7 @@ module _ (image headers : ℕ) where
       let behind = or_parts (nat_lt s.virtual_address headers) (nat_lt s.virtual_address before) here.1 in
       ((ltb-false _ _ behind.0, ltb-false _ _ behind.1), parts.1)
 
-  -- so does each behind them
+  -- and so is each later one
   pub each_behind : (before k : ℕ) (ss : List SectionHeader) (h : SectionHeader) → first_standing (places_tests image headers before ss) ≡ None → slice_get ss k ≡ Some h
       → (headers ≤ h.virtual_address) × (before ≤ h.virtual_address)
   each_behind before k [] h none at = absurd cc
@@ -59,7 +59,7 @@ module _ (image headers : ℕ) where
       let not_here : holds r (header_from a end x) ≡ false = false_from_ne_true _ (λ held. let high = (is_held r (header_from a end x) held).high in omega arith) in
       rw not_here (planned_at a (end_of (header_from a end x)) (raw_end a end x) k r ss s h first.1 at header is)
 
--- in no section
+-- outside sections
 pub planned_nowhere : (a end r : ℕ) (ss : List PlanSection) → ((k : ℕ) (h : SectionHeader) → slice_get (headers_from a end ss) k ≡ Some h → ¬ (IsIn r h)) → planned_from a end ss r ≡ 0
 planned_nowhere a end r [] never = refl
 planned_nowhere a end r (x ∷ ss) never =

@@ -1,4 +1,4 @@
--- Numbers, one behind the other.
+-- Numbers in sequence.
 use Rattle.std.proofs.Common.{◌≡◌, ℕ, List, ◌++◌, sym, ap, ◌∙◌, append_assoc}
 use Rattle.pe_numbers.specs.declared.number.Number.{Number}
 use Rattle.pe_numbers.specs.Numbers.{numbers_bytes}

@@ -1,4 +1,4 @@
--- Fault 52, one section after the other.
+-- Fault 52, section by section.
 use Rattle.std.proofs.Common.{◌≡◌, ℕ, ◌+◌, ◌<◌, ◌≤◌, true, false, List, length, get_or, take, drop, Some, None, ◌∙◌, refl}
 use Rattle.std.proofs.lemmas.List.{at_drop_more, at_drop_all, take_more}
 use Rattle.pe_head.specs.declared.section.SectionHeader.{SectionHeader}

@@ -1,4 +1,4 @@
--- What is true of a file none of whose faults stands against another base.
+-- Facts about a file without a fault for another base.
 use Rattle.std.proofs.Common.{◌≡◌, ℕ, ◌+◌, ◌%◌, ◌^◌, ◌<◌, ◌≤◌, ◌⊎◌, true, false, List, [], ◌++◌, length, take, drop, Some, None, refl, sym, ap, ◌∙◌, inl, inr, arith, subst}
 use Rattle.std.specs.Prelude.{map, find, All, AllPairs}
 use Rattle.std.proofs.lemmas.Bool.{ltb-false}
@@ -63,13 +63,13 @@ none_of file base none =
     let files = none-append (fields_tests h (fixups_of i)) (ranges_tests h [] 0 h.sections.items) places.1 in
     record { layout = all.0; fixups = tables.1; placed = places.0; fields = files.0; ranges = files.1 }
 
--- a file without a fault against a base, and what the layers below say of it
+-- a file without a fault for a base, and facts about it from other crates
 pub record IsSound (file : List ℕ) (base : ℕ) : Type 0 where
   pub none : NoneOf file base
   pub laid : AreLaid (head_of file) (length file)
   pub apart : AllPairs FieldsApart (fixups_of (image_of_file 0 file))
 
--- what the layers below say of sections and of fields
+-- facts about sections and fields from other crates
 pub record Laws : Type 0 where
   pub behind : (image : ℕ) (file : List ℕ) → first_standing (layout_tests image file) ≡ None → All (λ (s : SectionHeader). (head_of file).size_of_headers ≤ s.virtual_address) (head_of file).sections.items
   pub apart : (image : ℕ) (file : List ℕ) → first_standing (layout_tests image file) ≡ None → AllPairs (λ (s later : SectionHeader). end_of s ≤ later.virtual_address) (head_of file).sections.items
@@ -84,7 +84,7 @@ sound laws file base none =
     let n = none_of file base none in
     record { none = n; laid = laid_of laws file n.layout; apart = laws.fields (image_of_file 0 file) (map (λ import. import.slot) (imports_of (image_of_file 0 file))) n.fixups }
 
--- ImageBase and CheckSum lie in the headers
+-- ImageBase and CheckSum are inside the headers
 own_inside : (file : List ℕ) → HeadersNest file → (head_of file).pe_offset + 24 + 68 ≤ (head_of file).size_of_headers
 own_inside file nest =
     let optional = nest.optional in
@@ -95,7 +95,7 @@ own_inside file nest =
 head_none : (file : List ℕ) → first_standing (layout_tests 0 file) ≡ None → first_standing (head_tests 0 file) ≡ None
 head_none file laid = (none-append (head_tests 0 file) (placing_tests 0 (head_of file) (length file)) laid).0
 
--- and so in the file
+-- and therefore inside the file
 pub own_fields : (file : List ℕ) → first_standing (layout_tests 0 file) ≡ None → check_sum_place (head_of file) + 4 ≤ length file
 own_fields file laid =
     let head = head_none file laid in
@@ -121,7 +121,7 @@ module _ (file : List ℕ) (base : ℕ) (n : IsSound file base) where
   pub kept : Each (Kept (head_of file)) (fixups_of (image_from 0 (head_of file) file))
   kept = all_kept (head_of file) (fixups_of (image_of_file 0 file)) n.none.fields
 
-  -- the base is below the end of all addresses
+  -- the base is below the end of the address space
   pub base_small : base < address_limit (head_of file).magic
   base_small =
       let le = ltb-false _ _ (none_stands (own_base_tests (head_of file).magic (image_of_file 0 file) base) 1 _ n.none.placed refl) in
@@ -176,7 +176,7 @@ module _ (file : List ℕ) (base : ℕ) (n : IsSound file base) where
   outside : (o w k : ℕ) → k < w → (o + w ≤ pe_offset file + 48) ⊎ (pe_offset file + 56 ≤ o) → (o + w ≤ pe_offset file + 88) ⊎ (pe_offset file + 92 ≤ o) → IsFree (head_of file) (o + k)
   outside o w k lt a b = free_outside (o + k) (elim a [ inl x ↦ inl (omega arith) | inr y ↦ inr (omega arith) ]) (elim b [ inl x ↦ inl (omega arith) | inr y ↦ inr (omega arith) ])
 
-  -- the base stands in the bytes of ImageBase
+  -- the bytes of ImageBase have the base
   pub base_bytes : (k : ℕ) → k < image_base_width (head_of file).magic → byte_of (rebased_from (head_of file) file base) (pe_offset file + 24 + image_base_offset (head_of file).magic + k) ≡ digit base k
   base_bytes k lt =
       let h = head_of file in
@@ -190,7 +190,7 @@ module _ (file : List ℕ) (base : ℕ) (n : IsSound file base) where
       let first : find (covers o) (rebase_writes h (image_from 0 h file) base) ≡ Some w = rw here refl in
       byte_written (rebase_writes h (image_from 0 h file) base) file o w (omega arith) first ∙ ap (digit base) (omega arith)
 
-  -- and 0 in those of CheckSum
+  -- and those of CheckSum have 0
   pub sum_bytes : (k : ℕ) → k < 4 → byte_of (rebased_from (head_of file) file base) (pe_offset file + 24 + 64 + k) ≡ digit 0 k
   sum_bytes k lt =
       let h = head_of file in
@@ -214,7 +214,7 @@ module _ (file : List ℕ) (base : ℕ) (n : IsSound file base) where
       fits Pe32 lt = lt
       fits Pe32Plus lt = lt
 
-  -- the headers are kept where the fields that are written meet no other
+  -- the headers are unchanged if the written fields overlap no other
   pub keeps_head : 16 ≤ pe_offset file → KeepsHead (rebased_from (head_of file) file base) file base
   keeps_head late =
       let h = head_of file in
@@ -249,7 +249,7 @@ aligned_base file base n =
     let whole = none_stands (own_base_tests (head_of file).magic (image_of_file 0 file) base) 0 _ n.none.placed refl in
     grind (arith, nat_tests)
 
--- the image of the new file is the old one at the base
+-- the image of the new file is the old one relocated to the base
 pub image_rebased : (file : List ℕ) (base : ℕ) → IsSound file base → 16 ≤ pe_offset file → fixups_of (image_of_file 0 (rebased_from (head_of file) file base)) ≡ fixups_of (image_of_file 0 file)
     → IsRebasedImage (IsFree (head_of file)) (image_of_file 0 file) (image_of_file 0 (rebased_from (head_of file) file base)) base
 image_rebased file base n late same =

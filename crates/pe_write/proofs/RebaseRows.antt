@@ -1,4 +1,4 @@
--- Small files at other bases, computed.
+-- Examples: small files for other bases, computed.
 use Rattle.std.proofs.Common.{◌≡◌, ℕ, List, [], ◌∷◌, ◌++◌, Some, None, refl}
 use Rattle.std.specs.List.{range_with_len}
 use Rattle.pe_view.specs.Faults.{first_standing}
@@ -13,7 +13,7 @@ use Rattle.pe_view.specs.Number.{byte_of}
 use Rattle.pe_write.specs.Rebase.{rebased, put_header}
 use Rattle.pe_write.specs.RebaseFaults.{fields_tests, ranges_tests, rebase_tests}
 
--- one block, for the page 0x1000, with this entry and one that fills it up
+-- one block for the page 0x1000, with this entry and one of padding
 abbrev block : ℕ → ℕ → List ℕ
 block low high = 0 ∷ 0x10 ∷ 0 ∷ 0 ∷ 0x0c ∷ 0 ∷ 0 ∷ 0 ∷ low ∷ high ∷ 0 ∷ 0 ∷ []
 
@@ -32,7 +32,7 @@ v3 =
     (put 0x178 (0x0c ∷ 0 ∷ 0 ∷ 0 ∷ 0 ∷ 0x20 ∷ 0 ∷ 0 ∷ 0 ∷ 2 ∷ 0 ∷ 0 ∷ 0 ∷ 4 ∷ []) (zeros 0x200))))))))))))
     ++ (put 8 (0 ∷ 0x10 ∷ 0 ∷ 0x80 ∷ 1 ∷ 0 ∷ 0 ∷ 0 ∷ []) (range_with_len 0 256) ++ (range_with_len 0 256 ++ block 8 0xa0))
 
--- the byte at an offset of the file at a base
+-- the byte at an offset of the file for a base
 abbrev at : List ℕ → ℕ → ℕ → ℕ
 at file base o = byte_of (rebased file base) o
 

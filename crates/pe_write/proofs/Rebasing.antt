@@ -19,14 +19,14 @@ use Rattle.pe_view.specs.declared.refusal.Refusal.{Refusal}
 use Rattle.pe_write.proofs.Rebasable.{IsSound, lies, kept}
 use Rattle.pe_write.proofs.Whole.{whole}
 
--- what is asked of a base, of a file's layout
+-- the tests of a base, from a file's layout
 pub same_base : (file : List ℕ) (base : ℕ) (l : Layout) → IsLayoutOf file 0 l
     → first_standing (own_base_tests (headers_of l).magic (image_of l) base) ≡ first_standing (own_base_tests (head_of file).magic (image_of_file 0 file) base)
 same_base file base l is =
     ap (λ (i : LaidOut). first_standing (own_base_tests (headers_of l).magic i base)) is.shows
     ∙ ap (λ (h : Headers). first_standing (own_base_tests h.magic (image_of_file 0 file) base)) is.headers
 
--- and of its fields and raw data
+-- and those of its fields and raw data
 pub same_data : (file : List ℕ) (l : Layout) (fixups : List Fixup) → IsLayoutOf file 0 l → fixups ≡ fixups_of (image_of_file 0 file)
     → first_standing (data_tests (headers_of l) fixups) ≡ first_standing (data_tests (head_of file) (fixups_of (image_of_file 0 file)))
 same_data file l fixups is read =
@@ -53,7 +53,7 @@ module _ (file : List ℕ) (base : ℕ) where
         unfolding rebase_tests
         all_but_data = first-past (layout_tests 0 file) _ laid ∙ first-past (relocation_tests (image_of_file 0 file)) _ read ∙ first-past (own_base_tests (head_of file).magic (image_of_file 0 file) base) (data_tests (head_of file) (fixups_of (image_of_file 0 file))) based
 
-  -- the rebased file, by what is written into it
+  -- the rebased file, by the bytes written into it
   pub made : IsSound file base → rebased file base ≡ rebased_from (head_of file) file base
   unfolding rebased
   made n = whole (head_of file) file base (lies file base n) (kept file base n) n.apart

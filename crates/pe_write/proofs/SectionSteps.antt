@@ -1,4 +1,4 @@
--- Headers of sections, one after another.
+-- Headers of sections, section by section.
 use Rattle.std.proofs.Common.{◌≡◌, ℕ, ◌+◌, ◌<◌, ◌≤◌, Bool, List, [], ◌∷◌, ◌++◌, length, get_or, drop, Some, None, sym, ap, ◌∙◌, subst, append_assoc}
 use Rattle.std.specs.List.{flat_map, AllByRecursion}
 use Rattle.std.proofs.lemmas.List.{at_drop_more, at_drop_all}
@@ -18,7 +18,7 @@ module _ (a i : ℕ) (ss : List PlanSection) (d : PlanSection) (lt : i < length 
     as_planned : b ≡ is_misplaced image headers before (header_from a end (get_or ss i d))
     as_planned = asked ∙ ap (is_misplaced image headers before) same
 
-    -- a section that does not lie where it may
+    -- a section with an invalid place
     pub stops : (y : Fault) → first_standing (plan_test b ∷ []) ≡ Some y → first_standing (places_tests image headers before (headers_from a end (drop i ss))) ≡ Some y
     unfolding places_tests
     stops y stands =
@@ -27,7 +27,7 @@ module _ (a i : ℕ) (ss : List PlanSection) (d : PlanSection) (lt : i < length 
         at_drop_more (λ xs. first_standing (places_tests image headers before (headers_from a end xs))) ss i d lt
         ∙ first-in (plan_test (is_misplaced image headers before x) ∷ []) (places_tests image headers (end_of x) others) y (ap (λ (c : Bool). first_standing (plan_test c ∷ [])) (sym as_planned) ∙ stands)
 
-    -- one that does
+    -- a section with a valid place
     pub goes_on : (next n : ℕ) → next ≡ end_of h → n ≡ raw_end a end (get_or ss i d) → first_standing (plan_test b ∷ []) ≡ None
         → first_standing (places_tests image headers next (headers_from a n (drop (i + 1) ss))) ≡ first_standing (places_tests image headers before (headers_from a end (drop i ss)))
     unfolding places_tests
@@ -55,7 +55,7 @@ module _ (a i : ℕ) (ss : List PlanSection) (d : PlanSection) (lt : i < length 
         ∙ append_assoc before (section_bytes x) rest
         ∙ sym (at_drop_more (λ xs. before ++ flat_map section_bytes (headers_from a end xs)) ss i d lt)
 
--- behind the last
+-- after the last section
 pub ends : (image headers before a end i : ℕ) (ss : List PlanSection) → length ss ≤ i → first_standing (places_tests image headers before (headers_from a end (drop i ss))) ≡ None
 unfolding places_tests
 ends image headers before a end i ss le = at_drop_all (λ xs. first_standing (places_tests image headers before (headers_from a end xs))) ss i le

@@ -1,4 +1,4 @@
--- Writes one after another, against all of them at once.
+-- Writes in sequence, compared with all of them at once.
 use Rattle.std.proofs.Common.{◌≡◌, ℕ, ◌+◌, ◌-◌, ◌<◌, ◌≤◌, ◌⊎◌, Bool, true, false, cond, List, [], ◌∷◌, length, Option, Some, None, refl, sym, ap, ◌∙◌, inl, inr, arith, subst}
 use Rattle.std.specs.Prelude.{map, find, pos, ◌-ℤ◌}
 use Rattle.std.proofs.lemmas.Bool.{cases_lt}
@@ -41,7 +41,7 @@ length-put xs at w v le = length-patch xs at (bytes w v) (let e = length-bytes_f
 put_in : (xs : List ℕ) (at w v o : ℕ) → at + w ≤ length xs → is_in at w o ≡ true → byte_of (put xs at w v) o ≡ digit v (o - at)
 put_in xs at w v o le is = let p = range_parts at w o is in written_in xs at w v o le p.0 p.1
 
--- a byte beside the write
+-- a byte outside the write
 pub put_beside : (xs : List ℕ) (at w v o : ℕ) → at + w ≤ length xs → (o < at) ⊎ (at + w ≤ o) → byte_of (put xs at w v) o ≡ byte_of xs o
 put_beside xs at w v o le out = written_out xs at w v o le out
 
@@ -65,7 +65,7 @@ by_rest xs w o (Some v) le true is none = let e = none refl in absurd cc
 by_rest xs w o None le false is none = put_out xs w.offset w.width w.value o le is
 by_rest xs w o (Some v) le false is none = refl
 
--- writes that are clear of one another, byte by byte
+-- disjoint writes, byte by byte
 pub puts_byte : (ws : List Write) (xs : List ℕ) (o : ℕ) → Each (Inside (length xs)) ws → EachPair AreClear ws → byte_of (puts ws xs) o ≡ byte_with ws xs o
 puts_byte [] xs o inside apart = refl
 puts_byte (w ∷ ws) xs o inside apart =
@@ -86,9 +86,9 @@ length-puts (w ∷ ws) xs inside =
 pub puts_all : (ws : List Write) (xs : List ℕ) → Each (Inside (length xs)) ws → EachPair AreClear ws → puts ws xs ≡ with_writes ws xs
 puts_all ws xs inside apart = fill_by_all (byte_with ws xs) (puts ws xs) (length xs) 0 (length-puts ws xs inside) (λ k lt. puts_byte ws xs k inside apart)
 
--- ---- fields, one after another
+-- ---- fields in sequence
 module _ (h : Headers) (i : LaidOut) (base : ℕ) where
-  -- the bytes of the field are in the file what they are in the image
+  -- the bytes of the field are the same in the file and in the image
   abbrev pub Reads : List ℕ → Fixup → Type 0
   Reads xs f = num (byte_of xs) (place_of h f) (width_of f.kind) ≡ number_at (width_of f.kind) i f.field
 

@@ -1,4 +1,4 @@
--- The writes of a rebase, one after another.
+-- The writes of a rebase in sequence.
 use Rattle.std.proofs.Common.{◌≡◌, ℕ, suc, ◌+◌, ◌-◌, ◌<◌, ◌≤◌, List, [], ◌∷◌, length, get_or, Some, refl, sym, ap, ◌∙◌, inl, inr, arith, subst, true}
 use Rattle.std.specs.Prelude.{map, AllPairs, pos, ◌-ℤ◌, nat_lt}
 use Rattle.std.proofs.lemmas.Bool.{cases_order, lt-ltb}
@@ -25,7 +25,7 @@ use Rattle.pe_write.proofs.Kept.{Kept, Lies, where_at, holder}
 use Rattle.pe_write.proofs.Moved.{image_base_ends, plain-behind}
 use Rattle.pe_write.proofs.Sequence.{EachPair, AreClear, Inside, puts_all, put_beside, length-put, moved_puts, Reads}
 
--- by places, and by recursion
+-- by index, and by recursion
 pub each_from : {X : Type 0} (P : X → Type 0) (xs : List X) → ((k : ℕ) (d : X) → k < length xs → P (get_or xs k d)) → Each P xs
 each_from P [] f = tt
 each_from P (x ∷ xs) f = (f 0 x (omega arith), each_from P xs (λ k d lt. f (suc k) d (omega arith)))
@@ -38,7 +38,7 @@ each_through : {X Y : Type 0} (P : Y → Type 0) (f : X → Y) (xs : List X) →
 each_through P f [] e = tt
 each_through P f (x ∷ xs) e = (e.0, each_through P f xs e.1)
 
--- what holds of each element and of each pair holds of the pairs of what is made of them
+-- facts about each element and each pair give facts about the pairs of what is made from them
 pairs_through : {X Y : Type 0} (P : X → Type 0) (R : X → X → Type 0) (S : Y → Y → Type 0) (f : X → Y) (xs : List X) → ((x z : X) → P x → P z → R x z → S (f x) (f z)) → Each P xs → EachPair R xs → EachPair S (map f xs)
 pairs_through P R S f [] imp e r = tt
 pairs_through {X = X} P R S f (x ∷ xs) imp e r = (heads xs e.1 r.0, pairs_through P R S f xs imp e.1 r.1)
@@ -47,11 +47,11 @@ pairs_through {X = X} P R S f (x ∷ xs) imp e r = (heads xs e.1 r.0, pairs_thro
     heads [] ez rz = tt
     heads (z ∷ zs) ez rz = (imp x z e.0 ez.0 rz.0, heads zs ez.1 rz.1)
 
--- two fields share no byte
+-- two fields are disjoint
 abbrev pub FieldsApart : Fixup → Fixup → Type 0
 FieldsApart f g = AreApart (range_of f) (range_of g)
 
--- fields that are apart in the image are apart in the file
+-- fields that are disjoint in the image are disjoint in the file
 pub clear_at : (h : Headers) (n : ℕ) (i : LaidOut) (base : ℕ) (f g : Fixup) → Lies h n → Kept h f → Kept h g → FieldsApart f g → AreClear (field_write h i base f) (field_write h i base g)
 clear_at h n i base f g l kf kg apart =
     let w = where_at h n f l kf in
@@ -119,7 +119,7 @@ module _ (h : Headers) (file : List ℕ) (base : ℕ) (l : Lies h (length file))
   base_before_sum Pe32 = omega arith
   base_before_sum Pe32Plus = omega arith
 
-  -- what is written one after another is the rebased file
+  -- the file written in sequence is the rebased file
   pub whole : moved_all h (pos base -ℤ pos h.image_base) (fixups_of (image_from 0 h file)) (put_header h base file) ≡ rebased_from h file base
   unfolding put_header
   whole =

@@ -23,11 +23,11 @@ abbrev pub byte_by : List ℕ → ℕ → Option Write → ℕ
 byte_by file o None = byte_of file o
 byte_by file o (Some w) = digit w.value (o - w.offset)
 
--- the byte at an offset: of the first write that covers it, else the file's
+-- the byte at an offset: of the first write that covers it, or else of the file
 abbrev pub byte_with : List Write → List ℕ → ℕ → ℕ
 byte_with ws file o = byte_by file o (find (covers o) ws)
 
--- the whole file, as long as before
+-- the whole file, with its length unchanged
 abbrev pub with_writes : List Write → List ℕ → List ℕ
 with_writes ws file = map (byte_with ws file) (range_with_len 0 (length file))
 
@@ -37,14 +37,14 @@ image_base_write h base = record { offset = image_base_place h; width = image_ba
 abbrev pub check_sum_write : Headers → Write
 check_sum_write h = record { offset = check_sum_place h; width = 4; value = 0 }
 
--- a field as it is in the image at the base
+-- a field as relocated to the base
 abbrev pub field_write : Headers → LaidOut → ℕ → Fixup → Write
 field_write h i base f = record { offset = place_of h f; width = width_of f.kind; value = shifted i base f }
 
--- what is written: the base as ImageBase, 0 as CheckSum, and every fixup's field
+-- the writes: the base to ImageBase, 0 to CheckSum, and every fixup's field
 abbrev pub rebase_writes : Headers → LaidOut → ℕ → List Write
 rebase_writes h i base = image_base_write h base ∷ check_sum_write h ∷ map (field_write h i base) (fixups_of i)
 
--- the file of an image with these headers, at the base
+-- the file of an image with these headers, for the base
 abbrev pub rebased_from : Headers → List ℕ → ℕ → List ℕ
 rebased_from h file base = with_writes (rebase_writes h (image_from 0 h file) base) file

@@ -1,5 +1,5 @@
--- Where the sections of a plan stand in its file: behind the headers, one after the other, each from a multiple of FileAlignment
--- on, and filled up with zeros to one.
+-- Where the sections of a plan are in its file: after the headers, in order, each from a multiple of FileAlignment on, and padded
+-- with zeros to one.
 use Rattle.std.specs.Prelude.{ℕ, ◌+◌, ◌-◌, ◌*◌, ◌/◌, ◌==◌, Bool, List, [], ◌∷◌, ◌++◌, length, replicate, if◌then◌else◌}
 use Rattle.pe_view.specs.Number.{byte_of}
 use Rattle.pe_head.specs.declared.section.SectionHeader.{SectionHeader}
@@ -17,11 +17,11 @@ is_empty s = length s.raw.now == 0
 abbrev pub raw_size : ℕ → PlanSection → ℕ
 raw_size alignment s = align_up alignment (length s.raw.now)
 
--- PointerToRawData, behind a file of `end` bytes
+-- PointerToRawData, appended to a file of `end` bytes
 abbrev pub raw_start : ℕ → ℕ → PlanSection → ℕ
 raw_start alignment end s = if is_empty s then 0 else align_up alignment end
 
--- where the file ends with it
+-- the length of the file with it
 abbrev pub raw_end : ℕ → ℕ → PlanSection → ℕ
 raw_end alignment end s = if is_empty s then end else align_up alignment end + raw_size alignment s
 
@@ -40,26 +40,26 @@ header_from alignment end s = record {
   characteristics = s.flags;
 }
 
--- the headers of sections, behind a file of `end` bytes
+-- the headers of sections appended to a file of `end` bytes
 abbrev pub headers_from : ℕ → ℕ → List PlanSection → List SectionHeader
 headers_from alignment end [] = []
 headers_from alignment end (s ∷ ss) = header_from alignment end s ∷ headers_from alignment (raw_end alignment end s) ss
 
--- what a section adds to such a file
+-- the bytes that a section appends to such a file
 abbrev pub raw_bytes : ℕ → ℕ → PlanSection → List ℕ
 raw_bytes alignment end s = if is_empty s then [] else replicate (align_up alignment end - end) 0 ++ (s.raw.now ++ replicate (raw_size alignment s - length s.raw.now) 0)
 
--- what sections add to it
+-- the bytes that sections append to it
 abbrev pub data_from : ℕ → ℕ → List PlanSection → List ℕ
 data_from alignment end [] = []
 data_from alignment end (s ∷ ss) = raw_bytes alignment end s ++ data_from alignment (raw_end alignment end s) ss
 
--- where the file ends with them
+-- the length of the file with them
 abbrev pub file_end : ℕ → ℕ → List PlanSection → ℕ
 file_end alignment end [] = end
 file_end alignment end (s ∷ ss) = file_end alignment (raw_end alignment end s) ss
 
--- the laid-out byte at an RVA behind the headers
+-- the laid-out byte at an RVA after the headers
 abbrev pub planned_from : ℕ → ℕ → List PlanSection → ℕ → ℕ
 planned_from alignment end [] r = 0
 planned_from alignment end (s ∷ ss) r =

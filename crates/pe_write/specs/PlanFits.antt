@@ -1,4 +1,4 @@
--- A plan whose values fit the fields that they are written to, as those of every plan in memory do.
+-- A plan whose values fit into the fields that they are written to, as those of every plan in memory do.
 use Rattle.std.specs.Prelude.{◌≡◌, length}
 use Rattle.std.specs.List.{AllByRecursion}
 use Rattle.pe_head.specs.declared.section.SectionHeader.{SectionHeader}

@@ -1,4 +1,4 @@
--- The file of a plan, and what it lays out. Its headers are numbers, one for each field.
+-- The file of a plan, and the image that it lays out. Its headers are numbers, one for each field.
 use Rattle.std.specs.Prelude.{ℕ, ◌+◌, ◌-◌, nat_lt, List, [], ◌∷◌, ◌++◌, length, replicate, Option, None, Some, if◌then◌else◌}
 use Rattle.std.specs.List.{flat_map}
 use Rattle.pe_view.specs.Number.{byte_of}
@@ -14,7 +14,7 @@ use Rattle.pe_head.specs.Optional.{fixed_size_of}
 use Rattle.pe_write.specs.declared.plan.Plan.{Plan}
 use Rattle.pe_write.specs.PlanFile.{headers_from, data_from, file_end, planned_from}
 
--- SizeOfOptionalHeader: with 16 directories
+-- SizeOfOptionalHeader with 16 directories
 abbrev pub optional_size : Magic → ℕ
 optional_size magic = fixed_size_of magic + 128
 
@@ -22,12 +22,12 @@ abbrev pub magic_number : Magic → ℕ
 magic_number Pe32 = 0x10b
 magic_number Pe32Plus = 0x20b
 
--- a number in the form's width
+-- a number in the width of an address
 abbrev pub word : Magic → ℕ → Number
 word Pe32 value = U32 value
 word Pe32Plus value = U64 value
 
--- the file's first bytes: `MZ`, zeros, where the signature stands, and the signature
+-- the file's first bytes: `MZ`, zeros, the offset of the signature, and the signature
 abbrev pub dos_numbers : List Number
 dos_numbers = U16 0x5a4d ∷ U16 0 ∷ U64 0 ∷ U64 0 ∷ U64 0 ∷ U64 0 ∷ U64 0 ∷ U64 0 ∷ U64 0 ∷ U32 0x40 ∷ U32 0x4550 ∷ []
 
@@ -40,7 +40,7 @@ coff_numbers plan =
 abbrev pub standard_numbers : {A : Type 0} → Plan A → List Number
 standard_numbers plan = U16 (magic_number plan.magic) ∷ U8 0 ∷ U8 0 ∷ U32 0 ∷ U32 0 ∷ U32 0 ∷ U32 plan.entry ∷ U32 0 ∷ []
 
--- BaseOfData, which PE32 alone has
+-- BaseOfData, in PE32 only
 abbrev pub base_of_data_numbers : Magic → List Number
 base_of_data_numbers Pe32 = U32 0 ∷ []
 base_of_data_numbers Pe32Plus = []
@@ -51,26 +51,26 @@ image_numbers plan =
     word plan.magic plan.image_base ∷ U32 plan.section_alignment ∷ U32 plan.file_alignment ∷ U16 0 ∷ U16 0 ∷ U16 0 ∷ U16 0 ∷ U16 0 ∷ U16 0 ∷ U32 0
     ∷ U32 plan.size_of_image ∷ U32 plan.size_of_headers ∷ U32 0 ∷ U16 plan.subsystem ∷ U16 plan.dll_characteristics ∷ []
 
--- what stack and heap reserve and commit, LoaderFlags, and NumberOfRvaAndSizes
+-- the reserved and committed sizes of stack and heap, LoaderFlags, and NumberOfRvaAndSizes
 abbrev pub reserve_numbers : Magic → List Number
 reserve_numbers magic = word magic 0 ∷ word magic 0 ∷ word magic 0 ∷ word magic 0 ∷ U32 0 ∷ U32 16 ∷ []
 
--- the optional header up to its directories
+-- the optional header before its directories
 abbrev pub optional_numbers : {A : Type 0} → Plan A → List Number
 optional_numbers plan = standard_numbers plan ++ (base_of_data_numbers plan.magic ++ (image_numbers plan ++ reserve_numbers plan.magic))
 
 abbrev pub directory_numbers : Directory → List Number
 directory_numbers d = U32 d.rva ∷ U32 d.size ∷ []
 
--- the headers up to the directories
+-- the headers before the directories
 abbrev pub front_numbers : {A : Type 0} → Plan A → List Number
 front_numbers plan = dos_numbers ++ (coff_numbers plan ++ optional_numbers plan)
 
--- the headers up to the section table
+-- the headers before the section table
 abbrev pub header_numbers : {A : Type 0} → Plan A → List Number
 header_numbers plan = front_numbers plan ++ flat_map directory_numbers plan.directories
 
--- a section's header behind its name
+-- a section's header after its name
 abbrev pub section_numbers : SectionHeader → List Number
 section_numbers s =
     U32 s.virtual_size ∷ U32 s.virtual_address ∷ U32 s.size_of_raw_data ∷ U32 s.pointer_to_raw_data ∷ U32 s.pointer_to_relocations ∷ U32 s.pointer_to_linenumbers
@@ -82,11 +82,11 @@ section_bytes s = s.name ++ numbers_bytes (section_numbers s)
 abbrev pub plan_sections : {A : Type 0} → Plan A → List SectionHeader
 plan_sections plan = headers_from plan.file_alignment plan.size_of_headers plan.sections.items
 
--- the headers up to the section table's end
+-- the headers with the section table
 abbrev pub table_bytes : {A : Type 0} → Plan A → List ℕ
 table_bytes plan = numbers_bytes (header_numbers plan) ++ flat_map section_bytes (plan_sections plan)
 
--- the headers, filled up with zeros to SizeOfHeaders
+-- the headers, padded with zeros to SizeOfHeaders
 abbrev pub header_bytes : {A : Type 0} → Plan A → List ℕ
 header_bytes plan = table_bytes plan ++ replicate (plan.size_of_headers - length (table_bytes plan)) 0
 
@@ -94,11 +94,11 @@ header_bytes plan = table_bytes plan ++ replicate (plan.size_of_headers - length
 unfoldable pub plan_file : {A : Type 0} → Plan A → List ℕ
 plan_file plan = header_bytes plan ++ data_from plan.file_alignment plan.size_of_headers plan.sections.items
 
--- how long it is
+-- its length
 abbrev pub plan_size : {A : Type 0} → Plan A → ℕ
 plan_size plan = file_end plan.file_alignment plan.size_of_headers plan.sections.items
 
--- the laid-out byte at an RVA: of the headers, else of the section that holds it, where bytes past its own are 0
+-- the laid-out byte at an RVA: of the headers, or else of the section that contains it, where bytes past its raw data are 0
 abbrev pub planned : {A : Type 0} → Plan A → ℕ → ℕ
 planned plan r = if nat_lt r plan.size_of_headers then byte_of (header_bytes plan) r else planned_from plan.file_alignment plan.size_of_headers plan.sections.items r
 
@@ -106,7 +106,7 @@ abbrev pub base_of_data_of : Magic → Option ℕ
 base_of_data_of Pe32 = Some 0
 base_of_data_of Pe32Plus = None
 
--- the headers that the file has: what the plan doesn't name is 0
+-- the headers of the file; fields that the plan doesn't name are 0
 abbrev pub plan_headers : {A : Type 0} → Plan A → Headers
 plan_headers plan = record {
   magic = plan.magic;

@@ -2,5 +2,5 @@
 
 use pe_view::Refusal;
 
-/// Why a file is not written: the first rule of the format that what is to be written breaks, or want of memory.
+/// Why a file is not written: the first rule of the format that the input breaks, or out of memory.
 pub type WriteError = Refusal;

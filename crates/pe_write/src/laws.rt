@@ -1,5 +1,5 @@
-//! What the definitions mean, as laws. The contract of each function here is a law, and its body only calls the laws of other
-//! crates on which that rests.
+//! Laws about the definitions. The contract of each function here is a law, and its body only calls the laws of other crates that
+//! it needs.
 
 ghost use Rattle.std.specs.Prelude.{◌≡◌, ◌%◌, ◌<◌, ◌≤◌, ◌-◌, ℕ, List, None, Some, slice_get};
 ghost use Rattle.pe_view.specs.Faults.{first_standing};
@@ -22,8 +22,8 @@ ghost use Rattle.pe_write.specs.RebaseFaults.{rebase_tests};
 use crate::plan::Plan;
 use std::alloc::Allocator;
 
-/// Byte by byte, the new file has the base in ImageBase, 0 in CheckSum, in the field of each fixup what the image holds there at
-/// the base, and everywhere else what the file had.
+/// Byte by byte, the new file has the base in ImageBase, 0 in CheckSum, in the field of each fixup the number relocated to the
+/// base, and everywhere else what the file had.
 pub fn rebased_bytes()
     ensures { (file : List ℕ) (base : ℕ) → first_standing (rebase_tests file base) ≡ None → IsRebased file base (rebased file base) }
 {
@@ -31,7 +31,7 @@ pub fn rebased_bytes()
     pe_tables::laws::fields_are_apart();
 }
 
-/// Laid out by the old headers, the new file gives the old image as it is at the base, outside ImageBase and CheckSum.
+/// Laid out by the old headers, the new file gives the old image as relocated to the base, outside ImageBase and CheckSum.
 pub fn rebased_is_relocated()
     ensures { (file : List ℕ) (base r : ℕ) → first_standing (rebase_tests file base) ≡ None → IsFree (head_of file) r
         → plain (head_of file) (rebased file base) r ≡ relocated (image_of_file 0 file) base r }
@@ -40,8 +40,8 @@ pub fn rebased_is_relocated()
     pe_tables::laws::fields_are_apart();
 }
 
-/// If the signature is not in the first 16 bytes, the new file has the old headers but for ImageBase and CheckSum, and none of
-/// faults 1 to 15, under any number under which the old file has none.
+/// If the signature is not in the first 16 bytes, the new file has the old headers except for ImageBase and CheckSum, and none of
+/// faults 1 to 15, with every image number with which the old file has none.
 pub fn rebased_headers()
     ensures head { (file : List ℕ) (base : ℕ) → first_standing (rebase_tests file base) ≡ None → 16 ≤ (head_of file).pe_offset
         → head_of (rebased file base) ≡ rebased_head (head_of file) base }
@@ -54,8 +54,8 @@ pub fn rebased_headers()
     pe_tables::laws::fields_are_apart();
 }
 
-/// If the signature is not in the first 16 bytes, and the fixups read as before, a rebased file at any base that is a multiple of
-/// 65,536, under any number, has there the bytes that the old file has, outside ImageBase and CheckSum.
+/// If the signature is not in the first 16 bytes, and the fixups read as before, a rebased file relocated to any base that is a
+/// multiple of 65,536, with any image number, has there the bytes of the old file relocated to it, outside ImageBase and CheckSum.
 pub fn rebased_again()
     ensures { (file : List ℕ) (base image at r : ℕ) → first_standing (rebase_tests file base) ≡ None → 16 ≤ (head_of file).pe_offset
         → fixups_of (image_of_file image (rebased file base)) ≡ fixups_of (image_of_file image file) → at % 65536 ≡ 0 → IsFree (head_of file) r
@@ -65,9 +65,8 @@ pub fn rebased_again()
     pe_tables::laws::fields_are_apart();
 }
 
-/// If fault 53 does not hold for a plan whose values fit their fields, its file has the plan's headers and none of faults 1 to
-/// 15, and lays out what was planned. Conversely, a plan with a FileAlignment whose file has none of faults 1 to 15 is not
-/// refused.
+/// If fault 53 does not hold for a plan whose values fit their fields, its file has the plan's headers and none of faults 1 to 15,
+/// and lays out the planned bytes. Conversely, a plan with a FileAlignment whose file has none of faults 1 to 15 is not refused.
 pub fn file_is_planned<A: Allocator>(plan: &Plan<'_, A>)
     ensures head { IsPlan plan.now → first_standing (plan_tests plan.now) ≡ None → head_of (plan_file plan.now) ≡ plan_headers plan.now }
     ensures accepted { IsPlan plan.now → first_standing (plan_tests plan.now) ≡ None → first_standing (layout_tests 0 (plan_file plan.now)) ≡ None }
@@ -78,7 +77,7 @@ pub fn file_is_planned<A: Allocator>(plan: &Plan<'_, A>)
 {}
 
 /// If fault 53 does not hold for a plan, it lays out the headers below SizeOfHeaders, in each section the bytes that the plan
-/// gives it, and 0 after them and outside sections. Whichever section an RVA lies in, it is the only one.
+/// gives it, and 0 after them and outside sections. An RVA is in at most one section.
 pub fn planned_by_places<A: Allocator>(plan: &Plan<'_, A>)
     ensures headers { (r : ℕ) → r < plan.now.size_of_headers → planned plan.now r ≡ byte_of (header_bytes plan.now) r }
     ensures sections { (r k : ℕ) (section : PlanSection) (header : SectionHeader) → first_standing (plan_tests plan.now) ≡ None

@@ -1,10 +1,10 @@
 //! Files of images: for another base, and from a plan.
 //!
-//! [`write_image`] makes the file of an image that a [`Plan`] describes: headers, section table and the sections' raw data. It is
-//! accepted by those that read it, and lays out what was planned.
+//! [`write_image`] makes the file of an image that a [`Plan`] describes: headers, section table and the sections' raw data. The
+//! readers accept it, and it lays out the planned bytes.
 //!
-//! [`rebase_file`] makes of an image's file the file of the same image at another base: its fields hold what they hold in the
-//! image there, and it prefers to stand there.
+//! [`rebase_file`] makes from an image's file that of the same image for another base: its fields are relocated, and its ImageBase
+//! is that base.
 //!
 //! ```text
 //! let file = write_image(alloc, &plan)?;

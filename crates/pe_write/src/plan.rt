@@ -1,26 +1,26 @@
-//! `Plan` and `PlanSection`: an image that is to be written.
+//! `Plan` and `PlanSection`: an image to write.
 
 use pe_head::{Directory, Magic};
 use std::alloc::{Allocator, Global};
 
-/// A section of an image that is to be written ("PE Format", Section Table).
+/// A section of an image to write ("PE Format", Section Table).
 #[derive(Clone, Copy, Debug)]
 pub struct PlanSection<'a> {
-    /// The name, filled up with zero bytes.
+    /// The name, padded with zero bytes.
     pub name: [u8; 8],
-    /// The bytes of the laid-out image that the section takes; 0 stands for as many as the file has of it, filled up.
+    /// The size of the section in the laid-out image in bytes; 0 means SizeOfRawData, the padded length of `raw`.
     pub virtual_size: u32,
     /// The RVA of the section's first byte.
     pub virtual_address: u32,
-    /// The bytes that the file has of the section. In the file they are filled up with zeros to a multiple of
-    /// [`Plan::file_alignment`]; an empty section has none there.
+    /// The section's raw data. In the file it is padded with zeros to a multiple of [`Plan::file_alignment`]; an empty section has
+    /// none.
     pub raw: &'a [u8],
-    /// Flags: what the section holds, and whether it may be read, written and executed.
+    /// Flags: what the section contains, and whether it may be read, written and executed.
     pub flags: u32,
 }
 
-/// An image that is to be written. Each field of the headers that it does not name is 0, but for those that tell of the file
-/// itself: NumberOfSections, SizeOfOptionalHeader, NumberOfRvaAndSizes, and where raw data lies.
+/// An image to write. Each header field that it does not name is 0, except for those that describe the file itself:
+/// NumberOfSections, SizeOfOptionalHeader, NumberOfRvaAndSizes, and the places of raw data.
 ///
 /// ("PE Format": COFF File Header, Optional Header.)
 #[derive(Drop)]
@@ -33,21 +33,21 @@ pub struct Plan<'a, A: Allocator = Global> {
     pub time_stamp: u32,
     /// Flags of the image.
     pub characteristics: u16,
-    /// The RVA where the image starts to run; 0 where there is none.
+    /// The RVA of the entry point; 0 if there is none.
     pub entry: u32,
-    /// The address at which the image prefers to stand.
+    /// The preferred address of the image.
     pub image_base: u64,
-    /// The alignment of sections in the laid-out image, in bytes, as it is to be told; nothing is aligned to it.
+    /// SectionAlignment in bytes, which is written as given; nothing is aligned to it.
     pub section_alignment: u32,
-    /// The alignment of raw data in the file, in bytes, which is not 0.
+    /// The alignment of raw data in the file, in bytes; not 0.
     pub file_alignment: u32,
-    /// The bytes of the laid-out image.
+    /// The size of the laid-out image in bytes.
     pub size_of_image: u32,
-    /// The bytes of all headers, with the zeros behind them.
+    /// The size of all headers in bytes, with the zeros after them.
     pub size_of_headers: u32,
-    /// What the image needs to run.
+    /// The subsystem that the image needs to run.
     pub subsystem: u16,
-    /// Flags of a library.
+    /// DllCharacteristics.
     pub dll_characteristics: u16,
     /// The data directories, by index.
     pub directories: [Directory; 16],

@@ -1,4 +1,4 @@
-//! Where the sections of a plan stand in its file.
+//! Where the sections of a plan are in its file.
 
 ghost use Rattle.std.specs.Prelude.{◌≡◌, ◌<◌, ◌≤◌, ◌+◌, ◌^◌, ◌++◌, OnOk, vec_len, length};
 ghost use Rattle.pe_write.specs.PlanFile.{align_up, data_from, file_end, header_from, raw_bytes, raw_end, raw_start};
@@ -19,7 +19,7 @@ fn align_up(alignment: u32, value: usize) -> usize
     (value + alignment - 1) / alignment * alignment
 }
 
-/// PointerToRawData of a section behind a file of `end` bytes: 0 where the section is empty.
+/// PointerToRawData of a section appended to a file of `end` bytes: 0 if the section is empty.
 fn raw_start(alignment: u32, end: usize, section: &PlanSection) -> usize
     requires some { 0 < alignment }
     requires held { end ≤ 2 ^ 32 }
@@ -32,7 +32,7 @@ fn raw_start(alignment: u32, end: usize, section: &PlanSection) -> usize
     }
 }
 
-/// Where the file ends with a section, behind a file of `end` bytes.
+/// The length of the file with the section, appended to `end` bytes.
 pub(crate) fn raw_end(alignment: u32, end: usize, section: &PlanSection) -> usize
     requires some { 0 < alignment }
     requires held { end ≤ 2 ^ 32 }
@@ -46,7 +46,7 @@ pub(crate) fn raw_end(alignment: u32, end: usize, section: &PlanSection) -> usiz
     }
 }
 
-/// The header of a section behind a file of `end` bytes.
+/// The header of a section appended to a file of `end` bytes.
 pub(crate) fn section_header(alignment: u32, end: usize, section: &PlanSection) -> SectionHeader
     requires some { 0 < alignment }
     requires behind { 0 < end }
@@ -67,7 +67,7 @@ pub(crate) fn section_header(alignment: u32, end: usize, section: &PlanSection) 
     }
 }
 
-/// Adds the raw data of a section: it begins at a multiple of the alignment, and is filled up with zeros to one.
+/// Appends the raw data of a section at the next multiple of the alignment, padded with zeros to one.
 fn push_raw<A: Allocator>(
     bytes: &mut Vec<u8, A>,
     alignment: u32,
@@ -88,7 +88,7 @@ fn push_raw<A: Allocator>(
     bytes.resize(end, 0)
 }
 
-/// Adds the raw data of all sections, in order.
+/// Appends the raw data of all sections, in order.
 pub(crate) fn push_data<A: Allocator>(
     bytes: &mut Vec<u8, A>,
     alignment: u32,

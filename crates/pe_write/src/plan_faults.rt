@@ -13,10 +13,10 @@ use pe_head::{Magic, SectionHeader};
 use pe_view::{Fault, Place};
 use std::alloc::Allocator;
 
-/// The most bytes that a file has.
+/// The greatest size of a file in bytes.
 const FILE_LIMIT: usize = 1 << 32;
 
-/// Fault 53, where one of its causes stands.
+/// Fault 53 if the condition, one of its causes, is true.
 fn check(stands: bool) -> Result<(), Fault>
     ensures { Answers (plan_test stands ∷ []) (λ _. ⊤) result }
 {
@@ -30,7 +30,7 @@ fn check(stands: bool) -> Result<(), Fault>
     Ok(())
 }
 
-/// Whether an ImageBase does not fit its field.
+/// Whether an ImageBase does not fit into its field.
 fn is_wide(magic: Magic, base: u64) -> bool
     ensures { result ≡ is_wide magic base }
 {
@@ -40,7 +40,7 @@ fn is_wide(magic: Magic, base: u64) -> bool
     }
 }
 
-/// Where the section table ends.
+/// Where the section table ends in the file.
 fn table_end(magic: Magic, count: usize) -> usize
     requires { count ≤ 96 }
     ensures { result ≡ table_end magic count }
@@ -48,7 +48,7 @@ fn table_end(magic: Magic, count: usize) -> usize
     0x40 + 24 + magic.fixed_size() as usize + 128 + 40 * count
 }
 
-/// Looks for a cause in the numbers of the headers.
+/// Tests the numbers of the headers.
 fn check_numbers<P: Allocator>(plan: &Plan<'_, P>) -> Result<(), Fault>
     ensures { Answers (number_tests plan.now) (λ _. ⊤) result }
 {
@@ -61,7 +61,7 @@ fn check_numbers<P: Allocator>(plan: &Plan<'_, P>) -> Result<(), Fault>
     check(headers < table_end(plan.magic, count) || headers > plan.size_of_image as usize)
 }
 
-/// Where the file ends with a section, behind a file of `end` bytes, unless that is past the most that a file has.
+/// The length of the file with the section, appended to `end` bytes, unless it is longer than a file may be.
 fn checked_end(alignment: u32, end: usize, section: &PlanSection) -> Result<usize, Fault>
     requires some { 0 < alignment }
     requires held { end ≤ 2 ^ 32 }
@@ -73,7 +73,7 @@ fn checked_end(alignment: u32, end: usize, section: &PlanSection) -> Result<usiz
     Ok(next)
 }
 
-/// How long the file is, unless it is longer than the most that a file has.
+/// The length of the file, unless it is longer than a file may be.
 fn checked_size(alignment: u32, headers: usize, sections: &[PlanSection]) -> Result<usize, Fault>
     requires some { 0 < alignment }
     requires held { headers ≤ 2 ^ 32 }
@@ -93,7 +93,7 @@ fn image_end(section: &SectionHeader) -> u64
     u64::from(section.virtual_address) + u64::from(section.extent())
 }
 
-/// Whether a section passes the image, or begins in the headers or before the end of the section before it.
+/// Whether a section extends past the image, or begins inside the headers or before the end of the previous section.
 fn is_misplaced(image: u32, headers: u32, before: u64, section: &SectionHeader) -> bool
     ensures { result ≡ is_misplaced image headers before section.now }
 {
@@ -102,7 +102,7 @@ fn is_misplaced(image: u32, headers: u32, before: u64, section: &SectionHeader) 
         || u64::from(section.virtual_address) < before
 }
 
-/// Looks for a section that does not lie where it may.
+/// Tests the place of each section in the image.
 fn check_places(
     image: u32,
     headers: u32,
@@ -125,7 +125,7 @@ fn check_places(
     Ok(())
 }
 
-/// How long the file of a plan is, unless fault 53 stands.
+/// The length of a plan's file, or fault 53.
 pub(crate) fn check_plan<P: Allocator>(plan: &Plan<'_, P>) -> Result<usize, Fault>
     ensures { Answers (plan_tests plan.now) (λ size. size ≡ plan_size plan.now) result }
 {

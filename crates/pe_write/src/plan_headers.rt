@@ -15,7 +15,7 @@ use pe_numbers::Number::{self, U8, U16, U32, U64};
 use pe_numbers::push_numbers;
 use std::alloc::{AllocError, Allocator};
 
-/// SizeOfOptionalHeader: with 16 directories.
+/// SizeOfOptionalHeader with 16 directories.
 fn optional_size(magic: Magic) -> u16
     ensures { result ≡ optional_size magic }
 {
@@ -40,7 +40,7 @@ fn magic_number(magic: Magic) -> u16
     }
 }
 
-/// A number in the form's width.
+/// A number in the width of an address: 4 bytes in PE32, 8 in PE32+.
 fn word(magic: Magic, value: u64) -> Number
     requires { is_wide magic value ≡ false }
     ensures { result ≡ word magic value }
@@ -51,7 +51,7 @@ fn word(magic: Magic, value: u64) -> Number
     }
 }
 
-/// Adds the DOS header, with the signature right behind it, the signature, and the COFF header.
+/// Appends the DOS header, the signature directly after it, and the COFF header.
 fn push_coff_header<A: Allocator, P: Allocator>(
     bytes: &mut Vec<u8, A>,
     plan: &Plan<'_, P>,
@@ -85,7 +85,7 @@ fn push_coff_header<A: Allocator, P: Allocator>(
     )
 }
 
-/// Adds the standard fields of the optional header, of which PE32 alone has BaseOfData.
+/// Appends the standard fields of the optional header, with BaseOfData in PE32 only.
 fn push_standard_fields<A: Allocator, P: Allocator>(
     bytes: &mut Vec<u8, A>,
     plan: &Plan<'_, P>,
@@ -112,7 +112,7 @@ fn push_standard_fields<A: Allocator, P: Allocator>(
     }
 }
 
-/// Adds the fields of the optional header from ImageBase to DllCharacteristics.
+/// Appends the fields of the optional header from ImageBase to DllCharacteristics.
 fn push_image_fields<A: Allocator, P: Allocator>(
     bytes: &mut Vec<u8, A>,
     plan: &Plan<'_, P>,
@@ -143,7 +143,7 @@ fn push_image_fields<A: Allocator, P: Allocator>(
     )
 }
 
-/// Adds what stack and heap reserve and commit, LoaderFlags, and NumberOfRvaAndSizes.
+/// Appends the reserved and committed sizes of stack and heap, LoaderFlags, and NumberOfRvaAndSizes.
 fn push_reserves<A: Allocator>(bytes: &mut Vec<u8, A>, magic: Magic) -> Result<(), AllocError>
     ensures fits { OnOk result (AllByRecursion NumberFits (reserve_numbers magic)) }
     ensures bytes { OnOk result (bytes.new.items ≡ bytes.old.items ++ numbers_bytes (reserve_numbers magic)) }
@@ -152,7 +152,7 @@ fn push_reserves<A: Allocator>(bytes: &mut Vec<u8, A>, magic: Magic) -> Result<(
     push_numbers(bytes, &[none, none, none, none, U32(0), U32(16)])
 }
 
-/// Adds directories.
+/// Appends directories.
 fn push_directories<A: Allocator>(
     bytes: &mut Vec<u8, A>,
     directories: &[Directory],
@@ -166,7 +166,7 @@ fn push_directories<A: Allocator>(
     Ok(())
 }
 
-/// Adds a section's header.
+/// Appends a section's header.
 fn push_section<A: Allocator>(
     bytes: &mut Vec<u8, A>,
     section: &SectionHeader,
@@ -191,7 +191,7 @@ fn push_section<A: Allocator>(
     )
 }
 
-/// Adds the headers up to the section table.
+/// Appends the headers before the section table.
 pub(crate) fn push_headers<A: Allocator, P: Allocator>(
     bytes: &mut Vec<u8, A>,
     plan: &Plan<'_, P>,
@@ -209,7 +209,7 @@ pub(crate) fn push_headers<A: Allocator, P: Allocator>(
     push_directories(bytes, &plan.directories)
 }
 
-/// Adds the section table, where the headers end at a place of the file.
+/// Appends the section table; `end` is the end of all headers in the file.
 pub(crate) fn push_table<A: Allocator>(
     bytes: &mut Vec<u8, A>,
     alignment: u32,

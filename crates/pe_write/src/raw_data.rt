@@ -1,4 +1,4 @@
-//! Where fields and raw data lie in a file.
+//! Where fields and raw data are in a file: faults 51 and 52.
 
 ghost use Rattle.std.specs.Prelude.{◌≡◌, ℕ, ◌+◌, ⊤, [], ◌∷◌, Some};
 ghost use Rattle.std.specs.List.{list_any};
@@ -13,7 +13,7 @@ use pe_head::{Headers, SectionHeader};
 use pe_tables::Fixup;
 use pe_view::{Fault, Place};
 
-/// Whether a field lies wholly in a section's raw data.
+/// Whether a field is completely inside a section's raw data.
 fn keeps(section: &SectionHeader, fixup: Fixup) -> bool
     ensures { result ≡ keeps fixup.field (width_of fixup.kind) section.now }
 {
@@ -22,7 +22,7 @@ fn keeps(section: &SectionHeader, fixup: Fixup) -> bool
         && u64::from(fixup.field) + u64::from(fixup.kind.width()) <= end
 }
 
-/// The section in whose raw data a field wholly lies.
+/// The section whose raw data contains all of a field.
 fn raw_section(headers: &Headers, fixup: Fixup) -> Option<SectionHeader>
     ensures { result ≡ raw_section headers.now fixup }
 {
@@ -34,8 +34,7 @@ fn raw_section(headers: &Headers, fixup: Fixup) -> Option<SectionHeader>
     None
 }
 
-/// The section in whose raw data a field wholly lies, unless fault 51 stands of it. `last`, where an earlier field lay, is
-/// asked first.
+/// The section whose raw data contains all of a field, or fault 51. `last`, the section of an earlier field, is tried first.
 pub(crate) fn holder(
     headers: &Headers,
     last: SectionHeader,
@@ -57,14 +56,14 @@ pub(crate) fn holder(
     }
 }
 
-/// The file offset behind a section's raw data.
+/// The file offset after a section's raw data.
 fn raw_end(section: &SectionHeader) -> u64
     ensures { result ≡ section.now.pointer_to_raw_data + rawlen section.now }
 {
     u64::from(section.pointer_to_raw_data) + u64::from(section.rawlen())
 }
 
-/// Whether the raw data of a section shares bytes of the file with an earlier section's.
+/// Whether the raw data of a section overlaps an earlier section's in the file.
 fn raw_meets(section: &SectionHeader, earlier: &SectionHeader) -> bool
     ensures { result ≡ raw_meets section.now earlier.now }
 {
@@ -73,15 +72,14 @@ fn raw_meets(section: &SectionHeader, earlier: &SectionHeader) -> bool
         && u64::from(earlier.pointer_to_raw_data) < raw_end(section)
 }
 
-/// Whether the raw data of a section shares bytes of the file with some earlier section's.
+/// Whether the raw data of a section overlaps some earlier section's in the file.
 fn meets_any(section: &SectionHeader, earlier: &[SectionHeader]) -> bool
     ensures { result ≡ list_any (raw_meets section.now) earlier.now }
 {
     earlier.iter().any(|other| raw_meets(section, other))
 }
 
-/// Whether fault 52 stands of a section behind these: its raw data begins in the headers, or shares bytes of the file with
-/// theirs.
+/// Whether fault 52 holds for a section after these: its raw data begins inside the headers, or overlaps theirs in the file.
 fn is_crowded(headers: &Headers, before: &[SectionHeader], section: &SectionHeader) -> bool
     ensures { (k : ℕ) → result ≡ (range_test headers.now before.now k section.now).stands }
 {
@@ -89,7 +87,7 @@ fn is_crowded(headers: &Headers, before: &[SectionHeader], section: &SectionHead
         && (section.pointer_to_raw_data < headers.size_of_headers || meets_any(section, before))
 }
 
-/// Looks for fault 52, section by section. There are at most 96 sections.
+/// Tests fault 52, section by section. There are at most 96 sections, each compared with all earlier ones.
 pub(crate) fn check_raw_data(headers: &Headers) -> Result<(), Fault>
     ensures { Answers (ranges_tests headers.now [] 0 headers.now.sections.items) (λ _. ⊤) result }
 {

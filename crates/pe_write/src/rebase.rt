@@ -1,4 +1,4 @@
-//! `rebase_file`: the file of an image for another base, or the first fault that forbids it.
+//! `rebase_file`: the file of an image for another base, or the first fault that prevents it.
 
 ghost use Rattle.std.specs.Prelude.{◌≡◌, ◌≤◌, ◌+◌, ⊤, length, pos, ◌-ℤ◌, Some, Err, IfOk};
 ghost use Rattle.pe_view.specs.declared.fault.Fault as code_fault;
@@ -22,10 +22,10 @@ use pe_tables::{Fixup, shift_field, write_low};
 use pe_view::Fault;
 use std::alloc::Allocator;
 
-/// Where CheckSum stands, in bytes from the optional header's beginning on.
+/// The offset of CheckSum in the optional header.
 const CHECK_SUM: usize = 64;
 
-/// An image that stands alone, at its ImageBase.
+/// An image alone in its address space, at its ImageBase.
 #[derive(Clone, Copy)]
 struct Alone<'l, 'a> {
     layout: &'l Layout<'a>,
@@ -58,7 +58,7 @@ impl<'l, 'a> Placed for Alone<'l, 'a> {
     }
 }
 
-/// Looks for faults 44 to 46 of an image at a base.
+/// Tests faults 44 to 46 of an image at a base.
 fn check_base(layout: &Layout, base: u64) -> Result<(), Fault>
     ensures { Answers (own_base_tests (headers_of layout.now).magic (image_of layout.now) base) (λ _. ⊤) result }
 {
@@ -68,7 +68,7 @@ fn check_base(layout: &Layout, base: u64) -> Result<(), Fault>
     }
 }
 
-/// Writes the base as ImageBase, and 0 as CheckSum.
+/// Writes the base to ImageBase, and 0 to CheckSum.
 fn put_header(bytes: &mut [u8], headers: &Headers, base: u64)
     requires { check_sum_place headers.now + 4 ≤ length bytes.old }
     ensures { bytes.new ≡ put_header headers.now base bytes.old }
@@ -80,7 +80,7 @@ fn put_header(bytes: &mut [u8], headers: &Headers, base: u64)
     write_low(bytes, optional + CHECK_SUM, 0, 4);
 }
 
-/// Moves every fixup's field on to a base, in a copy of the layout's file, unless fault 51 stands of one.
+/// Relocates every fixup's field to a base, in a copy of the layout's file, or returns fault 51.
 fn move_fields(bytes: &mut [u8], layout: &Layout, fixups: &[Fixup], base: u64) -> Result<(), Fault>
     requires { AreLaid (headers_of layout.now) (length bytes.old) }
     ensures { let headers = headers_of layout.now in
@@ -98,8 +98,7 @@ fn move_fields(bytes: &mut [u8], layout: &Layout, fixups: &[Fixup], base: u64) -
     Ok(())
 }
 
-/// Writes the base into the headers and moves every field on to it, in a copy of the layout's file, unless fault 51 or 52
-/// stands.
+/// Writes the base into the headers and relocates every field to it, in a copy of the layout's file, or returns fault 51 or 52.
 fn rewrite(bytes: &mut [u8], layout: &Layout, fixups: &[Fixup], base: u64) -> Result<(), Fault>
     requires laid { AreLaid (headers_of layout.now) (length bytes.old) }
     requires inside { check_sum_place (headers_of layout.now) + 4 ≤ length bytes.old }
@@ -112,15 +111,16 @@ fn rewrite(bytes: &mut [u8], layout: &Layout, fixups: &[Fixup], base: u64) -> Re
     check_raw_data(layout.headers())
 }
 
-/// The file of an image that is to stand at another base: a file of the same length, in which each fixup's field is moved on by
-/// as much as the base lies above ImageBase, ImageBase is the base and CheckSum is 0; every other byte is the old one's.
+/// The file of an image for another base. It has the same length; each fixup's field is relocated by the difference of the base
+/// and ImageBase, ImageBase is the base, and CheckSum is 0; every other byte is unchanged.
 ///
-/// The answer is [`WriteError::Fault`] with the first fault that stands, which names image 0: of headers and sections (1 to 15),
-/// of imports (24 to 32) and base relocations (33 to 38), of the base (44 to 46), 51 where a field does not lie wholly in one
-/// section's raw data, and 52 where the raw data of a section begins in the headers or shares bytes of the file with an earlier
-/// one's. It is [`WriteError::Memory`] where a growth was refused, which never comes where one of faults 1 to 15 stands. Exports
-/// are not asked, and that the tables of the new file read as before is not claimed.
+/// The error is [`WriteError::Fault`] with the first fault, which names image 0: of headers and sections (1 to 15), of imports (24
+/// to 32), of base relocations (33 to 38), of the base (44 to 46), 51 if a field is not completely inside one section's raw data,
+/// and 52 if the raw data of a section begins inside the headers or overlaps an earlier one's in the file. It is
+/// [`WriteError::Memory`] if an allocation failed, but never for a file with one of faults 1 to 15. Exports are not tested, and it
+/// is not claimed that the tables of the new file read as before.
 ///
+/// ("PE Format": Optional Header, The .reloc Section.)
 /// ("PE Format": Optional Header, The .reloc Section.)
 pub fn rebase_file<A: Allocator + Copy>(
     alloc: A,

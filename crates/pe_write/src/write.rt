@@ -18,7 +18,7 @@ use crate::plan_faults::check_plan;
 use crate::plan_headers::{push_headers, push_table};
 use std::alloc::{AllocError, Allocator};
 
-/// Adds the file of a plan against which nothing stands to no bytes.
+/// Appends the file of a plan without a fault to an empty vector.
 fn push_file<A: Allocator, P: Allocator>(
     bytes: &mut Vec<u8, A>,
     plan: &Plan<'_, P>,
@@ -38,16 +38,16 @@ fn push_file<A: Allocator, P: Allocator>(
 
 /// The file that a plan describes.
 ///
-/// It begins with `MZ`, zeros, and 0x40 as the place of the signature, which follows; then stand the COFF header, the optional
-/// header with 16 directories, the section table, and zeros up to SizeOfHeaders. Each section that has bytes follows from the next
-/// multiple of FileAlignment on, and is filled up with zeros to one, which is its SizeOfRawData; of an empty one SizeOfRawData and
-/// PointerToRawData are 0. Fields that the plan does not name are 0. The file is accepted: none of faults 1 to 15 stands in it.
+/// It begins with `MZ`, zeros, and 0x40 as the offset of the signature, which follows; then come the COFF header, the optional
+/// header with 16 directories, the section table, and zeros up to SizeOfHeaders. Each section that is not empty begins at the next
+/// multiple of FileAlignment, and is padded with zeros to one, which gives its SizeOfRawData; an empty section has 0 in
+/// SizeOfRawData and PointerToRawData. Fields that the plan does not name are 0. The file has none of faults 1 to 15.
 ///
-/// The answer is [`WriteError::Fault`] with fault 53 where FileAlignment is 0; where ImageBase does not fit the four bytes that
-/// PE32 has for it; of over 96 sections; where the file would have over 2^32 bytes; where SizeOfImage is 0 or more than 2^31; where
-/// SizeOfHeaders is under the section table's end or over SizeOfImage; and where a section passes SizeOfImage, or begins in the
-/// headers or before the end of the section before it. It is [`WriteError::Memory`] where a growth was refused, which never
-/// comes where fault 53 stands.
+/// The error is [`WriteError::Fault`] with fault 53 if FileAlignment is 0; if ImageBase does not fit into the four bytes of PE32;
+/// if there are more than 96 sections; if the file would have more than 2^32 bytes; if SizeOfImage is 0 or more than 2^31; if
+/// SizeOfHeaders is below the end of the section table or above SizeOfImage; or if a section extends past SizeOfImage, or begins
+/// inside the headers or before the end of the previous section. It is [`WriteError::Memory`] if an allocation failed, but never
+/// if fault 53 holds.
 ///
 /// ("PE Format": MS-DOS Stub, Signature, COFF File Header, Optional Header, Section Table.)
 pub fn write_image<A: Allocator + Copy, P: Allocator>(

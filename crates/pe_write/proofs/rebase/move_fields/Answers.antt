@@ -11,7 +11,7 @@ use Rattle.pe_write.specs.Rebase.{moved_all}
 use Rattle.pe_write.proofs.FieldSteps.{spot, goes_on, stops, moves_on, ends, moves_end}
 use Rattle.pe_write.proofs.rebase.move_fields.Goals as goal
 
--- what a list of fixups is read by
+-- the default of a list of fixups
 abbrev no_fixup : Fixup
 no_fixup = record { entry = 0; field = 0; kind = Bits32 }
 
