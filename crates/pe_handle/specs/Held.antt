@@ -1,4 +1,4 @@
--- What a handle owns: a boxed space while it is open, and else nothing.
+-- What a handle owns: a boxed space while it is open, otherwise nothing.
 use Rattle.std.specs.Prelude.{Bool, true, false, Option, None, Some}
 use Rattle.std.specs.Coded.{Coded, coded_option}
 use base.Fml.{Fml, ftrue, ffalse}
@@ -17,7 +17,7 @@ space_row = mapped_space.the_row global.the_row ghosts
 abbrev pub space_coded : Coded (Option space_row.Denot)
 space_coded = coded_option space_row.coded
 
--- by the allocator, whether there is a space, its address, and the space
+-- by the allocator, whether the handle is open, the address, and the space
 abbrev pub held : Global → Bool → Ptr → Option Content → Fml
 held alloc false state None = ftrue
 held alloc false state (Some space) = ffalse

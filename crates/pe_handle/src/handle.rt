@@ -1,4 +1,4 @@
-//! `Handle`: a space that a C program keeps, or none where the handle is closed.
+//! `Handle`: a space that a C program holds, or none if the handle is closed.
 
 ghost use Rattle.std.specs.Prelude.{◌≡◌, true, false, None, Some, is_some, option_map};
 ghost use Rattle.std.specs.declared.option.Option.{Option};
@@ -10,9 +10,9 @@ use pe_space::MappedSpace;
 use std::alloc::Global;
 use std::marker::Model;
 
-/// A space, or none. In C it is `struct { void *state; bool is_open; }`, and all zero it is closed.
+/// A space, or none. In C it is `struct { void *state; bool is_open; }`; all zeros are a closed handle.
 ///
-/// Whoever keeps the handle owns the space: a second copy of it is no second space. Dropping it gives the memory back.
+/// The handle owns the space: a bytewise copy of it does not copy the space. Dropping it frees the memory.
 #[repr(C)]
 pub struct Handle {
     state: *mut u8,
@@ -28,7 +28,7 @@ impl Model for Handle {
 }
 
 impl Handle {
-    /// A handle that has no space. It takes no memory.
+    /// A handle without a space. Allocates nothing.
     pub fn closed(alloc: Global) -> Handle
         ensures none { result.space ≡ None }
         ensures shut { result.is_open ≡ false }
@@ -40,7 +40,7 @@ impl Handle {
         }
     }
 
-    /// The handle of a box that was taken apart.
+    /// The handle that owns the space of a box in parts.
     fn hold(parts: BoxParts<MappedSpace<Global>, Global>) -> Handle
         ensures space { result.space ≡ Some parts.value }
         ensures open { result.is_open ≡ true }
@@ -53,7 +53,7 @@ impl Handle {
         }
     }
 
-    /// The parts of the box of an open handle.
+    /// The parts of the box of an open handle, or `None`.
     fn release(self) -> Option<BoxParts<MappedSpace<Global>, Global>>
         ensures space { option_map (λ parts. parts.value) result ≡ self.space }
         ensures open { is_some result ≡ self.is_open }
@@ -73,7 +73,7 @@ impl Handle {
         }
     }
 
-    /// A handle that has this space. It takes no memory.
+    /// A handle that owns this space. Allocates nothing.
     pub fn of(space: Box<MappedSpace<Global>>) -> Handle
         ensures space { result.space ≡ Some space.value }
         ensures open { result.is_open ≡ true }
@@ -81,7 +81,7 @@ impl Handle {
         Handle::hold(BoxParts::of(space))
     }
 
-    /// The space of the handle, or `None` of one that is closed.
+    /// The space of the handle, or `None` if it is closed.
     pub fn take(self) -> Option<Box<MappedSpace<Global>>>
         ensures space { option_map (λ space. space.value) result ≡ self.space }
         ensures open { is_some result ≡ self.is_open }
@@ -102,5 +102,5 @@ impl Drop for Handle {
     }
 }
 
-// a space is its own memory, which any thread may free
+// Sound, since a space owns its memory, which any thread may free.
 unsafe impl Send for Handle {}

@@ -1,6 +1,6 @@
-//! A space of images as a program in another language keeps it: a pointer, and a flag that says whether the space is there.
+//! A space of images as a program in another language holds it: a pointer, and a flag that says whether there is a space.
 //!
-//! [`Handle::of`] puts a space into a handle, and [`Handle::take`] takes that very space out again. A closed handle has none.
+//! [`Handle::of`] puts a space into a handle, and [`Handle::take`] takes the same space out again. A closed handle has none.
 //!
 //! ```text
 //! let space = Box::new(alloc, map(alloc, &set, Policy::Strict)?)?;

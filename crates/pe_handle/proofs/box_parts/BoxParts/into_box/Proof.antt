@@ -1,4 +1,4 @@
--- The box is made again of what the address and the allocator own.
+-- The box is made again from what the address and the allocator own.
 use Rattle.std.proofs.Common.{◌≡◌, List, [], ◌∷◌, ◌++◌, refl}
 use mir.Syntax.{a_type, dcons, dnil}
 use mir.Val.{Val}

@@ -1,4 +1,4 @@
--- The box is taken apart, and what it owned goes over whole.
+-- The box is taken apart, and the parts own all that it owned.
 use Rattle.std.proofs.Common.{◌≡◌, List, [], ◌∷◌, ◌++◌, refl, sym, ap}
 use mir.Syntax.{a_type, dcons, dnil}
 use mir.Val.{Val}

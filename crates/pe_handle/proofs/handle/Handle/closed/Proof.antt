@@ -1,4 +1,4 @@
--- A closed handle owns nothing beside its fields.
+-- A closed handle owns nothing except its fields.
 use Rattle.std.proofs.Common.{◌≡◌, List, [], ◌∷◌, ◌++◌, refl}
 use mathlib.Core.Bool.{false}
 use mir.Val.{Val}

@@ -1,4 +1,4 @@
--- An open handle owns what the address and the allocator did.
+-- An open handle owns what the address and the allocator owned.
 use Rattle.std.proofs.Common.{◌≡◌, List, [], ◌∷◌, ◌++◌, refl}
 use mathlib.Core.Bool.{true}
 use mir.Val.{Val}
