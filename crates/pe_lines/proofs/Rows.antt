@@ -1,4 +1,4 @@
--- Lines as the definitions give them, written out.
+-- Examples of lines as the definitions give them.
 use Rattle.std.proofs.Common.{◌≡◌, [], ◌∷◌, refl, codes}
 use Rattle.std.specs.Fmt.{digits}
 use Rattle.pe_head.specs.declared.section.SectionHeader.{SectionHeader}
@@ -12,7 +12,7 @@ directory_5 : directory_line 5 (record { rva = 0x2000; size = 12 }) ≡ codes "D
 unfolding directory_line hex digits
 directory_5 = refl
 
--- .data, filled up with zero bytes, of 16 bytes in the image
+-- .data, padded with zero bytes, of 16 bytes in the image
 data_section : SectionHeader
 data_section = record {
   name = 0x2e ∷ 0x64 ∷ 0x61 ∷ 0x74 ∷ 0x61 ∷ 0 ∷ 0 ∷ 0 ∷ [];
@@ -31,7 +31,7 @@ section_0 : section_line 0 data_section ≡ codes "section 0 \".data\" va 0x0000
 unfolding data_section section_line quoted escaped hex digits
 section_0 = refl
 
--- .bss$abc, a name of 8 characters without a zero byte; the file holds less of the section than the image
+-- .bss$abc, a name of 8 characters without a zero byte; the section is larger in the image than in the file
 longer_section : SectionHeader
 longer_section = record {
   name = 0x2e ∷ 0x62 ∷ 0x73 ∷ 0x73 ∷ 0x24 ∷ 0x61 ∷ 0x62 ∷ 0x63 ∷ [];
@@ -58,7 +58,7 @@ by_name : name_line (codes "f", Forward (codes "b") (Ordinal 7)) ≡ codes "expo
 unfolding name_line target_text key_text quoted escaped digits
 by_name = refl
 
--- a"b\, and a byte that is no character of ASCII
+-- a"b\, and a byte that is not ASCII
 by_escaped_name : name_line (0x61 ∷ 0x22 ∷ 0x62 ∷ 0x5c ∷ 0xff ∷ [], Rva 0x2ffc) ≡ codes "export \"a\\x22b\\x5c\\xff\" rva 0x00002ffc\n"
 unfolding name_line target_text quoted escaped hex
 by_escaped_name = refl

@@ -1,4 +1,4 @@
--- The lines of a dump: what an image holds.
+-- The lines of a dump.
 use Rattle.std.specs.Prelude.{ℕ, List, [], ◌∷◌, ◌++◌, codes, decimal, flat_map, unwrap_or}
 use Rattle.pe_view.specs.Text.{zero_ended}
 use Rattle.pe_head.specs.declared.optional.Magic.{Magic}
@@ -17,11 +17,11 @@ use Rattle.pe_text.specs.MachineLine.{machine_line}
 use Rattle.pe_text.specs.Part.{joined}
 use Rattle.pe_text.specs.Text.{hex, quoted, numbered}
 
--- the name of an image's form
+-- the form of an image
 unfoldable pub format_line : Magic → List ℕ
 format_line magic = joined (codes "format " ∷ format_name magic ∷ codes "\n" ∷ [])
 
--- where the signature stands
+-- the file offset of the signature
 unfoldable pub pe_offset_line : ℕ → List ℕ
 pe_offset_line offset = joined (codes "pe-offset 0x" ∷ hex 8 offset ∷ codes "\n" ∷ [])
 
@@ -51,7 +51,7 @@ field_lines h =
     ++ flat_map field_line (base_of_data_fields h.base_of_data)
     ++ flat_map field_line (windows_fields h)
 
--- the whole dump, of headers and of what the tables hold
+-- the whole dump, of the headers and the tables
 unfoldable pub dump_text : Headers → Exports → List Import → List Fixup → List ℕ
 dump_text h exports imports fixups =
     format_line h.magic

@@ -1,4 +1,4 @@
-//! The dump of an image: what its headers and tables hold, a line each.
+//! The dump of an image: a line for each header field and each row of its tables.
 
 ghost use Rattle.std.specs.Prelude.{◌≡◌, flat_map, map};
 ghost use Rattle.pe_layout.specs.Layout.{headers_of};
@@ -61,7 +61,7 @@ fn write_base_of_data<W: Sink>(text: &mut TextWriter<W>, base_of_data: Option<u3
     }
 }
 
-/// Adds the fields of both headers, in their order.
+/// Adds the fields of both headers, in the order of "PE Format".
 #[tactic(auto, unfolding(crate::specs::Dump::field_lines))]
 fn write_header_fields<W: Sink>(text: &mut TextWriter<W>, headers: &Headers)
     requires { IsReady W.failures text.old }
@@ -102,7 +102,7 @@ fn write_directories<W: Sink>(text: &mut TextWriter<W>, directories: &[Directory
     }
 }
 
-/// A section's name, without the zero bytes that fill it up.
+/// A section's name, without the zero bytes that pad it.
 fn name_of(section: &SectionHeader) -> &[u8]
     ensures { result.now ≡ name_of section.now }
 {

@@ -1,4 +1,4 @@
-//! `check` and `dump`: the engines that judge an image, and that write its dump.
+//! `check` and `dump`: the engines that check an image, and that write its dump.
 
 ghost use Rattle.std.specs.Prelude.{◌-◌, ◌^◌, ◌<◌, ◌↔◌, IsErrOf};
 ghost use Rattle.pe_text.specs.Engine.{Ran};
@@ -34,7 +34,7 @@ impl Report for CheckReport {
     }
 }
 
-/// The report of [`dump`]: what an accepted image holds, or its first fault.
+/// The report of [`dump`]: the content of an accepted image, or its first fault.
 struct DumpReport;
 
 impl Report for DumpReport {
@@ -57,12 +57,12 @@ impl Report for DumpReport {
     }
 }
 
-/// Judges the image whose file the reader gives, and writes one line: `accepted PE32 sections N` (or `PE32+`), or the
-/// image's first fault.
+/// Checks the image whose file the reader returns, and writes one line: `accepted PE32 sections N` (or `PE32+`), or the image's
+/// first fault.
 ///
-/// The reader is read to its end, or to 2^32 + 1 bytes; then all faults are asked, and only then the line is written.
-/// After `Write` a beginning of it was written, after `Read` and `Memory` nothing; `Memory` never comes where the reader
-/// gave no byte. Condition: fewer than 2^64 - 1 failures are counted on either device so far.
+/// The file is read to its end, or to 2^32 + 1 bytes; the line is written only after all faults were tested. On the error `Write`
+/// the beginning of the line was written, on `Read` and `Memory` nothing; `Memory` never comes if the reader returned no byte.
+/// Condition: each device has counted fewer than 2^64 - 1 failures so far.
 pub fn check<A: Allocator + Copy, R: Source, W: Sink>(
     alloc: A,
     reader: &mut R,
@@ -78,8 +78,8 @@ pub fn check<A: Allocator + Copy, R: Source, W: Sink>(
     run_report(&CheckReport, alloc, reader, writer)
 }
 
-/// Writes what an image holds, a line for each field of its headers, directory, section, export, import and base
-/// relocation, or the image's first fault, in the way of [`check`] and under its condition.
+/// Writes a line for each header field, directory, section, export, import and base relocation of an image, or the image's first
+/// fault; in all else like [`check`].
 pub fn dump<A: Allocator + Copy, R: Source, W: Sink>(
     alloc: A,
     reader: &mut R,

@@ -1,4 +1,4 @@
-//! The form of an image, and the line of an accepted one.
+//! The form of an image's optional header, and the line of an accepted image.
 
 ghost use Rattle.std.specs.Prelude.{◌≡◌};
 ghost use Rattle.pe_text.specs.TextWriter.{IsReady, Adds};

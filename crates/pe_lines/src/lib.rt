@@ -1,6 +1,6 @@
-//! The lines of an image: that it is accepted, or one for each header field, directory, section, export, import and fixup.
+//! The lines of an image: one that it is accepted, or one for each header field, directory, section, export, import and fixup.
 //!
-//! [`check`] and [`dump`] read the image's file, judge it and write their texts:
+//! [`check`] and [`dump`] read the image's file, check it and write their output:
 //!
 //! ```text
 //! let mut reader = Counted::new(file);

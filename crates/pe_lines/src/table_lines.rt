@@ -1,4 +1,4 @@
-//! The lines of a dump that show what an image's tables hold.
+//! The lines of a dump for an image's tables.
 
 ghost use Rattle.std.specs.Prelude.{◌≡◌, flat_map, map};
 ghost use Rattle.pe_tables.specs.Key.{key_view, target_view};
@@ -26,7 +26,7 @@ fn write_key<W: Sink>(line: &mut TextWriter<W>, key: &Key)
     }
 }
 
-/// Adds `rva 0x` and 8 digits, or `forward`, the other module's quoted name and a key.
+/// Adds `rva 0x` and 8 digits, or `forward`, the quoted name of the other module, and a key.
 #[tactic(auto, unfolding(crate::specs::TableLines::target_text))]
 fn write_target<W: Sink>(line: &mut TextWriter<W>, target: &Target)
     requires { IsReady W.failures line.old }
@@ -125,7 +125,7 @@ pub(crate) fn write_imports<W: Sink>(text: &mut TextWriter<W>, imports: &[Import
     }
 }
 
-/// What the line of a fixup says of its field.
+/// The last word of a fixup's line, for its kind.
 #[tactic(auto, unfolding(crate::specs::TableLines::kind_text))]
 fn kind_text(kind: FixupKind) -> &'static [u8]
     ensures { result.now ≡ kind_text kind }

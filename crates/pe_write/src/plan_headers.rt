@@ -209,7 +209,7 @@ pub(crate) fn push_headers<A: Allocator, P: Allocator>(
     push_directories(bytes, &plan.directories)
 }
 
-/// Appends the section table; `end` is the end of all headers in the file.
+/// Appends the section table; `headers` is where the headers end in the file.
 pub(crate) fn push_table<A: Allocator>(
     bytes: &mut Vec<u8, A>,
     alignment: u32,
