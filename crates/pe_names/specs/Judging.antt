@@ -1,4 +1,4 @@
--- The outcome of a file by its tests, part by part: what proofs of the views say of it.
+-- The outcome of a file by its tests, part by part; proofs of the views use it.
 use Rattle.std.proofs.Common.{◌≡◌, ◌∙◌, ℕ, ◌<◌, ◌≤◌, List, ◌++◌, length, None, refl, arith}
 use Rattle.std.proofs.lemmas.Bool.{ltb-false}
 use Rattle.pe_view.specs.Faults.{Test, first_standing}
@@ -12,12 +12,12 @@ use Rattle.pe_text.specs.declared.outcome.Outcome.{Outcome}
 use Rattle.pe_text.specs.declared.outcome.Outcome.TheVariants.{Done, Refused}
 use Rattle.pe_names.specs.Judged.{IsOutcomeOf}
 
--- tests behind others of which none stands
+-- tests after others of which none holds
 pub behind : (front rest : List Test) (outcome : Outcome) → first_standing front ≡ None → IsOutcomeOf rest outcome → IsOutcomeOf (front ++ rest) outcome
 behind front rest Done none p = first-past front rest none ∙ p
 behind front rest (Refused fault) none p = first-past front rest none ∙ p
 
--- a file of which none of faults 1 to 15 stands is not empty
+-- a file without faults 1 to 15 is not empty
 pub has_bytes : (number : ℕ) (file : List ℕ) → first_standing (layout_tests number file) ≡ None → 0 < length file
 unfolding head_tests
 has_bytes number file none =
@@ -25,7 +25,7 @@ has_bytes number file none =
     let enough : 64 ≤ length file = ltb-false _ _ (none_stands (head_tests number file) 1 _ head refl) in
     omega (arith, enough)
 
--- an image of which no fault stands is not empty
+-- the file of an image without a fault is not empty
 pub image_has_bytes : (number : ℕ) (file : List ℕ) → first_standing (image_tests number file) ≡ None → 0 < length file
 unfolding image_tests
 image_has_bytes number file none =

@@ -1,19 +1,19 @@
-//! `fault_detail`: the values that a fault of a file's size, headers or section headers compares with a limit.
+//! `fault_detail`: the values that a fault of a file's size, headers or section headers compares.
 
 use pe_head::{Magic, SectionHeader};
 use pe_view::{Fault, Place, View};
 use std::fmt::{self, Display};
 
-/// What the values of a file are compared with, and so which case of a fault it is.
+/// Which values of a file are shown for a fault.
 #[derive(Clone, Copy, Debug, PartialEq, Eq)]
 enum Case {
-    /// How many bytes the file has.
+    /// The file's size.
     Size,
     /// That the file is larger than 2^32 bytes.
     OverLimit,
-    /// An offset, and how many bytes the file has.
+    /// An offset, and the file's size.
     Offset,
-    /// How many bytes stand where, and how many the file has.
+    /// The size and offset of bytes that extend past the end of the file, and the file's size.
     Passed,
     /// A count.
     Count,
@@ -21,21 +21,21 @@ enum Case {
     ImageSize,
     /// SizeOfOptionalHeader, and the size of the fixed fields.
     FixedFields,
-    /// SizeOfOptionalHeader, how many directories there are, and the size of them and the fixed fields.
+    /// SizeOfOptionalHeader, the number of directories, and the size of these and the fixed fields.
     Directories,
-    /// Where the headers and the section table end.
+    /// The ends of the headers and of the section table.
     TableEnd,
-    /// Where the headers and the image end.
+    /// The ends of the headers and of the image.
     HeadersEnd,
-    /// Where a section and the image end.
+    /// The ends of a section and of the image.
     SectionEnd,
-    /// Where a section begins and the headers end.
+    /// The beginning of a section, and the end of the headers.
     BehindHeaders,
-    /// Where a section begins and the one before it ends.
+    /// The beginning of a section, and the end of the previous one.
     BehindSection,
 }
 
-/// Which values of a file a fault tells of. Shown, it is a clause: `16 bytes at 0x200, and the file has 520`.
+/// The values of a file that a fault compares. Displayed, it is a clause: `16 bytes at 0x200, and the file has 520`.
 #[derive(Clone, Copy, Debug, PartialEq, Eq)]
 pub struct FaultDetail {
     case: Case,
@@ -45,22 +45,22 @@ pub struct FaultDetail {
 /// A number of a detail.
 #[derive(Clone, Copy, Debug, PartialEq, Eq)]
 pub enum Amount {
-    /// None, where words end a detail.
+    /// No number, after words that end a detail.
     Nothing,
     /// A size in bytes or a count, shown in decimal.
     Count(u64),
-    /// A file offset, an RVA or a field, shown in hexadecimal behind `0x`.
+    /// A file offset, an RVA or a field, shown in hexadecimal after `0x`.
     Place(u64),
 }
 
-/// Words, and the number behind them.
+/// Words, and the number after them.
 type Part = (&'static str, Amount);
 
-/// What ends a detail.
+/// The end of a detail.
 const END: Part = ("", Amount::Nothing);
 
 impl FaultDetail {
-    /// The words of a detail, each with the number behind them.
+    /// The words of a detail, each with the number after them.
     pub fn parts(&self) -> [Part; 3] {
         use Amount::{Count, Nothing, Place};
         let [first, second, third] = self.values;
@@ -137,46 +137,46 @@ fn detail(case: Case, values: [u64; 3]) -> FaultDetail {
     FaultDetail { case, values }
 }
 
-/// A file by its first bytes.
+/// The first bytes of a file.
 #[derive(Clone, Copy)]
 struct Beginning<'a> {
     first: View<'a>,
-    /// How many bytes the whole file has.
+    /// The size of the whole file in bytes.
     len: u64,
-    /// Where its signature stands.
+    /// The file offset of its signature.
     signature: u64,
 }
 
 impl<'a> Beginning<'a> {
-    /// Bytes that pass the end of the file.
+    /// The case of bytes that extend past the end of the file.
     fn passed(&self, size: u64, start: u64) -> FaultDetail {
         detail(Case::Passed, [size, start, self.len])
     }
 
-    /// The two bytes of a field, from the signature on.
+    /// A 2-byte field, at an offset from the signature.
     fn u16_at(&self, offset: u64) -> Option<u64> {
         let field = self.first.u16_at(self.signature.saturating_add(offset))?;
         Some(u64::from(field))
     }
 
-    /// The four bytes of a field, from the signature on.
+    /// A 4-byte field, at an offset from the signature.
     fn u32_at(&self, offset: u64) -> Option<u64> {
         let field = self.first.u32_at(self.signature.saturating_add(offset))?;
         Some(u64::from(field))
     }
 
-    /// Where the section table begins.
+    /// The file offset of the section table.
     fn table_start(&self) -> Option<u64> {
         let size = self.u16_at(20)?;
         Some(self.signature.saturating_add(24).saturating_add(size))
     }
 
-    /// How many bytes the section table has.
+    /// The size of the section table in bytes.
     fn table_size(&self) -> Option<u64> {
         Some(self.u16_at(6)?.saturating_mul(40))
     }
 
-    /// What SizeOfOptionalHeader is, and what it has to be at least.
+    /// SizeOfOptionalHeader, and the least value that it may have.
     fn optional_header(&self) -> Option<FaultDetail> {
         let size = self.u16_at(20)?;
         let magic = match self.u16_at(24)? {
@@ -192,7 +192,7 @@ impl<'a> Beginning<'a> {
         Some(detail(Case::Directories, [size, count, all]))
     }
 
-    /// What SizeOfHeaders is, and which end it does not keep to.
+    /// SizeOfHeaders, and the end that it must reach or must not pass.
     fn headers(&self) -> Option<FaultDetail> {
         let end = self.u32_at(84)?;
         let table_end = self.table_start()?.saturating_add(self.table_size()?);
@@ -205,7 +205,7 @@ impl<'a> Beginning<'a> {
         }
     }
 
-    /// The fields of the section header at an offset of the file that say where the section stands.
+    /// The fields of the section header at a file offset that give the section's place and sizes.
     fn section(&self, header: u64) -> Option<SectionHeader> {
         Some(SectionHeader {
             virtual_size: self.first.u32_at(header.saturating_add(8))?,
@@ -216,13 +216,13 @@ impl<'a> Beginning<'a> {
         })
     }
 
-    /// Where a section ends, as an RVA.
+    /// The RVA of a section's end.
     fn section_end(&self, header: u64) -> Option<u64> {
         let section = self.section(header)?;
         Some(u64::from(section.virtual_address).saturating_add(u64::from(section.extent())))
     }
 
-    /// Where a section begins, and what ends behind that.
+    /// The beginning of a section, and the end of the headers or the section that it overlaps.
     fn section_order(&self, header: u64) -> Option<FaultDetail> {
         let begin = u64::from(self.section(header)?.virtual_address);
         let headers_end = self.u32_at(84)?;
@@ -233,7 +233,7 @@ impl<'a> Beginning<'a> {
         Some(detail(Case::BehindSection, [begin, end, 0]))
     }
 
-    /// The values of a fault of the section header at an offset of the file.
+    /// The values of a fault of the section header at a file offset.
     fn section_detail(&self, number: u16, header: u64) -> Option<FaultDetail> {
         if number == 15 {
             return self.section_order(header);
@@ -262,7 +262,7 @@ impl<'a> Beginning<'a> {
     }
 }
 
-/// How many bytes a file has.
+/// The size of a file.
 fn size_detail(len: u64) -> FaultDetail {
     if len > 1 << 32 {
         detail(Case::OverLimit, [0; 3])
@@ -271,8 +271,8 @@ fn size_detail(len: u64) -> FaultDetail {
     }
 }
 
-/// Which values of a file a fault of its size, of its headers or of its section headers tells of, and so which of the cases that
-/// the words of the fault name: where they are among the file's `first` bytes. `len` is how many bytes the whole file has.
+/// The values that a fault of a file's size, headers or section headers compares, if they are among the file's bytes in `first`;
+/// `len` is the size of the whole file. It also distinguishes the causes that share the fault's number.
 pub fn fault_detail(first: View, len: u64, fault: &Fault) -> Option<FaultDetail> {
     let beginning = Beginning {
         first,

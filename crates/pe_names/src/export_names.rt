@@ -1,4 +1,4 @@
-//! The names of an image's exports by their ordinals.
+//! The names of an image's exports by ordinal.
 
 use pe_tables::Exports;
 use std::alloc::{AllocError, Allocator};
@@ -6,8 +6,7 @@ use std::alloc::{AllocError, Allocator};
 /// The ordinal of an exported name, and the name's index among [`Exports::names`].
 pub type ExportName = (u64, usize);
 
-/// The names by their ordinals; those of one ordinal in the order of the name pointer table. Where memory is refused nothing is
-/// kept.
+/// The names ordered by ordinal, those of one ordinal in the order of the name pointer table. Empty if an allocation failed.
 pub fn names_by_ordinal<A: Allocator + Copy>(
     alloc: A,
     exports: &Exports<A>,
@@ -21,7 +20,7 @@ pub fn names_by_ordinal<A: Allocator + Copy>(
     Ok(names)
 }
 
-/// The names of an ordinal among names that are ordered by their ordinals, by two binary searches.
+/// The names of an ordinal, found by two binary searches. `names` must be ordered by ordinal.
 pub fn names_of(names: &[ExportName], ordinal: u64) -> &[ExportName] {
     let first = names.partition_point(|name| name.0 < ordinal);
     let end = names.partition_point(|name| name.0 <= ordinal);

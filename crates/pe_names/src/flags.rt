@@ -2,7 +2,7 @@
 
 use pe_head::{characteristic_name, dll_characteristic_name, section_flag_name};
 
-/// What flags belong to.
+/// The field that flags belong to.
 #[derive(Clone, Copy, PartialEq, Eq)]
 pub enum FlagKind {
     /// The Characteristics of a COFF file header.
@@ -13,7 +13,7 @@ pub enum FlagKind {
     Section,
 }
 
-/// The name of the flag of this bit in "PE Format", if it has one.
+/// The name of the flag with this bit in "PE Format", if it has one.
 pub fn flag_name(kind: FlagKind, bit: u32) -> Option<&'static str> {
     match kind {
         FlagKind::File => characteristic_name(u16::try_from(bit).ok()?),

@@ -1,4 +1,4 @@
-//! What views of images and objects share: the faults by which a file is judged, the values that a fault compares, and names.
+//! What views of images and objects share: the faults that refuse a file, the values that a fault compares, and names.
 //!
 //! ```text
 //! let table = string_table(View::new(file), headers);

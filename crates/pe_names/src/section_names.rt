@@ -1,15 +1,15 @@
-//! The names of an image's sections, of which the long ones stand in a string table.
+//! The names of an image's sections; long names are in a string table.
 
 use bstr::ByteSlice;
 use pe_head::Headers;
 use pe_view::View;
 use std::str;
 
-/// How many bytes a record of the symbol table has.
+/// The size of a symbol table record in bytes.
 const SYMBOL_LEN: u64 = 18;
 
-/// The string table of an image that has one, up to its last zero byte: an offset behind it leads to no text ("PE Format", COFF
-/// String Table).
+/// The string table of an image, if it has one, up to its last zero byte: no string begins after that ("PE Format", COFF String
+/// Table).
 pub fn string_table<'a>(view: View<'a>, headers: &Headers) -> Option<&'a [u8]> {
     if headers.pointer_to_symbol_table == 0 {
         return None;
@@ -22,7 +22,7 @@ pub fn string_table<'a>(view: View<'a>, headers: &Headers) -> Option<&'a [u8]> {
     table.get(..=last)
 }
 
-/// The text at an offset of a string table that a name field gives in decimal digits, and nothing else, behind `/`.
+/// The string of a string table whose offset a name field gives: `/`, then only decimal digits.
 fn long_name<'a>(table: &'a [u8], field: &[u8]) -> Option<&'a [u8]> {
     let digits = field.strip_prefix(b"/")?;
     if !digits.first()?.is_ascii_digit() {
@@ -37,8 +37,8 @@ fn long_name<'a>(table: &'a [u8], field: &[u8]) -> Option<&'a [u8]> {
     text.get(..len)
 }
 
-/// The name of an image's section: the text of the [`string_table`] that its field leads to, else the field up to its first zero
-/// byte. A long name is searched for its end.
+/// The name of an image's section: the string of the [`string_table`] whose offset its field gives, otherwise the field up to its
+/// first zero byte. Each call searches a long name for its end.
 pub fn section_name<'a>(table: Option<&'a [u8]>, field: &'a [u8; 8]) -> &'a [u8] {
     let len = field.as_slice().find_byte(0).unwrap_or(8);
     let short = field.get(..len).unwrap_or(field);
