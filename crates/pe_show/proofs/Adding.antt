@@ -1,4 +1,4 @@
--- What is known of a text to which something is added, step by step.
+-- A text to which parts are added, step by step.
 use Rattle.std.proofs.Common.{ℕ, List, [], ◌++◌, refl, append-nil}
 use Rattle.pe_text.specs.declared.text_writer.TextWriter.{TextWriter}
 use Rattle.pe_text.specs.TextWriter.{IsReady}
@@ -10,6 +10,6 @@ pub none : {W : Type 0} (taken : W → List ℕ) (failures : W → ℕ) (a : Tex
 none taken failures a ready = ([], record { same = refl; ready = ready; text = λ start t n s. rw append-nil s })
 
 infixl 20 ◌and◌
--- something, and then something
+-- two parts in sequence
 pub ◌and◌ : {W : Type 0} {taken : W → List ℕ} {failures : W → ℕ} {a b c : TextWriter W} → AddsSome taken failures a b → AddsSome taken failures b c → AddsSome taken failures a c
 p and q = (p.0 ++ q.0, p.1 then q.1)

@@ -1,4 +1,4 @@
--- Names that stand as they are, and how wide the others are.
+-- Names that are shown as they are, and the widths of the others.
 use Rattle.std.proofs.Common.{◌≡◌, ◌∙◌, ◌≤◌, ◌-◌, ◌&&◌, ℕ, zero, suc, Bool, true, false, List, [], ◌∷◌, length, get_or, ap, refl, sym, arith, inl, inr, rules}
 use Rattle.std.specs.List.{list_all, range_with_len}
 use Rattle.std.specs.Str.{chars, is_utf8, IsAscii, IsUtf8}
@@ -13,7 +13,7 @@ use Rattle.pe_show.specs.Name.{is_safe, is_safe_text, begins_plain, is_plain}
 bounds : (byte : ℕ) → is_printable byte ≡ true → (0x20 ≤ byte) × (byte ≤ 0x7e)
 bounds byte printable = search rules
 
--- a character of printable ASCII may stand on a terminal
+-- a character of printable ASCII may be written to a terminal
 printable_is_safe : (byte : ℕ) → is_printable byte ≡ true → is_safe byte ≡ true
 printable_is_safe byte printable =
     let b = bounds byte printable in
@@ -27,7 +27,7 @@ and_false : (b : Bool) → (b && false) ≡ false
 and_false true = refl
 and_false false = refl
 
--- what holds of a list's elements holds of the first, and of the others
+-- a fact about all elements of a list is one about the first and the others
 parts : (p q : Bool) → (p && q) ≡ true → (p ≡ true) × (q ≡ true)
 parts true q e = (refl, e)
 parts false q e = absurd cc
@@ -45,18 +45,18 @@ safe (b ∷ bs) all = rw (printable_is_safe b (parts _ _ all).0) (safe bs (parts
 chars_are_bytes : (bs : List ℕ) → list_all is_printable bs ≡ true → chars bs ≡ bs
 chars_are_bytes bs all = let a = ascii bs all in sym (chars_from_encodes bs bs (IsUtf8-from_ascii bs a) (encodes-IsAscii bs a))
 
--- printable ASCII may stand on a terminal
+-- printable ASCII may be written to a terminal
 printable_safe_text : (bs : List ℕ) → list_all is_printable bs ≡ true → is_safe_text bs ≡ true
 printable_safe_text bs all = rw (is_utf8-from_IsUtf8 bs (IsUtf8-from_ascii bs (ascii bs all)), chars_are_bytes bs all) (safe bs all)
 
--- a name that stands as it is, a column a byte, is plain
+-- a name of printable ASCII that begins plain is plain
 pub bare_is_plain : (bs : List ℕ) → (begins_plain bs && list_all is_printable bs) ≡ true → is_plain bs ≡ true
 bare_is_plain bs bare = let p = parts (begins_plain bs) (list_all is_printable bs) bare in rw (p.0, printable_safe_text bs p.1) refl
 
 pub bare_chars : (bs : List ℕ) → (begins_plain bs && list_all is_printable bs) ≡ true → chars bs ≡ bs
 bare_chars bs bare = chars_are_bytes bs (parts (begins_plain bs) _ bare).1
 
--- what is no UTF-8 is not plain
+-- what is not UTF-8 is not plain
 pub other_is_not_plain : (bs : List ℕ) → (IsUtf8 bs → ⊥) → is_plain bs ≡ false
 other_is_not_plain bs other = elim (cases_Bool (is_utf8 bs)) [
   | inl some ↦ absurd (other (IsUtf8-from_is_utf8 bs some))

@@ -1,4 +1,4 @@
--- Rows of a page, as they stand on it.
+-- Examples of rows of a page.
 use Rattle.std.proofs.Common.{◌≡◌, [], ◌∷◌, None, Some, false, refl}
 use lib.Utf8.{encode}
 use Rattle.std.specs.Fmt.{digits}
@@ -9,7 +9,7 @@ use Rattle.pe_tables.specs.declared.fixups.FixupKind.TheVariants.{Bits64}
 use Rattle.pe_show.specs.Name.{is_plain, name_text, columns}
 use Rattle.pe_show.specs.Rows.{fields_row, relocation_row, symbol_row}
 
--- "é" in UTF-8 is one character, and its first byte alone is none
+-- "é" in UTF-8 is one character, and its first byte alone is not UTF-8
 e_acute : columns (0xc3 ∷ 0xa9 ∷ []) ≡ 1
 unfolding columns chars is_utf8 encode
 e_acute = refl
@@ -18,7 +18,7 @@ half : name_text (0xc3 ∷ []) ≡ codes "\"\\xc3\""
 unfolding name_text chars is_utf8 encode quoted escaped hex
 half = refl
 
--- U+202E, which turns the direction of the text behind it, is not shown as it is
+-- U+202E, which changes the direction of the text after it, is not shown as it is
 turned : is_plain (0x61 ∷ 0xe2 ∷ 0x80 ∷ 0xae ∷ []) ≡ false
 unfolding chars is_utf8 encode
 turned = refl
@@ -28,7 +28,7 @@ fields : fields_row 6 (record { entry = 0; field = 0x3010; kind = Bits64 }) (rec
 unfolding fields_row hex width_from
 fields = refl
 
--- a relocation of a symbol that has a name, and of one that has none
+-- a relocation whose symbol has a name, and one whose symbol has none
 named_relocation : relocation_row 0x1f (Some (codes "REL32")) 4 12 (Some (codes "_puts")) ≡ codes "    0x00001f  REL32  #12 _puts\n"
 unfolding relocation_row hex width_from name_text chars is_utf8 encode digits
 named_relocation = refl

@@ -1,4 +1,4 @@
--- The indexes under which the symbols of an object stand ascend.
+-- The indexes of the symbols of an object ascend.
 use Rattle.std.proofs.Common.{◌≡◌, ◌∙◌, ℕ, zero, suc, ◌+◌, ◌<◌, List, [], ◌∷◌, ◌++◌, length, map, refl, sym, ap, subst, arith, append_assoc}
 use Rattle.std.specs.Prelude.{AllPairs}
 use Rattle.std.specs.List.{All}
@@ -28,7 +28,7 @@ module _ (file : List ℕ) where
   indexes-indexed [] = refl
   indexes-indexed (k ∷ records) = ap (λ (l : List ℕ). k ∷ l) (indexes-indexed records)
 
--- the next of those that are left is added
+-- the next of those that are left is appended
 pub one_more : {X Y : Type 0} (names : List (ℕ × X)) (name : ℕ × X) (left rest : List (ℕ × Y)) (item : ℕ × Y) (all : List ℕ)
     → left ≡ item ∷ rest → item.0 ≡ name.0 → indexes names ++ indexes left ≡ all → indexes (names ++ name ∷ []) ++ indexes rest ≡ all
 one_more {X} {Y} names name left rest item all next same so_far =

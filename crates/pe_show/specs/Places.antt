@@ -1,4 +1,4 @@
--- Where an RVA lies, as a page says it, and the columns that this takes. No contract of a public function cites it.
+-- The place of an RVA as a page shows it, and its columns. No contract of a public function uses this module.
 use Rattle.std.specs.Prelude.{◌≡◌, ℕ, ◌+◌, ◌-◌, List, [], Option, None, Some, codes, slice_get}
 use denote.Bor.{Bor}
 use Rattle.pe_head.specs.declared.headers.Headers.{Headers}
@@ -14,12 +14,12 @@ use Rattle.pe_show.specs.declared.place.SectionPlace.{SectionPlace}
 use Rattle.pe_show.specs.declared.exports.ShownTarget.{ShownTarget}
 use Rattle.pe_show.specs.declared.exports.ShownTarget.TheVariants.{Here, Forward}
 
--- ---- where an RVA lies
+-- ---- the place of an RVA
 abbrev text_of : Option (Bor (List ℕ)) → List ℕ
 text_of None = []
 text_of (Some name) = name.now
 
--- the name of the section of an index, among the names of all
+-- the name of the section with an index
 abbrev pub name_at : List (Bor (List ℕ)) → ℕ → List ℕ
 name_at names section = text_of (slice_get names section)
 
@@ -27,17 +27,17 @@ abbrev address_of : Option SectionHeader → ℕ
 address_of None = 0
 address_of (Some section) = section.virtual_address
 
--- where the section of an index begins
+-- the RVA of the first byte of the section with an index
 abbrev pub start_at : Headers → ℕ → ℕ
 start_at h section = address_of (slice_get h.sections.items section)
 
--- a place: its name, and the offsets in its piece and in the file, where it has them
+-- a place: its name, and the offsets in its piece and in the file, if it has them
 pub record IsPlace (place : SectionPlace) (name : List ℕ) (offset file : Option ℕ) : Type 0 where
   pub is_named : place.name.now ≡ name
   pub is_behind : place.offset ≡ offset
   pub is_in_file : place.file ≡ file
 
--- the place of an RVA, by what stands there and the names of the sections
+-- the place of an RVA, by what is there and the names of the sections
 abbrev pub IsPlaceOf : List (Bor (List ℕ)) → Headers → ℕ → Located → SectionPlace → Type 0
 IsPlaceOf names h rva (Raw section file) place = IsPlace place (name_at names section) (Some (rva - start_at h section)) (Some file)
 IsPlaceOf names h rva (Zero section) place = IsPlace place (name_at names section) (Some (rva - start_at h section)) None
@@ -45,7 +45,7 @@ IsPlaceOf names h rva (Header file) place = IsPlace place (codes "headers") (Som
 IsPlaceOf names h rva Gap place = IsPlace place (codes "no section") None None
 IsPlaceOf names h rva Outside place = IsPlace place (codes "outside the image") None None
 
--- what is shown of what an ordinal exports: an RVA with its place, or the module and the key to which it is forwarded
+-- the shown target of an export: an RVA with its place, or the module and key of a forwarder
 abbrev pub Shows : List (Bor (List ℕ)) → Headers → Target → ShownTarget → Type 0
 Shows names h (exported.Rva rva) (Here shown place) = (shown ≡ rva) × IsPlaceOf names h rva (located h rva) place
 Shows names h (exported.Forward dll key) (Forward shown_dll shown_key) = (shown_dll.now ≡ dll.now) × (shown_key ≡ key)
@@ -53,7 +53,7 @@ Shows names h (exported.Rva rva) (Forward dll key) = ⊥
 Shows names h (exported.Forward dll key) (Here rva place) = ⊥
 
 -- ---- columns
--- how many columns the offset of a place takes, with `+0x` before it
+-- how many columns the offset of a place takes, including `+0x`
 abbrev pub offset_columns : Option ℕ → ℕ
 offset_columns None = 0
 offset_columns (Some offset) = 3 + hex_width offset
@@ -62,7 +62,7 @@ offset_columns (Some offset) = 3 + hex_width offset
 abbrev pub place_columns : SectionPlace → ℕ
 place_columns place = columns place.name.now + offset_columns place.offset
 
--- how many columns stand between what an ordinal exports and its names: a place is filled up to `width`, a forwarder is not
+-- how many blanks come between the target of an ordinal and its names: a place is padded to `width`, a forwarder is not
 abbrev pub gap_columns : ℕ → ShownTarget → ℕ
 gap_columns width (Here rva place) = width - place_columns place
 gap_columns width (Forward dll key) = 0

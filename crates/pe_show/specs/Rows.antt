@@ -1,4 +1,4 @@
--- The rows of a page of which there are many, part by part. No contract of a public function cites it.
+-- The frequent rows of a page, part by part. No contract of a public function uses this module.
 use Rattle.std.specs.Prelude.{ℕ, ◌-◌, ◌*◌, ◌/◌, ◌%◌, ◌==◌, min, if◌then◌else◌, List, [], ◌∷◌, ◌++◌, length, replicate, Option, None, Some, codes, decimal, flat_map}
 use Rattle.pe_tables.specs.declared.fixups.Fixup.{Fixup}
 use Rattle.pe_tables.specs.declared.fixups.FixupKind.{FixupKind}
@@ -14,15 +14,15 @@ use Rattle.pe_show.specs.declared.exports.ShownTarget.{ShownTarget}
 use Rattle.pe_show.specs.declared.exports.ShownTarget.TheVariants.{Here, Forward}
 
 -- ---- parts
--- so many blanks, and not more than 256
+-- a number of blanks, at most 256
 abbrev pub blanks : ℕ → List ℕ
 blanks count = replicate (min count 256) 0x20
 
--- a number in decimal, behind blanks up to so many columns
+-- a number in decimal, padded with blanks on the left to a width
 abbrev pub right_text : ℕ → ℕ → List ℕ
 right_text number width = blanks (width - length (decimal number)) ++ decimal number
 
--- a name, and blanks up to so many columns
+-- a name, padded with blanks to a width
 abbrev pub column_text : List ℕ → ℕ → List ℕ
 column_text name width = name_text name ++ blanks (width - columns name)
 
@@ -35,32 +35,32 @@ abbrev offset_text : Option ℕ → List ℕ
 offset_text None = []
 offset_text (Some offset) = codes "+0x" ++ hex_at_least 1 offset
 
--- where an RVA lies: a section's name or another word, and the offset in it
+-- the place of an RVA: a section's name or another word, and the offset in it
 unfoldable pub place_text : SectionPlace → List ℕ
 place_text place = name_text place.name.now ++ offset_text place.offset
 
 -- ---- exports
--- an ordinal and the place that it exports, in columns of `width` and `digits`
+-- an ordinal and the place of its export, in columns of `width` and `digits`
 unfoldable pub here_text : ℕ → ℕ → ℕ → ℕ → SectionPlace → List ℕ
 here_text ordinal width rva digits place = joined
     (right_text ordinal width ∷ codes "  0x" ∷ hex_at_least digits rva ∷ codes "  " ∷ place_text place ∷ [])
 
--- an ordinal, and the module and the key to which it is forwarded
+-- an ordinal, and the module and key of its forwarder
 unfoldable pub forward_text : ℕ → ℕ → List ℕ → Key → List ℕ
 forward_text ordinal width dll key = joined
     (right_text ordinal width ∷ codes "  forwarded to " ∷ name_text dll ∷ codes "." ∷ key_text key ∷ [])
 
--- an ordinal, and what it exports
+-- an ordinal and its target
 abbrev pub target_text : ℕ → ℕ → ℕ → ShownTarget → List ℕ
 target_text ordinal width digits (Here rva place) = here_text ordinal width rva digits place
 target_text ordinal width digits (Forward dll key) = forward_text ordinal width dll.now key
 
--- a name behind blanks and a gap
+-- a name after blanks and a gap
 unfoldable pub behind_gap : ℕ → List ℕ → List ℕ → List ℕ
 behind_gap count gap name = joined (blanks count ∷ gap ∷ name_text name ∷ [])
 
 -- ---- imports
--- a slot, and what is imported into it
+-- a slot, and the import that it is for
 unfoldable pub import_row : ℕ → Import → List ℕ
 import_row digits import = joined
     (codes "    0x" ∷ hex_at_least digits import.slot ∷ codes "  " ∷ key_text import.key ∷ codes "\n" ∷ [])
@@ -72,11 +72,11 @@ kind_text Bits64 = codes "DIR64  "
 kind_text High = codes "HIGH   "
 kind_text Low = codes "LOW    "
 
--- where a field stands in its page
+-- the offset of a field in its page
 abbrev pub field_text : Fixup → List ℕ
 field_text fixup = codes " " ++ hex 3 (fixup.field % 4096)
 
--- fields of one kind in a page: the page, the kind, and where each stands
+-- fields of one kind in a page: the page, the kind, and the offset of each
 unfoldable pub fields_row : ℕ → Fixup → List Fixup → List ℕ
 fields_row digits first fixups = joined
     (codes "  0x" ∷ hex_at_least digits (first.field / 4096 * 4096) ∷ codes "  " ∷ kind_text first.kind ∷ codes " "
@@ -88,12 +88,12 @@ abbrev pub type_text : Option (List ℕ) → ℕ → List ℕ
 type_text None kind = codes "0x" ++ hex 4 kind
 type_text (Some name) kind = name
 
--- the name of a symbol, where there is one
+-- the name of a symbol, if it has one
 abbrev pub symbol_text : Option (List ℕ) → List ℕ
 symbol_text None = []
 symbol_text (Some name) = codes " " ++ name_text name
 
--- a relocation: where it stands in the section, its type by name or number, and the index of its symbol, with its name if it has one
+-- a relocation: its offset in the section, its type by name or number, and the index of its symbol, with its name if it has one
 unfoldable pub relocation_row : ℕ → Option (List ℕ) → ℕ → ℕ → Option (List ℕ) → List ℕ
 relocation_row address type_name kind index symbol = joined
     (codes "    0x" ∷ hex_at_least 6 address ∷ codes "  " ∷ type_text type_name kind ∷ codes "  #" ∷ decimal index

@@ -20,7 +20,7 @@ use pe_text::{
 use pe_view::{Place, View};
 use std::alloc::{AllocError, Allocator};
 
-/// How many bytes are shown of a place.
+/// How many bytes are shown.
 const SHOWN: u32 = 16;
 
 /// The report of [`at`].
@@ -29,7 +29,7 @@ struct AtReport {
     place: Place,
 }
 
-/// The RVA at which an offset of the file is laid out.
+/// The RVA to which a file offset is mapped.
 fn laid_at(layout: &Layout, offset: u64) -> Option<u32> {
     let headers = layout.headers();
     if offset < u64::from(headers.size_of_headers) {
@@ -58,7 +58,7 @@ fn rva_of(layout: &Layout, place: Place) -> Option<u32> {
     layout.contains(rva, 1).then_some(rva)
 }
 
-/// The first RVA and the flags of the section in which an RVA lies.
+/// The first RVA and the flags of the section that contains an RVA.
 fn section_of(layout: &Layout, rva: u32) -> Option<(u32, u32)> {
     let index = match layout.locate(rva) {
         Located::Raw { section, .. } | Located::Zero { section } => section,
@@ -72,7 +72,7 @@ fn section_of(layout: &Layout, rva: u32) -> Option<(u32, u32)> {
     Some((section.virtual_address, section.characteristics))
 }
 
-/// The ordinal and the RVA of the last export that stands at an RVA or before it, and not before the section's first.
+/// The ordinal and the RVA of the last export at or before an RVA, but not before the section's first byte.
 fn nearest_export<A: Allocator + Copy>(
     exports: &Exports<A>,
     first: u32,
@@ -104,12 +104,12 @@ fn name_of<'a, A: Allocator + Copy>(exports: &Exports<'a, A>, ordinal: u64) -> O
     None
 }
 
-/// Whether an RVA is one of so many from another on.
+/// Whether an RVA is one of the `len` from `start` on.
 fn is_within(rva: u32, start: u32, len: u32) -> bool {
     rva >= start && rva - start < len
 }
 
-/// The export at an RVA of a section or before it, as `  export crc32+0x10`.
+/// The last export at or before an RVA in its section, like `  export crc32+0x10`.
 fn export_cells<'a, A: Allocator + Copy>(
     exports: &Exports<'a, A>,
     first: u32,
@@ -129,7 +129,7 @@ fn export_cells<'a, A: Allocator + Copy>(
     [Plain(Text(b"  export ")), number, name, plus, distance]
 }
 
-/// The import whose slot is at an RVA, as `  slot of KERNEL32.dll Sleep`.
+/// The import whose slot contains an RVA, like `  slot of KERNEL32.dll Sleep`.
 fn slot_cells<'a>(imports: &[Import<'a>], width: u32, rva: u32) -> [Cell<'a>; 4] {
     for import in imports {
         if is_within(rva, import.slot, width) {
@@ -144,7 +144,7 @@ fn slot_cells<'a>(imports: &[Import<'a>], width: u32, rva: u32) -> [Cell<'a>; 4]
     [NOTHING; 4]
 }
 
-/// Where an address that a field holds while the image stands at its ImageBase lies, as ` that points to RVA 0x1350 .text+0x350`.
+/// The target of an address in a field while the image is at its ImageBase, like ` that points to RVA 0x1350 .text+0x350`.
 fn target_cells<'a>(layout: &Layout, names: &SectionNames<'a>, address: u64) -> [Cell<'a>; 4] {
     match rva_of(layout, Place::Address(address)) {
         Some(rva) => {
@@ -163,7 +163,7 @@ fn target_cells<'a>(layout: &Layout, names: &SectionNames<'a>, address: u64) -> 
     }
 }
 
-/// The base relocation whose field is at an RVA, as `  field of 8 bytes that points to RVA 0x1350 .text+0x350`.
+/// The base relocation whose field contains an RVA, like `  field of 8 bytes that points to RVA 0x1350 .text+0x350`.
 fn field_cells<'a>(
     layout: &Layout,
     names: &SectionNames<'a>,
@@ -195,7 +195,7 @@ fn field_cells<'a>(
     [NOTHING; 7]
 }
 
-/// Where an RVA lies, as `RVA 0x251e4  address 0x241bb51e4  file 0x1ffe4  .idata+0x1e4 rw-`.
+/// The place of an RVA, like `RVA 0x251e4  address 0x241bb51e4  file 0x1ffe4  .idata+0x1e4 rw-`.
 fn where_cells<'a>(layout: &Layout, names: &SectionNames<'a>, rva: u32) -> [Cell<'a>; 10] {
     let place = names.place(layout, rva);
     let address = layout.image_base().wrapping_add(u64::from(rva));
@@ -221,7 +221,7 @@ fn where_cells<'a>(layout: &Layout, names: &SectionNames<'a>, rva: u32) -> [Cell
     ]
 }
 
-/// Adds the 16 bytes from an RVA on, as far as the image has them.
+/// Adds the 16 bytes from an RVA on, or fewer at the end of the image.
 fn write_bytes<W: Sink>(text: &mut TextWriter<W>, layout: &Layout, rva: u32)
     requires { IsReady W.failures text.old }
     ensures { AddsSome W.taken W.failures text.old text.new }
@@ -235,7 +235,7 @@ fn write_bytes<W: Sink>(text: &mut TextWriter<W>, layout: &Layout, rva: u32)
     text.text(b"\n");
 }
 
-/// Adds what stands at an RVA of an image.
+/// Adds what is at an RVA of an image.
 fn write_at<A: Allocator + Copy, W: Sink>(
     text: &mut TextWriter<W>,
     image: &Image<A>,
@@ -257,7 +257,7 @@ fn write_at<A: Allocator + Copy, W: Sink>(
     write_bytes(text, layout, rva);
 }
 
-/// Adds what stands at a place of an image.
+/// Adds what is at a place of an image.
 fn write_place<A: Allocator + Copy, W: Sink>(
     text: &mut TextWriter<W>,
     image: &Image<A>,
@@ -294,12 +294,12 @@ impl Report for AtReport {
     }
 }
 
-/// Writes what stands at a place of the image whose file the reader gives: an RVA, an address with the image at its ImageBase, or
-/// an offset in the file. That is the RVA, the address, the offset and the section with its permissions; the last export at it or
-/// before it in the section, the import whose slot it is in, and the field of a base relocation with where it points; then 16
-/// bytes. Of a refused image it writes the first fault's line.
+/// Writes what is at a place of the image whose file the reader returns. The place is an RVA, an address with the image at its
+/// ImageBase, or a file offset. The output is the RVA, the address, the file offset and the section with its permissions; the last
+/// export at or before it in the section; the import whose slot contains it; the base relocation whose field contains it, with the
+/// field's target; and 16 bytes. For a refused image it is the line of the first fault.
 ///
-/// Reading and writing are as those of [`crate::show`].
+/// Reading, writing and errors are as in [`crate::show`].
 pub fn at<A: Allocator + Copy, R: Source, W: Sink>(
     alloc: A,
     place: Place,

@@ -19,40 +19,40 @@ use pe_text::{Sink, TextWriter, write_part, write_parts};
 /// A cell of a row.
 #[derive(Clone, Copy)]
 pub(crate) enum Cell<'a> {
-    /// A part that any line may have.
+    /// A part of any line.
     Plain(Part<'a>),
-    /// A name of the file.
+    /// A name from the file.
     Name(&'a [u8]),
-    /// A name of the file, and blanks up to so many columns.
+    /// A name from the file, padded with blanks to a width.
     Column(&'a [u8], usize),
-    /// So many blanks.
+    /// A number of blanks.
     Blanks(usize),
     /// A number in decimal, its digits in groups of three.
     Count(u64),
-    /// A number in decimal, behind blanks up to so many columns.
+    /// A number in decimal, padded with blanks on the left to a width.
     Right(u64, usize),
     /// A time stamp as a date.
     Date(u32),
-    /// The flags that stand in a field, by name.
+    /// The flags that are set in a field, by name.
     Flags(FlagKind, u32),
-    /// By what an export or an import is looked up: a name, or `#` and an ordinal.
+    /// The name of an export or import, or `#` and an ordinal.
     Key(Key<'a>),
-    /// Where an RVA lies, as `.text+0x350`.
+    /// The place of an RVA, like `.text+0x350`.
     Place(SectionPlace<'a>),
 }
 
-/// A cell that shows nothing.
+/// An empty cell.
 pub(crate) const NOTHING: Cell<'static> = Cell::Plain(Text(b""));
 
-/// The word for so many things.
+/// The singular or plural of a noun, for a count.
 pub(crate) fn plural(count: usize, one: &'static [u8], more: &'static [u8]) -> Cell<'static> {
     Cell::Plain(Text(if count == 1 { one } else { more }))
 }
 
-/// The most blanks that stand in a row: a cut name of a section takes fewer columns.
+/// The most blanks in sequence. It is enough, since names of sections are cut to fewer columns.
 const BLANKS: [u8; 256] = [b' '; 256];
 
-/// So many blanks, and not more than 256.
+/// A number of blanks, at most 256.
 pub(crate) fn blanks(count: usize) -> &'static [u8]
     ensures { result.now ≡ blanks count }
 {
@@ -66,7 +66,7 @@ pub(crate) fn decimal_width(number: u64) -> usize
     Buffer::new().format(number).len()
 }
 
-/// Adds a number in decimal, with a comma before each three digits: `135,168`.
+/// Adds a number in decimal, with a comma before each group of three digits: `135,168`.
 fn write_count<W: Sink>(text: &mut TextWriter<W>, number: u64)
     requires { IsReady W.failures text.old }
     ensures { AddsSome W.taken W.failures text.old text.new }
@@ -80,7 +80,7 @@ fn write_count<W: Sink>(text: &mut TextWriter<W>, number: u64)
     }
 }
 
-/// Adds a number in decimal, behind blanks up to so many columns.
+/// Adds a number in decimal, padded with blanks on the left to a width.
 pub(crate) fn write_right<W: Sink>(text: &mut TextWriter<W>, number: u64, width: usize)
     requires { IsReady W.failures text.old }
     ensures { Adds W.taken W.failures text.old text.new (right_text number width) }
@@ -91,7 +91,7 @@ pub(crate) fn write_right<W: Sink>(text: &mut TextWriter<W>, number: u64, width:
     text.text(digits);
 }
 
-/// Adds a name of the file, and blanks up to so many columns.
+/// Adds a name from the file, padded with blanks to a width.
 pub(crate) fn write_column<W: Sink>(text: &mut TextWriter<W>, name: &[u8], width: usize)
     requires { IsReady W.failures text.old }
     ensures { Adds W.taken W.failures text.old text.new (column_text name.now width) }
@@ -119,7 +119,7 @@ fn write_cell<W: Sink>(text: &mut TextWriter<W>, cell: &Cell)
     }
 }
 
-/// Adds cells, one behind the other.
+/// Adds cells in order.
 pub(crate) fn write_cells<W: Sink>(text: &mut TextWriter<W>, cells: &[Cell])
     requires { IsReady W.failures text.old }
     ensures { AddsSome W.taken W.failures text.old text.new }

@@ -7,12 +7,12 @@ use jiff_core::civil::DateTime;
 use pe_text::Part::{Decimal, Hex2, Text};
 use pe_text::{Sink, TextWriter, write_parts};
 
-/// The byte whose two hexadecimal digits are those of a number below 100 in decimal.
+/// The byte whose two hexadecimal digits are the decimal digits of a number below 100.
 fn two_digits(number: u8) -> u8 {
     number % 100 / 10 * 16 + number % 10
 }
 
-/// Adds the date and the time of so many seconds after 1970 began: `2022-10-15 09:27:34 UTC`.
+/// Adds a time in seconds since the beginning of 1970 as date and time: `2022-10-15 09:27:34 UTC`.
 pub(crate) fn write_date<W: Sink>(text: &mut TextWriter<W>, seconds: u32)
     requires { IsReady W.failures text.old }
     ensures { AddsSome W.taken W.failures text.old text.new }

@@ -1,4 +1,4 @@
-//! The table of an image's data directories, with what was read of each.
+//! The table of an image's data directories, with a summary of each table that was read.
 
 ghost use Rattle.pe_text.specs.TextWriter.{IsReady};
 ghost use Rattle.pe_show.specs.Page.{AddsSome};
@@ -19,10 +19,10 @@ use pe_text::Part::{Hex, Text};
 use pe_text::{ShowOptions, Sink, TextWriter, hex_width};
 use std::alloc::Allocator;
 
-/// How many modules the row of the imports names.
+/// How many modules are named in the row of the imports.
 const MODULES_SHOWN: usize = 4;
 
-/// How many directories are present, and how wide their columns are.
+/// How many directories are present, and the widths of their columns.
 #[derive(Clone, Copy)]
 struct Widths {
     count: usize,
@@ -45,7 +45,7 @@ fn name_of(index: usize) -> &'static [u8] {
     }
 }
 
-/// In which section a directory's table begins. The place of certificates is a file offset.
+/// The section in which a directory's table begins, or none for certificates, whose place is a file offset.
 fn section_of<'a>(
     layout: &Layout,
     names: &SectionNames<'a>,
@@ -81,7 +81,7 @@ fn widths_of(layout: &Layout, names: &SectionNames) -> Widths {
     widths
 }
 
-/// Adds how many exports there are, and how many are forwarders.
+/// Adds the numbers of exports and of forwarders.
 fn write_export_count<A: Allocator + Copy, W: Sink>(text: &mut TextWriter<W>, exports: &Exports<A>)
     requires { IsReady W.failures text.old }
     ensures { AddsSome W.taken W.failures text.old text.new }
@@ -102,7 +102,7 @@ fn write_export_count<A: Allocator + Copy, W: Sink>(text: &mut TextWriter<W>, ex
     );
 }
 
-/// The first modules of imports that stand together, each with how many these are, and how many such modules there are.
+/// The first modules, each with its number of consecutive imports, and the number of all modules.
 fn first_runs<'a>(imports: &[Import<'a>]) -> (ArrayVec<(&'a [u8], usize), MODULES_SHOWN>, usize) {
     let mut shown = ArrayVec::new();
     let mut modules: usize = 0;
@@ -115,7 +115,7 @@ fn first_runs<'a>(imports: &[Import<'a>]) -> (ArrayVec<(&'a [u8], usize), MODULE
     (shown, modules)
 }
 
-/// Adds how many imports there are, and how many of each of the first modules.
+/// Adds the number of imports, and how many there are of each of the first modules.
 fn write_import_count<W: Sink>(text: &mut TextWriter<W>, imports: &[Import])
     requires { IsReady W.failures text.old }
     ensures { AddsSome W.taken W.failures text.old text.new }
@@ -150,7 +150,7 @@ fn write_import_count<W: Sink>(text: &mut TextWriter<W>, imports: &[Import])
     write_cells(text, &end);
 }
 
-/// The cells of how many pages base relocations have, where these ascend.
+/// The cells for the number of pages of base relocations, or that their pages do not ascend.
 fn page_cells(fixups: &[Fixup]) -> [Cell<'static>; 3] {
     if !fixups.iter().is_sorted_by_key(|fixup| fixup.field >> 12) {
         let words = Plain(Text(b", not in the order of their pages\n"));
@@ -164,7 +164,7 @@ fn page_cells(fixups: &[Fixup]) -> [Cell<'static>; 3] {
     ]
 }
 
-/// Adds how many base relocations there are, and in how many pages.
+/// Adds the numbers of base relocations and of their pages.
 fn write_fixup_count<W: Sink>(text: &mut TextWriter<W>, fixups: &[Fixup])
     requires { IsReady W.failures text.old }
     ensures { AddsSome W.taken W.failures text.old text.new }
@@ -182,7 +182,7 @@ fn write_fixup_count<W: Sink>(text: &mut TextWriter<W>, fixups: &[Fixup])
     );
 }
 
-/// Adds what was read of the table of a directory.
+/// Adds a summary of a directory's table.
 fn write_summary<A: Allocator + Copy, W: Sink>(
     text: &mut TextWriter<W>,
     index: usize,
@@ -232,7 +232,7 @@ fn write_directory<A: Allocator + Copy, W: Sink>(
     write_summary(text, index, tables);
 }
 
-/// Adds the table of an image's data directories that are present.
+/// Adds the table of the data directories that are present.
 pub(crate) fn write_directories<A: Allocator + Copy, W: Sink>(
     text: &mut TextWriter<W>,
     options: &ShowOptions,

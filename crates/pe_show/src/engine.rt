@@ -28,16 +28,16 @@ impl<'p> Report for Page<'p> {
     }
 }
 
-/// Writes a page for people of the image or the object whose file the reader gives: what its headers, sections and tables hold, as
-/// far as the options want it, and its first fault in words. The name is that of the file.
+/// Writes a readable page on the image or object whose file the reader returns: its headers, its sections, the tables that the
+/// options select, and its first fault in words. `name` is that of the file.
 ///
-/// A file that begins as an object does is judged by the faults of objects, any other by those of images. Of a refused image the
-/// page shows what stands before its fault. Names that are no plain text are shown in quotes, with `\x` and two digits for a byte
-/// that is not printable; names over 4,096 bytes, and names of sections and modules over 40 and 255, are cut.
+/// A file that begins like an object is checked as an object, any other as an image. For a refused image the page shows what comes
+/// before its fault. A name that is not plain text is shown in quotes, with `\x` and two digits for a byte that is not printable;
+/// names are cut after 4,096 bytes, those of sections after 40 and those of modules after 255.
 ///
-/// The reader is read to its end, or to 2^32 + 1 bytes; then all faults are asked, and only then the page is written.
-/// After `Write` a beginning of it was written, after `Read` and `Memory` nothing; `Memory` never comes where the reader
-/// gave no byte. Condition: fewer than 2^64 - 1 failures are counted on either device so far.
+/// The file is read to its end, or to 2^32 + 1 bytes; the page is written only after all faults were tested. On the error `Write`
+/// the beginning of the page was written, on `Read` and `Memory` nothing; `Memory` never comes if the reader returned no byte.
+/// Condition: each device has counted fewer than 2^64 - 1 failures so far.
 pub fn show<A: Allocator + Copy, R: Source, W: Sink>(
     alloc: A,
     name: &[u8],

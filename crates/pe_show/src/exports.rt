@@ -1,4 +1,4 @@
-//! The exports of an image, a row each.
+//! The exports of an image, one per row.
 
 ghost use Rattle.std.specs.Prelude.{◌≡◌};
 ghost use Rattle.pe_layout.specs.Layout.{headers_of};
@@ -18,7 +18,7 @@ use pe_tables::{Exports, Key, Target};
 use pe_text::{ShowOptions, Sink, TextWriter, hex_width};
 use std::alloc::Allocator;
 
-/// How wide the columns of exports are.
+/// The widths of the columns of exports.
 #[derive(Clone, Copy)]
 struct Widths {
     ordinal: usize,
@@ -26,16 +26,16 @@ struct Widths {
     place: usize,
 }
 
-/// What is shown of what an ordinal exports.
+/// The target of an export as it is shown.
 #[derive(Clone, Copy)]
 enum ShownTarget<'s, 't> {
-    /// An RVA, and where it lies.
+    /// An RVA, and its place.
     Here { rva: u32, place: SectionPlace<'s> },
-    /// The module and the key to which it is forwarded.
+    /// The module and the key of a forwarder.
     Forward { module: &'t [u8], key: Key<'t> },
 }
 
-/// What is shown of a target.
+/// The shown form of a target.
 fn shown_of<'s, 't>(
     layout: &Layout,
     sections: &SectionNames<'s>,
@@ -83,7 +83,7 @@ fn widths_of(exports: &[(u64, Target)], layout: &Layout, names: &SectionNames) -
     widths
 }
 
-/// Adds an ordinal and the place that it exports.
+/// Adds an ordinal and the place of its export.
 fn write_here<W: Sink>(
     text: &mut TextWriter<W>,
     widths: &Widths,
@@ -101,7 +101,7 @@ fn write_here<W: Sink>(
     place.write(text);
 }
 
-/// Adds an ordinal, and the module and the key to which it is forwarded.
+/// Adds an ordinal, and the module and key of its forwarder.
 fn write_forward<W: Sink>(
     text: &mut TextWriter<W>,
     widths: &Widths,
@@ -119,7 +119,7 @@ fn write_forward<W: Sink>(
     write_key(text, key);
 }
 
-/// Adds an ordinal and what it exports.
+/// Adds an ordinal and its target.
 fn write_target<W: Sink>(
     text: &mut TextWriter<W>,
     widths: &Widths,
@@ -135,7 +135,7 @@ fn write_target<W: Sink>(
     }
 }
 
-/// How many columns stand between what an ordinal exports and its names, beside two.
+/// How many blanks come between the target of an ordinal and its names, apart from two.
 fn gap_of(widths: &Widths, shown: &ShownTarget) -> usize
     ensures { result ≡ gap_columns widths.now.place shown.now }
 {
@@ -145,7 +145,7 @@ fn gap_of(widths: &Widths, shown: &ShownTarget) -> usize
     }
 }
 
-/// Adds a name behind `count` blanks and a gap.
+/// Adds a name after `count` blanks and a gap.
 fn write_behind_gap<W: Sink>(text: &mut TextWriter<W>, count: usize, gap: &[u8], name: &[u8])
     requires { IsReady W.failures text.old }
     ensures { Adds W.taken W.failures text.old text.new (behind_gap count gap.now name.now) }
@@ -155,7 +155,7 @@ fn write_behind_gap<W: Sink>(text: &mut TextWriter<W>, count: usize, gap: &[u8],
     write_name(text, name);
 }
 
-/// Adds names behind `count` blanks and two more, and the end of their row.
+/// Adds names, each after `count` blanks and two more, and the end of their row.
 fn write_names<A: Allocator + Copy, W: Sink>(
     text: &mut TextWriter<W>,
     exports: &Exports<A>,
@@ -180,7 +180,7 @@ fn write_names<A: Allocator + Copy, W: Sink>(
     text.text(b"\n");
 }
 
-/// Adds a row for each ordinal that an image exports, with its names, where the options want it and the exports were read.
+/// Adds a row for each ordinal that an image exports, with its names, if the options select exports and they were read.
 pub(crate) fn write_exports<A: Allocator + Copy, W: Sink>(
     text: &mut TextWriter<W>,
     options: &ShowOptions,

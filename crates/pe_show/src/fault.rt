@@ -9,7 +9,7 @@ use pe_text::Part::{self, Decimal, Hex, Text};
 use pe_text::{Outcome, ShowOptions, Sink, TextWriter, fault_sentence, write_parts};
 use pe_view::{Fault, View};
 
-/// Words, and the number behind them.
+/// Words, and the number after them.
 fn amount_parts(words: &'static str, amount: Amount) -> [Part<'static>; 3] {
     let (prefix, number) = match amount {
         Amount::Nothing => (Text(b""), Text(b"")),
@@ -19,7 +19,7 @@ fn amount_parts(words: &'static str, amount: Amount) -> [Part<'static>; 3] {
     [Text(words.as_bytes()), prefix, number]
 }
 
-/// Adds the values of the file that a fault compares, behind a colon, if it compares any.
+/// Adds the values that a fault compares after a colon, if there are any.
 fn write_detail<W: Sink>(text: &mut TextWriter<W>, file: View, fault: &Fault)
     requires { IsReady W.failures text.old }
     ensures { AddsSome W.taken W.failures text.old text.new }

@@ -11,10 +11,10 @@ use pe_tables::{Fixup, FixupKind};
 use pe_text::{ShowOptions, Sink, TextWriter, hex_width};
 use std::alloc::Allocator;
 
-/// How many fields a row shows.
+/// How many fields are shown in a row.
 const FIELDS_SHOWN: usize = 16;
 
-/// How many bytes a page has.
+/// The size of a page in bytes.
 const PAGE: u32 = 0x1000;
 
 /// Whether two fields begin in one page.
@@ -22,12 +22,12 @@ pub(crate) fn same_page(fixup: &Fixup, other: &Fixup) -> bool {
     fixup.field / PAGE == other.field / PAGE
 }
 
-/// Whether two fields stand in one row, if there is room.
+/// Whether two fields belong in one row, if there is room.
 fn same_row(fixup: &Fixup, other: &Fixup) -> bool {
     same_page(fixup, other) && fixup.kind == other.kind
 }
 
-/// How many fields from the first on may stand in its row.
+/// How many fields from the first on belong in its row.
 fn page_len(fixups: &[Fixup]) -> usize
     ensures some { 0 < length fixups.now → 0 < result }
     ensures within { result ≤ length fixups.now }
@@ -39,7 +39,7 @@ fn page_len(fixups: &[Fixup]) -> usize
     len.max(1).min(fixups.len())
 }
 
-/// The format's word for a kind, in 7 columns.
+/// The name of a kind in "PE Format", in 7 columns.
 fn kind_word(kind: FixupKind) -> &'static [u8]
     ensures { result.now ≡ kind_text kind }
 {
@@ -51,7 +51,7 @@ fn kind_word(kind: FixupKind) -> &'static [u8]
     }
 }
 
-/// Adds where a field stands in its page.
+/// Adds the offset of a field in its page.
 fn write_field<W: Sink>(text: &mut TextWriter<W>, fixup: &Fixup)
     requires { IsReady W.failures text.old }
     ensures { Adds W.taken W.failures text.old text.new (field_text fixup.now) }
@@ -60,7 +60,7 @@ fn write_field<W: Sink>(text: &mut TextWriter<W>, fixup: &Fixup)
     text.hex(3, (fixup.field % PAGE) as u64);
 }
 
-/// Adds where each of these fields stands in its page.
+/// Adds the offset of each of these fields in its page.
 fn write_each<W: Sink>(text: &mut TextWriter<W>, row: &[Fixup])
     requires { IsReady W.failures text.old }
     ensures { Adds W.taken W.failures text.old text.new (flat_map field_text row.now) }
@@ -70,7 +70,7 @@ fn write_each<W: Sink>(text: &mut TextWriter<W>, row: &[Fixup])
     }
 }
 
-/// Adds the page and the kind of fields, which are those of the first, and where each stands in the page.
+/// Adds the page and the kind of fields, taken from the first, and the offset of each in the page.
 fn write_fields<W: Sink>(text: &mut TextWriter<W>, width: u8, first: &Fixup, row: &[Fixup])
     requires { IsReady W.failures text.old }
     ensures { Adds W.taken W.failures text.old text.new (fields_row width first.now row.now) }
@@ -84,7 +84,7 @@ fn write_fields<W: Sink>(text: &mut TextWriter<W>, width: u8, first: &Fixup, row
     text.text(b"\n");
 }
 
-/// Adds a row of fields, if it has one.
+/// Adds a row of fields, unless it is empty.
 fn write_row<W: Sink>(text: &mut TextWriter<W>, width: u8, row: &[Fixup])
     requires { IsReady W.failures text.old }
     ensures { AddsSome W.taken W.failures text.old text.new }
@@ -104,7 +104,7 @@ fn write_page<W: Sink>(text: &mut TextWriter<W>, width: u8, fixups: &[Fixup])
     }
 }
 
-/// Adds rows for the fields of the base relocations, where the options want it and they were read.
+/// Adds rows for the fields of the base relocations, if the options select them and they were read.
 pub(crate) fn write_fixups<A: Allocator + Copy, W: Sink>(
     text: &mut TextWriter<W>,
     options: &ShowOptions,

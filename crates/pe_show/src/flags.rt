@@ -8,7 +8,7 @@ use pe_names::{FlagKind, flag_name};
 use pe_text::Part::{Hex, Name, Text};
 use pe_text::{Sink, TextWriter, write_parts};
 
-/// The flags of a section that its columns show: what it holds and how it may be used. The alignment is a number.
+/// The flags of a section that its columns show: its contents and permissions. The alignment is a number.
 const SHOWN_BY_COLUMNS: u32 = section_flag::CODE
     | section_flag::INITIALIZED_DATA
     | section_flag::UNINITIALIZED_DATA
@@ -17,7 +17,7 @@ const SHOWN_BY_COLUMNS: u32 = section_flag::CODE
     | section_flag::WRITE
     | 0x00f0_0000;
 
-/// Adds what has no name, if there is something: a blank, `0x` and its digits.
+/// Adds the flags without a name, if there are any: a blank, `0x` and digits.
 fn write_unnamed<W: Sink>(text: &mut TextWriter<W>, flags: u32)
     requires { IsReady W.failures text.old }
     ensures { AddsSome W.taken W.failures text.old text.new }
@@ -28,7 +28,7 @@ fn write_unnamed<W: Sink>(text: &mut TextWriter<W>, flags: u32)
     write_parts(text, &[Text(b" 0x"), Hex(u64::from(flags), 1)]);
 }
 
-/// Adds a blank and a name for each flag that is set, in the order of their values, and then what has no name.
+/// Adds a blank and a name for each flag that is set, in the order of their values, and then the flags without a name.
 pub(crate) fn write_flags<W: Sink>(text: &mut TextWriter<W>, kind: FlagKind, flags: u32)
     requires { IsReady W.failures text.old }
     ensures { AddsSome W.taken W.failures text.old text.new }

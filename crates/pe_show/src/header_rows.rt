@@ -1,4 +1,4 @@
-//! The rows of a page that show an image's headers.
+//! The rows of a page for an image's headers.
 
 ghost use Rattle.pe_text.specs.TextWriter.{IsReady};
 ghost use Rattle.pe_show.specs.Page.{AddsSome};
@@ -12,7 +12,7 @@ use pe_names::FlagKind;
 use pe_text::Part::{self, Decimal, Hex, Hex4, Hex8, Text};
 use pe_text::{Sink, TextWriter, write_parts};
 
-/// A value's name, or its number where the format has no name for it.
+/// A value's name, or its number if the format has no name for it.
 pub(crate) fn named(name: Option<&'static str>, value: u16) -> [Part<'static>; 2] {
     match name {
         Some(name) => [Text(name.as_bytes()), Text(b"")],
@@ -33,7 +33,7 @@ pub(crate) fn image_kind(headers: &Headers) -> Kind {
     [Text(kind), machine, number, Text(b", ")]
 }
 
-/// Adds the row of a time stamp; 0 and the greatest number stand for none.
+/// Adds the row of a time stamp; 0 and the greatest number mean none.
 pub(crate) fn write_stamp<W: Sink>(text: &mut TextWriter<W>, seconds: u32)
     requires { IsReady W.failures text.old }
     ensures { AddsSome W.taken W.failures text.old text.new }
@@ -109,7 +109,7 @@ fn write_versions<W: Sink>(text: &mut TextWriter<W>, headers: &Headers)
     );
 }
 
-/// Adds the row of the entry point: its RVA, and where it lies, if the image is laid out.
+/// Adds the row of the entry point: its RVA, and its place if the image is laid out.
 fn write_entry<W: Sink>(text: &mut TextWriter<W>, rva: u32, place: Option<SectionPlace>)
     requires { IsReady W.failures text.old }
     ensures { AddsSome W.taken W.failures text.old text.new }
@@ -196,7 +196,7 @@ fn write_sizes<W: Sink>(text: &mut TextWriter<W>, headers: &Headers)
     );
 }
 
-/// Adds the rows of an image's headers; the place is that of the entry point, where the image is laid out.
+/// Adds the rows of an image's headers; `place` is that of the entry point, if the image is laid out.
 pub(crate) fn write_headers<W: Sink>(
     text: &mut TextWriter<W>,
     headers: &Headers,

@@ -9,19 +9,19 @@ use crate::style::{end_style, heading_style, refusal_style};
 use pe_text::Part::{self, Text};
 use pe_text::{Outcome, ShowOptions, Sink, TextWriter, write_parts};
 
-/// What a page is of, and how it is to be.
+/// The file and the options of a page.
 #[derive(Clone, Copy)]
 pub(crate) struct Page<'p> {
     /// The file's name.
     pub name: &'p [u8],
-    /// What it shows.
+    /// What to show.
     pub options: &'p ShowOptions,
 }
 
 /// What a file is, in four parts: `PE32+ library for AMD64`.
 pub(crate) type Kind = [Part<'static>; 4];
 
-/// Adds the first row: the file's name, whether it is accepted, what it is, and how many bytes it has.
+/// Adds the first row: the file's name, whether it is accepted, what it is, and its size in bytes.
 pub(crate) fn write_title<W: Sink>(
     text: &mut TextWriter<W>,
     page: &Page,
@@ -49,7 +49,7 @@ pub(crate) fn write_title<W: Sink>(
     );
 }
 
-/// Adds the heading of a table, behind an empty row: `Sections (12)`.
+/// Adds the heading of a table, after an empty row: `Sections (12)`.
 pub(crate) fn write_heading<W: Sink>(
     text: &mut TextWriter<W>,
     options: &ShowOptions,

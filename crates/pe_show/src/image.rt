@@ -1,4 +1,4 @@
-//! The page of an image, which keeps what was read before the image's first fault.
+//! The page of an image, which shows what comes before the image's first fault.
 
 ghost use Rattle.std.specs.Prelude.{◌≡◌, ◌<◌, List, length, IfOk, OnErr};
 ghost use Rattle.pe_view.specs.Faults.{Test, first_standing};
@@ -25,7 +25,7 @@ use pe_text::{Outcome, Sink, TextWriter};
 use pe_view::{Fault, View};
 use std::alloc::{AllocError, Allocator};
 
-/// The outcome of an image whose headers and sections have no fault, by the first fault of its tables.
+/// The outcome of an image whose headers and sections have no fault, from the first fault of its tables.
 fn outcome_of(fault: Option<Fault>) -> Outcome
     ensures { (tests : List Test) → fault ≡ first_standing tests → IsOutcomeOf tests result }
 {
@@ -35,7 +35,7 @@ fn outcome_of(fault: Option<Fault>) -> Outcome
     }
 }
 
-/// The names of the exports by their ordinals, where they are wanted and were read.
+/// The names of the exports ordered by ordinal, if they are selected and were read.
 fn order_names<A: Allocator + Copy>(
     alloc: A,
     tables: &Tables<A>,
@@ -47,7 +47,7 @@ fn order_names<A: Allocator + Copy>(
     }
 }
 
-/// Adds the page of an image that one of faults 1 to 15 refuses, with its headers where it has them.
+/// Adds the page of an image with one of faults 1 to 15, with its headers if they have no fault.
 fn write_refused<W: Sink>(text: &mut TextWriter<W>, page: &Page, view: View, outcome: Outcome)
     requires { IsReady W.failures text.old }
     ensures { AddsSome W.taken W.failures text.old text.new }
@@ -91,7 +91,7 @@ fn write_image<A: Allocator + Copy, W: Sink>(
     write_refusal(text, page.options, outcome, view);
 }
 
-/// Judges an image's file, and adds its page. Memory is wanted before the first byte is added.
+/// Checks an image's file, and adds its page. It allocates only before it adds the first byte.
 pub(crate) fn show_image<A: Allocator + Copy, W: Sink>(
     alloc: A,
     page: &Page,

@@ -15,20 +15,20 @@ use pe_text::Part::Text;
 use pe_text::{ShowOptions, Sink, TextWriter, hex_width};
 use std::alloc::Allocator;
 
-/// The most bytes of a module's name that are shown: no file has a longer one.
+/// The most bytes of a module's name that are shown; no file name is longer.
 const NAME_LIMIT: usize = 255;
 
-/// The name of an import's module, cut where it is too long to be shown.
+/// The name of an import's module, cut if it is too long to be shown.
 pub(crate) fn module_name<'a>(import: &Import<'a>) -> &'a [u8] {
     import.module.get(..NAME_LIMIT).unwrap_or(import.module)
 }
 
-/// Whether two imports are from modules of one name, as far as it is shown.
+/// Whether two imports are from modules with the same shown name.
 pub(crate) fn same_module(import: &Import, other: &Import) -> bool {
     module_name(import) == module_name(other)
 }
 
-/// How many imports from the first on are from its module.
+/// How many imports from the first on are from the same module.
 fn module_len(imports: &[Import]) -> usize
     ensures some { 0 < length imports.now → 0 < result }
     ensures within { result ≤ length imports.now }
@@ -52,7 +52,7 @@ fn write_import<W: Sink>(text: &mut TextWriter<W>, width: u8, import: &Import)
     text.text(b"\n");
 }
 
-/// Adds the row of a module, and a row for each of its imports that stand together.
+/// Adds the row of a module, and a row for each of its consecutive imports.
 fn write_module<W: Sink>(text: &mut TextWriter<W>, width: u8, imports: &[Import])
     requires { IsReady W.failures text.old }
     ensures { AddsSome W.taken W.failures text.old text.new }
@@ -76,7 +76,7 @@ fn write_module<W: Sink>(text: &mut TextWriter<W>, width: u8, imports: &[Import]
     }
 }
 
-/// Adds the imports under their modules, where the options want it and they were read.
+/// Adds the imports under their modules, if the options select them and they were read.
 pub(crate) fn write_imports<A: Allocator + Copy, W: Sink>(
     text: &mut TextWriter<W>,
     options: &ShowOptions,

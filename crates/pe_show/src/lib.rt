@@ -1,6 +1,6 @@
 //! The readable page of an image or an object: its headers, sections and tables, with names next to numbers.
 //!
-//! [`show`] reads the file, judges it and writes the page:
+//! [`show`] reads the file, checks it and writes the page:
 //!
 //! ```text
 //! let options = ShowOptions { exports: true, ..ShowOptions::default() };
@@ -9,8 +9,8 @@
 //! let answer = show(alloc, b"zlib1.dll", &options, &mut reader, &mut writer);
 //! ```
 //!
-//! The outcome is by contract. So are, inside, how a name stands on a page, where an RVA lies, and the rows of exports, imports,
-//! base relocations, relocations and symbols; what else a page shows is in no contract.
+//! The outcome is specified by contract. So are, internally, how a name is shown, the place of an RVA, and the rows of exports,
+//! imports, base relocations, relocations and symbols; the rest of a page is in no contract.
 #![tactic(auto)]
 
 mod at_place;

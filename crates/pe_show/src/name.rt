@@ -10,10 +10,10 @@ ghost use Rattle.pe_show.specs.Name.{is_safe, begins_plain, is_plain, cut, name_
 use pe_text::{Sink, TextWriter, is_printable};
 use std::str;
 
-/// The most bytes of a name that are shown: no name that a compiler writes is longer.
+/// The most bytes of a name that are shown; names that compilers write are shorter.
 const NAME_LIMIT: usize = 4096;
 
-/// The beginning of a name, cut where it is too long to be shown.
+/// The beginning of a name, cut if it is too long to be shown.
 fn cut(name: &[u8]) -> &[u8]
     ensures { result.now ≡ cut name.now }
 {
@@ -23,8 +23,8 @@ fn cut(name: &[u8]) -> &[u8]
     &name[..NAME_LIMIT]
 }
 
-/// Whether a character may stand on a terminal as it is: it is no control character, nor one that turns the direction of the
-/// text around it.
+/// Whether a character may be written to a terminal: not a control character, nor one that changes the direction of the text
+/// around it.
 fn is_safe(character: char) -> bool
     ensures { result ≡ is_safe character }
 {
@@ -32,14 +32,14 @@ fn is_safe(character: char) -> bool
         '\0'..='\x1f' | '\x7f'..='\u{9f}' | '\u{61c}' | '\u{200e}' | '\u{200f}' | '\u{2028}'..='\u{202e}' | '\u{2066}'..='\u{2069}' | '\u{feff}')
 }
 
-/// Whether all characters of a text may stand on a terminal.
+/// Whether all characters of a string may be written to a terminal.
 fn are_safe(text: &str) -> bool
     ensures { result ≡ list_all is_safe (chars text.now) }
 {
     text.chars().all(|character| is_safe(character))
 }
 
-/// Whether a name begins as one that stands as it is: it has bytes, of which the first is no quote.
+/// Whether a name is not empty and does not begin with a quote.
 fn begins_plain(name: &[u8]) -> bool
     ensures { result ≡ begins_plain name.now }
 {
@@ -49,15 +49,15 @@ fn begins_plain(name: &[u8]) -> bool
     }
 }
 
-/// Whether a name stands as it is, a column a byte, as nearly all do.
+/// Whether a name is plain and has one column per byte, as nearly all do.
 fn is_bare(name: &[u8]) -> bool
     ensures { result ≡ (begins_plain name.now && list_all is_printable name.now) }
 {
     begins_plain(name) && is_printable(name)
 }
 
-/// The text of a name that stands as it is: it is UTF-8, of characters that may stand on a terminal, not empty, and not begun by a
-/// quote.
+/// The string of a name that is shown as it is: UTF-8, of characters that may be written to a terminal, not empty, and not
+/// beginning with a quote.
 fn plain_text(name: &[u8]) -> Option<&str>
     ensures some { IfSome result (λ text. (text.now ≡ name.now) × (is_plain name.now ≡ true)) }
     ensures none { IfNone result (is_plain name.now ≡ false) }
@@ -74,14 +74,14 @@ fn plain_text(name: &[u8]) -> Option<&str>
     Some(text)
 }
 
-/// Whether a name stands as it is.
+/// Whether a name is shown as it is.
 fn is_plain(name: &[u8]) -> bool
     ensures { result ≡ is_plain name.now }
 {
     is_bare(name) || plain_text(name).is_some()
 }
 
-/// Adds a name: as it stands where it is plain, else in quotes, with `\x` and two digits for a byte that is not printable.
+/// Adds a name: as it is if it is plain, otherwise in quotes, with `\x` and two digits for a byte that is not printable.
 pub(crate) fn write_name<W: Sink>(text: &mut TextWriter<W>, name: &[u8])
     requires { IsReady W.failures text.old }
     ensures { Adds W.taken W.failures text.old text.new (name_text name.now) }
@@ -115,7 +115,7 @@ fn quoted_width(name: &[u8]) -> usize
     width
 }
 
-/// How many columns a text takes, one a character.
+/// How many columns a string takes, one per character.
 fn text_width(text: &str) -> usize
     ensures { result ≡ length (chars text.now) }
 {

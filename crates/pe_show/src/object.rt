@@ -76,7 +76,7 @@ fn write_refused<W: Sink>(text: &mut TextWriter<W>, page: &Page, outcome: Outcom
     write_refusal(text, page.options, outcome, file);
 }
 
-/// Judges an object's file, and adds its page. Memory is wanted before the first byte is added.
+/// Checks an object's file, and adds its page. It allocates only before it adds the first byte.
 pub(crate) fn show_object<A: Allocator + Copy, W: Sink>(
     alloc: A,
     page: &Page,

@@ -18,7 +18,7 @@ use pe_text::Part::{Hex, Text};
 use pe_text::{ShowOptions, Sink, TextWriter, hex_width};
 use std::alloc::{AllocError, Allocator};
 
-/// How wide the columns of sections are.
+/// The widths of the columns of sections.
 #[derive(Clone, Copy)]
 struct Widths {
     number: usize,
@@ -38,7 +38,7 @@ pub(crate) fn read_sections<'a, A: Allocator + Copy>(
     Ok(sections)
 }
 
-/// How many bytes a section has, and how many of them stand in the file.
+/// The size of a section, and how many of its bytes are in the file.
 fn sizes_of(raw: &RawData) -> (u64, u64) {
     match raw {
         RawData::Bytes(bytes) => (bytes.len() as u64, bytes.len() as u64),
@@ -121,7 +121,7 @@ pub(crate) fn write_sections<W: Sink>(
     }
 }
 
-/// Adds the name of a relocation's type, or its number where the format has no name for it.
+/// Adds the name of a relocation's type, or its number if the format has no name for it.
 fn write_type<W: Sink>(text: &mut TextWriter<W>, name: Option<&str>, kind: u16)
     requires { IsReady W.failures text.old }
     ensures { Adds W.taken W.failures text.old text.new (type_text (option_map (λ name. name.now) name.entry) kind) }
@@ -135,7 +135,7 @@ fn write_type<W: Sink>(text: &mut TextWriter<W>, name: Option<&str>, kind: u16)
     }
 }
 
-/// Adds a blank and the name of a symbol, where there is one.
+/// Adds a blank and the name of a symbol, if it has one.
 fn write_symbol_name<W: Sink>(text: &mut TextWriter<W>, name: Option<&[u8]>)
     requires { IsReady W.failures text.old }
     ensures { Adds W.taken W.failures text.old text.new (symbol_text (option_map (λ name. name.now) name.entry)) }
@@ -146,7 +146,7 @@ fn write_symbol_name<W: Sink>(text: &mut TextWriter<W>, name: Option<&[u8]>)
     }
 }
 
-/// Adds the row of a relocation: where it stands in the section, its type, and its symbol.
+/// Adds the row of a relocation: its offset in the section, its type, and its symbol.
 fn write_relocation<W: Sink>(
     text: &mut TextWriter<W>,
     type_name: Option<&str>,
@@ -206,7 +206,7 @@ fn relocation_count(sections: &[FileSection]) -> usize {
     count
 }
 
-/// Adds the relocations of an object, section by section, where the options want it.
+/// Adds the relocations of an object, section by section, if the options select them.
 pub(crate) fn write_relocations<A: Allocator + Copy, W: Sink>(
     text: &mut TextWriter<W>,
     options: &ShowOptions,

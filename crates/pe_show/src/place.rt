@@ -1,4 +1,4 @@
-//! `SectionNames`: the long names of sections, and where an RVA lies among them.
+//! `SectionNames`: the long names of sections, and the places of RVAs in sections.
 
 ghost use Rattle.std.specs.Prelude.{◌≡◌, ◌-◌, ◌≤◌, None, Some};
 ghost use Rattle.pe_layout.specs.Layout.{headers_of};
@@ -18,29 +18,29 @@ use pe_view::View;
 /// The most bytes of a section's name that are shown.
 const NAME_LIMIT: usize = 40;
 
-/// The names of an image's sections, by their indexes.
+/// The names of an image's sections, by index.
 #[derive(Drop)]
 pub(crate) struct SectionNames<'a> {
     names: ArrayVec<&'a [u8], 96>,
 }
 
-/// Where an RVA lies.
+/// The place of an RVA.
 #[derive(Clone, Copy)]
 pub(crate) struct SectionPlace<'a> {
-    /// The section's name, or what else it is.
+    /// The section's name, or a word for a place outside sections.
     pub name: &'a [u8],
-    /// How many bytes behind its beginning, where it is one of the image's pieces.
+    /// The offset in the section or in the headers; none in a gap or outside the image.
     pub offset: Option<u32>,
-    /// The offset in the file, where it has one.
+    /// The file offset, if it has one.
     pub file: Option<u64>,
 }
 
-/// The beginning of a section's name, cut where it is too long to be shown.
+/// The beginning of a section's name, cut if it is too long to be shown.
 pub(crate) fn cut(name: &[u8]) -> &[u8] {
     name.get(..NAME_LIMIT).unwrap_or(name)
 }
 
-/// Where a section begins.
+/// The RVA of a section's first byte.
 fn section_start(layout: &Layout, index: usize) -> u32
     ensures { result ≡ start_at (headers_of layout.now) index }
 {
@@ -50,7 +50,7 @@ fn section_start(layout: &Layout, index: usize) -> u32
     }
 }
 
-/// A place of a name alone.
+/// A place with a name only.
 fn named_place(name: &[u8]) -> SectionPlace
     ensures { IsPlace result name.now None None }
 {
@@ -62,7 +62,7 @@ fn named_place(name: &[u8]) -> SectionPlace
 }
 
 impl<'a> SectionNames<'a> {
-    /// The names of the sections of an image's file. Each is searched for its end once.
+    /// The names of the sections of an image's file. Each long name is searched for its end once.
     pub fn new(view: View<'a>, headers: &'a Headers) -> SectionNames<'a> {
         let table = string_table(view, headers);
         let mut names = ArrayVec::new();
@@ -82,7 +82,7 @@ impl<'a> SectionNames<'a> {
         }
     }
 
-    /// Where an RVA of the image lies.
+    /// The place of an RVA of the image.
     pub fn place(&self, layout: &Layout, rva: u32) -> SectionPlace<'a>
         ensures { IsPlaceOf self.now.names.items (headers_of layout.now) rva (located (headers_of layout.now) rva) result }
     {
@@ -118,7 +118,7 @@ impl<'a> SectionNames<'a> {
     }
 }
 
-/// How many columns an offset in a section takes, with `+0x` before it.
+/// How many columns an offset in a section takes, including `+0x`.
 fn offset_width(offset: Option<u32>) -> usize
     ensures value { result ≡ offset_columns offset }
     ensures bound { result ≤ 19 }
@@ -130,7 +130,7 @@ fn offset_width(offset: Option<u32>) -> usize
 }
 
 impl<'a> SectionPlace<'a> {
-    /// Adds its name, and the offset behind `+0x` where it has one, as `.text+0x350`.
+    /// Adds its name, and `+0x` and the offset if it has one, like `.text+0x350`.
     pub fn write<W: Sink>(&self, text: &mut TextWriter<W>)
         requires { IsReady W.failures text.old }
         ensures { Adds W.taken W.failures text.old text.new (place_text self.now) }
@@ -142,7 +142,7 @@ impl<'a> SectionPlace<'a> {
         }
     }
 
-    /// How many columns that takes.
+    /// How many columns it takes.
     pub fn width(&self) -> usize
         ensures { result ≡ place_columns self.now }
     {

@@ -13,7 +13,7 @@ use pe_names::FlagKind;
 use pe_text::Part::{Hex, Text};
 use pe_text::{ShowOptions, Sink, TextWriter, hex_width};
 
-/// How wide the columns of sections are.
+/// The widths of the columns of sections.
 #[derive(Clone, Copy)]
 struct Widths {
     name: usize,
@@ -22,7 +22,7 @@ struct Widths {
     file: u8,
 }
 
-/// How a section may be used: `r-x`.
+/// The permissions of a section, like `r-x`.
 pub(crate) fn permissions(flags: u32) -> &'static [u8] {
     let read = flags & section_flag::READ != 0;
     let write = flags & section_flag::WRITE != 0;
@@ -39,7 +39,7 @@ pub(crate) fn permissions(flags: u32) -> &'static [u8] {
     }
 }
 
-/// What a section holds: code, initialized data, or data that are zero at first.
+/// The contents of a section: code, initialized data, or uninitialized data.
 pub(crate) fn content(flags: u32) -> &'static [u8] {
     if flags & section_flag::CODE != 0 {
         b"code"

@@ -1,14 +1,14 @@
-//! The styles of a page that has colours.
+//! The colours of a page.
 
 use pe_text::Part::{self, Text};
 use pe_text::ShowOptions;
 
-/// What begins a heading.
+/// The beginning of a heading.
 pub(crate) fn heading_style(options: &ShowOptions) -> Part<'static> {
     Text(if options.is_coloured { b"\x1b[1m" } else { b"" })
 }
 
-/// What begins a refusal.
+/// The beginning of a refusal.
 pub(crate) fn refusal_style(options: &ShowOptions) -> Part<'static> {
     Text(if options.is_coloured {
         b"\x1b[1;31m"
@@ -17,7 +17,7 @@ pub(crate) fn refusal_style(options: &ShowOptions) -> Part<'static> {
     })
 }
 
-/// What ends either.
+/// The end of either.
 pub(crate) fn end_style(options: &ShowOptions) -> Part<'static> {
     Text(if options.is_coloured { b"\x1b[0m" } else { b"" })
 }

@@ -15,14 +15,14 @@ use coff_object::{FileSection, ObjectFile, Symbol, SymbolSection, storage_class_
 use pe_text::{ShowOptions, Sink, TextWriter};
 use std::alloc::{AllocError, Allocator};
 
-/// The names of an object's symbols, by the indexes of their records.
+/// The names of an object's symbols, by the index of the symbol's record.
 #[derive(Drop)]
 pub(crate) struct SymbolNames<'a, A: Allocator> {
     names: Vec<(u32, &'a [u8]), A>,
     ghost ascend: { AllPairs (λ name later. name.0 < later.0) names.items },
 }
 
-/// The place of the first name whose index is not below `index`, among names by ascending indexes.
+/// The position of the first name whose index is at least `index`, among names ordered by index.
 fn first_from(names: &[(u32, &[u8])], index: u32) -> usize
     requires { AllPairs (λ name later. name.0 < later.0) names.now }
     ensures bound { result ≤ length names.now }
@@ -31,7 +31,7 @@ fn first_from(names: &[(u32, &[u8])], index: u32) -> usize
     names.partition_point(|name| name.0 < index)
 }
 
-/// The name under an index, among names by ascending indexes.
+/// The name with an index, among names ordered by index.
 fn name_under<'a>(names: &[(u32, &'a [u8])], index: u32) -> Option<&'a [u8]>
     requires { AllPairs (λ name later. name.0 < later.0) names.now }
     ensures { result ≡ option_map (λ name. name.1) (find (λ name. name.0 == index) names.now) }
@@ -48,7 +48,7 @@ fn name_under<'a>(names: &[(u32, &'a [u8])], index: u32) -> Option<&'a [u8]>
 }
 
 impl<'a, A: Allocator + Copy> SymbolNames<'a, A> {
-    /// The names of an object's symbols, or none where they are not wanted, which takes no memory.
+    /// The names of an object's symbols, or none if they are not needed; then it allocates nothing.
     pub fn new(
         alloc: A,
         object: &ObjectFile<'a>,
@@ -65,7 +65,7 @@ impl<'a, A: Allocator + Copy> SymbolNames<'a, A> {
         Ok(SymbolNames { names })
     }
 
-    /// The name of the symbol that a record begins; an auxiliary record begins none.
+    /// The name of the symbol whose first record has this index; `None` for an auxiliary record.
     pub fn get(&self, index: u32) -> Option<&'a [u8]>
         ensures { result ≡ option_map (λ name. name.1) (find (λ name. name.0 == index) self.now.names.items) }
     {
@@ -73,7 +73,7 @@ impl<'a, A: Allocator + Copy> SymbolNames<'a, A> {
     }
 }
 
-/// The words of a symbol's section.
+/// The name of a symbol's section, or a word for symbols outside sections.
 fn section_words<'a>(sections: &[FileSection<'a>], section: SymbolSection) -> &'a [u8] {
     match section {
         SymbolSection::Undefined => b"UNDEFINED",
@@ -88,7 +88,7 @@ fn section_words<'a>(sections: &[FileSection<'a>], section: SymbolSection) -> &'
     }
 }
 
-/// Adds the name of a storage class, or its number where the format has no name for it, in 13 columns.
+/// Adds the name of a storage class, or its number if the format has no name for it, in 13 columns.
 fn write_class<W: Sink>(text: &mut TextWriter<W>, name: Option<&str>, class: u8)
     requires { IsReady W.failures text.old }
     ensures { Adds W.taken W.failures text.old text.new (class_text (option_map (λ name. name.now) name.entry) class) }
@@ -102,7 +102,7 @@ fn write_class<W: Sink>(text: &mut TextWriter<W>, name: Option<&str>, class: u8)
     }
 }
 
-/// The word for a function in 12 columns, or as many blanks.
+/// The word for a function in 12 columns, or blanks.
 fn function_word(kind: u16) -> &'static [u8]
     ensures { result.now ≡ function_text kind }
 {
@@ -137,7 +137,7 @@ fn write_symbol<W: Sink>(
     text.text(b"\n");
 }
 
-/// Adds a row for each symbol of an object, under the index of its record, where the options want it.
+/// Adds a row for each symbol of an object, with the index of its record, if the options select them.
 pub(crate) fn write_symbols<A: Allocator + Copy, W: Sink>(
     alloc: A,
     text: &mut TextWriter<W>,

@@ -1,4 +1,4 @@
--- The tables are asked for where the layout has no fault.
+-- The tables are read if the layout has no fault.
 use Rattle.std.proofs.Common.{subst}
 use Rattle.std.proofs.lemmas.Result.{err_from_is_err_and}
 use Rattle.pe_view.specs.FirstStanding.{first-in}

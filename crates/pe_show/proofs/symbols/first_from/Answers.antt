@@ -1,4 +1,4 @@
--- The names of lesser indexes stand before all others.
+-- The names with lower indexes come first.
 use Rattle.std.proofs.Common.{◌≡◌, ℕ, List, arith, rules, inl, inr}
 use Rattle.std.specs.Prelude.{nat_lt}
 use Rattle.std.specs.List.Sorted.{IsPartitionedBy}

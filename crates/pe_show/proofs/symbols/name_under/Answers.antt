@@ -4,7 +4,7 @@ use denote.Bor.{Bor}
 use Rattle.pe_tables.proofs.Search.{found_at, found_in_order}
 use Rattle.pe_show.proofs.symbols.name_under.Goals as goal
 
--- a name, for a list of them to be read by
+-- the default of a list of names
 abbrev no_name : ℕ × Bor (List ℕ)
 no_name = (0, record { ref_ptr = (0, 0); now = [] })
 
