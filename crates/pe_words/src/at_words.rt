@@ -6,20 +6,20 @@ use clap::{ArgMatches, Command};
 use pe_view::Place;
 use std::alloc::{AllocError, Global};
 
-/// What `at` does.
+/// The purpose of `at`, for help.
 const AT_ABOUT: &str =
     "Prints what is at an RVA of an image: its address and file offset, its section, and the export, slot, field or header there";
 
-/// What help says of the address.
+/// The help on the address.
 const PLACE: &str = "Where, in hexadecimal: an RVA, unless an option says otherwise";
 
-/// What help says of `--address`.
+/// The help on `--address`.
 const ADDRESS: &str = "ADDRESS is a virtual address, with the image at its ImageBase";
 
-/// What help says of `--file`.
+/// The help on `--file`.
 const OFFSET: &str = "ADDRESS is a file offset";
 
-/// What `explain` does.
+/// The purpose of `explain`, for help.
 const EXPLAIN_ABOUT: &str = "Explains a fault by its number, or lists all faults";
 
 /// The subcommand `at`.
@@ -33,7 +33,7 @@ pub(crate) fn at_command<'a>(alloc: Global) -> Result<Command<'a>, AllocError> {
     with_argument(command, required_argument(alloc, "ADDRESS", PLACE))
 }
 
-/// The place that the words of `at` name. No image has an RVA of 2^32 - 1, for which every greater number stands.
+/// The place in the words of `at`. A greater RVA than 2^32 - 1 becomes this, which is outside every image.
 pub(crate) fn place_of<'a>(found: &ArgMatches<'a>) -> Result<Place, BadValue<'a>> {
     let value = found.get_str("ADDRESS").unwrap_or("");
     match address_of(value) {
@@ -56,7 +56,7 @@ pub(crate) fn explain_command<'a>(alloc: Global) -> Result<Command<'a>, AllocErr
     )
 }
 
-/// The number that the words of `explain` name, if any.
+/// The number in the words of `explain`, if there is one.
 pub(crate) fn number_of<'a>(found: &ArgMatches<'a>) -> Result<Option<u16>, BadValue<'a>> {
     let Some(value) = found.get_str("N") else {
         return Ok(None);

@@ -1,34 +1,34 @@
-//! Commands and their arguments, as clap makes them.
+//! Commands and their arguments, built with clap.
 //!
-//! No contract here tells what clap's own say of a command: nothing asks for it, and each step of a command would carry what
-//! is known of the steps before.
+//! No contract here repeats what clap's contracts say of a command: no caller needs it, and the proof of each step would carry the
+//! facts of all steps before.
 
 use clap::{Arg, ArgAction, Command};
 use std::alloc::{AllocError, Global};
 
-/// An argument, and what help says of it.
+/// An argument with its help.
 pub(crate) fn argument<'a>(alloc: Global, name: &'a str, help: &'a str) -> Arg<'a> {
     Arg::new(alloc, name).help(help)
 }
 
-/// An argument that has to be given, and what help says of it.
+/// A required argument with its help.
 pub(crate) fn required_argument<'a>(alloc: Global, name: &'a str, help: &'a str) -> Arg<'a> {
     argument(alloc, name, help).required(true)
 }
 
-/// A flag, and what help says of it.
+/// A flag with its help.
 pub(crate) fn flag<'a>(alloc: Global, name: &'a str, help: &'a str) -> Arg<'a> {
     argument(alloc, name, help)
         .long(name)
         .action(ArgAction::SetTrue)
 }
 
-/// A command with no argument, and what help says of it.
+/// A command without arguments, with its help.
 pub(crate) fn new_command<'a>(alloc: Global, name: &'a str, about: &'a str) -> Command<'a> {
     Command::new(alloc, name).about(about)
 }
 
-/// The command with one more argument, where memory was there for the command.
+/// The command with one more argument, unless building the command failed.
 pub(crate) fn with_argument<'a>(
     command: Result<Command<'a>, AllocError>,
     argument: Arg<'a>,
@@ -42,7 +42,7 @@ pub(crate) fn with_argument<'a>(
     }
 }
 
-/// The command with one more command below it, where memory was there for that one.
+/// The command with one more subcommand, unless building that one failed.
 fn with_made<'a>(
     command: Command<'a>,
     subcommand: Result<Command<'a>, AllocError>,
@@ -56,7 +56,7 @@ fn with_made<'a>(
     }
 }
 
-/// The command with one more command below it, where memory was there for both.
+/// The command with one more subcommand, unless building one of them failed.
 pub(crate) fn with_subcommand<'a>(
     command: Result<Command<'a>, AllocError>,
     subcommand: Result<Command<'a>, AllocError>,

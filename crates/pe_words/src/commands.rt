@@ -1,4 +1,4 @@
-//! The program's command line, as clap reads it.
+//! The program's command line as clap parses it.
 
 use crate::at_words::{at_command, explain_command};
 use crate::builders::{new_command, with_subcommand};
@@ -11,11 +11,11 @@ use std::alloc::{AllocError, Global};
 /// The program's version, which `--version` prints after its name: that of the file VERSION.
 const VERSION: &str = "1.0";
 
-/// What the program does.
+/// The purpose of the program, for help.
 const ABOUT: &str =
     "Reads PE images and COFF objects: shows and checks them, maps images together, and writes an image's file for another base";
 
-/// What `--help` says behind the commands and the options.
+/// The end of `--help`, after the commands and options.
 const NOTES: &str = "\
 If FILE is -, standard input is read.
 
@@ -30,14 +30,14 @@ Exit statuses:
 check, dump, object, at, map and rebase print a fault as a line, and explain it on standard error;
 show and json print it in words. petool explain N explains fault N.";
 
-/// The program, with what help says of it.
+/// The program with its help.
 fn described<'a>(alloc: Global) -> Command<'a> {
     new_command(alloc, "petool", ABOUT)
         .version(VERSION)
         .after_help(NOTES)
 }
 
-/// The program, with no command yet.
+/// The program without subcommands.
 fn program<'a>(alloc: Global) -> Result<Command<'a>, AllocError> {
     described(alloc)
         .no_binary_name(true)
@@ -46,12 +46,12 @@ fn program<'a>(alloc: Global) -> Result<Command<'a>, AllocError> {
         .bin_name("petool")
 }
 
-/// The row of the command of files that has this name.
+/// The row of the file command with this name.
 fn file_row(name: &str) -> Option<FileCommand> {
     FILE_COMMANDS.iter().find(|row| row.name == name).copied()
 }
 
-/// The command of this name, if there is one.
+/// The subcommand with this name, if there is one.
 pub(crate) fn command_named<'a>(
     alloc: Global,
     name: &str,
@@ -69,7 +69,7 @@ pub(crate) fn command_named<'a>(
     }
 }
 
-/// The program's command line with all commands.
+/// The program with all subcommands.
 fn whole_command<'a>(alloc: Global) -> Result<Command<'a>, AllocError> {
     let mut command = with_subcommand(program(alloc), show_command(alloc));
     for row in FILE_COMMANDS {
@@ -81,8 +81,8 @@ fn whole_command<'a>(alloc: Global) -> Result<Command<'a>, AllocError> {
     with_subcommand(command, explain_command(alloc))
 }
 
-/// The program's command line: with the command alone that the first word names, which is all that its words are read by, or with
-/// all commands where it names none.
+/// The program with the subcommand that the first word names, which is enough to parse its words, or with all subcommands if it
+/// names none. Building all would be most of the work of a short run.
 pub(crate) fn command<'a>(alloc: Global, first: &str) -> Result<Command<'a>, AllocError> {
     match command_named(alloc, first) {
         Some(named) => with_subcommand(program(alloc), named),

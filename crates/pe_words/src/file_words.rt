@@ -1,4 +1,4 @@
-//! The words of the commands that read files one by one: `show`, `check`, `dump`, `object` and `json`.
+//! The words of the commands that read files one at a time: `show`, `check`, `dump`, `object` and `json`.
 
 use crate::builders::{argument, flag, new_command, required_argument, with_argument};
 use crate::job::Job;
@@ -7,13 +7,13 @@ use clap::{Arg, ArgAction, ArgMatches, Command};
 use pe_text::ShowOptions;
 use std::alloc::{AllocError, Global};
 
-/// A command that reads files one by one.
+/// A command that reads files one at a time.
 #[derive(Clone, Copy)]
 pub(crate) struct FileCommand {
     pub name: &'static str,
-    /// What it does.
+    /// Its purpose, for help.
     about: &'static str,
-    /// What help says of its files.
+    /// The help on its files.
     file: &'static str,
     /// Whether it takes several files.
     takes_several: bool,
@@ -30,7 +30,7 @@ pub(crate) const SHOW: FileCommand = FileCommand {
     has_most: true,
 };
 
-/// The commands of files that have no other options.
+/// The file commands that have no options but `--most`.
 pub(crate) const FILE_COMMANDS: [FileCommand; 4] = [
     FileCommand {
         name: "check",
@@ -62,11 +62,11 @@ pub(crate) const FILE_COMMANDS: [FileCommand; 4] = [
     },
 ];
 
-/// What help says of `--most`.
+/// The help on `--most`.
 const MOST: &str =
     "Prints at most so many bytes of each file's text, with K, M or G for 2^10, 2^20 or 2^30 of them; what is cut ends with a note";
 
-/// The options of `show`, and what help says of each.
+/// The options of `show`, each with its help.
 const SHOW_OPTIONS: [(&str, &str); 5] = [
     ("exports", "Prints each export"),
     ("imports", "Prints each import"),
@@ -78,7 +78,7 @@ const SHOW_OPTIONS: [(&str, &str); 5] = [
     ("all", "Prints all of these"),
 ];
 
-/// The files that a command names.
+/// The argument for the files of a command.
 fn file_argument<'a>(alloc: Global, row: FileCommand) -> Arg<'a> {
     let argument = required_argument(alloc, "FILE", row.file);
     if row.takes_several {
@@ -95,7 +95,7 @@ fn most_option<'a>(alloc: Global) -> Arg<'a> {
         .value_name("BYTES")
 }
 
-/// A command of files.
+/// A file command.
 pub(crate) fn file_command<'a>(alloc: Global, row: FileCommand) -> Result<Command<'a>, AllocError> {
     let command = Ok(new_command(alloc, row.name, row.about));
     let command = with_argument(command, file_argument(alloc, row));
@@ -115,7 +115,7 @@ pub(crate) fn show_command<'a>(alloc: Global) -> Result<Command<'a>, AllocError>
     command
 }
 
-/// What usage calls the command of this name, of those that have the option `--most`.
+/// The name in usage of the command with this name, for commands with the option `--most`.
 pub(crate) fn usage_of(name: &str) -> &'static str {
     match name {
         "show" => "petool show",
@@ -125,7 +125,7 @@ pub(crate) fn usage_of(name: &str) -> &'static str {
     }
 }
 
-/// The file that a command names under this word.
+/// The file that a command has for this argument.
 pub(crate) fn file_of(
     alloc: Global,
     found: &ArgMatches<'_>,
@@ -134,7 +134,7 @@ pub(crate) fn file_of(
     String::from_str(alloc, found.get_str(name).unwrap_or(""))
 }
 
-/// The files that a command names.
+/// The files of a command.
 fn files_of(alloc: Global, found: &ArgMatches<'_>) -> Result<Vec<String>, AllocError> {
     let mut files = Vec::new(alloc);
     for value in found.get_strs("FILE").unwrap_or(&[]) {
@@ -143,7 +143,7 @@ fn files_of(alloc: Global, found: &ArgMatches<'_>) -> Result<Vec<String>, AllocE
     Ok(files)
 }
 
-/// What the options of `show` ask for.
+/// The options of `show` that are set.
 fn options_of(found: &ArgMatches<'_>) -> ShowOptions {
     let is_all = found.get_flag("all");
     ShowOptions {
@@ -155,7 +155,7 @@ fn options_of(found: &ArgMatches<'_>) -> ShowOptions {
     }
 }
 
-/// How many bytes `--most` asks for, if any.
+/// The number of bytes given by `--most`, if any.
 fn most_of<'a>(found: &ArgMatches<'a>) -> Result<Option<u64>, BadValue<'a>> {
     let Some(value) = found.get_str("most") else {
         return Ok(None);
@@ -170,7 +170,7 @@ fn most_of<'a>(found: &ArgMatches<'a>) -> Result<Option<u64>, BadValue<'a>> {
     }
 }
 
-/// What the words of `check` ask for: one file, or several.
+/// The job of `check`: one file, or several.
 fn check_job<P>(mut files: Vec<String>) -> Job<P> {
     if files.len() > 1 {
         return Job::CheckEach { files };
@@ -181,7 +181,7 @@ fn check_job<P>(mut files: Vec<String>) -> Job<P> {
     }
 }
 
-/// What the words of `dump` ask for: the text of a file, or so many bytes of it.
+/// The job of `dump`: the whole output, or at most this many bytes.
 fn dump_job<P>(file: String, most: Option<u64>) -> Job<P> {
     match most {
         Some(most) => Job::DumpMost { most, file },
@@ -189,7 +189,7 @@ fn dump_job<P>(file: String, most: Option<u64>) -> Job<P> {
     }
 }
 
-/// What the words of `object` ask for: the text of a file, or so many bytes of it.
+/// The job of `object`: the whole output, or at most this many bytes.
 fn object_job<P>(file: String, most: Option<u64>) -> Job<P> {
     match most {
         Some(most) => Job::ObjectMost { most, file },
@@ -197,7 +197,7 @@ fn object_job<P>(file: String, most: Option<u64>) -> Job<P> {
     }
 }
 
-/// What the words of a command of files ask for, with so many bytes of text at most, and `None` where it is another command.
+/// The job of a file command, with at most `most` bytes of output, or `None` for another command.
 fn limited_job<P>(
     alloc: Global,
     name: &str,
@@ -222,7 +222,7 @@ fn limited_job<P>(
     Ok(Some(job))
 }
 
-/// What the words of a command of files ask for, and `None` where it is another command.
+/// The job of a file command, or `None` for another command.
 pub(crate) fn file_job<'a, P>(
     alloc: Global,
     name: &str,

@@ -1,79 +1,79 @@
-//! What the words of a command line ask for, or why they ask for nothing.
+//! `Job`: what a command line tells the program to do; and `WordsError`, why it does not.
 
 use pe_text::ShowOptions;
 use pe_view::Place;
 use std::alloc::{AllocError, AllocFailed};
 
-/// A file to be mapped.
+/// A file to map.
 #[derive(Debug, Drop, PartialEq, Eq)]
 pub struct MapFile {
-    /// The address at which the image is to stand.
+    /// The base of the image.
     pub base: u64,
-    /// Where the file is.
+    /// The path of the file.
     pub path: String,
     /// The module's name: the path's part after its last `/`.
     pub name: String,
 }
 
-/// What the words ask for.
+/// What the words tell the program to do.
 #[derive(Debug, Drop, PartialEq, Eq)]
 pub enum Job<P> {
-    /// `check FILE`: judge an image and write one line.
+    /// `check FILE`: check an image and write one line.
     Check {
         file: String,
     },
-    /// `check FILE...`: judge images and write one line of each.
+    /// `check FILE...`: check images and write one line for each.
     CheckEach {
         files: Vec<String>,
     },
-    /// `show FILE...`: write a page on each image or object, of so many bytes at most. No word asks for colours.
+    /// `show FILE...`: write a page on each image or object, with at most this many bytes. No word sets colours.
     Show {
         options: ShowOptions,
         most: Option<u64>,
         files: Vec<String>,
     },
-    /// `json FILE...`: write what each image or object holds as a line of JSON, of so many bytes at most.
+    /// `json FILE...`: write the content of each image or object as a line of JSON, with at most this many bytes.
     Json {
         most: Option<u64>,
         files: Vec<String>,
     },
-    /// `at FILE ADDRESS`: write what stands at a place of an image.
+    /// `at FILE ADDRESS`: write what is at a place of an image.
     At {
         file: String,
         place: Place,
     },
-    /// `explain N`: write what a fault means, or the list of all.
+    /// `explain N`: write the meaning of a fault, or the list of all faults.
     Explain {
         number: Option<u16>,
     },
-    /// `dump FILE`: write what the headers and tables of an image hold.
+    /// `dump FILE`: write the headers and tables of an image.
     Dump {
         file: String,
     },
-    /// `dump --most BYTES FILE`: write so many bytes of that.
+    /// `dump --most BYTES FILE`: write at most this many bytes of them.
     DumpMost {
         most: u64,
         file: String,
     },
-    /// `object FILE`: write what an object holds.
+    /// `object FILE`: write the content of an object.
     Object {
         file: String,
     },
-    /// `object --most BYTES FILE`: write so many bytes of that.
+    /// `object --most BYTES FILE`: write at most this many bytes of it.
     ObjectMost {
         most: u64,
         file: String,
     },
-    /// `rebase HEX IN OUT`: write the file of an image at another base.
+    /// `rebase HEX IN OUT`: write the file of an image for another base.
     Rebase {
         base: u64,
-        /// Where the image's file is.
+        /// The path of the image's file.
         source: String,
-        /// Where the new file is to be.
+        /// The path of the new file.
         target: String,
     },
-    /// `map HEX=FILE...`: map images at their bases, and write where they stand, what their slots are bound to, and the bytes
-    /// of a window: the address of its first byte, and how many it has.
+    /// `map HEX=FILE...`: map images at their bases, and write the bases, the bindings of their slots, and the bytes of a window,
+    /// given by the address of its first byte and its length.
     Map {
         policy: P,
         window: Option<(u64, u32)>,
@@ -81,14 +81,14 @@ pub enum Job<P> {
     },
 }
 
-/// Why there is no job to do, with the text that the program prints.
+/// Why there is no job, with the text for the program to print.
 #[derive(Debug, Drop, PartialEq, Eq)]
 pub enum WordsError {
-    /// The words are no command line of the program's: status 2, the text goes to standard error.
+    /// The words are not a valid command line: status 2, the text goes to standard error.
     Bad(String),
-    /// The words ask for help or for the version: status 0, the text goes to standard output.
+    /// The words request help or the version: status 0, the text goes to standard output.
     Help(String),
-    /// Memory was refused: status 4.
+    /// Out of memory: status 4.
     Memory,
 }
 

@@ -1,7 +1,7 @@
-//! The command line of the program `petool`: what its words ask for.
+//! The command line of the program `petool`: the job that its words describe.
 //!
-//! [`parse_words`] reads the words behind the program's name. What `map` is to answer for an import of a module that is not among
-//! the files is the caller's own type, of which it gives two values:
+//! [`parse_words`] reads the words after the program's name. The policy of `map` for imports of modules that are not among the
+//! files is of the caller's own type; the caller passes its two values:
 //!
 //! ```text
 //! match parse_words(alloc, &words, Policy::Strict, Policy::Known) {

@@ -6,14 +6,14 @@ use crate::word_values::{BadValue, NoJob, address_of};
 use clap::{Arg, ArgAction, ArgMatches, Command};
 use std::alloc::{AllocError, Global};
 
-/// The most bytes that a window may have.
+/// The greatest length of a window in bytes.
 const MAX_COUNT: u32 = 4096;
 
-/// What `map` does.
+/// The purpose of `map`, for help.
 const ABOUT: &str =
     "Maps images together, binds their imports, and prints where each image is, what each bound slot holds and the bytes of a window, or the first fault";
 
-/// What `map --help` says behind the options.
+/// The end of `map --help`, after the options.
 const EXAMPLE: &str = "\
 Example:
   petool map --window 10001000 --count 17 10000000=v1.dll
@@ -23,21 +23,21 @@ Example:
   0x0000000010001010 00
   end";
 
-/// What help says of `--known`.
+/// The help on `--known`.
 const KNOWN: &str =
     "Leaves the slot of an import as it is in its file if the import's module is not among the files";
 
-/// What help says of `--window`.
+/// The help on `--window`.
 const WINDOW: &str = "Prints the bytes from this address on, 16 per line";
 
-/// What help says of the files.
+/// The help on the files.
 const FILES: &str =
     "An image's base and its file, or - for standard input; the file's name is the module's name";
 
-/// What `map` is asked for.
+/// The words of `map` as values.
 #[derive(Drop)]
 pub(crate) struct MapWords {
-    /// Whether slots of modules that are not among the files are left as they stand.
+    /// Whether slots of imports from modules that are not among the files are left as they are in the file.
     pub is_known: bool,
     pub window: Option<(u64, u32)>,
     pub files: Vec<MapFile>,
@@ -58,7 +58,7 @@ fn count_option<'a>(alloc: Global) -> Arg<'a> {
         .default_value("16")
 }
 
-/// The files that are to be mapped.
+/// The argument for the files to map.
 fn file_arguments<'a>(alloc: Global) -> Arg<'a> {
     required_argument(alloc, "HEX=FILE", FILES)
         .action(ArgAction::Append)
@@ -74,7 +74,7 @@ pub(crate) fn map_command<'a>(alloc: Global) -> Result<Command<'a>, AllocError> 
     with_argument(command, file_arguments(alloc))
 }
 
-/// The number of bytes that decimal digits give, 1 to 4,096.
+/// A number of bytes, 1 to 4,096, in decimal digits.
 fn count_of(text: &str) -> Option<u32> {
     if !text.bytes().all(|byte| byte.is_ascii_digit()) {
         return None;
@@ -83,7 +83,7 @@ fn count_of(text: &str) -> Option<u32> {
     (1..=MAX_COUNT).contains(&count).then_some(count)
 }
 
-/// The window that is asked for. Its number of bytes is judged even where no window is.
+/// The window of the words. The number of bytes is checked even without a window.
 fn window_of<'a>(found: &ArgMatches<'a>) -> Result<Option<(u64, u32)>, BadValue<'a>> {
     let value = found.get_str("count").unwrap_or("");
     let Some(count) = count_of(value) else {
@@ -106,7 +106,7 @@ fn window_of<'a>(found: &ArgMatches<'a>) -> Result<Option<(u64, u32)>, BadValue<
     }
 }
 
-/// The base and the path of a file that is to be mapped, and its module's name.
+/// The base and the path of a file to map, and its module's name.
 fn parts_of(value: &str) -> Result<(u64, &str, &str), &'static str> {
     let Some((base, path)) = value.split_once('=') else {
         return Err("no '=' after the base");
@@ -124,7 +124,7 @@ fn parts_of(value: &str) -> Result<(u64, &str, &str), &'static str> {
     Ok((base, path, name))
 }
 
-/// The file that a word names.
+/// The file of a word.
 fn file_of<'a>(alloc: Global, value: &'a str) -> Result<MapFile, NoJob<'a>> {
     match parts_of(value) {
         Ok((base, path, name)) => Ok(MapFile {
@@ -140,7 +140,7 @@ fn file_of<'a>(alloc: Global, value: &'a str) -> Result<MapFile, NoJob<'a>> {
     }
 }
 
-/// The files that are to be mapped.
+/// The files to map.
 fn files_of<'a>(alloc: Global, found: &ArgMatches<'a>) -> Result<Vec<MapFile>, NoJob<'a>> {
     let mut files = Vec::new(alloc);
     for value in found.get_strs("HEX=FILE").unwrap_or(&[]) {
@@ -149,7 +149,7 @@ fn files_of<'a>(alloc: Global, found: &ArgMatches<'a>) -> Result<Vec<MapFile>, N
     Ok(files)
 }
 
-/// What words of `map` ask for.
+/// The words of `map` as values.
 pub(crate) fn map_words<'a>(alloc: Global, found: &ArgMatches<'a>) -> Result<MapWords, NoJob<'a>> {
     let window = match window_of(found) {
         Ok(window) => window,

@@ -5,17 +5,17 @@ use crate::word_values::{BadValue, address_of};
 use clap::{ArgMatches, Command};
 use std::alloc::{AllocError, Global};
 
-/// What `rebase` does.
+/// The purpose of `rebase`, for help.
 const ABOUT: &str =
     "Writes an image's file for another base, and prints that base, or the first fault";
 
-/// What help says of the base.
+/// The help on the base.
 const BASE: &str = "The image's new base";
 
-/// What help says of the file that is read.
+/// The help on the input file.
 const SOURCE: &str = "The image's file";
 
-/// What help says of the file that is written.
+/// The help on the output file.
 const TARGET: &str = "The file to write, which may not be IN; it is left alone if IN is refused";
 
 /// The subcommand `rebase`.
@@ -26,7 +26,7 @@ pub(crate) fn rebase_command<'a>(alloc: Global) -> Result<Command<'a>, AllocErro
     with_argument(command, required_argument(alloc, "OUT", TARGET))
 }
 
-/// The base that the words of `rebase` name.
+/// The base in the words of `rebase`.
 pub(crate) fn base_of<'a>(found: &ArgMatches<'a>) -> Result<u64, BadValue<'a>> {
     let value = found.get_str("HEX").unwrap_or("");
     match address_of(value) {

@@ -1,4 +1,4 @@
-//! The words of the command line.
+//! `parse_words`: the job of a command line.
 
 use crate::at_words::{at_command, explain_command, number_of, place_of};
 use crate::commands::{command, command_named};
@@ -11,7 +11,7 @@ use clap::error::ErrorKind;
 use clap::{ArgMatches, Command, Error};
 use std::alloc::Global;
 
-/// What the program prints where clap finds no job in the words.
+/// The text to print for an error or help from clap.
 fn refusal(alloc: Global, error: Error) -> WordsError {
     if error.kind() == ErrorKind::OutOfMemory {
         return WordsError::Memory;
@@ -26,7 +26,7 @@ fn refusal(alloc: Global, error: Error) -> WordsError {
     }
 }
 
-/// What the program prints of a bad value of a command.
+/// The text to print for an invalid value of a command.
 fn value_refusal(alloc: Global, command: Command<'_>, name: &str, bad: BadValue<'_>) -> WordsError {
     match bad_value(alloc, command, name, bad) {
         Ok(error) => refusal(alloc, error),
@@ -34,7 +34,7 @@ fn value_refusal(alloc: Global, command: Command<'_>, name: &str, bad: BadValue<
     }
 }
 
-/// What words of `map` ask for.
+/// The job of the words of `map`.
 fn map_job<P: Copy>(
     alloc: Global,
     found: &ArgMatches<'_>,
@@ -58,7 +58,7 @@ fn map_job<P: Copy>(
     }
 }
 
-/// What words of `rebase` ask for.
+/// The job of the words of `rebase`.
 fn rebase_job<P: Copy>(alloc: Global, found: &ArgMatches<'_>) -> Result<Job<P>, WordsError> {
     match base_of(found) {
         Ok(base) => Ok(Job::Rebase {
@@ -70,7 +70,7 @@ fn rebase_job<P: Copy>(alloc: Global, found: &ArgMatches<'_>) -> Result<Job<P>, 
     }
 }
 
-/// What words of `at` ask for.
+/// The job of the words of `at`.
 fn at_job<P: Copy>(alloc: Global, found: &ArgMatches<'_>) -> Result<Job<P>, WordsError> {
     match place_of(found) {
         Ok(place) => Ok(Job::At {
@@ -81,7 +81,7 @@ fn at_job<P: Copy>(alloc: Global, found: &ArgMatches<'_>) -> Result<Job<P>, Word
     }
 }
 
-/// What words of `explain` ask for.
+/// The job of the words of `explain`.
 fn explain_job<P: Copy>(alloc: Global, found: &ArgMatches<'_>) -> Result<Job<P>, WordsError> {
     match number_of(found) {
         Ok(number) => Ok(Job::Explain { number }),
@@ -89,7 +89,7 @@ fn explain_job<P: Copy>(alloc: Global, found: &ArgMatches<'_>) -> Result<Job<P>,
     }
 }
 
-/// What is told where a command is none of the program's: clap refuses all such words before.
+/// The error for an unknown command, which does not occur: clap refuses such words before.
 fn no_command(alloc: Global) -> WordsError {
     match String::from_str(alloc, "error: no command\n") {
         Ok(text) => WordsError::Bad(text),
@@ -97,7 +97,7 @@ fn no_command(alloc: Global) -> WordsError {
     }
 }
 
-/// What the program prints of a bad value of a command of files.
+/// The text to print for an invalid value of a file command.
 fn file_refusal(alloc: Global, name: &str, bad: BadValue<'_>) -> WordsError {
     match command_named(alloc, name) {
         Some(Ok(command)) => value_refusal(alloc, command, usage_of(name), bad),
@@ -105,7 +105,7 @@ fn file_refusal(alloc: Global, name: &str, bad: BadValue<'_>) -> WordsError {
     }
 }
 
-/// What words of a command of files ask for.
+/// The job of the words of a file command.
 fn files_job<P: Copy>(
     alloc: Global,
     name: &str,
@@ -119,7 +119,7 @@ fn files_job<P: Copy>(
     }
 }
 
-/// What the words of a command ask for.
+/// The job of the words of a command.
 fn job_of<P: Copy>(
     alloc: Global,
     name: &str,
@@ -136,7 +136,7 @@ fn job_of<P: Copy>(
     }
 }
 
-/// What clap finds in the words after the program's name.
+/// The words after the program's name, as clap parses them.
 fn matches_of<'a>(alloc: Global, words: &'a [String]) -> Result<ArgMatches<'a>, WordsError> {
     let first = words.first().map_or("", |word| word.as_str());
     match command(alloc, first)?.try_get_matches_from(words) {
@@ -145,9 +145,9 @@ fn matches_of<'a>(alloc: Global, words: &'a [String]) -> Result<ArgMatches<'a>, 
     }
 }
 
-/// What the words after the program's name ask for. The policy of `map` is `known` where a word says so, else `strict`.
+/// The job of the words after the program's name. The policy of `map` is `known` if its option is given, otherwise `strict`.
 ///
-/// `Bad` and `Help` hold clap's own text, or one of its form. `Memory` comes only where an allocation was refused.
+/// `Bad` and `Help` contain clap's own text, or one of its form. `Memory` comes only if an allocation failed.
 pub fn parse_words<P: Copy>(
     alloc: Global,
     words: &[String],
