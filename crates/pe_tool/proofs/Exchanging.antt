@@ -1,4 +1,4 @@
--- Sets that differ in an image's bytes alone: what slots are bound to, and the byte at each address.
+-- Sets that differ only in an image's bytes: their bindings, and the byte at each address.
 use Rattle.std.proofs.Common.{◌≡◌, ◌∙◌, ◌+◌, ◌-◌, ◌≤◌, ℕ, zero, suc, Bool, true, false, List, [], ◌∷◌, cond, Option, None, Some, refl, ap}
 use Rattle.std.specs.Prelude.{find, slice_get}
 use Rattle.std.specs.Option.{option_map_or}
@@ -12,7 +12,7 @@ use Rattle.pe_set.specs.declared.binding.Binding.{Binding}
 use Rattle.pe_space.specs.Content.{in_slot}
 use Rattle.pe_space.specs.SetContent.{slot_byte, byte_of_image, byte_in_image, defined_from, defined_byte}
 
--- with another image in place of that of number k
+-- the set with another image at number k
 abbrev pub exchanged : ℕ → LaidOut → List Module → List Module
 exchanged zero i [] = []
 exchanged zero i (m ∷ s) = record m { image = i } ∷ s
@@ -23,14 +23,14 @@ all_alike : (s : List Module) → AreAlike s s
 all_alike [] = tt
 all_alike (m ∷ s) = (refl, refl, refl, all_alike s)
 
--- names, exports and imports stay
+-- names, exports and imports are unchanged
 pub alike_exchanged : (i : LaidOut) (k : ℕ) (s : List Module) → AreAlike (exchanged k i s) s
 alike_exchanged i zero [] = tt
 alike_exchanged i zero (m ∷ s) = (refl, refl, refl, all_alike s)
 alike_exchanged i (suc k) [] = tt
 alike_exchanged i (suc k) (m ∷ s) = (refl, refl, refl, alike_exchanged i k s)
 
--- and so do bases
+-- and so are bases
 base_exchanged : (i : LaidOut) (k : ℕ) (s : List Module) (j : ℕ) → option_map_or (λ (m : Module). m.base) (slice_get (exchanged k i s) j) 0 ≡ option_map_or (λ (m : Module). m.base) (slice_get s j) 0
 base_exchanged i zero [] j = refl
 base_exchanged i zero (m ∷ s) zero = refl
@@ -40,7 +40,7 @@ base_exchanged i (suc k) (m ∷ s) zero = refl
 base_exchanged i (suc k) (m ∷ s) (suc j) = base_exchanged i k s j
 
 -- ---- the byte at an address
--- the image has the size of the one that it stands for, and the byte that this has there
+-- the image has the size of the one that it replaces, and the same byte there
 pub record IsAlike (i : LaidOut) (m : Module) (a : ℕ) : Type 0 where
   pub size : i.size ≡ m.image.size
   pub byte : m.base ≤ a → relocated_by i m.base (a - m.base) (find (in_field (a - m.base)) m.fixups) ≡ relocated_by m.image m.base (a - m.base) (find (in_field (a - m.base)) m.fixups)
@@ -57,7 +57,7 @@ module _ (i : LaidOut) (k : ℕ) (s : List Module) (a : ℕ) (bound : bindings_o
   of_image m r None = refl
   of_image m r (Some b) = slot_same b (r - b.slot)
 
-  -- of an image that stays
+  -- of another image
   in_other : (n r : ℕ) (m : Module) → byte_in_image (exchanged k i s) n r m ≡ byte_in_image s n r m
   in_other n r m =
       ap (λ (bs : List Binding). byte_of_image (exchanged k i s) m r (find (in_slot n m.magic r) bs)) bound
@@ -67,7 +67,7 @@ module _ (i : LaidOut) (k : ℕ) (s : List Module) (a : ℕ) (bound : bindings_o
   of_own m None alike le = alike.byte le
   of_own m (Some b) alike le = slot_same b (a - m.base - b.slot)
 
-  -- of the one that is exchanged
+  -- of the replaced image
   in_own : (n : ℕ) (m : Module) → IsAlike i m a → m.base ≤ a → byte_in_image (exchanged k i s) n (a - m.base) (record m { image = i }) ≡ byte_in_image s n (a - m.base) m
   in_own n m alike le =
       ap (λ (bs : List Binding). byte_of_image (exchanged k i s) (record m { image = i }) (a - m.base) (find (in_slot n m.magic (a - m.base)) bs)) bound

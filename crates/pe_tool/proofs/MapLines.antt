@@ -16,7 +16,7 @@ from_ok : {T E : Type 0} (r : Result T E) (P : Type 0) → is_ok r ≡ true → 
 from_ok (Ok x) P is p = p
 from_ok (Err e) P is p = absurd cc
 
--- what was read of a window into the beginning of a buffer
+-- the part of a window that was read into the beginning of a buffer
 pub bytes_read : {E : Type 0} (c : Content) (a n : ℕ) (room buffer after : List ℕ) (r : Result (Unit {0}) E) → is_ok r ≡ true → n ≤ length room → window_at c a n ≡ Ok (bytes_from (byte_at c) a n)
     → OnOk r (window_at c a (length (take n room)) ≡ Ok buffer) → take n (buffer ++ after) ≡ bytes_from (byte_at c) a n
 bytes_read c a n room buffer after r ok le all on_ok =
@@ -28,7 +28,7 @@ bytes_read c a n room buffer after r ok le all on_ok =
     ∙ ap (λ (m : ℕ). take m (bytes_from (byte_at c) a n ++ after)) (sym count)
     ∙ take-append_seam (bytes_from (byte_at c) a n) after
 
--- what is written of a set that has no error is its report
+-- the output for a set without an error is its report
 pub told_whole : (policy : Policy) (es : List Entry) (window : Option (ℕ × ℕ)) (outcome : Outcome) (text : List ℕ) → set_error policy es ≡ None
     → IsSpaceText (modules_of es) window outcome text → IsMapText policy es window outcome text
 told_whole policy es window Done text none told = (none, told.0, told.1)

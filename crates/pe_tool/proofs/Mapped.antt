@@ -1,4 +1,4 @@
--- What a space that was mapped from a set tells of it.
+-- The report of a space agrees with the set that it was mapped from.
 use Rattle.std.proofs.Common.{◌≡◌, ◌∙◌, ℕ, zero, suc, ◌+◌, ◌%◌, ◌<◌, ◌≤◌, ◌^◌, Bool, false, cond, List, [], ◌∷◌, ◌++◌, length, map, refl, sym, ap, subst, arith, Some, None, Ok, Err}
 use Rattle.std.specs.Prelude.{Option, All, ◌==◌, unwrap_or, option_map, slice_index_or, Result}
 use Rattle.std.proofs.lemmas.Simd.{map-map}
@@ -28,7 +28,7 @@ use Rattle.pe_space.proofs.SlotsAndFields.{is_in-true, true-is_in}
 use Rattle.pe_tool.specs.MapReport.{image_line, told_line, export_address, bytes_from, refusal_of, window_lines}
 use Rattle.pe_text.specs.Text.{numbered}
 
--- ---- where the images stand
+-- ---- the places of the images
 pub placements_kept : (s : List Module) → map placement_of (content_of s).images ≡ map sets.placement_of s
 unfolding content_of laid_out
 placements_kept s = placements_bared 0 (bindings_of s) (map image_content s) ∙ map-map placement_of image_content s
@@ -45,7 +45,7 @@ bindings_laid : (s : List Module) → (laid_out s).bindings ≡ bindings_of s
 unfolding laid_out
 bindings_laid s = refl
 
--- that images stand where they may is said of their placements
+-- whether images have valid places depends only on their placements
 placed_alike : (c d : Content) → map placement_of c.images ≡ map placement_of d.images → c.bindings ≡ d.bindings → ImagesApart d → ImagesApart c
 placed_alike c d same bound all =
     let at : (j : ℕ) → placement_of (nth_image c.images j) ≡ placement_of (nth_image d.images j) =
@@ -67,7 +67,7 @@ pub placed_kept : (s : List Module) → IsSound s → ImagesApart (content_of s)
 placed_kept s sound =
     placed_alike (content_of s) (laid_out s) (placements_kept s ∙ sym (placements_laid s)) (bindings_kept s ∙ sym (bindings_laid s)) (placed s sound)
 
--- an accepted set has few images
+-- an accepted set has at most 256 images
 pub few_entries : (set : List SetEntry) → IsSound (modules_of (entries_of set)) → length set ≤ 256
 few_entries set sound =
     let few = sound.few in
@@ -101,7 +101,7 @@ low s sound b bound =
     let address : export_address (map sets.placement_of s) b ≡ bound.exporter.base + b.rva = ap (λ (p : Option Placement). unwrap_or (option_map (λ (q : Placement). q.base) p) 0 + b.rva) base in
     omega (arith, room, limit, target, address)
 
--- the address of an export has 64 bits
+-- the address of an export fits into 64 bits
 pub exports_low : (s : List Module) → IsSound s → All (λ (b : Binding). export_address (map sets.placement_of s) b < 2 ^ 64) (bindings_of s)
 exports_low s sound = λ k d lt. low s sound (slice_index_or (bindings_of s) k d) (sound.slots k d lt)
 
@@ -110,7 +110,7 @@ window_bytes : (c : Content) (a n : ℕ) → contents.bytes_from c a n ≡ bytes
 window_bytes c a zero = refl
 window_bytes c a (suc n) = ap (λ (bytes : List ℕ). unwrap_or (byte_at c a) 0 ∷ bytes) (window_bytes c (a + 1) n)
 
--- where a window lies that is not refused
+-- where a window is that is not refused
 record LiesIn (c : Content) (a n j : ℕ) : Type 0 where
   held : holder_from 0 c.images a ≡ Some j
   inside : a + n ≤ (nth_image c.images j).base + (nth_image c.images j).size
@@ -127,7 +127,7 @@ lies_where c a n none =
     let w = window_image (map placement_of c.images) a (suc n) in
     lies_at c a (suc n) w refl (subst (λ (t : Bool). refusal_of (cond t (Ok []) (window_in c a (suc n) w)) ≡ None) (not_empty n) none)
 
--- a window in the image that holds its first address
+-- a window in the image that contains its first address
 given : (c : Content) (a n j : ℕ) → holder_from 0 c.images a ≡ Some j → a + suc n ≤ (nth_image c.images j).base + (nth_image c.images j).size → window_at c a (suc n) ≡ Ok (contents.bytes_from c a (suc n))
 given c a n j held fits =
     let ps = map placement_of c.images in
@@ -155,7 +155,7 @@ inside c all a n none k zero fits = refl
 inside c all a zero none k (suc m) fits = absurd (omega (arith, fits))
 inside c all a (suc n) none k (suc m) fits = let there = lies_where c a n none in part_of c all a (suc n) there.0 there.1 k m fits
 
--- it ends where the addresses do, at the latest
+-- it ends within the address space
 pub ends : (c : Content) → ImagesApart c → (a n : ℕ) → refusal_of (window_at c a n) ≡ None → 0 < n → a + n ≤ 2 ^ 64
 ends c all a zero none some = absurd (omega (arith, some))
 ends c all a (suc n) none some =
@@ -165,6 +165,6 @@ ends c all a (suc n) none some =
     let limit = limit_le (nth_image c.images there.0).magic in
     omega (arith, end, room, limit)
 
--- lines of bytes that are the same at each address are the same
+-- lines of bytes that are equal at each address are equal
 pub same_lines : (byte other : ℕ → Option ℕ) (window : Option (ℕ × ℕ)) → ((a : ℕ) → byte a ≡ other a) → window_lines byte window ≡ window_lines other window
 same_lines byte other window same = ap (λ (b : ℕ → Option ℕ). window_lines b window) (λ i. λ (a : ℕ). same a i)

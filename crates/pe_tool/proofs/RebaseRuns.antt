@@ -47,12 +47,12 @@ got_none taken count = (sym (append-nil taken), refl)
 
 module _ (base : ℕ) (given given' : List ℕ) (ended : Bool) where
   module _ (input : List ℕ) (reads : given' ≡ given ++ input) (limit : length input ≤ 2 ^ 32 + 1) where
-    -- memory was refused
+    -- memory ran out
     pub ran_out_of_memory : (to t : List ℕ) (o w : ℕ) → 0 < length input → RebaseRan base given given' (idle to o) (idle t w) ended (Err Memory)
     ran_out_of_memory to t o w some = record { input = input; reads = reads; writes = (got_none to o, got_none t w); limit = limit; whole = tt; memory = λ _. some }
 
     module _ (whole : IsWhole ended input) where
-      -- the line was told after what the outcome sends to `out`
+      -- the line was written after `out` got its bytes
       pub ran_told : (outcome : Outcome) (out writer : Output) (result : Result Outcome ToolError) → IsOutcome input base outcome → Gets out (outcome_bytes input base outcome) → PutsLine base outcome writer result
           → RebaseRan base given given' out writer ended result
       ran_told outcome out writer (Ok told) is got puts = rw puts.0 (record { input = input; reads = reads; writes = (is, got, puts.1); limit = limit; whole = whole; memory = λ e. cc })
@@ -70,7 +70,7 @@ module _ (base : ℕ) (given given' : List ℕ) (ended : Bool) where
           is_all : take wrote.0.0 bytes ++ drop wrote.0.0 bytes ≡ rebased input base
           is_all = subst (λ (xs : List ℕ). take wrote.0.0 bytes ++ drop wrote.0.0 bytes ≡ xs) is (take-append-drop wrote.0.0 bytes)
 
--- want of memory comes of no empty file
+-- memory runs out only for a file that is not empty
 pub some_bytes : (file : List ℕ) {V : Type 0} (result : Result V Refusal) → ((fault : Fault) → first_standing (layout_tests 0 file) ≡ Some fault → result ≡ Err (Refusal.Fault fault)) → result ≡ Err Refusal.Memory → 0 < length file
 unfolding head_tests
 some_bytes [] result early is = let fault : Fault = record { number = 2; image = 0; place = File 0 } in let e = early fault refl in absurd cc

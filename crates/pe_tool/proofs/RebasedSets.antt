@@ -30,7 +30,7 @@ module_at n zero j (x ∷ es) e is at =
     ap (λ (i : ℕ). Some (module_of i x)) number ∙ ap (λ (y : Entry). Some (module_of j y)) (same_Some x e at)
 module_at n (suc k) j (x ∷ es) e is at = module_at (n + 1) k j es e (omega arith) at
 
--- the images of a set with one entry for another
+-- the images of a set with one entry replaced
 modules_set : (n k j : ℕ) (es : List Entry) (e e' : Entry) (i : LaidOut) → j ≡ n + k → slice_get es k ≡ Some e → module_of j e' ≡ record (module_of j e) { image = i }
     → modules_from n (slice_set es k e') ≡ exchanged k i (modules_from n es)
 modules_set n k j [] e e' i is at same = absurd cc
@@ -60,7 +60,7 @@ module _ (es : List Entry) (k : ℕ) (e : Entry) (g : List ℕ) (base a : ℕ) (
         ∙ again r (elsewhere le);
   }
 
-  -- each address that is none of the two fields holds the same byte
+  -- each address outside the two fields has the same byte
   pub mapped_alike : ((s t : List Module) → AreAlike s t → bindings_of s ≡ bindings_of t) → ((r : ℕ) → IsFree (head_of e.file) r → relocated (image_of_file k g) e.base r ≡ relocated (image_of_file k e.file) e.base r) → IsElsewhere e a → defined_byte (modules_of (slice_set es k new)) a ≡ defined_byte (modules_of es) a
   unfolding modules_of
   mapped_alike bound again elsewhere =

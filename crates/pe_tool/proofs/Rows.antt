@@ -1,4 +1,4 @@
--- Lines of the report of a mapped set as the definitions give them, written out.
+-- Examples of lines of the report of a mapped set.
 use Rattle.std.proofs.Common.{◌≡◌, ℕ, ◌%◌, [], Option, None, Some, refl, codes}
 use Rattle.std.specs.Fmt.{digits}
 use Rattle.pe_text.specs.Text.{hex, escaped, quoted}
@@ -12,7 +12,7 @@ bound_slot : bind_line (record { image = 2; slot = 0x1030; exporter = 1; rva = 0
 unfolding bind_line hex digits
 bound_slot = refl
 
--- bytes that are their addresses' lowest digits
+-- bytes equal to the lowest digits of their addresses
 abbrev low_digit : ℕ → Option ℕ
 low_digit a = Some (a % 256)
 

@@ -1,4 +1,4 @@
--- The report of a mapped set: where its images stand, what their slots are bound to, and the bytes of a window.
+-- The report of a mapped set: the bases of its images, the bindings of their slots, and the bytes of a window.
 use Rattle.std.specs.Prelude.{◌≡◌, ℕ, ◌+◌, ◌-◌, ◌*◌, ◌/◌, List, [], ◌∷◌, ◌++◌, codes, decimal, flat_map, map, min, Option, None, Some, unwrap_or, Result, Ok, Err}
 use Rattle.std.specs.List.{range_with_len}
 use Rattle.pe_view.specs.declared.fault.Fault.{Fault}
@@ -23,7 +23,7 @@ unfoldable pub image_line : ℕ → List ℕ → ℕ → ℕ → List ℕ
 image_line number name base size = joined
     (codes "image " ∷ decimal number ∷ codes " " ∷ quoted name ∷ codes " base 0x" ∷ hex 16 base ∷ codes " size 0x" ∷ hex 8 size ∷ codes "\n" ∷ [])
 
--- a bound slot: its image and its RVA, the image and the RVA of the export, and the address that the slot holds
+-- a bound slot: its image and its RVA, the image and the RVA of the export, and the address in the slot
 unfoldable pub bind_line : Binding → ℕ → List ℕ
 bind_line b address = joined
     (codes "bind " ∷ decimal b.image ∷ codes " 0x" ∷ hex 8 b.slot
@@ -33,23 +33,23 @@ bind_line b address = joined
 abbrev pub byte_text : ℕ → List ℕ
 byte_text byte = codes " " ++ hex 2 byte
 
--- bytes, under the address of the first
+-- bytes, after the address of the first
 unfoldable pub bytes_line : ℕ → List ℕ → List ℕ
 bytes_line address bytes = codes "0x" ++ hex 16 address ++ flat_map byte_text bytes ++ codes "\n"
 
--- an entry's line, where the images stand so
+-- the line of an entry, for these placements of the images
 abbrev pub told_line : List Placement → ℕ → Entry → List ℕ
 told_line ps number e = image_line number e.name e.base (unwrap_or (size_in ps number) 0)
 
--- where the export of a bound slot stands, of images that stand so
+-- the address of the export of a bound slot, for these placements
 abbrev pub export_address : List Placement → Binding → ℕ
 export_address ps b = unwrap_or (base_in ps b.exporter) 0 + b.rva
 
--- the bytes from an address on, by what stands at each
+-- the bytes from an address on, given the byte at each
 abbrev pub bytes_from : (ℕ → Option ℕ) → ℕ → ℕ → List ℕ
 bytes_from byte address count = map (λ a. unwrap_or (byte a) 0) (range_with_len address count)
 
--- line k of a window of so many bytes: sixteen of them, or what remains
+-- line k of a window of `count` bytes: sixteen of them, or the rest
 abbrev pub window_line : (ℕ → Option ℕ) → ℕ → ℕ → ℕ → List ℕ
 window_line byte address count k = bytes_line (address + 16 * k) (bytes_from byte (address + 16 * k) (min 16 (count - 16 * k)))
 
@@ -65,29 +65,29 @@ map_text s window =
     ++ window_lines (defined_byte s) window
     ++ codes "end\n"
 
--- ---- what is refused
+-- ---- refusals
 abbrev pub refusal_of : {X : Type 0} → Result X Fault → Option Fault
 refusal_of (Ok x) = None
 refusal_of (Err fault) = Some fault
 
--- fault 54, where the window is not inside one image
+-- fault 54 if the window is not inside one image
 abbrev pub window_fault : List Module → Option (ℕ × ℕ) → Option Fault
 window_fault s None = None
 window_fault s (Some w) = refusal_of (window_at (content_of s) w.0 w.1)
 
--- what is written of a set that has no error: its report, or fault 54
+-- the output for a set without an error: its report, or fault 54
 abbrev pub IsSpaceText : List Module → Option (ℕ × ℕ) → Outcome → List ℕ → Type 0
 IsSpaceText s window Done text = (window_fault s window ≡ None) × (text ≡ map_text s window)
 IsSpaceText s window (Refused fault) text = (window_fault s window ≡ Some fault) × (text ≡ fault_line fault)
 
--- a refusal and the line that tells of it: of the error of the set, else of fault 54 of the window
+-- a refusal and its line: the error of the set, or else fault 54 of the window
 abbrev pub IsRefusalText : Option MapError → Option Fault → Fault → List ℕ → Type 0
 IsRefusalText None window fault text = (window ≡ Some fault) × (text ≡ fault_line fault)
 IsRefusalText (Some errors.Memory) window fault text = ⊥
 IsRefusalText (Some (errors.Fault own)) window fault text = (fault ≡ own) × (text ≡ fault_line own)
 IsRefusalText (Some (errors.Cycle own length)) window fault text = (fault ≡ own) × (text ≡ cycle_line own length)
 
--- what `map_report` writes
+-- the output of `map_report`
 abbrev pub IsMapText : Policy → List Entry → Option (ℕ × ℕ) → Outcome → List ℕ → Type 0
 IsMapText policy es window Done text = (set_error policy es ≡ None) × (window_fault (modules_of es) window ≡ None) × (text ≡ map_text (modules_of es) window)
 IsMapText policy es window (Refused fault) text = IsRefusalText (set_error policy es) (window_fault (modules_of es) window) fault text

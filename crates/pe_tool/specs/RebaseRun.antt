@@ -1,4 +1,4 @@
--- What `rebase` reads and writes: the file at another base goes to one output, and then a line to another.
+-- What `rebase` reads and writes: the file for another base goes to one output, and then a line to another.
 use Rattle.std.specs.Prelude.{◌≡◌, ◌+◌, ◌<◌, ◌≤◌, ◌^◌, ◌⊎◌, ℕ, Bool, List, [], ◌∷◌, ◌++◌, codes, length, None, Some, Result, Ok, Err, IsErrOf}
 use Rattle.pe_view.specs.Faults.{first_standing}
 use Rattle.pe_write.specs.Rebase.{rebased}
@@ -13,16 +13,16 @@ use Rattle.pe_text.specs.Part.{joined}
 use Rattle.pe_text.specs.Text.{hex}
 use Rattle.pe_text.specs.TextWriter.{IsBeginning}
 
--- the line of a file that was rebased
+-- the line of a rebased file
 unfoldable pub rebased_line : ℕ → List ℕ
 rebased_line base = joined (codes "rebased 0x" ∷ hex 16 base ∷ codes "\n" ∷ [])
 
--- whether a file is refused: by its first fault, where one stands
+-- the outcome of a file: refused by its first fault, if it has one
 abbrev pub IsOutcome : List ℕ → ℕ → Outcome → Type 0
 IsOutcome file base Done = first_standing (rebase_tests file base) ≡ None
 IsOutcome file base (Refused fault) = first_standing (rebase_tests file base) ≡ Some fault
 
--- what goes to the one output, and to the other
+-- the bytes for the one output, and for the other
 abbrev pub outcome_bytes : List ℕ → ℕ → Outcome → List ℕ
 outcome_bytes file base Done = rebased file base
 outcome_bytes file base (Refused fault) = []
@@ -31,35 +31,35 @@ abbrev pub outcome_line : ℕ → Outcome → List ℕ
 outcome_line base Done = rebased_line base
 outcome_line base (Refused fault) = fault_line fault
 
--- an output: what it had taken and how many failures it had counted, before and now
+-- an output: the bytes that it had taken and the failures that it had counted, before and now
 pub record Output : Type 0 where
   pub taken : List ℕ
   pub taken' : List ℕ
   pub count : ℕ
   pub count' : ℕ
 
--- the output got this, and no call failed
+-- the output got these bytes, and no call failed
 abbrev pub Gets : Output → List ℕ → Type 0
 Gets o piece = (o.taken' ≡ o.taken ++ piece) × (o.count' ≡ o.count)
 
--- the output got a beginning of this, and one call failed
+-- the output got a beginning of these bytes, and one call failed
 abbrev pub GetsPart : Output → List ℕ → Type 0
 GetsPart o piece = (part : List ℕ) × (o.taken' ≡ o.taken ++ part) × IsBeginning part piece × (o.count' ≡ o.count + 1)
 
--- a write of the new file failed, and the line was not begun; or one of the line failed, after all that the outcome sends to `out`
+-- a write of the new file failed, and the line was not begun; or a write of the line failed, after `out` got its bytes
 abbrev pub StopsShort : List ℕ → ℕ → Output → Output → Type 0
 StopsShort file base out writer =
     ((first_standing (rebase_tests file base) ≡ None) × GetsPart out (rebased file base) × Gets writer [])
     ⊎ ((outcome : Outcome) × IsOutcome file base outcome × Gets out (outcome_bytes file base outcome) × GetsPart writer (outcome_line base outcome))
 
--- what both outputs got, by the engine's answer
+-- what both outputs got, by the result of the engine
 abbrev pub WritesBoth : List ℕ → ℕ → Output → Output → Result Outcome ToolError → Type 0
 WritesBoth file base out writer (Ok outcome) = IsOutcome file base outcome × Gets out (outcome_bytes file base outcome) × Gets writer (outcome_line base outcome)
 WritesBoth file base out writer (Err Read) = Gets out [] × Gets writer []
 WritesBoth file base out writer (Err Write) = StopsShort file base out writer
 WritesBoth file base out writer (Err Memory) = Gets out [] × Gets writer []
 
--- what `rebase` reads, and what it writes
+-- what `rebase` reads and writes
 pub record RebaseRan (base : ℕ) (given given' : List ℕ) (out writer : Output) (ended : Bool) (result : Result Outcome ToolError) : Type 0 where
   pub input : List ℕ
   pub reads : given' ≡ given ++ input
@@ -68,7 +68,7 @@ pub record RebaseRan (base : ℕ) (given given' : List ℕ) (out writer : Output
   pub whole : OnJudged result (IsWhole ended input)
   pub memory : IsErrOf result Memory → 0 < length input
 
--- the line of an outcome was written, by the answer
+-- the line of an outcome was written, by the result
 abbrev pub PutsLine : ℕ → Outcome → Output → Result Outcome ToolError → Type 0
 PutsLine base outcome writer (Ok told) = (told ≡ outcome) × Gets writer (outcome_line base outcome)
 PutsLine base outcome writer (Err Read) = ⊥

@@ -1,4 +1,4 @@
--- A set of images of which one has the file of another base.
+-- A set in which one image has the file for another base.
 use Rattle.std.specs.Prelude.{◌≡◌, ◌-◌, ◌%◌, ◌≤◌, ℕ, List, Some, None, slice_get, slice_set}
 use Rattle.pe_view.specs.Faults.{first_standing}
 use Rattle.pe_head.specs.Head.{head_of}
@@ -10,14 +10,14 @@ use Rattle.pe_set.specs.Set.{Entry}
 use Rattle.pe_write.specs.Rebase.{IsFree, rebased}
 use Rattle.pe_write.specs.RebaseFaults.{rebase_tests}
 
--- the tables of g read as those of i
+-- the tables of g read like those of i
 pub record ReadsAlike (i g : LaidOut) : Type 0 where
   pub exports : exports_of g ≡ exports_of i
   pub imports : imports_of g ≡ imports_of i
   pub fixups : fixups_of g ≡ fixups_of i
 
--- Entry k of a set is e, whose base is a multiple of 65,536 and whose file may be rebased, its signature not in the first 16
--- bytes; the other set has the new file in its place and differs in nothing else; and the new file's tables read as before.
+-- Entry k of a set is e, whose base is a multiple of 65,536 and whose file can be rebased, its signature not in the first 16
+-- bytes; the other set has the new file there and is otherwise equal; and the new file's tables read as before.
 pub record IsRebasedSet (es es' : List Entry) (k : ℕ) (e : Entry) (base : ℕ) : Type 0 where
   pub entry : slice_get es k ≡ Some e
   pub aligned : e.base % 65536 ≡ 0
@@ -26,6 +26,6 @@ pub record IsRebasedSet (es es' : List Entry) (k : ℕ) (e : Entry) (base : ℕ)
   pub late : 16 ≤ (head_of e.file).pe_offset
   pub tables : ReadsAlike (image_of_file k e.file) (image_of_file k (rebased e.file base))
 
--- at an address stands no byte of the fields ImageBase and CheckSum of an entry's image
+-- the address is outside the fields ImageBase and CheckSum of an entry's image
 abbrev pub IsElsewhere : Entry → ℕ → Type 0
 IsElsewhere e a = e.base ≤ a → IsFree (head_of e.file) (a - e.base)

@@ -1,7 +1,7 @@
-//! The engines of the program `petool`: each reads a whole file, judges it, and writes a text.
+//! The engines of the program `petool`: each reads a whole file, checks it, and writes its output.
 //!
-//! An engine runs over any [`Source`] and any [`Sink`], and [`Counted`] makes one of any reader or writer of std. Its
-//! contract says what was written of what was read:
+//! An engine runs over any [`Source`] and any [`Sink`]; [`Counted`] makes one of any reader or writer of std. Its contract relates
+//! the output to the bytes that it read:
 //!
 //! ```text
 //! let mut reader = Counted::new(file);

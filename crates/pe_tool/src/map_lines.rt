@@ -11,7 +11,7 @@ use pe_space::{Binding, SetEntry, Space};
 use pe_text::Part::{Decimal, Hex2, Hex8, Hex16, Quoted, Text};
 use pe_text::{Sink, TextWriter, write_parts};
 
-/// How many bytes a line of a window shows.
+/// How many bytes are on a line of a window.
 const LINE_BYTES: u32 = 16;
 
 #[tactic(auto, unfolding(crate::specs::MapReport::image_line))]
@@ -35,7 +35,7 @@ fn write_image<W: Sink>(line: &mut TextWriter<W>, number: usize, entry: &SetEntr
     );
 }
 
-/// Adds a line for each image of a space, whose names and bases are those of the set.
+/// Adds a line for each image of a space; `set` has the images' names.
 pub(crate) fn write_images<S: Space, W: Sink>(text: &mut TextWriter<W>, space: &S, set: &[SetEntry])
     requires ready { IsReady W.failures text.old }
     requires few { length set.now ≤ 256 }
@@ -84,7 +84,7 @@ pub(crate) fn write_bindings<S: Space, W: Sink>(text: &mut TextWriter<W>, space:
     }
 }
 
-/// Adds a byte as a line of a window shows it.
+/// Adds bytes in the form of a window's line.
 fn write_bytes<W: Sink>(line: &mut TextWriter<W>, bytes: &[u8])
     requires { IsReady W.failures line.old }
     ensures { Adds W.taken W.failures line.old line.new (flat_map byte_text bytes.now) }
@@ -104,7 +104,7 @@ fn write_bytes_line<W: Sink>(line: &mut TextWriter<W>, address: u64, bytes: &[u8
     line.text(b"\n");
 }
 
-/// Adds the lines of a window, which lies in one image. Its bytes go to the text line by line.
+/// Adds the lines of a window, which is inside one image. It reads the bytes line by line.
 pub(crate) fn write_window<S: Space, W: Sink>(
     text: &mut TextWriter<W>,
     space: &S,

@@ -32,7 +32,7 @@ fn write_outcome<W: Sink>(line: &mut TextWriter<W>, base: u64, outcome: &Outcome
     }
 }
 
-/// Writes the line of an outcome, which is the answer.
+/// Writes the line of an outcome, and returns the outcome.
 fn tell<W: Sink>(writer: &mut W, base: u64, outcome: Outcome) -> Result<Outcome, ToolError>
     requires { W.failures writer.old < 2 ^ 64 - 1 }
     ensures { PutsLine base outcome (record { taken = W.taken writer.old; taken' = W.taken writer.new; count = W.failures writer.old; count' = W.failures writer.new }) result }
@@ -45,15 +45,14 @@ fn tell<W: Sink>(writer: &mut W, base: u64, outcome: Outcome) -> Result<Outcome,
     }
 }
 
-/// Writes the file of an image that is to stand at another base, which `pe_write::rebase_file` makes of the file that the reader
-/// gives, to `out`, and then the line `rebased 0x` and 16 digits of the base to `writer`; or the line of the first fault to
-/// `writer`, and nothing to `out`.
+/// Writes to `out` the file of an image for another base, which `pe_write::rebase_file` makes from the file that the reader
+/// returns, and then to `writer` the line `rebased 0x` with 16 digits of the base; or writes to `writer` the line of the first
+/// fault, and nothing to `out`.
 ///
-/// The reader is read to its end, or to 2^32 + 1 bytes; then all faults are asked, and only then anything is written. After
-/// `Write` either `out` got a beginning of the new file, and `writer` nothing, or `out` got all that it should and `writer` a
-/// beginning of its line: the output that failed is the one that counts a failure more. After `Read` and `Memory` nothing was
-/// written; `Memory` never comes where the reader gave no byte. Condition: fewer than 2^64 - 1 failures are counted on each
-/// device so far.
+/// The file is read to its end, or to 2^32 + 1 bytes; output is written only after all faults were tested. On the error `Write`
+/// either `out` got the beginning of the new file and `writer` nothing, or `out` got everything and `writer` the beginning of its
+/// line: the output that failed is the one that has counted one more failure. On `Read` and `Memory` nothing was written; `Memory`
+/// never comes if the reader returned no byte. Condition: each device has counted fewer than 2^64 - 1 failures so far.
 pub fn rebase<A: Allocator + Copy, R: Source, O: Sink, W: Sink>(
     alloc: A,
     reader: &mut R,

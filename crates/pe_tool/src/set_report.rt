@@ -21,7 +21,7 @@ use pe_text::{Outcome, Sink, TextWriter, ToolError, refuse, write_cycle_line};
 use pe_view::Fault;
 use std::alloc::{AllocError, Allocator};
 
-/// Adds the report of a space that was mapped from a set.
+/// Adds the report of the space of a set.
 #[tactic(auto, unfolding(crate::specs::MapReport::map_text))]
 fn write_space<S: Space, W: Sink>(
     text: &mut TextWriter<W>,
@@ -44,7 +44,7 @@ fn write_space<S: Space, W: Sink>(
     text.text(b"end\n");
 }
 
-/// Asks where a window lies, and only then adds the report of a space that was mapped from a set, or the line of fault 54.
+/// Tests where the window is, and then adds the report of the space of a set, or the line of fault 54.
 fn tell_space<S: Space, W: Sink>(
     text: &mut TextWriter<W>,
     space: &S,
@@ -66,7 +66,7 @@ fn tell_space<S: Space, W: Sink>(
     Outcome::Done
 }
 
-/// Adds the line of a fault that is a cycle of forwarders.
+/// Adds the line of a fault with its cycle of forwarders.
 fn refuse_cycle<W: Sink>(text: &mut TextWriter<W>, fault: Fault, length: u32) -> Outcome
     requires { IsReady W.failures text.old }
     ensures adds { Adds W.taken W.failures text.old text.new (cycle_line fault length) }
@@ -76,7 +76,7 @@ fn refuse_cycle<W: Sink>(text: &mut TextWriter<W>, fault: Fault, length: u32) ->
     Outcome::Refused(fault)
 }
 
-/// Judges a set and a window, and only then adds the text. Where memory is refused it adds nothing.
+/// Checks a set and a window, and then adds the report or a fault's line. If memory runs out, it adds nothing.
 fn write_map<A: Allocator + Copy, W: Sink>(
     alloc: A,
     text: &mut TextWriter<W>,
@@ -101,15 +101,15 @@ fn write_map<A: Allocator + Copy, W: Sink>(
     }
 }
 
-/// Maps a set of images and writes the report of it: a line for each image, with its number, name, base and SizeOfImage; a line
-/// for each slot that is bound, by image and then in import order, with the RVAs of slot and export and the address that the
-/// slot holds; and the bytes of a window, if one is asked for (the address of its first byte, and how many it has), sixteen a
-/// line.
+/// Maps a set of images and writes the report: a line for each image, with its number, name, base and SizeOfImage; a line for each
+/// bound slot, by image and then in import order, with the RVAs of slot and export and the address in the slot; and the bytes of
+/// the window, if there is one (its first address and its length), sixteen per line.
 ///
-/// All faults are asked first: those of the set, as `pe_space::map` asks them, and then, where the window does not lie in one
-/// image, 54. A refused report is the line of the first fault; of 50 it ends with ` cycle ` and the length of the cycle. After `Write` a beginning of the text was written, after `Memory`
-/// nothing; `Memory` comes only where a growth was refused, and never where the names of the set have a fault, nor of no entry.
-/// There is no `Read`. Condition: fewer than 2^64 - 1 failures are counted on the writer so far.
+/// All faults are tested first: those of the set, as in `pe_space::map`, and then 54 if the window is not inside one image. For a
+/// refused set or window the output is the line of the first fault; for fault 50 it ends with ` cycle ` and the length of the
+/// cycle. On the error `Write` the beginning of the output was written, on `Memory` nothing; `Memory` comes only if an allocation
+/// failed, and never if the names of the set have a fault or the set is empty. There is no `Read`. Condition: the writer has
+/// counted fewer than 2^64 - 1 failures so far.
 pub fn map_report<A: Allocator + Copy, W: Sink>(
     alloc: A,
     set: &[SetEntry],

@@ -1,15 +1,15 @@
-//! The words of the command line.
+//! `parse_words`: the job of a command line, with the policies of `map`.
 
 use pe_space::Policy;
 use pe_words::WordsError;
 use std::alloc::Global;
 
-/// What the words ask for, and what `map` is to answer for an import of a module that is not among the files.
+/// The job of a command line; `map` has a policy for imports of modules that are not among the files.
 pub type Job = pe_words::Job<Policy>;
 
-/// What the words after the program's name ask for.
+/// The job of the words after the program's name.
 ///
-/// `Bad` and `Help` hold clap's own text, or one of its form. `Memory` comes only where an allocation was refused.
+/// `Bad` and `Help` contain clap's own text, or one of its form. `Memory` comes only if an allocation failed.
 pub fn parse_words(alloc: Global, words: &[String]) -> Result<Job, WordsError> {
     pe_words::parse_words(alloc, words, Policy::Strict, Policy::Known)
 }
