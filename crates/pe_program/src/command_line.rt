@@ -1,4 +1,4 @@
-//! The words of the command line, and why there are none.
+//! The words of the command line, and the message if they cannot be read.
 
 use crate::messages::{STANDARD_OUTPUT, tell_failure};
 use crate::statuses::{BAD_WORDS, DEVICE_FAILED, DONE, OUT_OF_MEMORY};
@@ -9,14 +9,14 @@ use std::io::ErrorKind;
 use std::rt::Env;
 use std::{env, str};
 
-/// How many bytes a word of the command line is read into.
+/// The size of the buffer for a word of the command line, in bytes.
 const WORD_BUFFER: usize = 1 << 17;
 
-/// Why the command line gives no words.
+/// Why the command line has no words.
 pub enum NoWords {
-    /// A word is not UTF-8: its number behind the program's name, where it is known.
+    /// A word is not UTF-8: its number after the program's name, if it is known.
     Unreadable(Option<usize>),
-    /// Memory was refused.
+    /// Out of memory.
     Memory,
 }
 
@@ -26,7 +26,7 @@ impl From<AllocError> for NoWords {
     }
 }
 
-/// The number of the first word that is not UTF-8, counted from the program's name on, which is 0.
+/// The number of the first word that is not UTF-8; the program's name is 0.
 fn unreadable_word(rt: &impl Env) -> Option<usize> {
     let mut buffer = [0; WORD_BUFFER];
     for number in 0..usize::MAX {
@@ -48,7 +48,7 @@ pub fn words_of<R: Env + Alloc>(rt: &R) -> Result<Vec<String<R::A>, R::A>, NoWor
     Ok(words.skip(1).collect(rt.alloc())?)
 }
 
-/// Tells why there are no words, and answers the exit status.
+/// Reports why there are no words, and returns the exit status.
 pub fn refuse_command_line(rt: &(impl Print + Eprint), error: NoWords) -> u8 {
     match error {
         NoWords::Unreadable(Some(number)) => {
@@ -63,7 +63,7 @@ pub fn refuse_command_line(rt: &(impl Print + Eprint), error: NoWords) -> u8 {
     }
 }
 
-/// Tells why the words name no job, and answers the exit status.
+/// Reports why the words describe no job, and returns the exit status.
 pub(crate) fn refuse_words(rt: &(impl Print + Eprint), error: WordsError) -> u8 {
     match error {
         WordsError::Help(text) => match print!(rt; "{text}") {

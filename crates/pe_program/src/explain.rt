@@ -1,14 +1,14 @@
-//! What a fault means: its words, its rule, and the files that meet it.
+//! The meaning of a fault: its words, its rule, and the files that have it.
 
 use crate::messages::{STANDARD_OUTPUT, tell_failure};
 use crate::statuses::{BAD_WORDS, DEVICE_FAILED, DONE};
 use pe_tool::{FaultWords, ToolError, fault_words};
 use std::io;
 
-/// A fault's number, where it stands, and which files meet it.
+/// A fault's number, its place, and the files that have it.
 type Explained = (u16, &'static str, &'static str);
 
-/// All faults, by their numbers.
+/// All faults, by number.
 static EXPLAINED: [Explained; 69] = [
     (
         1,
@@ -349,12 +349,13 @@ static EXPLAINED: [Explained; 69] = [
     ),
 ];
 
-/// The rows of all faults. Each function that names the table has it proved anew, so this one alone does.
+/// The rows of all faults. Only this function names the table, since the prover proves the table again for each function that
+/// does.
 fn explained() -> &'static [Explained] {
     &EXPLAINED
 }
 
-/// Prints what a fault means.
+/// Prints the meaning of a fault.
 fn print_fault(rt: &impl Print, row: &Explained) -> io::Result<()> {
     let (number, stands, met) = *row;
     let Some(FaultWords { subject, rule }) = fault_words(number) else {
@@ -365,7 +366,7 @@ fn print_fault(rt: &impl Print, row: &Explained) -> io::Result<()> {
     )
 }
 
-/// Prints the words of a fault, in one line.
+/// Prints the words of a fault on one line.
 fn print_words(rt: &impl Print, number: u16) -> io::Result<()> {
     let Some(FaultWords { subject, rule }) = fault_words(number) else {
         return Ok(());
@@ -373,7 +374,7 @@ fn print_words(rt: &impl Print, number: u16) -> io::Result<()> {
     println!(rt; "{number:>3}  {subject}: {rule}")
 }
 
-/// Prints the words of all faults, a line each.
+/// Prints the words of all faults, one per line.
 fn print_list(rt: &impl Print) -> io::Result<()> {
     for (number, _, _) in explained() {
         print_words(rt, *number)?;
@@ -381,7 +382,7 @@ fn print_list(rt: &impl Print) -> io::Result<()> {
     Ok(())
 }
 
-/// Prints what a fault means, or all of them where there is no number, and answers the exit status.
+/// Prints the meaning of a fault, or the list of all faults if there is no number, and returns the exit status.
 pub(crate) fn run_explain(rt: &(impl Print + Eprint), number: Option<u16>) -> u8 {
     let printed = match number {
         None => print_list(rt),

@@ -1,4 +1,4 @@
-//! The commands that read files one by one: `run_file` and `run_files`.
+//! The commands that read files one at a time: `run_file` and `run_files`.
 
 use crate::input::{InputFile, name_of, open_file};
 use crate::messages::{STANDARD_OUTPUT, tell_failure, tell_fault};
@@ -8,13 +8,13 @@ use pe_tool::{Outcome, ToolError, status};
 use std::io::{Error, Input, Read};
 use std::rt::Files;
 
-/// Tells on standard error that a file cannot be opened, and answers the exit status.
+/// Reports on standard error that a file cannot be opened, and returns the exit status.
 pub(crate) fn refuse_path(rt: &impl Eprint, path: &str, error: Error) -> u8 {
     let _ = eprintln!(rt; "petool: {path}: cannot be opened: {error}");
     DEVICE_FAILED
 }
 
-/// Tells on standard error what an engine met in a file, or why it gave up, and answers the exit status.
+/// Reports on standard error the fault of a file or the failure of an engine, and returns the exit status.
 pub(crate) fn tell<F: Read, S: Read>(
     rt: &impl Eprint,
     name: &str,
@@ -30,13 +30,13 @@ pub(crate) fn tell<F: Read, S: Read>(
     status(&printed.answer)
 }
 
-/// Whether the engine's own text tells a fault in words.
+/// Whether the engine's own output has faults in words.
 fn tells_faults(engine: Engine) -> bool {
     matches!(engine, Engine::Show(_) | Engine::Json)
 }
 
-/// Runs an engine over a file for so many bytes of text at most, and answers the exit status: as an `Err` where standard output is
-/// lost.
+/// Runs an engine over a file, with at most `most` bytes of output, and returns the exit status; it is an `Err` if standard output
+/// failed.
 fn run_behind<R: Files + Input + Print + Eprint + Alloc>(
     rt: &R,
     engine: Engine,
@@ -68,7 +68,7 @@ where
     }
 }
 
-/// Runs an engine over a file, for so many bytes of text at most, and answers the exit status.
+/// Runs an engine over a file, with at most `most` bytes of output, and returns the exit status.
 pub fn run_file<R: Files + Input + Print + Eprint + Alloc>(
     rt: &R,
     engine: Engine,
@@ -83,7 +83,7 @@ where
     }
 }
 
-/// Whether a heading stands before the text of a file among several: its name, or the blank line behind the page before it.
+/// Whether the output for one of several files has a heading: its name, or a blank line after the previous page.
 fn is_headed(engine: Engine, is_first: bool) -> bool {
     match engine {
         Engine::Check => true,
@@ -92,13 +92,13 @@ fn is_headed(engine: Engine, is_first: bool) -> bool {
     }
 }
 
-/// Whether a page was printed where an engine ended with this status.
+/// Whether a page was printed if an engine ended with this status.
 fn has_text(status: u8) -> bool {
     matches!(status, DONE | REFUSED | CUT)
 }
 
-/// Runs an engine over files, for so many bytes of the text of each at most, one after the other while standard output takes what is
-/// written, and answers the worst exit status.
+/// Runs an engine over files in order, with at most `most` bytes of output for each, until standard output fails, and returns the
+/// worst exit status.
 pub fn run_files<R: Files + Input + Print + Eprint + Alloc>(
     rt: &R,
     engine: Engine,

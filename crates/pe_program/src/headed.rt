@@ -3,7 +3,7 @@
 use std::io::{self, Write};
 use std::mem;
 
-/// A writer of what stands behind a heading, which is written just before the first byte of it, in two parts.
+/// A writer that writes a heading, in two parts, just before the first byte.
 #[derive(Drop)]
 pub(crate) struct Headed<'a, W> {
     inner: W,
@@ -21,7 +21,7 @@ impl<'a, W: Write> Headed<'a, W> {
         }
     }
 
-    /// Writes the heading, unless it was written.
+    /// Writes the heading the first time.
     fn write_heading(&mut self) -> io::Result<()> {
         let heading = mem::replace(&mut self.heading, "");
         let rest = mem::replace(&mut self.rest, "");

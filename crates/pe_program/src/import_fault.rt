@@ -1,4 +1,4 @@
-//! The faults of what an import is bound to, which name it.
+//! The faults of bindings, whose messages name the import.
 
 use pe_image::{import_at, lay_out};
 use pe_tables::{Import, Key};
@@ -6,10 +6,10 @@ use pe_tool::FaultText;
 use pe_view::{Fault, Place};
 use std::alloc::Allocator;
 
-/// The fault of an import that leads to a module that is not in the set.
+/// The fault of an import whose search comes to a module that is not in the set.
 const NO_MODULE: u16 = 48;
 
-/// The slot of the import that a fault names, where it names one.
+/// The slot of the import that a fault names, if it names one.
 fn slot_of(fault: &Fault) -> Option<u32> {
     match (fault.number, fault.place) {
         (48..=50, Place::Rva(slot)) => Some(slot),
@@ -17,8 +17,8 @@ fn slot_of(fault: &Fault) -> Option<u32> {
     }
 }
 
-/// The import of an image whose slot a fault names, where it names one, and where there is memory to look it up. Of the file the
-/// headers and the import table are read once more: a refused set has kept nothing of them.
+/// The import whose slot a fault names, if it names one and memory suffices. The file's headers and import table are read again,
+/// since a refused set keeps nothing of them.
 pub(crate) fn import_of<'a, A: Allocator + Copy>(
     alloc: A,
     file: &'a [u8],
@@ -29,7 +29,7 @@ pub(crate) fn import_of<'a, A: Allocator + Copy>(
     import_at(alloc, &layout, slot).ok()?
 }
 
-/// Tells a fault of what an import is bound to, with the import's module and its name there, or its ordinal behind `#`.
+/// Reports a fault of a binding, with the import's module and its name, or `#` and its ordinal.
 pub(crate) fn tell_import_fault(rt: &impl Eprint, subject: &str, fault: Fault, import: &Import) {
     let module = import.module.escape_ascii();
     let text = FaultText(fault);

@@ -1,4 +1,4 @@
-//! `InputFile`: a file that is read, at a path or from standard input.
+//! `InputFile`: an input file, from a path or from standard input.
 
 ghost use Rattle.std.specs.Prelude.{◌≤◌, length, IfOk};
 
@@ -6,17 +6,17 @@ use std::fs;
 use std::io::{self, Error, Input, Read};
 use std::rt::Files;
 
-/// How many of its first bytes an input keeps: headers and section tables that linkers write stand among them.
+/// How many of its first bytes an input keeps; headers and section tables that linkers write are among them.
 const FIRST_BYTES: usize = 1 << 12;
 
-/// Where bytes come from.
+/// The source of the bytes.
 #[derive(Drop)]
 enum Stream<F, S> {
     File(F),
     Standard(S),
 }
 
-/// A file that is read. It keeps its first bytes, how many were read, and the error of the read that failed.
+/// An input file. It keeps its first bytes, how many were read, and the error of the read that failed.
 #[derive(Drop)]
 pub(crate) struct InputFile<F, S> {
     stream: Stream<F, S>,
@@ -26,7 +26,7 @@ pub(crate) struct InputFile<F, S> {
 }
 
 impl<F: Read, S: Read> InputFile<F, S> {
-    /// A file of which nothing was read.
+    /// A file that was not read yet.
     fn new(stream: Stream<F, S>) -> InputFile<F, S> {
         InputFile {
             stream,
@@ -47,12 +47,12 @@ impl<F: Read, S: Read> InputFile<F, S> {
         self.len
     }
 
-    /// The system's word for the read that failed.
+    /// The system's error of the read that failed.
     pub fn error(&self) -> Option<Error> {
         self.error
     }
 
-    /// Reads from where the bytes come from.
+    /// Reads from the source.
     fn read_stream(&mut self, buffer: &mut [u8]) -> io::Result<usize>
         ensures { IfOk result (λ count. count ≤ length buffer.new) }
     {
@@ -62,7 +62,7 @@ impl<F: Read, S: Read> InputFile<F, S> {
         }
     }
 
-    /// Counts bytes that were read, and keeps them as far as they are among the first.
+    /// Counts bytes that were read, and keeps those among the first.
     fn keep(&mut self, bytes: &[u8]) {
         let start = usize::try_from(self.len).unwrap_or(FIRST_BYTES);
         if let Some(room) = self.first.get_mut(start..) {
@@ -92,7 +92,7 @@ pub(crate) fn open_path<R: Files + Input>(
     Ok(InputFile::new(Stream::File(fs::open(rt, path)?)))
 }
 
-/// The file at a path, or standard input where the path is `-`.
+/// The file at a path, or standard input for the path `-`.
 pub(crate) fn open_file<R: Files + Input>(
     rt: &R,
     path: &str,
@@ -103,7 +103,7 @@ pub(crate) fn open_file<R: Files + Input>(
     open_path(rt, path)
 }
 
-/// What messages call the file at a path.
+/// The name in messages of the file at a path.
 pub(crate) fn name_of(path: &str) -> &str {
     if path == "-" { "standard input" } else { path }
 }

@@ -1,11 +1,11 @@
-//! `LateFile`: a file that is created, or emptied, when it is first written to.
+//! `LateFile`: a file that is created, or truncated, at the first write.
 
 use std::fs;
 use std::io::{self, Error, ErrorKind, Write};
 use std::os::unix::fs::MetadataExt;
 use std::rt::Files;
 
-/// A file that is made, or emptied where it is there, at the first write to it.
+/// A file that is created, or truncated if it exists, at the first write to it.
 #[derive(Drop)]
 pub(crate) struct LateFile<'a, R: Files> {
     rt: &'a R,
@@ -14,7 +14,7 @@ pub(crate) struct LateFile<'a, R: Files> {
 }
 
 impl<'a, R: Files> LateFile<'a, R> {
-    /// The file at this path, which is not yet made.
+    /// The file at this path, which is not created yet.
     pub fn new(rt: &'a R, path: &'a str) -> LateFile<'a, R> {
         LateFile {
             rt,
@@ -43,7 +43,7 @@ impl<R: Files> Write for LateFile<'_, R> {
     }
 }
 
-/// Whether two paths lead to one file, also by links. A path at which no file can be found leads to none.
+/// Whether two paths lead to one file, also by links. A path without a file leads to none.
 pub(crate) fn is_same_file(rt: &impl Files, one: &str, other: &str) -> bool {
     let (Ok(one), Ok(other)) = (fs::metadata(rt, one), fs::metadata(rt, other)) else {
         return one == other;

@@ -1,4 +1,4 @@
-//! The command `map`: reads files whole, maps them and prints the report.
+//! The command `map`: reads whole files, maps them and prints the report.
 
 use crate::file_job::refuse_path;
 use crate::import_fault::{import_of, tell_import_fault};
@@ -21,7 +21,7 @@ fn read_bytes<A: Allocator + Copy>(
     read_whole(alloc, &mut reader)
 }
 
-/// Reads a file whole, or tells what failed and answers the exit status.
+/// Reads a whole file, or reports the failure and returns the exit status.
 fn read_file<R: Files + Input + Eprint + Alloc>(rt: &R, path: &str) -> Result<Vec<u8, R::A>, u8>
 where
     R::A: Copy,
@@ -37,13 +37,13 @@ where
     })
 }
 
-/// Tells on standard error that memory for `map` was refused, and answers the exit status.
+/// Reports on standard error that memory for `map` ran out, and returns the exit status.
 fn refuse_map(rt: &impl Eprint) -> u8 {
     tell_failure(rt, "map", ToolError::Memory, None);
     OUT_OF_MEMORY
 }
 
-/// Reads files whole, in their order, up to the first that fails.
+/// Reads whole files in order, up to the first that fails.
 fn read_files<R: Files + Input + Eprint + Alloc>(
     rt: &R,
     files: &[MapFile],
@@ -77,7 +77,7 @@ fn set_of<'a, A: Allocator>(
         .collect(alloc)
 }
 
-/// Tells a fault of a set: of the file that it names, or of the command.
+/// Reports a fault of a set: of the file that it names, or of the command.
 fn tell_set_fault<R: Eprint + Alloc>(rt: &R, files: &[MapFile], set: &[SetEntry], fault: Fault)
 where
     R::A: Copy,
@@ -95,7 +95,7 @@ where
     }
 }
 
-/// Tells on standard error what `map` met in a set, or why it gave up, and answers the exit status.
+/// Reports on standard error a fault of a set or the failure of `map`, and returns the exit status.
 fn tell_set<R: Eprint + Alloc>(rt: &R, files: &[MapFile], set: &[SetEntry], printed: Printed) -> u8
 where
     R::A: Copy,
@@ -109,7 +109,7 @@ where
     status(&printed.answer)
 }
 
-/// Maps files, and answers the exit status.
+/// Maps files, and returns the exit status.
 pub fn run_map<R: Files + Input + Print + Eprint + Alloc>(
     rt: &R,
     policy: Policy,

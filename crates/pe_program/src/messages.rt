@@ -5,11 +5,11 @@ use pe_view::{Fault, View};
 use std::fmt::{self, Display};
 use std::io::{Error, ErrorKind};
 
-/// What messages call standard output.
+/// The name of standard output in messages.
 pub(crate) const STANDARD_OUTPUT: &str = "standard output";
 
-/// Tells that a file, an output or a command failed, with the system's word for it where there is one. Of a pipe whose reader
-/// went away nothing is told.
+/// Reports that a file, an output or a command failed, with the system's error if there is one. For a closed pipe it reports
+/// nothing.
 pub(crate) fn tell_failure(
     rt: &impl Eprint,
     subject: &str,
@@ -23,10 +23,10 @@ pub(crate) fn tell_failure(
     };
 }
 
-/// How many of its first bytes tell what a file is.
+/// How many of its first bytes show the kind of a file.
 const KIND_BYTES: usize = 16;
 
-/// What the first bytes of a refused file show it to be, where that is not what the command reads.
+/// The kind of a refused file by its first bytes, if it is another one than the command reads.
 fn other_kind(fault: &Fault, first: &[u8]) -> Option<FileKind> {
     let read = match fault.number {
         1..=38 => FileKind::Image,
@@ -37,7 +37,7 @@ fn other_kind(fault: &Fault, first: &[u8]) -> Option<FileKind> {
     file_kind(first).filter(|kind| *kind != read)
 }
 
-/// A fault in words, the values of the file that it tells of, and what the file is where that is not what was wanted.
+/// A fault in words, the values of the file that it compares, and the kind of the file if it is the wrong one.
 #[derive(Clone, Copy)]
 struct Told {
     fault: FaultText,
@@ -58,7 +58,7 @@ impl Display for Told {
     }
 }
 
-/// Tells a fault of a file, or of a command, in words: of a file of which these are the first bytes, and that has so many.
+/// Reports a fault of a file or a command in words; `first` and `len` are the file's first bytes and its size.
 pub(crate) fn tell_fault(rt: &impl Eprint, subject: &str, fault: Fault, first: &[u8], len: u64) {
     let told = Told {
         fault: FaultText(fault),

@@ -1,21 +1,21 @@
-//! `Output`: a writer that keeps the error of the call that failed, and takes no more bytes than it may.
+//! `Output`: a writer with a limit, which keeps the error of the call that failed.
 
 ghost use Rattle.std.specs.Prelude.{◌≤◌, length};
 
 use std::io::{self, Error, ErrorKind, Write};
 
-/// A writer that keeps the error of the call that failed, and refuses all that is behind so many bytes.
+/// A writer that keeps the error of the call that failed, and refuses all bytes past its limit.
 #[derive(Drop)]
 pub(crate) struct Output<W> {
     inner: W,
     error: Option<Error>,
     /// How many bytes may still be written.
     left: u64,
-    /// Whether more was to be written than may be.
+    /// Whether bytes past the limit were refused.
     is_cut: bool,
 }
 
-/// Whether bytes of a text are cut inside a character at an index.
+/// Whether the index is inside a UTF-8 character.
 fn splits(bytes: &[u8], index: usize) -> bool {
     match bytes.get(index) {
         Some(byte) => *byte & 0b1100_0000 == 0b1000_0000,
@@ -23,7 +23,7 @@ fn splits(bytes: &[u8], index: usize) -> bool {
     }
 }
 
-/// How many of the bytes of a text are written where so many may be: no character is cut, which has at most 4 bytes.
+/// How many of these bytes to write if at most `most` may be written: no UTF-8 character, of at most 4 bytes, is split.
 fn fitting(bytes: &[u8], most: u64) -> usize
     ensures { result ≤ length bytes.now }
 {
@@ -40,12 +40,12 @@ fn fitting(bytes: &[u8], most: u64) -> usize
 }
 
 impl<W: Write> Output<W> {
-    /// A writer of which no call has failed.
+    /// A writer without a limit.
     pub fn new(inner: W) -> Output<W> {
         Output::limited(inner, u64::MAX)
     }
 
-    /// A writer of which no call has failed, for so many bytes.
+    /// A writer for at most `most` bytes.
     pub fn limited(inner: W, most: u64) -> Output<W> {
         Output {
             inner,
@@ -55,17 +55,17 @@ impl<W: Write> Output<W> {
         }
     }
 
-    /// The system's word for the call that failed.
+    /// The system's error of the call that failed.
     pub fn error(&self) -> Option<Error> {
         self.error
     }
 
-    /// Whether more was to be written than may be.
+    /// Whether bytes past the limit were refused.
     pub fn is_cut(&self) -> bool {
         self.is_cut
     }
 
-    /// Lets all bytes be written from now on.
+    /// Removes the limit.
     pub fn lift(&mut self) {
         self.left = u64::MAX;
     }

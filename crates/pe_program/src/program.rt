@@ -1,4 +1,4 @@
-//! `run`: does what the command line asks for, and returns the exit status.
+//! `run`: carries out the command line, and returns the exit status.
 
 use crate::command_line::{refuse_command_line, refuse_words, words_of};
 use crate::explain::run_explain;
@@ -11,7 +11,7 @@ use std::env::FillError;
 use std::io::Input;
 use std::rt::{Env, Files};
 
-/// Whether pages have colours: on a terminal, and where the environment has no NO_COLOR, or an empty one.
+/// Whether pages have colours: if standard output is a terminal, and NO_COLOR is not set or empty.
 fn has_colours(rt: &impl Env, is_terminal: bool) -> bool {
     is_terminal
         && matches!(
@@ -20,7 +20,7 @@ fn has_colours(rt: &impl Env, is_terminal: bool) -> bool {
         )
 }
 
-/// What a page shows, with colours where it may have them.
+/// The options of a page, with colours if it may have them.
 fn options_of(rt: &impl Env, options: ShowOptions, is_terminal: bool) -> ShowOptions {
     ShowOptions {
         is_coloured: has_colours(rt, is_terminal),
@@ -28,8 +28,7 @@ fn options_of(rt: &impl Env, options: ShowOptions, is_terminal: bool) -> ShowOpt
     }
 }
 
-/// Does what the command line asks for, and answers the exit status. Pages may have colours where standard output is a
-/// terminal.
+/// Carries out the command line, and returns the exit status. Pages may have colours if standard output is a terminal.
 pub fn run<R: Files + Input + Env + Print + Eprint + AllocGlobal>(rt: &R, is_terminal: bool) -> u8 {
     let words = match words_of(rt) {
         Ok(words) => words,

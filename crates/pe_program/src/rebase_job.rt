@@ -13,10 +13,10 @@ use std::io;
 use std::io::{BufWriter, Input, Read, Write};
 use std::rt::Files;
 
-/// How many bytes of a single line are held before they are written.
+/// The size of the buffer for the line, in bytes.
 const LINE_BUFFER: usize = 1 << 8;
 
-/// Writes the file of an image at another base and then its line, and answers the engine's answer.
+/// Writes the file of an image for another base and then its line, and returns the engine's result.
 fn print_rebase<R: Print + Alloc>(
     rt: &R,
     base: u64,
@@ -40,13 +40,13 @@ where
     flushed(answer, &mut output)
 }
 
-/// CheckSum of the image that begins so, if it is there ("PE Format", Optional Header Windows-Specific Fields).
+/// CheckSum of the image with these first bytes, if they contain it ("PE Format", Optional Header Windows-Specific Fields).
 fn check_sum(first: View) -> Option<u32> {
     let signature = u64::from(first.u32_at(0x3c)?);
     first.u32_at(signature.saturating_add(24 + 64))
 }
 
-/// How many bytes the certificates take of the image that begins so, if it has that directory ("PE Format", Optional Header Data
+/// The size of the certificates of the image with these first bytes, if it has that directory ("PE Format", Optional Header Data
 /// Directories).
 fn certificate_size(first: View) -> Option<u32> {
     let header = u64::from(first.u32_at(0x3c)?).saturating_add(24);
@@ -61,7 +61,8 @@ fn certificate_size(first: View) -> Option<u32> {
     first.u32_at(count.saturating_add(4 + 4 * 8 + 4))
 }
 
-/// Tells what of the old file, which begins so, the new file no longer has, or has in vain.
+/// Reports what the new file lost from the old one, which has these first bytes: its CheckSum, and the validity of its
+/// certificate.
 fn tell_changes(rt: &impl Eprint, target: &str, first: View) {
     if check_sum(first) != Some(0) {
         let _ = eprintln!(rt; "petool: {target}: CheckSum is now 0");
@@ -73,7 +74,7 @@ fn tell_changes(rt: &impl Eprint, target: &str, first: View) {
     }
 }
 
-/// Writes the file of an image at another base, and answers the exit status.
+/// Writes the file of an image for another base, and returns the exit status.
 pub(crate) fn run_rebase<R: Files + Input + Print + Eprint + Alloc>(
     rt: &R,
     base: u64,

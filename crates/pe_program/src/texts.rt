@@ -1,4 +1,4 @@
-//! The texts of engines on standard output.
+//! Engines run with standard output as their output.
 
 use crate::headed::Headed;
 use crate::output::Output;
@@ -11,7 +11,7 @@ use std::alloc::Allocator;
 use std::io;
 use std::io::{BufWriter, Error, Read, Write};
 
-/// How many bytes of standard output are held before they are written.
+/// The size of the buffer for standard output, in bytes.
 pub const OUTPUT_BUFFER: usize = 1 << 16;
 
 /// The engines that read one file.
@@ -31,10 +31,10 @@ pub enum Engine {
     At(Place),
 }
 
-/// What to print, and of what.
+/// What to print.
 #[derive(Drop)]
 pub(crate) enum Text<'a, F> {
-    /// The text of an engine, of an open file: whether a heading is to stand before it, and how many bytes it has at most.
+    /// The output of an engine for an open file, perhaps after a heading, and with at most `most` bytes.
     File {
         engine: Engine,
         name: &'a str,
@@ -50,16 +50,16 @@ pub(crate) enum Text<'a, F> {
     },
 }
 
-/// An engine's answer, and the system's word for it where standard output failed.
+/// An engine's result, and the system's error if standard output failed.
 #[derive(Clone, Copy)]
 pub(crate) struct Printed {
     pub answer: Result<Outcome, ToolError>,
     pub error: Option<Error>,
-    /// Whether the text was longer than it may be, and is there up to its limit, with a note.
+    /// Whether the output was longer than allowed, and was cut at the limit, with a note.
     pub is_cut: bool,
 }
 
-/// How many bytes of a text are printed at most.
+/// The greatest number of bytes to print.
 fn most_of<F>(text: &Text<'_, F>) -> u64 {
     match text {
         Text::File {
@@ -70,7 +70,7 @@ fn most_of<F>(text: &Text<'_, F>) -> u64 {
     }
 }
 
-/// What ends the colours of a text that is cut.
+/// The end of the colours of output that was cut.
 fn colours_end<F>(text: &Text<'_, F>) -> &'static str {
     match text {
         Text::File {
@@ -81,13 +81,13 @@ fn colours_end<F>(text: &Text<'_, F>) -> &'static str {
     }
 }
 
-/// Writes the note behind a text that was cut.
+/// Writes the note after output that was cut.
 fn write_note(output: &mut Output<impl Write>, colours_end: &str, most: u64) -> io::Result<()> {
     output.lift();
     write!(output, "{colours_end}\n(cut after {most} bytes)\n")
 }
 
-/// What stands before the text of a file: its name, or a blank line before a page.
+/// What comes before the output for a file: its name, or a blank line before a page.
 fn heading_of(engine: Engine, name: &str, is_headed: bool) -> (&str, &str) {
     match engine {
         _ if !is_headed => ("", ""),
@@ -96,7 +96,7 @@ fn heading_of(engine: Engine, name: &str, is_headed: bool) -> (&str, &str) {
     }
 }
 
-/// Runs the engine of a text.
+/// Runs an engine.
 fn write_text<A: Allocator + Copy>(
     alloc: A,
     text: Text<'_, impl Read + Drop>,
@@ -131,7 +131,7 @@ fn write_text<A: Allocator + Copy>(
     }
 }
 
-/// What an engine answered, of an output that is to hold its text.
+/// The result of an engine, once its output is flushed.
 pub(crate) fn flushed(
     answer: Result<Outcome, ToolError>,
     output: &mut Output<impl Write>,
@@ -147,14 +147,14 @@ pub(crate) fn flushed(
     }
 }
 
-/// What was answered where there is no room for a buffer.
+/// The result if memory for a buffer ran out.
 pub(crate) const NO_ROOM: Printed = Printed {
     answer: Err(ToolError::Memory),
     error: None,
     is_cut: false,
 };
 
-/// Runs the engine of a text, which is on standard output when it is done, as far as it may be.
+/// Runs an engine, and writes its output, up to its limit, to standard output.
 pub(crate) fn print_text<R: Print + Alloc>(rt: &R, text: Text<'_, impl Read + Drop>) -> Printed
 where
     R::A: Copy,
