@@ -1,17 +1,17 @@
--- What the devices tell of their calls.
+-- The devices as contracts see them.
 use Rattle.std.specs.Prelude.{ℕ, ◌-◌, Bool, List, Option, take, vec_len, vec_capacity}
 use Rattle.pe_vectors.specs.declared.devices.StepReader.{StepReader}
 use Rattle.pe_vectors.specs.declared.devices.StepWriter.{StepWriter}
 
--- the bytes that a reader was made of
+-- all bytes of a reader
 abbrev pub bytes_of : StepReader → List ℕ
 bytes_of reader = reader.bytes.now
 
--- the bytes that it has given
+-- the bytes that it has returned
 abbrev pub given_by : StepReader → List ℕ
 given_by reader = take reader.given reader.bytes.now
 
--- whether its end was seen
+-- whether its end was reached
 abbrev pub has_ended : StepReader → Bool
 has_ended reader = reader.ended
 
@@ -31,7 +31,7 @@ room_of writer = vec_capacity writer.taken - vec_len writer.taken
 abbrev pub failed_writes : StepWriter → ℕ
 failed_writes writer = writer.failures
 
--- the most bytes that a call gives or takes
+-- the most bytes that a call returns or takes
 abbrev pub step_of_reads : StepReader → ℕ
 step_of_reads reader = reader.step
 

@@ -1,12 +1,12 @@
-//! A source and a sink over memory, for tests: each call gives or takes a few bytes at most, and one call fails. That a call
-//! keeps to its device's number of bytes, and fails in its turn, is shown by tests; all else that it tells is proved.
+//! A source and a sink over memory, for tests: each call returns or takes at most a few bytes, and one call fails. Tests show that
+//! a call keeps to this number of bytes, and that the right call fails; the rest is proved.
 
 ghost use Rattle.std.specs.Prelude.{◌≡◌, ◌<◌, ◌≤◌, length, true, false, [], IfOk};
 
 use pe_text::{Failed, Sink, Source};
 use std::alloc::{AllocError, Global};
 
-/// Which of a device's calls fails.
+/// Which call of a device fails.
 #[derive(Clone, Copy)]
 struct Schedule {
     /// The calls so far.
@@ -23,7 +23,7 @@ impl Schedule {
         Schedule { calls: 0, failing }
     }
 
-    /// Counts one more call, and tells whether it is the one that fails.
+    /// Counts one more call, and returns whether it is the one that fails.
     fn next_fails(&mut self) -> bool {
         let call = self.calls;
         self.calls = call.saturating_add(1);
@@ -31,7 +31,7 @@ impl Schedule {
     }
 }
 
-/// A source of the bytes of a slice, in steps.
+/// A source that returns the bytes of a slice in steps.
 #[derive(Drop)]
 pub struct StepReader<'a> {
     bytes: &'a [u8],
@@ -48,8 +48,8 @@ pub struct StepReader<'a> {
 impl<'a> StepReader<'a> {
     ghost use Rattle.pe_vectors.specs.Devices.{bytes_of, given_by, has_ended, failed_reads, step_of_reads, next_read, failing_read};
 
-    /// A source of these bytes that gives at most `step` of them a call. The call of the number `failing`, counted from
-    /// 0, fails and gives none.
+    /// A source that returns at most `step` of these bytes per call. The call with the number `failing`, counted from 0, fails and
+    /// returns none.
     pub fn new(bytes: &'a [u8], step: usize, failing: Option<u64>) -> Self
         requires { 0 < step }
         ensures bytes { bytes_of result ≡ bytes.entry.now }
@@ -99,7 +99,7 @@ impl<'a> Source for StepReader<'a> {
     }
 }
 
-/// A sink that keeps what it took, in steps.
+/// A sink that takes bytes in steps and keeps them.
 #[derive(Drop)]
 pub struct StepWriter {
     taken: Vec<u8>,
@@ -111,8 +111,8 @@ pub struct StepWriter {
 impl StepWriter {
     ghost use Rattle.pe_vectors.specs.Devices.{taken_by, room_of, failed_writes, step_of_writes, next_write, failing_write};
 
-    /// A sink that takes at most `step` bytes a call, and `room` in all: their memory is taken here, and none later. The
-    /// call of the number `failing`, counted from 0, fails and takes none.
+    /// A sink that takes at most `step` bytes per call, and `room` in all, which is allocated here. The call with the number
+    /// `failing`, counted from 0, fails and takes none.
     pub fn new(
         alloc: Global,
         room: usize,

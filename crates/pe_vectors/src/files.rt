@@ -1,4 +1,4 @@
-//! The small files by name, and pieces of bytes that are written over a file.
+//! The small files by name, and pieces of bytes that replace parts of a file.
 
 ghost use Rattle.std.specs.Prelude.{◌+◌, ◌≤◌, IfOk, vec_len, length};
 
@@ -8,9 +8,9 @@ use std::alloc::{AllocError, AllocFailed, Global};
 /// Why there is no file.
 #[derive(Clone, Copy, Debug, PartialEq, Eq)]
 pub enum FileError {
-    /// A piece that begins at this offset does not lie in the file.
+    /// A piece that begins at this offset is not inside the file.
     Outside(usize),
-    /// A growth of memory was refused.
+    /// An allocation failed.
     Memory,
 }
 
@@ -29,7 +29,7 @@ impl<T: Drop> From<AllocFailed<T>> for FileError {
 /// Bytes at a file offset.
 pub type Piece = (usize, &'static [u8]);
 
-/// Writes pieces over a file's bytes, one after another, up to the first that does not lie in the file.
+/// Writes pieces over a file's bytes in order, up to the first that is not inside the file.
 pub fn put_pieces(file: &mut [u8], pieces: &[Piece]) -> Result<(), FileError> {
     for (offset, bytes) in pieces {
         put_inside(file, *offset, bytes)?;
@@ -45,7 +45,7 @@ fn put_lists(file: &mut [u8], lists: &[&[Piece]]) -> Result<(), FileError> {
     Ok(())
 }
 
-/// Writes bytes at a file offset, or answers that they do not lie in the file.
+/// Writes bytes at a file offset; an error if they are not inside the file.
 pub(crate) fn put_inside(file: &mut [u8], offset: usize, bytes: &[u8]) -> Result<(), FileError> {
     if offset > file.len() || bytes.len() > file.len() - offset {
         return Err(FileError::Outside(offset));
@@ -61,7 +61,7 @@ pub fn put(file: &mut [u8], offset: usize, bytes: &[u8])
     file[offset..offset + bytes.len()].copy_from_slice(bytes);
 }
 
-/// The number of at most 8 bytes at an offset, lowest byte first, or `None` where it does not lie in the file.
+/// The little-endian number of at most 8 bytes at an offset, or `None` if it is not inside the file.
 pub fn number(file: &[u8], offset: usize, width: usize) -> Option<u64> {
     let field = file.get(offset..)?.get(..width)?;
     let mut bytes = [0; 8];
@@ -75,11 +75,11 @@ pub fn number(file: &[u8], offset: usize, width: usize) -> Option<u64> {
 /// One of the small files.
 #[derive(Clone, Copy, Debug)]
 pub enum Vector {
-    /// One section `.data` at 0x1000 with 16 of the 512 bytes that the file holds for it; byte i of them is i mod 256.
+    /// One section `.data` at 0x1000, with 16 bytes in the image and 512 in the file; byte i is i mod 256.
     V1,
-    /// V1 with a base relocation table of one field, the four bytes at 0x1008, which hold the address 0x10001008.
+    /// V1 with a base relocation table of one field, the four bytes at 0x1008, which contain the address 0x10001008.
     V2,
-    /// V2 as PE32+: the field is the eight bytes at 0x1008, which hold the address 0x180001000.
+    /// V2 as PE32+: the field is the eight bytes at 0x1008, which contain the address 0x180001000.
     V3,
     /// The module `a.dll`: it exports the name `f`, ordinal 1, as a forwarder to ordinal 7 of `b`.
     Va,
@@ -91,14 +91,13 @@ pub enum Vector {
     Vd,
     /// The module `s.dll`: VB in 0x20000 bytes, with an import of ordinal 7 of `S.DLL`, itself, whose slot is at 0x2030.
     Vs,
-    /// The rich one: every field that its dump shows has a value of its own, every kind of text has bytes that are escaped, and
-    /// its tables, at 0x20000 and 0x30000, name RVAs over 65,535. The section of the exports has more bytes in the image than in
-    /// the file, that of the imports and base relocations fewer, and the slots of one module stand in a third one, of which the
-    /// file has none.
+    /// The rich one: every field in its dump has a value of its own, every kind of string has bytes that are escaped, and its
+    /// tables, at 0x20000 and 0x30000, have RVAs over 65,535. The section of the exports is larger in the image than in the file,
+    /// that of the imports and base relocations smaller, and the slots of one module are in a third, which has no raw data.
     Vr,
 }
 
-/// All of them.
+/// All small files.
 pub const VECTORS: [Vector; 9] = [
     Vector::V1,
     Vector::V2,
@@ -124,7 +123,7 @@ pub fn file_of(alloc: Global, vector: Vector) -> Result<Vec<u8>, FileError>
     Ok(file)
 }
 
-/// A file of at most 0x600 bytes, filled up with zeros and with pieces written over it.
+/// A file of at most 0x600 bytes, padded with zeros and with pieces written over it.
 pub fn changed(file: &[u8], pieces: &[Piece]) -> Result<[u8; 0x600], FileError> {
     let mut changed = [0; 0x600];
     if file.len() > changed.len() {
@@ -135,7 +134,7 @@ pub fn changed(file: &[u8], pieces: &[Piece]) -> Result<[u8; 0x600], FileError> 
     Ok(changed)
 }
 
-/// A small file, filled up and written over in the same way.
+/// The same for a small file.
 pub fn changed_file(
     alloc: Global,
     vector: Vector,

@@ -5,7 +5,7 @@ ghost use Rattle.std.specs.Prelude.{◌≡◌, ◌≤◌, IfOk, vec_len};
 use crate::files::{FileError, Piece, Vector, put_inside, put_pieces};
 use std::alloc::Global;
 
-/// The headers that V1, V2, VA and VB begin with, and VC and VS but for the fields that they change.
+/// The headers of V1, V2, VA and VB, and of VC and VS except for the fields that they change.
 const PE32_HEADERS: &[Piece] = &[
     (0x00, &[0x4d, 0x5a]),
     (0x3c, &[0x40]),
@@ -51,7 +51,8 @@ const RELOCATED: &[Piece] = &[
     ),
 ];
 
-/// V3 but for the bytes of `.data`: V2 as PE32+, whose field is the eight bytes at 0x1008, which hold the address 0x180001000.
+/// V3 except for the bytes of `.data`: V2 as PE32+, whose field is the eight bytes at 0x1008, which contain the address
+/// 0x180001000.
 const PE32_PLUS: &[Piece] = &[
     (0x00, &[0x4d, 0x5a]),
     (0x3c, &[0x40]),
@@ -144,7 +145,7 @@ const IMPORTING: &[Piece] = &[
     (0x240, &[0x41, 0x2e, 0x44, 0x4c, 0x4c]),
 ];
 
-/// VD, as a whole.
+/// VD.
 const WIDE_IMPORTING: &[Piece] = &[
     (0x00, &[0x4d, 0x5a]),
     (0x3c, &[0x40]),
@@ -260,7 +261,7 @@ const RICH_HEADERS: &[Piece] = &[
 
 /// The tables of VR.
 const RICH_TABLES: &[Piece] = &[
-    // the export directory, the addresses, the names' places and entries, the texts
+    // The export directory, the export address table, the name pointer table and the ordinal table, and the strings.
     (0x20c, &[0x58, 0x00, 0x02, 0x00, 0xfe, 0xff, 0x00, 0x00]),
     (0x214, &[0x06, 0x00, 0x00, 0x00, 0x04, 0x00, 0x00, 0x00]),
     (
@@ -287,7 +288,7 @@ const RICH_TABLES: &[Piece] = &[
         0x288,
         &[0x5c, 0x6f, 0x7f, 0x2e, 0x23, 0x30, 0x34, 0x30, 0x37, 0x00],
     ),
-    // the import descriptors, the entries, the modules' names, the hints and names
+    // The import descriptors, the lookup entries, the modules' names, the hints and names.
     (0x400, &[0x40, 0x00, 0x03, 0x00]),
     (0x40c, &[0x90, 0x00, 0x03, 0x00, 0x10, 0x00, 0x04, 0x00]),
     (0x420, &[0x98, 0x00, 0x03, 0x00, 0x70, 0x00, 0x03, 0x00]),
@@ -301,14 +302,14 @@ const RICH_TABLES: &[Piece] = &[
     (0x4a0, &[0x34, 0x12, 0x7f, 0x6e, 0x61, 0x6d, 0x65, 0x00]),
     (0x4b0, &[0x00, 0x00, 0x67, 0x22, 0x5c, 0x01, 0x00]),
     (0x4c0, &[0xff, 0xff, 0xff, 0x00]),
-    // the base relocation blocks
+    // The base relocation blocks.
     (0x500, &[0x00, 0x10, 0x02, 0x00, 0x10, 0x00, 0x00, 0x00]),
     (0x508, &[0xbc, 0x0a, 0x34, 0x32, 0x08, 0xa0, 0x00, 0x00]),
     (0x510, &[0x00, 0x10, 0x04, 0x00, 0x10, 0x00, 0x00, 0x00]),
     (0x518, &[0xff, 0xaf, 0x10, 0x30, 0xff, 0x0f, 0x00, 0x00]),
 ];
 
-/// What a small file is made of: how many bytes it has, whether it has the section `.data` of V1, and lists of pieces.
+/// The parts of a small file: its size in bytes, whether it has the section `.data` of V1, and lists of pieces.
 pub(crate) type Made = (usize, bool, &'static [&'static [Piece]]);
 
 const V1: Made = (0x400, true, &[PE32_HEADERS, DATA]);
@@ -333,7 +334,7 @@ const VS: Made = (
 
 const VR: Made = (0x600, false, &[RICH_HEADERS, RICH_TABLES]);
 
-/// What each small file is made of.
+/// The parts of each small file.
 pub(crate) fn made_of(vector: Vector) -> Made
     ensures { result.0 ≤ 0x600 }
 {
@@ -357,7 +358,7 @@ pub(crate) fn put_data(file: &mut [u8]) {
     }
 }
 
-/// What VF adds to the headers, whatever the number of its forwarders.
+/// What VF adds to the headers, for any number of forwarders.
 const CHAINED: &[Piece] = &[
     (0x77, &[0x20]),
     (0xb8, &[0x20, 0x10, 0x00, 0x00, 0xe0, 0x05, 0x00, 0x00]),
@@ -369,8 +370,8 @@ const CHAINED: &[Piece] = &[
     (0x23c, &[0x48, 0x10]),
 ];
 
-/// VF, the module `f.dll`: a chain of so many forwarders. Each of its ordinals, from 1 on, stands for the next one of `f`, but for
-/// the last, which is 0x1004.
+/// VF, the module `f.dll`: a chain of this many forwarders. Each of its ordinals, from 1 on, is a forwarder to the next one of
+/// `f`, except for the last, which is 0x1004.
 pub fn vf(alloc: Global, forwarders: u32) -> Result<Vec<u8>, FileError>
     requires { forwarders ≤ 65 }
     ensures { IfOk result (λ file. vec_len file ≡ 0x800) }
@@ -382,7 +383,7 @@ pub fn vf(alloc: Global, forwarders: u32) -> Result<Vec<u8>, FileError>
     Ok(file)
 }
 
-/// Writes the number of entries of a chain of so many forwarders, its entries, and the texts of the forwarders.
+/// Writes the number of entries of a chain of this many forwarders, its entries, and the strings of the forwarders.
 fn put_forwarders(file: &mut [u8], forwarders: u32) -> Result<(), FileError>
     requires { forwarders ≤ 65 }
 {
@@ -400,7 +401,7 @@ fn put_forwarders(file: &mut [u8], forwarders: u32) -> Result<(), FileError>
     put_inside(file, last, &0x1004_u32.to_le_bytes())
 }
 
-/// The text of a forwarder to an ordinal of `f`.
+/// The string of a forwarder to an ordinal of `f`.
 fn forwarder(ordinal: u32) -> [u8; 5]
     requires { ordinal ≤ 99 }
 {

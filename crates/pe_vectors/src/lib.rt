@@ -1,22 +1,20 @@
 //! What tests of several crates share: small files, sets of them, devices that fail, and a slow checker of sets.
 //!
-//! Small image files with known bytes are written down piece by piece at the offsets of "PE Format". One of them, VR, is rich: each
-//! field that its dump shows has a value of its own, and each kind of text bytes that are escaped. So a dump that shows one value
-//! for another, or a byte as it stands, differs from the one that is written down. Another, [`vf`], is a chain of as many
-//! forwarders as are asked for. None of the other crates has a part in them, so that what these read is told apart from what was
-//! written:
+//! Small image files with known bytes are written piece by piece at the offsets of "PE Format". One of them, VR, is rich: each field
+//! in its dump has a value of its own, and each kind of string has bytes that are escaped. So a dump that confuses two values, or
+//! does not escape a byte, differs from the expected one. Another, [`vf`], is a chain of any number of forwarders. No writer of
+//! petool makes these files, so that a mistake in a writer cannot hide one in a reader:
 //!
 //! ```text
 //! let file = file_of(alloc, Vector::V1)?;
 //! assert_eq!(file.len(), 0x400);
 //! ```
 //!
-//! Over these stand pieces of bytes that are written over a file ([`files`]), sets of files ([`members`]), an object file
-//! ([`objects`]), comparisons ([`same`]), a source and a sink over memory that work in steps and fail on demand. The checker,
-//! [`slow_first`], has a crate of its own, `pe_checker`.
+//! Other modules have pieces of bytes that replace parts of a file ([`files`]), sets of files ([`members`]), an object file
+//! ([`objects`]), comparisons ([`same`]), and a source and a sink over memory that work in steps and fail on demand. The checker,
+//! [`slow_first`], is in the crate `pe_checker`.
 //!
-//! No function here stops a test: want of memory is answered, and so is a piece that does not lie in its file. A test unwraps the
-//! answer:
+//! No function here stops a test: they return out of memory, and pieces outside their file, as errors, which a test unwraps:
 //!
 //! ```text
 //! let files = files_of(rt.alloc(), &[A, B, C]).expect(&rt, "files");

@@ -1,10 +1,10 @@
-//! Sets of images: which small file stands where under which name, and the set of them.
+//! Sets of images: the name, base and small file of each, and the set of them.
 
 use crate::files::{FileError, Piece, Vector, file_of, put_pieces};
 use pe_set::SetEntry;
 use std::alloc::{AllocError, Global};
 
-/// An image of a set: its name and its base, and a file with pieces written over it.
+/// An image of a set: its name, its base, and its file with pieces written over it.
 #[derive(Clone, Copy)]
 pub struct Member {
     pub name: &'static [u8],
@@ -13,8 +13,8 @@ pub struct Member {
     pub base: u64,
 }
 
-/// VA as `a.dll`, which with `b.dll` and `c.exe` is a set: the slot of `c.exe` gets the address of ordinal 7 of `b.dll`, by way of
-/// `a.dll`.
+/// VA as `a.dll`, which forms a set with `b.dll` and `c.exe`: the slot of `c.exe` gets the address of ordinal 7 of `b.dll`,
+/// through `a.dll`.
 pub const A: Member = Member {
     name: b"a.dll",
     vector: Vector::Va,
@@ -38,7 +38,7 @@ pub const C: Member = Member {
     base: 0x40_0000,
 };
 
-/// The files of a set, each filled up with zeros to 0x600 bytes.
+/// The files of a set, each padded with zeros to 0x600 bytes.
 pub fn files_of(alloc: Global, members: &[Member]) -> Result<Vec<Vec<u8>>, FileError> {
     let mut files = Vec::new(alloc);
     for member in members {
@@ -68,7 +68,7 @@ pub fn set_of<'a>(
     Ok(set)
 }
 
-/// Distinct names, `0000`, `0001` and so on.
+/// Distinct names: `0000`, `0001` and so on.
 pub fn names_of(alloc: Global, count: usize) -> Result<Vec<String>, AllocError> {
     let mut names = Vec::new(alloc);
     for index in 0..count {
@@ -77,7 +77,7 @@ pub fn names_of(alloc: Global, count: usize) -> Result<Vec<String>, AllocError> 
     Ok(names)
 }
 
-/// The set of one file under many names, each 0x10000 above the one before.
+/// The set of one file under many names, each 0x10000 above the previous one.
 pub fn repeated<'a>(
     alloc: Global,
     names: &'a [String],

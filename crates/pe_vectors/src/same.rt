@@ -1,8 +1,8 @@
-//! Keys, targets, exports and imports of different origin, compared by what they say.
+//! Keys, targets, exports and imports of different origin, compared by value.
 
 use pe_tables::{Import, Key, Target};
 
-/// Whether two keys say the same.
+/// Whether two keys are equal.
 pub fn same_key(key: &Key, other: &Key) -> bool {
     match (key, other) {
         (Key::Ordinal(ordinal), Key::Ordinal(other)) => *ordinal == *other,
@@ -11,7 +11,7 @@ pub fn same_key(key: &Key, other: &Key) -> bool {
     }
 }
 
-/// Whether two targets say the same.
+/// Whether two targets are equal.
 pub fn same_target(target: &Target, other: &Target) -> bool {
     match (target, other) {
         (Target::Rva(rva), Target::Rva(other)) => *rva == *other,
@@ -26,7 +26,7 @@ pub fn same_target(target: &Target, other: &Target) -> bool {
     }
 }
 
-/// Whether two imports say the same.
+/// Whether two imports are equal.
 pub fn same_import(import: &Import, other: &Import) -> bool {
     *import.module == *other.module
         && same_key(&import.key, &other.key)
