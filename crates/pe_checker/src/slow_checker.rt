@@ -1,9 +1,9 @@
-//! A checker of sets that is apart from the product: it lists every fault of a set, with the key by which faults are ordered, and
-//! answers the one of the least key.
+//! A checker of sets that is independent of the rest of petool: it lists every fault of a set with its key in the order of faults,
+//! and returns that with the least key.
 //!
-//! It follows the table of faults word by word. Each test is a plain scan, which asks for one byte of a file or of a laid-out
-//! image at a time, so it shares no reader, no search and no definition with the crates that it is compared with. It is slow: the
-//! time of its tests for overlaps and of its searches grows with the square of what an image holds.
+//! It follows the table of faults literally. Each test is a plain scan that reads one byte of a file or a laid-out image at a
+//! time, so it shares no reader, no search and no definition with the crates that it is compared with. It is slow: its tests for
+//! overlaps and its searches take time quadratic in the content of an image.
 
 mod bases;
 mod directories;
@@ -29,10 +29,10 @@ use self::ordering::{Class, Faults};
 use pe_set::{MapError, Policy, SetEntry};
 use std::alloc::{AllocError, Global};
 
-/// The first fault of a set, with the length of its cycle where it is 50, or `None` where none stands.
+/// The first fault of a set, with the length of the cycle for fault 50, or `None` if it has none.
 ///
-/// The classes of faults are asked in their order, and one counts only where no class before it has a fault: names of entries,
-/// images one by one, their bases, the searches of their imports. Want of memory is an error.
+/// Faults are tested class by class, and a class counts only if no earlier one has a fault: names of entries, images one by one,
+/// their bases, the searches for their imports. The error is out of memory.
 pub fn slow_first(
     alloc: Global,
     set: &[SetEntry],
@@ -55,7 +55,7 @@ pub fn slow_first(
     Ok(faults.least())
 }
 
-/// The images of a set that have no fault of their own; the faults of the others are listed.
+/// The images of a set without a fault of their own; the faults of the others are listed.
 fn judged_images<'a>(
     alloc: Global,
     set: &[SetEntry<'a>],

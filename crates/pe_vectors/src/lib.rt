@@ -1,9 +1,9 @@
 //! What tests of several crates share: small files, sets of them, devices that fail, and a slow checker of sets.
 //!
-//! Small image files with known bytes are written piece by piece at the offsets of "PE Format". One of them, VR, is rich: each field
-//! in its dump has a value of its own, and each kind of string has bytes that are escaped. So a dump that confuses two values, or
-//! does not escape a byte, differs from the expected one. Another, [`vf`], is a chain of any number of forwarders. No writer of
-//! petool makes these files, so that a mistake in a writer cannot hide one in a reader:
+//! Small image files with known bytes are written piece by piece at the offsets of "PE Format". One of them, VR, is rich: each
+//! field in its dump has a value of its own, and each kind of string has bytes that are escaped. So a dump that confuses two
+//! values, or does not escape a byte, differs from the expected one. Another, [`vf`], is a chain of any number of forwarders. No
+//! writer of petool makes these files, so that a mistake in a writer cannot hide one in a reader:
 //!
 //! ```text
 //! let file = file_of(alloc, Vector::V1)?;

@@ -1,4 +1,4 @@
-//! The images of a set side by side: faults 43 to 47.
+//! The images of a set next to each other: faults 43 to 47.
 
 use super::images::Judged;
 use super::ordering::{Class, Faults, Row};
@@ -6,10 +6,10 @@ use super::overlaps::Span;
 use pe_view::Place;
 use std::alloc::AllocError;
 
-/// What each base is a multiple of.
+/// Each base must be a multiple of this.
 const BASE_ALIGNMENT: u64 = 65_536;
 
-/// Lists the faults that images have beside each other and at their bases.
+/// Lists the faults of images at their bases.
 pub(super) fn list_bases(images: &[Judged], faults: &mut Faults) -> Result<(), AllocError> {
     let Some(first) = images.first() else {
         return Ok(());
@@ -22,7 +22,7 @@ pub(super) fn list_bases(images: &[Judged], faults: &mut Faults) -> Result<(), A
     Ok(())
 }
 
-/// The rows of an image, given the first image of the set.
+/// The tests of an image, given the first image of the set.
 fn rows(index: usize, judged: &Judged, first: &Judged, overlaps_earlier: bool) -> [Row; 5] {
     let headers = &judged.image.headers;
     let base = judged.entry.base;
@@ -41,7 +41,7 @@ fn rows(index: usize, judged: &Judged, first: &Judged, overlaps_earlier: bool) -
     ]
 }
 
-/// The addresses that an image takes.
+/// The addresses of an image.
 fn addresses(judged: &Judged) -> Span {
     Span {
         start: judged.entry.base,
@@ -49,7 +49,7 @@ fn addresses(judged: &Judged) -> Span {
     }
 }
 
-/// Whether an image shares an address with one of the first images.
+/// Whether an image overlaps one of the first `count` images.
 fn overlaps_earlier(images: &[Judged], count: usize, judged: &Judged) -> bool {
     let own = addresses(judged);
     for earlier in images.iter().take(count) {

@@ -1,4 +1,4 @@
-//! The directories: which of an image's tables there are, and where.
+//! The directories: which tables an image has, and where.
 
 use super::numbers::ByteSource;
 use super::plain::PlainImage;
@@ -12,7 +12,7 @@ pub(super) const IMPORT: u32 = 1;
 /// The directory of the base relocation table.
 pub(super) const BASE_RELOCATION: u32 = 5;
 
-/// A directory that is there.
+/// A directory that is present.
 #[derive(Clone, Copy)]
 pub(super) struct Directory {
     pub rva: u32,
@@ -20,13 +20,14 @@ pub(super) struct Directory {
 }
 
 impl Directory {
-    /// Whether an RVA lies in the directory's own range.
+    /// Whether an RVA is inside the directory's own range.
     pub fn contains(&self, rva: u32) -> bool {
         rva >= self.rva && rva - self.rva < self.size
     }
 }
 
-/// The directory of an index. One that the headers do not hold is absent, and so is one whose RVA is 0; that of the base
+/// The directory of an index. It is absent if the headers do not hold it or its RVA is 0; that of the base relocation table also
+/// if its Size is 0.
 /// relocation table also where its Size is 0.
 pub(super) fn find_directory(image: &PlainImage, index: u32) -> Option<Directory> {
     if index >= image.headers.directories() {

@@ -1,4 +1,4 @@
-//! The export table: faults 16 to 22, and what an export stands for.
+//! The export table: faults 16 to 22, and the targets of exports.
 
 use super::directories::{Directory, EXPORT, find_directory};
 use super::forwarders::{Forwarder, Wanted, split_forwarder};
@@ -7,10 +7,10 @@ use super::ordering::{Faults, Phase, Row, rva_row};
 use super::plain::PlainImage;
 use std::alloc::{AllocError, Global};
 
-/// The entries of an address table, and the names, that there are at most.
+/// The greatest number of address table entries, and of names.
 const MOST_ENTRIES: u32 = 65_536;
 
-/// What an export stands for.
+/// The target of an export.
 #[derive(Drop)]
 pub(super) enum Target {
     /// An RVA of its image.
@@ -31,7 +31,7 @@ struct ExportTable {
     ordinal_table: u32,
 }
 
-/// The export table of an image, where its directory is there. What lies past the image is read as 0.
+/// The export table of an image, if its directory is present. Bytes past the end of the image are read as 0.
 fn export_table(image: &PlainImage) -> Option<ExportTable> {
     let directory = find_directory(image, EXPORT)?;
     let x = directory.rva as u64;
@@ -47,23 +47,23 @@ fn export_table(image: &PlainImage) -> Option<ExportTable> {
 }
 
 impl ExportTable {
-    /// The RVA of an entry of the address table.
+    /// The RVA of an entry of the export address table.
     fn address_entry(&self, index: u32) -> u64 {
         self.address_table as u64 + 4 * index as u64
     }
 
-    /// The RVA of the pointer entry of a name.
+    /// The RVA of a name's entry in the name pointer table.
     fn pointer_entry(&self, index: u32) -> u64 {
         self.name_pointers as u64 + 4 * index as u64
     }
 
-    /// The RVA of the ordinal entry of a name.
+    /// The RVA of a name's entry in the ordinal table.
     fn ordinal_entry(&self, index: u32) -> u64 {
         self.ordinal_table as u64 + 2 * index as u64
     }
 
-    /// Where the directory has the RVA of the first table that is not empty and not in the image: 28 for the addresses, 32 for the
-    /// names, 36 for the ordinals.
+    /// The offset in the directory of the first RVA whose table is not empty and not inside the image: 28 for the addresses, 32
+    /// for the names, 36 for the ordinals.
     fn table_outside(&self, image: &PlainImage) -> Option<u32> {
         let tables = [
             (28, self.address_table, 4, self.address_table_entries),
@@ -78,7 +78,7 @@ impl ExportTable {
         None
     }
 
-    /// Where the directory has the first count over the limit: 20 for the addresses, 24 for the names.
+    /// The offset in the directory of the first count over the limit: 20 for the addresses, 24 for the names.
     fn count_over_limit(&self) -> Option<u32> {
         if self.address_table_entries > MOST_ENTRIES {
             Some(20)
@@ -89,7 +89,7 @@ impl ExportTable {
         }
     }
 
-    /// The rows of the directory. Where it does not lie in the image, it has no fields.
+    /// The tests of the directory. If it is not inside the image, its fields are not tested.
     fn directory_rows(&self, image: &PlainImage) -> [Row; 3] {
         let x = self.directory.rva as u64;
         let is_inside = image.holds(x, 40);
@@ -110,7 +110,7 @@ impl ExportTable {
         ]
     }
 
-    /// The rows of a name.
+    /// The tests of a name.
     fn name_rows(
         &self,
         alloc: Global,
@@ -127,7 +127,7 @@ impl ExportTable {
         ])
     }
 
-    /// The rows of an entry of the address table.
+    /// The tests of an entry of the export address table.
     fn address_rows(
         &self,
         alloc: Global,
@@ -145,7 +145,7 @@ impl ExportTable {
         ])
     }
 
-    /// The index of the address entry that an export has: that of an ordinal, or that of the first name of this text.
+    /// The index of the address table entry for a key: of an ordinal, or of the first name equal to it.
     fn index_of(
         &self,
         alloc: Global,
@@ -158,7 +158,7 @@ impl ExportTable {
         }
     }
 
-    /// The index of an ordinal: ordinals count from OrdinalBase.
+    /// The index of an ordinal: ordinals begin at OrdinalBase.
     fn index_of_ordinal(&self, ordinal: u16) -> Option<u32> {
         let index = u32::from(ordinal).checked_sub(self.ordinal_base)?;
         if index < self.address_table_entries {
@@ -168,7 +168,7 @@ impl ExportTable {
         }
     }
 
-    /// The index that the ordinal entry of the first name of this text holds.
+    /// The index in the ordinal table entry of the first name equal to this one.
     fn index_of_name(
         &self,
         alloc: Global,
@@ -189,7 +189,7 @@ impl ExportTable {
     }
 }
 
-/// The forwarder whose text is at an RVA, where there is a text of its form.
+/// The forwarder whose string is at an RVA, if there is one of its form.
 fn forwarder_at(
     alloc: Global,
     image: &PlainImage,
@@ -201,7 +201,7 @@ fn forwarder_at(
     }
 }
 
-/// Lists the faults of the export table's first record that has one, and tells whether there is one.
+/// Lists the faults of the export table's first record that has one, and returns whether there is one.
 pub(super) fn list_exports(
     alloc: Global,
     image: &PlainImage,
@@ -222,7 +222,7 @@ pub(super) fn list_exports(
     list_addresses(alloc, image, &table, faults)
 }
 
-/// Lists the faults of the address table's first entry that has one, and tells whether there is one.
+/// Lists the faults of the address table's first entry that has one, and returns whether there is one.
 fn list_addresses(
     alloc: Global,
     image: &PlainImage,
@@ -237,7 +237,7 @@ fn list_addresses(
     Ok(false)
 }
 
-/// What an image exports; `None` where it does not.
+/// The target of an export of an image, or `None` if there is no such export.
 pub(super) fn target_of(
     alloc: Global,
     image: &PlainImage,

@@ -8,7 +8,7 @@ use super::overlaps::Span;
 use super::plain::PlainImage;
 use std::alloc::{AllocError, Global};
 
-/// The bytes of a block before its entries.
+/// The size of a block before its entries.
 const BLOCK_HEADER: u64 = 8;
 
 /// A block of the table.
@@ -29,12 +29,12 @@ impl Block {
         }
     }
 
-    /// The RVA at which it ends.
+    /// The RVA of its end.
     fn end(&self) -> u64 {
         self.rva as u64 + self.size as u64
     }
 
-    /// The rows of the block, in a directory that ends at an RVA.
+    /// The test of the block, in a directory that ends at an RVA.
     fn rows(&self, directory_end: u64) -> [Row; 1] {
         let is_malformed = self.size % 2 != 0
             || (self.size as u64) < BLOCK_HEADER
@@ -52,21 +52,21 @@ impl Block {
         (self.rva as u64 + BLOCK_HEADER).saturating_add(index.saturating_mul(2))
     }
 
-    /// The index of an entry from one on such that all entries between are 0: those of which the file has no byte.
+    /// The index of the first entry from this one on that has a byte in the file. The entries before it are 0.
     fn next_in_file(&self, image: &PlainImage, index: u64) -> u64 {
         let place = image.next_in_file(self.entry(index));
         index.max(place.saturating_sub(self.entry(0)) / 2)
     }
 }
 
-/// What an entry of a block stands for.
+/// The kinds of entries of a block.
 #[derive(Clone, Copy)]
 enum Entry {
-    /// It fills the block up.
+    /// Padding.
     Absolute,
-    /// It has a field.
+    /// A fixup with a field.
     Field(Span),
-    /// Its type is none of those that are applied.
+    /// A type that is not supported.
     Unknown,
 }
 
@@ -83,7 +83,7 @@ fn entry_at(image: &PlainImage, block: &Block, rva: u64) -> Entry {
     }
 }
 
-/// The rows of the entry at an RVA.
+/// The tests of the entry at an RVA.
 fn entry_rows(
     image: &PlainImage,
     rva: u64,
@@ -106,7 +106,7 @@ fn entry_rows(
     ]
 }
 
-/// Lists the faults of the base relocation table's first record that has one, and tells whether there is one.
+/// Lists the faults of the base relocation table's first record that has one, and returns whether there is one.
 pub(super) fn list_fixups(
     alloc: Global,
     image: &PlainImage,
@@ -125,8 +125,8 @@ pub(super) fn list_fixups(
     list_blocks(alloc, image, directory.rva, end, imports, faults)
 }
 
-/// Lists the faults of the first record of the blocks from an RVA on that has one, and tells whether there is one. The blocks end
-/// where fewer than 8 bytes of the directory remain, or at a BlockSize of 0.
+/// Lists the faults of the first record that has one, from the block at an RVA on, and returns whether there is one. The blocks
+/// end where fewer than 8 bytes of the directory remain, or at a BlockSize of 0.
 fn list_blocks(
     alloc: Global,
     image: &PlainImage,
@@ -159,8 +159,8 @@ fn list_blocks(
     Ok(false)
 }
 
-/// Adds the fields of a block, and lists the faults of its first entry that has one; tells whether there is one. Entries of which
-/// the file has no byte are ABSOLUTE and have none, so the walk goes past them at once.
+/// Adds the fields of a block, and lists the faults of its first entry that has one; returns whether there is one. Entries without
+/// a byte in the file are ABSOLUTE and have none, so they are skipped together.
 fn list_entries(
     image: &PlainImage,
     block: &Block,

@@ -1,22 +1,22 @@
-//! The text of a forwarder, split into a module's name and the key of an export.
+//! The string of a forwarder, split into a module's name and the key of an export.
 
 use std::alloc::{AllocError, Global};
 
-/// By what an export is looked up.
+/// The key of an export.
 #[derive(Drop, PartialEq, Eq)]
 pub(super) enum Wanted {
     Ordinal(u16),
     Name(Vec<u8>),
 }
 
-/// A module's name, with `.dll`, and the export that is looked up in it.
+/// A module's name, with `.dll`, and the export to search in it.
 #[derive(Drop)]
 pub(super) struct Forwarder {
     pub module: Vec<u8>,
     pub wanted: Wanted,
 }
 
-/// The forwarder of a text, which is split at its last dot; `None` where the text does not have the form of one.
+/// The forwarder in a string, which is split at its last dot; `None` if it does not have the form of one.
 pub(super) fn split_forwarder(alloc: Global, text: &[u8]) -> Result<Option<Forwarder>, AllocError> {
     let Some((left, right)) = split_at_last_dot(text) else {
         return Ok(None);
@@ -31,7 +31,7 @@ pub(super) fn split_forwarder(alloc: Global, text: &[u8]) -> Result<Option<Forwa
     Ok(Some(Forwarder { module, wanted }))
 }
 
-/// What stands before the last dot of a text, and what stands after it.
+/// The parts of a string before and after its last dot.
 fn split_at_last_dot(text: &[u8]) -> Option<(&[u8], &[u8])> {
     let mut last_dot = None;
     for (index, byte) in text.iter().enumerate() {
@@ -43,7 +43,7 @@ fn split_at_last_dot(text: &[u8]) -> Option<(&[u8], &[u8])> {
     Some((text.get(..dot)?, text.get(dot.saturating_add(1)..)?))
 }
 
-/// The name of the module that a forwarder's left side stands for: `.dll` is added where it has no dot.
+/// The module's name on a forwarder's left side: `.dll` is added if it has no dot.
 fn module_name(alloc: Global, left: &[u8]) -> Result<Vec<u8>, AllocError> {
     let mut module = Vec::from_slice(alloc, left)?;
     if !left.contains(&b'.') {
@@ -52,7 +52,7 @@ fn module_name(alloc: Global, left: &[u8]) -> Result<Vec<u8>, AllocError> {
     Ok(module)
 }
 
-/// What the right side of a forwarder looks up: `#` begins an ordinal, and all else is a name.
+/// The key on a forwarder's right side: `#` begins an ordinal, and all else is a name.
 fn wanted_by(alloc: Global, right: &[u8]) -> Result<Option<Wanted>, AllocError> {
     let Some((b'#', digits)) = right.split_first() else {
         return Ok(Some(Wanted::Name(Vec::from_slice(alloc, right)?)));
@@ -60,7 +60,7 @@ fn wanted_by(alloc: Global, right: &[u8]) -> Result<Option<Wanted>, AllocError> 
     Ok(ordinal(digits).map(Wanted::Ordinal))
 }
 
-/// The number that one or more decimal digits write; `None` of anything else, and over 65,535.
+/// The number in one or more decimal digits; `None` for anything else, and above 65,535.
 fn ordinal(digits: &[u8]) -> Option<u16> {
     if digits.is_empty() {
         return None;

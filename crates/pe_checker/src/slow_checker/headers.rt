@@ -3,16 +3,16 @@
 use super::numbers::{ByteSource, File};
 use super::ordering::{Row, file_row};
 
-/// The bytes that a file has at most.
+/// The greatest size of a file in bytes.
 const LONGEST_FILE: u64 = 1 << 32;
 
-/// The bytes that a laid-out image has at most.
+/// The greatest size of a laid-out image in bytes.
 const LARGEST_IMAGE: u32 = 1 << 31;
 
-/// The flag of Characteristics that an image must stand at its ImageBase.
+/// The flag of Characteristics of an image that must be loaded at its ImageBase.
 const RELOCS_STRIPPED: u16 = 0x0001;
 
-/// The fields of the headers that are tested, as the file has them; where it ends before one of their bytes, that byte is 0.
+/// The header fields that are tested, as in the file; bytes past its end are 0.
 #[derive(Clone, Copy)]
 pub(super) struct Headers {
     /// The file offset of the signature.
@@ -52,17 +52,17 @@ impl Headers {
         }
     }
 
-    /// Whether the optional header is the one of PE32+.
+    /// Whether the optional header has the form of PE32+.
     pub fn is_plus(&self) -> bool {
         self.magic == 0x20b
     }
 
-    /// Whether the image must stand at its ImageBase.
+    /// Whether the image must be loaded at its ImageBase.
     pub fn is_stripped(&self) -> bool {
         self.characteristics & RELOCS_STRIPPED != 0
     }
 
-    /// The number of directories that the headers hold.
+    /// The number of directories in the headers.
     pub fn directories(&self) -> u32 {
         self.number_of_rva_and_sizes.min(16)
     }
@@ -72,13 +72,13 @@ impl Headers {
         self.pe_offset as u64 + 24 + fixed_size(self.is_plus()) as u64 + 8 * index as u64
     }
 
-    /// The file offset of a section's header; of the index behind the last one, that at which the table ends.
+    /// The file offset of a section's header; for the index after the last one, the end of the table.
     pub fn section_header(&self, index: u16) -> u64 {
         self.pe_offset as u64 + 24 + self.size_of_optional_header as u64 + 40 * index as u64
     }
 
-    /// The rows of the headers, of which the first that stands counts. A row speaks of bytes past the file only where one before it
-    /// stands.
+    /// The tests of the headers, of which the first that holds counts. A test depends on bytes past the end of the file only if an
+    /// earlier one holds.
     pub fn rows(&self, file: File) -> [Row; 12] {
         let n = file.len();
         let p = self.pe_offset as u64;
@@ -117,12 +117,12 @@ impl Headers {
     }
 }
 
-/// The bytes of the optional header before its directories.
+/// The size of the optional header before its directories.
 fn fixed_size(is_plus: bool) -> u32 {
     if is_plus { 112 } else { 96 }
 }
 
-/// NumberOfRvaAndSizes, the last field before the directories; 0 where it is not wholly inside the file.
+/// NumberOfRvaAndSizes, the last field before the directories; 0 if it is not completely inside the file.
 fn number_of_directories(file: File, optional_header: u64, is_plus: bool) -> u32 {
     let end = optional_header.saturating_add(fixed_size(is_plus) as u64);
     if end > file.len() {

@@ -1,4 +1,4 @@
-//! An image by itself: its phases in their order, each of which counts only where none before it has a fault.
+//! A single image: its phases in order, each of which counts only if no earlier one has a fault.
 
 use super::exports::list_exports;
 use super::fixups::list_fixups;
@@ -19,7 +19,7 @@ pub(super) struct Judged<'a> {
     pub imports: Vec<Import>,
 }
 
-/// Lists the faults of an image that count; `None` where there is one.
+/// Lists the faults of an image that count; `None` if there is one.
 pub(super) fn list_image<'a>(
     alloc: Global,
     entry: SetEntry<'a>,
@@ -45,7 +45,7 @@ pub(super) fn list_image<'a>(
     }))
 }
 
-/// The laid-out image of a file, where its headers and sections have no fault.
+/// The laid-out image of a file, if its headers and sections have no fault.
 fn laid_out<'a>(
     alloc: Global,
     file: File<'a>,

@@ -8,10 +8,10 @@ use super::overlaps::Span;
 use super::plain::PlainImage;
 use std::alloc::{AllocError, Global};
 
-/// The imports that an image has at most.
+/// The greatest number of imports of an image.
 const MOST_IMPORTS: u64 = 1_048_576;
 
-/// The bytes of a descriptor.
+/// The size of a descriptor.
 const DESCRIPTOR_SIZE: u64 = 20;
 
 /// An import: the RVA of its module's name, its entry of the lookup table, and its slot.
@@ -23,13 +23,13 @@ pub(super) struct Import {
 }
 
 impl Import {
-    /// The name of its module, which the image has where it has no fault.
+    /// The name of its module, which the image has if there is no fault.
     pub fn module(&self, alloc: Global, image: &PlainImage) -> Result<Vec<u8>, AllocError> {
         let name = image.text(alloc, self.module as u64)?;
         Ok(name.unwrap_or(Vec::new(alloc)))
     }
 
-    /// The export that it looks up, whose name the image has where it has no fault.
+    /// The key of its export, whose name the image has if there is no fault.
     pub fn wanted(&self, alloc: Global, image: &PlainImage) -> Result<Wanted, AllocError> {
         if is_ordinal(image, self.entry) {
             return Ok(Wanted::Ordinal((self.entry & 0xffff) as u16));
@@ -39,7 +39,7 @@ impl Import {
     }
 }
 
-/// Whether the top bit of a lookup entry says that it holds an ordinal.
+/// Whether the top bit of a lookup entry is set, so that it has an ordinal.
 fn is_ordinal(image: &PlainImage, entry: u64) -> bool {
     let top = if image.headers.is_plus() {
         1 << 63
@@ -49,7 +49,7 @@ fn is_ordinal(image: &PlainImage, entry: u64) -> bool {
     entry & top != 0
 }
 
-/// The RVA of an import name, behind its hint of two bytes: bits 0 to 30 of the entry are the hint's RVA.
+/// The RVA of an import name, after its hint of two bytes: bits 0 to 30 of the entry are the hint's RVA.
 fn name_rva(entry: u64) -> u64 {
     (entry & 0x7fff_ffff) + 2
 }
@@ -65,7 +65,7 @@ struct Descriptor {
 }
 
 impl Descriptor {
-    /// The descriptor at an RVA. What lies past the image is read as 0.
+    /// The descriptor at an RVA. Bytes past the end of the image are read as 0.
     fn at(image: &PlainImage, rva: u64) -> Descriptor {
         Descriptor {
             rva,
@@ -81,7 +81,7 @@ impl Descriptor {
         self.name == 0 || self.address_table == 0
     }
 
-    /// The rows of the descriptor; one that ends the list has no fields but those.
+    /// The tests of the descriptor; if it ends the list, its fields are not tested.
     fn rows(&self, alloc: Global, image: &PlainImage) -> Result<[Row; 3], AllocError> {
         let is_inside = image.holds(self.rva, DESCRIPTOR_SIZE);
         let is_read = is_inside && !self.is_last();
@@ -94,7 +94,7 @@ impl Descriptor {
         ])
     }
 
-    /// The RVA of an entry of its lookup table, which is the address table where there is none apart.
+    /// The RVA of an entry of its lookup table; without one the address table is used.
     fn lookup_entry(&self, image: &PlainImage, index: u64) -> u64 {
         let table = if self.lookup_table == 0 {
             self.address_table
@@ -123,7 +123,7 @@ fn entry_at(image: &PlainImage, rva: u64) -> u64 {
     }
 }
 
-/// The imports of an image, in their order. They are `None` where a record has a fault; the first one's are listed.
+/// The imports of an image in order, or `None` if a record has a fault; the faults of the first one are listed.
 pub(super) fn list_imports(
     alloc: Global,
     image: &PlainImage,
@@ -150,8 +150,8 @@ pub(super) fn list_imports(
     Ok(Some(imports))
 }
 
-/// Adds the imports of a descriptor, and lists the faults of the first entry of its lookup table that has one; tells whether there
-/// is one.
+/// Adds the imports of a descriptor, and lists the faults of the first entry of its lookup table that has one; returns whether
+/// there is one.
 fn list_lookup_table(
     alloc: Global,
     image: &PlainImage,
@@ -178,7 +178,7 @@ fn list_lookup_table(
     Ok(false)
 }
 
-/// The rows of the lookup entry at an RVA; the one of 0, which ends the table, has no slot and no name.
+/// The tests of the lookup entry at an RVA; an entry of 0, which ends the table, has no slot and no name.
 fn entry_rows(
     alloc: Global,
     image: &PlainImage,
@@ -203,7 +203,7 @@ fn entry_rows(
     ])
 }
 
-/// Whether a range shares a byte with the slot of one of these imports.
+/// Whether a range overlaps the slot of one of these imports.
 pub(super) fn overlaps_slot(span: &Span, imports: &[Import]) -> bool {
     imports.iter().any(|import| span.overlaps(&import.slot))
 }

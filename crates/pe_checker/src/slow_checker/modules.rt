@@ -9,23 +9,23 @@ use super::ordering::{Class, Faults, Row, rva_row};
 use pe_set::Policy;
 use std::alloc::{AllocError, Global};
 
-/// A set has no more exports: those of 256 images, each with 65,536 entries and 65,536 names.
+/// The greatest number of exports of a set: those of 256 images, each with 65,536 entries and 65,536 names.
 const MOST_EXPORTS: u32 = 256 * 2 * 65_536;
 
-/// How a search ends.
+/// The end of a search.
 #[derive(Clone, Copy, PartialEq, Eq)]
 enum End {
-    /// At an RVA of an image.
+    /// An RVA of an image.
     Bound,
-    /// At a module that is not in the set.
+    /// A module that is not in the set.
     Missing,
-    /// At a module that does not export the key.
+    /// A module that does not export the key.
     Unknown,
-    /// Never: it comes to an export at which it stood so many hops before.
+    /// None: the search comes to an export where it was this many hops before.
     Endless(u32),
 }
 
-/// An export at which a search stands: the index of its image, and its key.
+/// An export that a search comes to: the index of its image, and its key.
 #[derive(Drop)]
 struct Stand {
     image: usize,
@@ -74,7 +74,7 @@ fn list_imports_of(
     Ok(())
 }
 
-/// How the search of an import ends. A forwarder is one hop, to its module and key.
+/// The end of the search for an import. A forwarder is one hop, to its module and key.
 fn search(
     alloc: Global,
     images: &[Judged],
@@ -103,11 +103,11 @@ fn search(
             }
         }
     }
-    // not for want of exports: by now it would have stood at one of them twice
+    // Not reached: after so many hops the search would have come to some export twice.
     Ok(End::Endless(0))
 }
 
-/// How many hops ago a search stood at an export, if it did: it stood at one more at each hop.
+/// How many hops ago a search was at an export, if it was; `before` has one for each hop.
 fn hops_since(before: &[Stand], image: usize, wanted: &Wanted) -> Option<u32> {
     for (hops, stand) in before.iter().enumerate() {
         if stand.image == image && stand.wanted == *wanted {

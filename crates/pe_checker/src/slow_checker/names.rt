@@ -5,10 +5,10 @@ use pe_set::SetEntry;
 use pe_view::Place;
 use std::alloc::AllocError;
 
-/// The images that a set has at most.
+/// The greatest number of images of a set.
 const MOST_IMAGES: u32 = 256;
 
-/// Whether two names match: they differ at most in the case of ASCII letters.
+/// Whether two names match: they are equal up to the case of ASCII letters.
 pub(super) fn matches(name: &[u8], other: &[u8]) -> bool {
     if name.len() != other.len() {
         return false;
@@ -21,7 +21,8 @@ pub(super) fn matches(name: &[u8], other: &[u8]) -> bool {
     true
 }
 
-/// Lists the faults of a set's entries up to the first one too many: that one has a fault, so none behind it has the least key.
+/// Lists the faults of a set's entries up to the first one too many: that has a fault, so the first fault of the set is not in a
+/// later one.
 pub(super) fn list_names(set: &[SetEntry], faults: &mut Faults) -> Result<(), AllocError> {
     for (entry, index) in set.iter().zip(0..=MOST_IMAGES) {
         faults.begin(Class::Entries, index as usize);
@@ -34,7 +35,7 @@ pub(super) fn list_names(set: &[SetEntry], faults: &mut Faults) -> Result<(), Al
     Ok(())
 }
 
-/// Whether a name matches that of one of the first entries.
+/// Whether a name matches that of one of the first `count` entries.
 fn matches_earlier(set: &[SetEntry], count: usize, name: &[u8]) -> bool {
     for earlier in set.iter().take(count) {
         if matches(earlier.name, name) {

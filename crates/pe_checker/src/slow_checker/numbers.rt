@@ -1,8 +1,8 @@
-//! Little-endian numbers over single bytes.
+//! Little-endian numbers from single bytes.
 
-/// Bytes at places: those of a file at its offsets, or those of a laid-out image at its RVAs.
+/// Bytes by place: those of a file at its offsets, or those of a laid-out image at its RVAs.
 pub(super) trait ByteSource {
-    /// The byte at a place; 0 where there is none.
+    /// The byte at a place; 0 if there is none.
     fn byte(&self, place: u64) -> u8;
 
     /// The number in the 2 bytes from a place on.

@@ -1,23 +1,23 @@
-//! The order of a set's faults: their keys, and the list of those that stand.
+//! The order of a set's faults: their keys, and the list of the faults found.
 
 use pe_set::MapError;
 use pe_view::{Fault, Place};
 use std::alloc::{AllocError, Global};
 
-/// The classes of a set's faults, in their order.
+/// The classes of a set's faults, in order.
 #[derive(Clone, Copy, PartialEq, Eq, PartialOrd, Ord)]
 pub(super) enum Class {
     /// The number and the names of the entries.
     Entries,
-    /// The images, each by itself.
+    /// The images, each alone.
     Images,
     /// The bases of the images.
     Bases,
-    /// The searches of the imports.
+    /// The searches for the imports.
     Searches,
 }
 
-/// The phases of an image, in their order.
+/// The phases of an image, in order.
 #[derive(Clone, Copy, PartialEq, Eq, PartialOrd, Ord)]
 pub(super) enum Phase {
     Headers,
@@ -27,7 +27,7 @@ pub(super) enum Phase {
     Fixups,
 }
 
-/// The place of a fault in the order: keys are compared part by part. A class that has no phases keeps the first one.
+/// The position of a fault in the order: keys are compared part by part. A class without phases has the first one.
 #[derive(Clone, Copy, PartialEq, Eq, PartialOrd, Ord)]
 struct Key {
     class: Class,
@@ -40,19 +40,19 @@ struct Key {
     number: u16,
 }
 
-/// A row of the table of faults, asked of one record.
+/// A test of the table of faults, applied to one record.
 #[derive(Clone, Copy)]
 pub(super) struct Row {
     pub number: u16,
     /// Whether its condition holds.
     pub stands: bool,
     pub place: Place,
-    /// Of 50, how long the cycle is.
+    /// For fault 50, the length of the cycle.
     pub length: Option<u32>,
 }
 
 impl Row {
-    /// A row of the table.
+    /// A test of the table.
     pub fn new(number: u16, stands: bool, place: Place) -> Row {
         Row {
             number,
@@ -63,18 +63,18 @@ impl Row {
     }
 }
 
-/// A row whose place is a file offset.
+/// A test whose place is a file offset.
 pub(super) fn file_row(number: u16, stands: bool, offset: u64) -> Row {
     Row::new(number, stands, Place::File(offset))
 }
 
-/// A row whose place is an RVA. A row that stands has one below 2^32: a walk through a table ends where it leaves the image.
+/// A test whose place is an RVA. If it holds, that is below 2^32, since a walk through a table ends where it leaves the image.
 pub(super) fn rva_row(number: u16, stands: bool, rva: u64) -> Row {
     let rva = u32::try_from(rva).unwrap_or(u32::MAX);
     Row::new(number, stands, Place::Rva(rva))
 }
 
-/// The faults that stand, each as an error under its key, and the record that is asked next.
+/// The faults found, each as an error with its key, and the record that is tested next.
 #[derive(Drop)]
 pub(super) struct Faults {
     listed: Vec<(Key, MapError)>,
@@ -96,12 +96,12 @@ impl Faults {
         }
     }
 
-    /// Whether none stands so far.
+    /// Whether none was found so far.
     pub fn is_empty(&self) -> bool {
         self.listed.is_empty()
     }
 
-    /// Begins with the faults that a class has of an entry.
+    /// Begins with the faults of an entry in a class.
     pub fn begin(&mut self, class: Class, entry: usize) {
         self.class = class;
         self.entry = entry;
@@ -114,7 +114,7 @@ impl Faults {
         self.record = 0;
     }
 
-    /// Lists the faults of the next record, and tells whether it has one.
+    /// Lists the faults of the next record, and returns whether it has one.
     pub fn record(&mut self, rows: &[Row]) -> Result<bool, AllocError> {
         let mut refused = false;
         for row in rows {
@@ -149,7 +149,7 @@ impl Faults {
         Ok(())
     }
 
-    /// The error of the least key.
+    /// The error with the least key.
     pub fn least(&self) -> Option<MapError> {
         let mut least: Option<(Key, MapError)> = None;
         for keyed in &self.listed {

@@ -1,4 +1,4 @@
-//! Ranges of bytes, and whether two of them share a byte.
+//! Ranges of bytes, and whether two of them overlap.
 
 /// One or more bytes from a place on.
 #[derive(Clone, Copy)]
@@ -8,17 +8,17 @@ pub(super) struct Span {
 }
 
 impl Span {
-    /// Whether a place lies in it.
+    /// Whether a place is inside it.
     fn contains(&self, place: u64) -> bool {
         place >= self.start && place - self.start < self.len
     }
 
-    /// Whether it shares a byte with another one: then one of the two begins in the other.
+    /// Whether it overlaps another one: then one of the two begins inside the other.
     pub fn overlaps(&self, other: &Span) -> bool {
         self.contains(other.start) || other.contains(self.start)
     }
 
-    /// Whether it shares a byte with one of these.
+    /// Whether it overlaps one of these.
     pub fn overlaps_any(&self, others: &[Span]) -> bool {
         others.iter().any(|other| self.overlaps(other))
     }

@@ -1,4 +1,4 @@
-//! The laid-out image: the byte, the number and the text at an RVA, from the raw bytes alone.
+//! The laid-out image: the byte, the number and the string at an RVA, from the raw bytes alone.
 
 use super::headers::Headers;
 use super::numbers::{ByteSource, File};
@@ -14,7 +14,7 @@ pub(super) struct PlainImage<'a> {
 }
 
 impl ByteSource for PlainImage<'_> {
-    /// The byte at an RVA: the file's in the headers and in a section's raw bytes, else 0.
+    /// The byte at an RVA: the file's in the headers and in a section's raw data, otherwise 0.
     fn byte(&self, rva: u64) -> u8 {
         if rva < self.headers.size_of_headers as u64 {
             return self.file.byte(rva);
@@ -31,18 +31,18 @@ impl ByteSource for PlainImage<'_> {
 }
 
 impl PlainImage<'_> {
-    /// Whether the image holds this many bytes from an RVA on.
+    /// Whether the image contains this many bytes from an RVA on.
     pub fn holds(&self, rva: u64, len: u64) -> bool {
         let size = self.headers.size_of_image as u64;
         len <= size && rva <= size - len
     }
 
-    /// The width of a slot and of a lookup entry.
+    /// The size of a slot and of a lookup entry.
     pub fn width(&self) -> u64 {
         if self.headers.is_plus() { 8 } else { 4 }
     }
 
-    /// Where the piece ends in which an RVA lies: the headers, or the extent of a section; `None` in a gap.
+    /// The end of the piece that contains an RVA: the headers, or the extent of a section; `None` in a gap.
     fn piece_end(&self, rva: u64) -> Option<u64> {
         let headers_end = self.headers.size_of_headers as u64;
         if rva < headers_end {
@@ -56,8 +56,8 @@ impl PlainImage<'_> {
         None
     }
 
-    /// The text at an RVA: the bytes before the first zero byte, which must lie in the same piece; in a gap no bytes. It is `None`
-    /// where there is no text.
+    /// The string at an RVA: the bytes before the first zero byte, which must be in the same piece; in a gap no bytes. `None` if
+    /// there is no string.
     pub fn text(&self, alloc: Global, rva: u64) -> Result<Option<Vec<u8>>, AllocError> {
         if !self.holds(rva, 1) {
             return Ok(None);
@@ -76,7 +76,7 @@ impl PlainImage<'_> {
         Ok(None)
     }
 
-    /// The least RVA from one on at which the file has a byte; the end of the image where there is none. The bytes between are 0.
+    /// The least RVA from this one on with a byte in the file, or the end of the image. The bytes between are 0.
     pub fn next_in_file(&self, rva: u64) -> u64 {
         if rva < self.headers.size_of_headers as u64 {
             return rva;

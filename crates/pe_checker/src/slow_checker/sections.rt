@@ -1,4 +1,4 @@
-//! The sections of an image: what they take of the image and of the file, and faults 13 to 15.
+//! The sections of an image: their sizes in the image and in the file, and faults 13 to 15.
 
 use super::headers::Headers;
 use super::numbers::{ByteSource, File};
@@ -28,7 +28,7 @@ impl Section {
         }
     }
 
-    /// The bytes that it takes of the image: VirtualSize, or SizeOfRawData where VirtualSize is 0.
+    /// Its size in the image: VirtualSize, or SizeOfRawData if VirtualSize is 0.
     pub fn extent(&self) -> u32 {
         if self.virtual_size == 0 {
             self.size_of_raw_data
@@ -37,7 +37,7 @@ impl Section {
         }
     }
 
-    /// The bytes that the file has for it.
+    /// How many bytes of its extent are in the file.
     pub fn rawlen(&self) -> u32 {
         if self.pointer_to_raw_data == 0 {
             0
@@ -46,12 +46,12 @@ impl Section {
         }
     }
 
-    /// The RVA at which it ends.
+    /// The RVA of its end.
     pub fn end(&self) -> u64 {
         self.virtual_address as u64 + self.extent() as u64
     }
 
-    /// The rows of a section in a file of n bytes, where the preceding section ends at an RVA.
+    /// The tests of a section in a file of n bytes, after a section that ends at an RVA.
     fn rows(&self, n: u64, headers: &Headers, preceding_end: u64) -> [Row; 3] {
         let raw_end = self.pointer_to_raw_data as u64 + self.rawlen() as u64;
         let start = self.virtual_address as u64;
@@ -67,7 +67,7 @@ impl Section {
     }
 }
 
-/// The sections of a file, in the order of their table. They are `None` where one of them has a fault; the first one's are listed.
+/// The sections of a file in table order, or `None` if one has a fault; those of the first one are listed.
 pub(super) fn list_sections(
     alloc: Global,
     file: File,
