@@ -1,14 +1,14 @@
-//! Files, and what words change in them.
+//! Files, and the words that change them.
 
 use crate::numbers::number_of;
 use std::alloc::Global;
 use std::fs;
 use std::rt::Files;
 
-/// The most bytes that a word gives a file.
+/// The greatest size of a file that a word can set.
 const MOST: u64 = 0x2_0000;
 
-/// Writes bytes over a file, from an offset on; `None` where they do not lie in it.
+/// Writes bytes over a file from an offset on; `None` if they do not fit into it.
 fn put(file: &mut [u8], offset: u64, bytes: &[u8]) -> Option<()> {
     let start = usize::try_from(offset).ok()?;
     let end = start.checked_add(bytes.len())?;
@@ -16,7 +16,7 @@ fn put(file: &mut [u8], offset: u64, bytes: &[u8]) -> Option<()> {
     Some(())
 }
 
-/// Cuts a file, or fills it up with zeros, to so many bytes.
+/// Truncates a file, or pads it with zeros, to this size.
 fn resize(file: &mut Vec<u8>, len: u64) -> Option<()> {
     match usize::try_from(len) {
         Ok(len) if len as u64 <= MOST => file.resize(len, 0).ok(),
@@ -24,7 +24,7 @@ fn resize(file: &mut Vec<u8>, len: u64) -> Option<()> {
     }
 }
 
-/// The bytes of digits in pairs, or of two digits, `*` and a decimal number, which says how often their byte stands.
+/// The bytes of pairs of digits; or two digits, `*` and a decimal number, which says how often this byte is repeated.
 fn bytes_of_digits(alloc: Global, digits: &str) -> Option<Vec<u8>> {
     let Some((digits, count)) = digits.split_once("*") else {
         return hex::decode(alloc, digits).ok();
@@ -33,14 +33,13 @@ fn bytes_of_digits(alloc: Global, digits: &str) -> Option<Vec<u8>> {
     vec![in alloc; byte; usize::from_str_radix(count, 10).ok()?].ok()
 }
 
-/// Writes the bytes of digits over a file.
+/// Writes the bytes that digits describe over a file.
 fn put_digits(alloc: Global, file: &mut [u8], offset: u64, digits: &str) -> Option<()> {
     put(file, offset, &bytes_of_digits(alloc, digits)?)
 }
 
-/// Changes a file as a word says: `len=` and a number of bytes cuts it, or fills it up with zeros; an offset, `=` and digits
-/// writes bytes over it. `None` where the word says neither, where the bytes do not lie in the file, or where memory is
-/// wanted.
+/// Changes a file as a word says: `len=` and a size truncates it or pads it with zeros; an offset, `=` and digits write bytes over
+/// it. `None` if the word has neither form, if the bytes do not fit into the file, or if memory runs out.
 pub(crate) fn edit(alloc: Global, file: &mut Vec<u8>, word: &str) -> Option<()> {
     let (place, digits) = word.split_once("=")?;
     match place {
@@ -49,7 +48,7 @@ pub(crate) fn edit(alloc: Global, file: &mut Vec<u8>, word: &str) -> Option<()> 
     }
 }
 
-/// The file that the first word names, changed as the others say; `None` also where it cannot be read.
+/// The file that the first word names, with the changes of the others; `None` also if it cannot be read.
 pub(crate) fn edited_file<R: Files + AllocGlobal>(rt: &R, words: &str) -> Option<Vec<u8>> {
     let mut words = words.split(" ");
     let mut file = fs::read(rt, words.next()?).ok()?;

@@ -1,4 +1,4 @@
-//! `FaultLine`: a fault as a line, written apart from `pe_text`.
+//! `FaultLine`: a fault as a line, written without `pe_text`.
 
 use pe_view::{Fault, Place};
 use std::fmt::{self, Display};

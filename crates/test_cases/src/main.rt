@@ -1,13 +1,13 @@
-//! Runs the cases that the files `words` and `sets` list, and prints what each returns, which has to be the stored output.
+//! Runs the cases in the files `words` and `sets`, and prints the result of each, which must equal the stored output.
 //!
-//! A line is a case: a word, and what it is to be run on. Those of `words` are faults in words and command lines; those of `sets` are
-//! run over a set, by both spaces and by the slow checker. Empty lines and those that begin with `#` are for the reader. What the
-//! program petool prints of files and sets is tested by `bindings/python`.
+//! Each line is a case: a word for its kind, and then its arguments. Those of `words` are faults in words and command lines; those
+//! of `sets` run on a set, with both kinds of space and with the slow checker. Empty lines and lines that begin with `#` are
+//! comments. What the program petool prints for files and sets is tested by `bindings/python`.
 //!
-//! A word `len=400` cuts a file, or fills it up with zeros, to 0x400 bytes, and a word `0x3c=ffffffff` writes bytes over it. A
-//! word `10000000=a.dll=v1.dll` puts the file `v1.dll` into a set, as the module `a.dll` at a base; the changes behind it are of
-//! that file. Where many bytes are alike, `6d*70000` stands for so many of one byte, and `*70000.dll` for a name of so many letters
-//! `m` and its ending.
+//! A word `len=400` truncates a file, or pads it with zeros, to 0x400 bytes, and a word `0x3c=ffffffff` writes bytes over it. A
+//! word `10000000=a.dll=v1.dll` puts the file `v1.dll` into a set, as the module `a.dll` at a base; the changes after it are to
+//! that file. For many equal bytes, `6d*70000` repeats one byte, and `*70000.dll` is a name of that many letters `m` and the
+//! ending.
 #![tactic(auto)]
 
 mod edits;
@@ -25,7 +25,7 @@ use std::{fs, io};
 /// The files that list the cases.
 const LISTS: [&str; 2] = ["words", "sets"];
 
-/// Runs the case of a line, and tells where it cannot be run.
+/// Runs the case of a line, and reports if it cannot be run.
 fn run_case<R: Files + Print + AllocGlobal>(rt: &R, list: &str, line: &str) -> io::Result<()> {
     if line.is_empty() || line.starts_with("#") {
         return Ok(());

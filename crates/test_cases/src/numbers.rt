@@ -2,13 +2,13 @@
 
 use std::alloc::Global;
 
-/// The number that hexadecimal digits give, with or without `0x` before them.
+/// The number in hexadecimal digits, with or without `0x` before them.
 pub(crate) fn number_of(word: &str) -> Option<u64> {
     let digits = word.strip_prefix("0x").unwrap_or(word);
     u64::from_str_radix(digits, 16).ok()
 }
 
-/// Adds the byte of two hexadecimal digits, and answers the text behind them.
+/// Appends the byte of two hexadecimal digits, and returns the string after them.
 fn push_digits<'a>(bytes: &mut Vec<u8>, text: &'a str) -> Option<&'a str> {
     let (digits, rest) = text.split_at_checked(2)?;
     let byte = u8::from_str_radix(digits, 16).ok()?;
@@ -16,7 +16,7 @@ fn push_digits<'a>(bytes: &mut Vec<u8>, text: &'a str) -> Option<&'a str> {
     Some(rest)
 }
 
-/// The bytes of a text in which `\x` and two hexadecimal digits stand for a byte; `None` also where memory is wanted.
+/// The bytes of a string in which `\x` and two hexadecimal digits are a byte; `None` also if memory runs out.
 pub(crate) fn bytes_of(alloc: Global, text: &str) -> Option<Vec<u8>> {
     let mut bytes = Vec::new(alloc);
     for (index, part) in text.split("\\x").enumerate() {
@@ -30,7 +30,7 @@ pub(crate) fn bytes_of(alloc: Global, text: &str) -> Option<Vec<u8>> {
     Some(bytes)
 }
 
-/// The bytes of a module's name: behind `*` a decimal number of letters `m`, a dot and an ending; else as [`bytes_of`] says.
+/// The bytes of a module's name: `*`, a decimal number of letters `m`, a dot and an ending; otherwise as for [`bytes_of`].
 pub(crate) fn name_of(alloc: Global, text: &str) -> Option<Vec<u8>> {
     let Some(rest) = text.strip_prefix("*") else {
         return bytes_of(alloc, text);

@@ -7,7 +7,7 @@ use std::alloc::Global;
 use std::fs;
 use std::rt::Files;
 
-/// A file of a set, under the name of its module, and where it stands.
+/// A file of a set, with the name of its module and its base.
 #[derive(Drop)]
 pub(crate) struct Member {
     pub name: Vec<u8>,
@@ -15,17 +15,17 @@ pub(crate) struct Member {
     pub base: u64,
 }
 
-/// A set as a case has it.
+/// The set of a case.
 #[derive(Drop)]
 pub(crate) struct SetCase<'a> {
     pub members: Vec<Member>,
-    /// What becomes of imports from modules that are not in the set.
+    /// What happens to imports from modules that are not in the set.
     pub policy: Policy,
-    /// The words that say something else.
+    /// The other words of the case.
     pub others: Vec<&'a str>,
 }
 
-/// The file that a word puts into a set.
+/// The file that a word puts into the set.
 fn read_member<R: Files + AllocGlobal>(rt: &R, base: &str, named: &str) -> Option<Member> {
     let (name, path) = named.split_once("=")?;
     Some(Member {
@@ -35,7 +35,7 @@ fn read_member<R: Files + AllocGlobal>(rt: &R, base: &str, named: &str) -> Optio
     })
 }
 
-/// Adds what a word says.
+/// Carries out a word.
 fn add_word<'a, R: Files + AllocGlobal>(
     rt: &R,
     set: &mut SetCase<'a>,
@@ -50,7 +50,7 @@ fn add_word<'a, R: Files + AllocGlobal>(
     edit(rt.alloc(), &mut set.members.last_mut()?.file, word)
 }
 
-/// The set that words make, or `None` where one of them cannot be read.
+/// The set of a case, or `None` if one of its words has no meaning.
 pub(crate) fn read_set<'a, R: Files + AllocGlobal>(rt: &R, words: &'a str) -> Option<SetCase<'a>> {
     let mut set = SetCase {
         members: Vec::new(rt.alloc()),
@@ -66,7 +66,7 @@ pub(crate) fn read_set<'a, R: Files + AllocGlobal>(rt: &R, words: &'a str) -> Op
     Some(set)
 }
 
-/// The set of these files, which it borrows; `None` where memory is wanted.
+/// The set of these files, which it borrows; `None` if memory runs out.
 pub(crate) fn set_of(alloc: Global, members: &[Member]) -> Option<Vec<SetEntry<'_>>> {
     let mut set = Vec::new(alloc);
     for member in members {

@@ -1,10 +1,10 @@
-//! The cases of sets in both spaces, beside a slow checker that shares nothing with them: what they answer where all agree.
+//! The cases of sets in both kinds of space, and in a slow checker that shares no code with them: the result, if all agree.
 //!
-//! `space` and words of a set print its fault, or what commands answer one after the other: `byte:ADDRESS`,
-//! `window:ADDRESS:COUNT`, `move:IMAGE:BASE`, `base:IMAGE`. `buffer` prints the four bytes of a buffer in which such windows were
-//! asked for, `binds` the bindings, `many` and two numbers judges a set of a file under many names, one of which repeats another.
-//! `whole`, `edges`, `random` and `return` compare the two spaces of a set window by window, and after moves. `cut` and `changed`
-//! and a base judge a file cut to each length, and with each byte of a range as 0 and as 255; `slow` asks the slow checker alone.
+//! `space` and the words of a set print its fault, or the replies to commands in order: `byte:ADDRESS`, `window:ADDRESS:COUNT`,
+//! `move:IMAGE:BASE`, `base:IMAGE`. `buffer` prints a buffer of four bytes after such a window, `binds` the bindings; `many` and
+//! two numbers check a set of a file under many names, one of which repeats another. `whole`, `edges`, `random` and `return`
+//! compare the two spaces of a set window by window, and after moves. `cut` and `changed` and a base check a file truncated to
+//! each length, and with each byte of a range as 0 and as 255; `slow` runs the slow checker only.
 
 mod both;
 mod commands;
@@ -20,7 +20,7 @@ use crate::spaces::many::print_many;
 use crate::spaces::questions::{Question, print_question};
 use std::rt::Files;
 
-/// Runs a case of a set, or answers `None` where the line is none or not all agree.
+/// Runs a case of a set, or returns `None` if the line is not one or not all agree.
 pub(crate) fn run_space<R: Files + Print + AllocGlobal>(
     rt: &R,
     kind: &str,

@@ -1,5 +1,5 @@
-//! The cases of words: `fault` prints a fault in words, `words` reads a command line, and `has` asks whether a part stands in what is
-//! told of it.
+//! The cases of words: `fault` prints a fault in words, `words` reads a command line, and `has` tests whether the message for a
+//! command line contains a string.
 
 mod command_lines;
 mod faults;
@@ -7,7 +7,7 @@ mod faults;
 use crate::words::command_lines::{print_has, print_words};
 use crate::words::faults::print_fault;
 
-/// Runs a case, or answers `None` where the line is none.
+/// Runs a case, or returns `None` if the line is not one.
 pub(crate) fn run_words<R: Print + AllocGlobal>(rt: &R, kind: &str, rest: &str) -> Option<()> {
     match kind {
         "fault" => print_fault(rt, rest),

@@ -1,4 +1,4 @@
-//! One set as both spaces, that in memory and that over files.
+//! Both kinds of space of one set: in memory and over files.
 
 use crate::fault_line::FaultLine;
 use pe_space::{FileSpace, MapError, MappedSpace, Policy, SetEntry, map, open_space};
@@ -12,7 +12,7 @@ pub(crate) struct Both<'a> {
     pub filed: FileSpace<'a, Global>,
 }
 
-/// The first error of a set, where both spaces and the slow checker agree in it.
+/// The first error of a set, if both spaces and the slow checker agree on it.
 pub(crate) fn first_error<'a>(
     alloc: Global,
     set: &'a [SetEntry<'a>],
@@ -26,7 +26,7 @@ pub(crate) fn first_error<'a>(
     }
 }
 
-/// The spaces of a set that has no fault.
+/// The spaces of a set without a fault.
 pub(crate) fn opened<'a>(
     alloc: Global,
     set: &'a [SetEntry<'a>],

@@ -8,13 +8,13 @@ use pe_space::{Command, Policy, Reply, SetEntry, Space, run};
 use std::alloc::Global;
 use std::rt::Files;
 
-/// The address and the count of a window, which words give with `:` between them.
+/// The address and the length of a window, separated by `:`.
 fn window_of(word: &str) -> Option<(u64, u32)> {
     let (address, count) = word.split_once(":")?;
     Some((number_of(address)?, u32::from_str_radix(count, 10).ok()?))
 }
 
-/// The image and the base of a move, which words give in the same way.
+/// The image and the base of a move, separated by `:`.
 pub(crate) fn move_of(word: &str) -> Option<(u16, u64)> {
     let (image, base) = word.split_once(":")?;
     Some((u16::from_str_radix(image, 10).ok()?, number_of(base)?))
@@ -66,7 +66,7 @@ fn push_reply(text: &mut String, reply: &Reply<Global>) -> Option<()> {
     }
 }
 
-/// The lines of what commands answer of a space.
+/// The lines of the replies of a space to commands.
 fn replies_of<S: Space>(alloc: Global, space: &mut S, commands: &[Command]) -> Option<String> {
     let Ok(replies) = run(alloc, space, commands) else {
         return None;
@@ -78,7 +78,7 @@ fn replies_of<S: Space>(alloc: Global, space: &mut S, commands: &[Command]) -> O
     Some(text)
 }
 
-/// Prints a text, if the other is the same.
+/// Prints a string, if the other is equal.
 fn print_same<R: Print>(rt: &R, text: &str, other: &str) -> Option<()> {
     if text != other {
         return None;
@@ -86,7 +86,7 @@ fn print_same<R: Print>(rt: &R, text: &str, other: &str) -> Option<()> {
     print!(rt; "{text}").ok()
 }
 
-/// Prints what commands answer of a space, if it is a text.
+/// Prints the replies of a space to commands, if they can be written as lines.
 fn print_replies_of<R: Print + AllocGlobal, S: Space>(
     rt: &R,
     space: &mut S,
@@ -97,13 +97,13 @@ fn print_replies_of<R: Print + AllocGlobal, S: Space>(
     print_same(rt, text, other.as_str())
 }
 
-/// Prints what commands answer of both spaces.
+/// Prints the replies of both spaces to commands, if they are equal.
 fn print_both<R: Print + AllocGlobal>(rt: &R, both: &mut Both, commands: &[Command]) -> Option<()> {
     let text = replies_of(rt.alloc(), &mut both.mapped, commands)?;
     print_replies_of(rt, &mut both.filed, commands, text.as_str())
 }
 
-/// Prints what commands answer of both spaces of a set that has no fault.
+/// Prints the replies of both spaces of a set without a fault.
 fn print_commands<R: Print + AllocGlobal>(
     rt: &R,
     set: &[SetEntry],
@@ -114,7 +114,7 @@ fn print_commands<R: Print + AllocGlobal>(
     print_both(rt, &mut both, commands)
 }
 
-/// Prints that a set has no fault, and what the commands of words answer of it.
+/// Prints that a set has no fault, and the replies to commands.
 fn print_accepted<R: Print + AllocGlobal>(
     rt: &R,
     set: &[SetEntry],
@@ -126,7 +126,7 @@ fn print_accepted<R: Print + AllocGlobal>(
     print_commands(rt, set, policy, &commands)
 }
 
-/// Prints the first error of a set, or what commands answer of it.
+/// Prints the first error of a set, or the replies to commands.
 pub(crate) fn print_answers<R: Print + AllocGlobal>(
     rt: &R,
     set: &[SetEntry],
@@ -139,22 +139,22 @@ pub(crate) fn print_answers<R: Print + AllocGlobal>(
     }
 }
 
-/// Prints the first error of the set of a case, or what its commands answer.
+/// Prints the first error of the set of a case, or the replies to its commands.
 fn print_case<R: Print + AllocGlobal>(rt: &R, case: &SetCase) -> Option<()> {
     let set = set_of(rt.alloc(), &case.members)?;
     print_answers(rt, &set, case.policy, &case.others)
 }
 
-/// Prints the first error of the set that words make, or what the commands among them answer.
+/// Prints the first error of the set in the words, or the replies to the commands in them.
 pub(crate) fn print_replies<R: Files + Print + AllocGlobal>(rt: &R, words: &str) -> Option<()> {
     let case = read_set(rt, words)?;
     print_case(rt, &case)
 }
 
-/// How many bytes a buffer has.
+/// The size of the buffer.
 const BUFFER: usize = 4;
 
-/// A buffer in which a window was asked for, and whether it was granted.
+/// The buffer after a call of `window`, and whether the call succeeded.
 fn buffer_of<S: Space>(space: &S, (address, count): (u64, u32)) -> Option<(bool, [u8; BUFFER])> {
     let mut buffer = [0xee; BUFFER];
     let is_granted = space
@@ -163,7 +163,7 @@ fn buffer_of<S: Space>(space: &S, (address, count): (u64, u32)) -> Option<(bool,
     Some((is_granted, buffer))
 }
 
-/// Prints the buffer of a window of both spaces, in which they leave the same.
+/// Prints the buffer of a window of both spaces, if it is the same.
 pub(crate) fn print_buffer<R: Print>(rt: &R, both: &Both, word: &str) -> Option<()> {
     let window = window_of(word)?;
     let (is_granted, buffer) = buffer_of(&both.mapped, window)?;

@@ -1,4 +1,4 @@
-//! Files that were cut or changed, which both spaces and the slow checker have to refuse alike.
+//! Truncated and changed files, on which both spaces and the slow checker must agree.
 
 use crate::edits::edited_file;
 use crate::numbers::number_of;
@@ -9,7 +9,7 @@ use pe_vectors::slow_first;
 use std::alloc::Global;
 use std::rt::Files;
 
-/// Whether all agree in a set of one file.
+/// Whether all agree on a set of one file.
 fn agree_in_file(alloc: Global, file: &[u8], base: u64) -> bool {
     let set = [SetEntry {
         name: b"s.dll",
@@ -19,7 +19,7 @@ fn agree_in_file(alloc: Global, file: &[u8], base: u64) -> bool {
     first_error(alloc, &set, Policy::Known).is_some()
 }
 
-/// Prints of how many beginnings of a file all agree. The words are the base, and the file.
+/// Prints for how many lengths of a truncated file all agree. The words are the base and the file.
 pub(crate) fn print_cut<R: Files + Print + AllocGlobal>(rt: &R, words: &str) -> Option<()> {
     let (base, name) = words.split_once(" ")?;
     let (base, file) = (number_of(base)?, edited_file(rt, name)?);
@@ -32,7 +32,7 @@ pub(crate) fn print_cut<R: Files + Print + AllocGlobal>(rt: &R, words: &str) -> 
     println!(rt; "{sets} files are judged alike").ok()
 }
 
-/// Of how many of two files all agree, in which the byte at a place is 0 and 255.
+/// For how many of two files all agree, in which the byte at a place is 0 and 255.
 fn changes_at(alloc: Global, file: &mut Vec<u8>, base: u64, place: usize) -> Option<u32> {
     let before = *file.get(place)?;
     let mut sets = 0_u32;
@@ -44,7 +44,7 @@ fn changes_at(alloc: Global, file: &mut Vec<u8>, base: u64, place: usize) -> Opt
     Some(sets)
 }
 
-/// Prints of how many changed files all agree, each with a byte of a range as 0 or as 255.
+/// Prints for how many changed files all agree, each with a byte of a range as 0 or as 255.
 fn print_changes<R: Print + AllocGlobal>(
     rt: &R,
     file: &mut Vec<u8>,
@@ -60,8 +60,8 @@ fn print_changes<R: Print + AllocGlobal>(
     println!(rt; "{sets} files are judged alike").ok()
 }
 
-/// Prints of how many files all agree in which a byte of a range is 0, and 255. The words are the base, the first place, the
-/// place behind the last, and the file.
+/// Prints for how many files all agree in which a byte of a range is 0, and 255. The words are the base, the first place, the
+/// place after the last, and the file.
 pub(crate) fn print_changed<R: Files + Print + AllocGlobal>(rt: &R, words: &str) -> Option<()> {
     let (base, words) = words.split_once(" ")?;
     let (from, words) = words.split_once(" ")?;
@@ -71,7 +71,7 @@ pub(crate) fn print_changed<R: Files + Print + AllocGlobal>(rt: &R, words: &str)
     print_changes(rt, &mut file, base, from, to)
 }
 
-/// Prints what the slow checker alone answers of a set.
+/// Prints the result of the slow checker for a set, without the spaces.
 fn print_slow_of<R: Print + AllocGlobal>(rt: &R, set: &[SetEntry], policy: Policy) -> Option<()> {
     match slow_first(rt.alloc(), set, policy).ok()? {
         Some(error) => print_error(rt, error),
@@ -79,13 +79,13 @@ fn print_slow_of<R: Print + AllocGlobal>(rt: &R, set: &[SetEntry], policy: Polic
     }
 }
 
-/// Prints what the slow checker alone answers of the set of a case.
+/// Prints the result of the slow checker for the set of a case.
 fn print_slow_case<R: Print + AllocGlobal>(rt: &R, case: &SetCase) -> Option<()> {
     let set = set_of(rt.alloc(), &case.members)?;
     print_slow_of(rt, &set, case.policy)
 }
 
-/// Prints what the slow checker alone answers of the set that words make.
+/// Prints the result of the slow checker for the set in the words.
 pub(crate) fn print_slow<R: Files + Print + AllocGlobal>(rt: &R, words: &str) -> Option<()> {
     let case = read_set(rt, words)?;
     print_slow_case(rt, &case)

@@ -6,8 +6,8 @@ use pe_space::Policy;
 use pe_vectors::members::{names_of, repeated};
 use std::rt::Files;
 
-/// Prints the first error of a set of one file under many names, or what commands answer of it. The words are how many names
-/// there are, the number of the one that another gets, and of that; then `for` and the file, and `:` and the commands.
+/// Prints the first error of a set of one file under many names, or the replies to commands. The words are the number of names,
+/// the index of the name that another repeats, and the index of that other; then `for` and the file, and `:` and the commands.
 pub(crate) fn print_many<R: Files + Print + AllocGlobal>(rt: &R, words: &str) -> Option<()> {
     let (numbers, words) = words.split_once(" for ")?;
     let (name, words) = words.split_once(" : ")?;

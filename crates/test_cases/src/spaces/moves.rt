@@ -15,7 +15,7 @@ fn all_bytes<S: Space>(alloc: Global, space: &S) -> Option<Vec<Vec<u8>>> {
     Some(images)
 }
 
-/// Whether each byte of a space is as before when an image has moved away and back.
+/// Whether each byte of a space is the same after an image was moved away and back.
 fn returns<S: Space>(alloc: Global, space: &mut S, image: u16, away: u64) -> Option<bool> {
     let home = space.base_of(image)?;
     let before = all_bytes(alloc, space)?;
@@ -24,7 +24,7 @@ fn returns<S: Space>(alloc: Global, space: &mut S, image: u16, away: u64) -> Opt
     Some(all_bytes(alloc, space)? == before)
 }
 
-/// Prints whether the move of a word, and the one back, give every byte of before, in both spaces.
+/// Prints whether the move of a word, and the one back, restore every byte, in both spaces.
 pub(crate) fn print_returned<R: Print + AllocGlobal>(
     rt: &R,
     both: &mut Both,
@@ -36,7 +36,7 @@ pub(crate) fn print_returned<R: Print + AllocGlobal>(
     println!(rt; "as before {mapped} {filed}").ok()
 }
 
-/// The next of a sequence of numbers that look random.
+/// The next of a sequence of pseudo-random numbers.
 fn next(state: &mut u64) -> u64 {
     *state = state
         .wrapping_mul(6_364_136_223_846_793_005)
@@ -44,7 +44,7 @@ fn next(state: &mut u64) -> u64 {
     *state >> 33
 }
 
-/// Asks both spaces for a window and for a move by the next numbers, and tells whether they answer the same.
+/// Reads a window and moves an image in both spaces, as the next numbers say, and returns whether the results are equal.
 fn step(alloc: Global, both: &mut Both, state: &mut u64) -> Option<bool> {
     let image = (next(state) % 5) as u16;
     let base = both.mapped.base_of(image);
@@ -56,7 +56,7 @@ fn step(alloc: Global, both: &mut Both, state: &mut u64) -> Option<bool> {
     Some(same && moved == both.filed.move_image(image, to))
 }
 
-/// Prints how many of 400 windows and moves are answered the same by both spaces of a set.
+/// Prints for how many of 400 windows and moves both spaces of a set have the same result.
 pub(crate) fn print_random<R: Print + AllocGlobal>(rt: &R, both: &mut Both) -> Option<()> {
     let (mut state, mut same) = (1, 0_u32);
     for _ in 0..400_u32 {

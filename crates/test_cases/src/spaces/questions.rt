@@ -1,4 +1,4 @@
-//! What is asked of both spaces of a set that has no fault.
+//! What the cases compare of both spaces of a set without a fault.
 
 use crate::sets::{SetCase, read_set, set_of};
 use crate::spaces::both::{Both, opened};
@@ -8,20 +8,20 @@ use crate::spaces::windows::{print_edge, print_whole};
 use pe_space::{Binding, Policy, SetEntry, Space};
 use std::rt::Files;
 
-/// A question to both spaces.
+/// What to compare.
 #[derive(Clone, Copy)]
 pub(crate) enum Question {
-    /// Their bindings, which have to be the same.
+    /// The bindings, which must be equal.
     Bindings,
-    /// Each image with its base and its size.
+    /// The base and the size of each image.
     Whole,
-    /// How many random steps they answer alike.
+    /// The number of random steps with equal results.
     Random,
     /// The buffer of the window of each word.
     Buffers,
-    /// How many windows around the address of each word are the same.
+    /// The number of equal windows around the address of each word.
     Edges,
-    /// Whether the move of each word, and the one back, give every byte of before.
+    /// Whether the move of each word, and the one back, restore every byte.
     Returns,
 }
 
@@ -33,7 +33,7 @@ fn print_each<R: Print>(rt: &R, bindings: &[Binding]) -> Option<()> {
     Some(())
 }
 
-/// Prints the bindings of both spaces, which have to be the same.
+/// Prints the bindings of both spaces, if they are equal.
 fn print_bindings<R: Print>(rt: &R, both: &Both) -> Option<()> {
     if *both.mapped.bindings() != *both.filed.bindings() {
         return None;
@@ -41,7 +41,7 @@ fn print_bindings<R: Print>(rt: &R, both: &Both) -> Option<()> {
     print_each(rt, both.mapped.bindings())
 }
 
-/// Asks both spaces for what a word says.
+/// Compares both spaces as a word says.
 fn ask_word<R: Print + AllocGlobal>(
     rt: &R,
     question: Question,
@@ -55,7 +55,7 @@ fn ask_word<R: Print + AllocGlobal>(
     }
 }
 
-/// Asks both spaces for what each word says.
+/// Compares both spaces as each word says.
 fn ask_words<R: Print + AllocGlobal>(
     rt: &R,
     question: Question,
@@ -68,7 +68,7 @@ fn ask_words<R: Print + AllocGlobal>(
     Some(())
 }
 
-/// Asks both spaces.
+/// Compares both spaces.
 fn ask<R: Print + AllocGlobal>(
     rt: &R,
     question: Question,
@@ -83,7 +83,7 @@ fn ask<R: Print + AllocGlobal>(
     }
 }
 
-/// Asks both spaces of a set.
+/// Compares both spaces of a set.
 fn ask_set<R: Print + AllocGlobal>(
     rt: &R,
     question: Question,
@@ -95,13 +95,13 @@ fn ask_set<R: Print + AllocGlobal>(
     ask(rt, question, &mut both, words)
 }
 
-/// Asks both spaces of the set of a case.
+/// Compares both spaces of the set of a case.
 fn ask_case<R: Print + AllocGlobal>(rt: &R, question: Question, case: &SetCase) -> Option<()> {
     let set = set_of(rt.alloc(), &case.members)?;
     ask_set(rt, question, &set, case.policy, &case.others)
 }
 
-/// Asks both spaces of the set that words make, with the words that say something else.
+/// Compares both spaces of the set in the words, with the other words.
 pub(crate) fn print_question<R: Files + Print + AllocGlobal>(
     rt: &R,
     question: Question,

@@ -1,4 +1,4 @@
-//! Windows of both spaces of a set, which have to be the same.
+//! Windows of both spaces of a set, which must be equal.
 
 use crate::numbers::number_of;
 use crate::spaces::both::Both;
@@ -6,7 +6,7 @@ use crate::spaces::commands::move_of;
 use pe_space::Space;
 use std::alloc::Global;
 
-/// Whether both spaces answer the same of a window, and leave the same bytes in a buffer.
+/// Whether both spaces have the same result for a window, and leave the same bytes in the buffer.
 pub(crate) fn agree_in(alloc: Global, both: &Both, address: u64, len: usize) -> Option<bool> {
     let mut bytes = vec![in alloc; 0xee; len].ok()?;
     let mut others = vec![in alloc; 0xee; len].ok()?;
@@ -17,7 +17,7 @@ pub(crate) fn agree_in(alloc: Global, both: &Both, address: u64, len: usize) -> 
     )
 }
 
-/// How many of the windows of up to 12 bytes from each of 16 addresses on are the same in both spaces.
+/// How many of the windows of up to 12 bytes, from each of 16 addresses on, are equal in both spaces.
 fn count_same(alloc: Global, both: &Both, first: u64) -> Option<u32> {
     let mut same = 0_u32;
     for offset in 0..16_u64 {
@@ -30,8 +30,8 @@ fn count_same(alloc: Global, both: &Both, first: u64) -> Option<u32> {
     Some(same)
 }
 
-/// Moves an image of both spaces, where the word is an image and a base; else prints how many windows are the same that begin at
-/// the address of the word, and up to 15 bytes behind it.
+/// Moves an image of both spaces if the word is an image and a base; otherwise prints how many windows are equal that begin at the
+/// address of the word, and up to 15 bytes after it.
 pub(crate) fn print_edge<R: Print + AllocGlobal>(
     rt: &R,
     both: &mut Both,
@@ -46,7 +46,7 @@ pub(crate) fn print_edge<R: Print + AllocGlobal>(
     println!(rt; "{same} windows are the same").ok()
 }
 
-/// The bytes of an image of a space, which are those that stand at its addresses one by one.
+/// The bytes of an image of a space, if they are those at its addresses, read one by one.
 pub(crate) fn whole<S: Space>(alloc: Global, space: &S, image: u16) -> Option<Vec<u8>> {
     let base = space.base_of(image)?;
     let mut bytes = vec![in alloc; 0; space.size_of(image)? as usize].ok()?;
@@ -59,7 +59,7 @@ pub(crate) fn whole<S: Space>(alloc: Global, space: &S, image: u16) -> Option<Ve
     Some(bytes)
 }
 
-/// Whether a space refuses a window of one byte more than an image has, and leaves its buffer.
+/// Whether a space refuses a window that is one byte longer than an image, and leaves its buffer as it was.
 fn refuses_longer<S: Space>(alloc: Global, space: &S, image: u16) -> Option<bool> {
     let base = space.base_of(image)?;
     let len = (space.size_of(image)? as usize).checked_add(1)?;
@@ -68,7 +68,7 @@ fn refuses_longer<S: Space>(alloc: Global, space: &S, image: u16) -> Option<bool
     Some(is_refused && longer.iter().all(|byte| *byte == 0xee))
 }
 
-/// How many bytes an image has, where they are the same in both spaces.
+/// The size of an image, if its bytes are equal in both spaces.
 fn same_len(alloc: Global, both: &Both, image: u16) -> Option<usize> {
     let bytes = whole(alloc, &both.mapped, image)?;
     let others = whole(alloc, &both.filed, image)?;
@@ -79,7 +79,7 @@ fn same_len(alloc: Global, both: &Both, image: u16) -> Option<usize> {
     }
 }
 
-/// Prints the base and the size of an image, whose bytes are the same in both spaces.
+/// Prints the base and the size of an image, if its bytes are equal in both spaces.
 fn print_image<R: Print + AllocGlobal>(rt: &R, both: &Both, image: u16) -> Option<()> {
     let len = same_len(rt.alloc(), both, image)?;
     let is_refused = refuses_longer(rt.alloc(), &both.mapped, image)?
@@ -88,7 +88,7 @@ fn print_image<R: Print + AllocGlobal>(rt: &R, both: &Both, image: u16) -> Optio
     println!(rt; "image {image} base {base:#x} size {len:#x} longer refused {is_refused}").ok()
 }
 
-/// Prints how many images both spaces have, and whether no number past them has a size.
+/// Prints the number of images of both spaces, if no image after them has a size.
 fn print_count<R: Print>(rt: &R, both: &Both) -> Option<()> {
     let count = both.mapped.image_count();
     if both.filed.image_count() != count {
@@ -102,7 +102,7 @@ fn print_count<R: Print>(rt: &R, both: &Both) -> Option<()> {
     println!(rt; "images {count} size past them {has_size}").ok()
 }
 
-/// Prints the base and the size of each image, whose window has the bytes that stand there one by one, and how many there are.
+/// Prints the base and the size of each image, if its window has the bytes that are read one by one, and the number of images.
 pub(crate) fn print_whole<R: Print + AllocGlobal>(rt: &R, both: &Both) -> Option<()> {
     for image in 0..both.mapped.image_count() {
         print_image(rt, both, image)?;

@@ -1,11 +1,11 @@
-//! Command lines, and what they ask for.
+//! Command lines, and their jobs.
 
 use crate::numbers::bytes_of;
 use pe_tool::{Job, MapFile, Policy, ShowOptions, WordsError, parse_words};
 use std::alloc::Global;
 use std::str;
 
-/// What a command line asks for. `''` stands for an empty word.
+/// The job of a command line. `''` is an empty word.
 fn parse(alloc: Global, line: &str) -> Option<Result<Job, WordsError>> {
     let mut words = Vec::new(alloc);
     for word in line.split_ascii_whitespace() {
@@ -15,7 +15,7 @@ fn parse(alloc: Global, line: &str) -> Option<Result<Job, WordsError>> {
     Some(parse_words(alloc, &words))
 }
 
-/// Prints what `map` is to map.
+/// Prints the job of `map`.
 fn print_map<R: Print>(
     rt: &R,
     policy: Policy,
@@ -41,7 +41,7 @@ fn print_files<R: Print>(rt: &R, command: &str, files: &[String]) -> Option<()> 
     Some(())
 }
 
-/// Prints how many bytes of a text are asked for, where not all are.
+/// Prints the limit of the output in bytes, if there is one.
 fn print_most<R: Print>(rt: &R, most: Option<u64>) -> Option<()> {
     match most {
         Some(most) => println!(rt; "most {most}").ok(),
@@ -49,7 +49,7 @@ fn print_most<R: Print>(rt: &R, most: Option<u64>) -> Option<()> {
     }
 }
 
-/// Prints what a page is to show, and of which files.
+/// Prints the options and the files of `show`.
 fn print_show<R: Print>(
     rt: &R,
     options: ShowOptions,
@@ -70,7 +70,7 @@ fn print_show<R: Print>(
     print_files(rt, "show", files)
 }
 
-/// Prints how many bytes of the lines of files are asked for, and of which files.
+/// Prints the limit of the output and the files of `json`.
 fn print_json<R: Print>(rt: &R, most: Option<u64>, files: &[String]) -> Option<()> {
     print_most(rt, most)?;
     print_files(rt, "json", files)
@@ -106,7 +106,7 @@ fn print_job<R: Print>(rt: &R, job: &Job) -> Option<()> {
     }
 }
 
-/// Prints what a command line asks for: its job, or the text that is told.
+/// Prints the job of a command line, or the message.
 pub(crate) fn print_words<R: Print + AllocGlobal>(rt: &R, line: &str) -> Option<()> {
     match parse(rt.alloc(), line)? {
         Ok(job) => print_job(rt, &job),
@@ -116,7 +116,7 @@ pub(crate) fn print_words<R: Print + AllocGlobal>(rt: &R, line: &str) -> Option<
     }
 }
 
-/// Prints how a command line is told, and whether its text has a part, which stands behind ` has `.
+/// Prints the kind of the message for a command line, and whether the message contains what follows ` has `.
 pub(crate) fn print_has<R: Print + AllocGlobal>(rt: &R, line: &str) -> Option<()> {
     let (line, part) = line.split_once(" has ")?;
     let part = bytes_of(rt.alloc(), part)?;

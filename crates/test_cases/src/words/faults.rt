@@ -4,7 +4,7 @@ use crate::numbers::number_of;
 use pe_tool::FaultText;
 use pe_view::{Fault, Place};
 
-/// The place that a word and a number name.
+/// The place described by a word and a number.
 fn place_of(word: &str, number: u64) -> Option<Place> {
     match word {
         "file" => Some(Place::File(number)),
@@ -15,7 +15,7 @@ fn place_of(word: &str, number: u64) -> Option<Place> {
     }
 }
 
-/// Prints a fault in words with its place: the words are its number, and the kind and the number of its place.
+/// Prints a fault in words with its place: the arguments are its number, and the kind and the number of its place.
 pub(crate) fn print_fault<R: Print>(rt: &R, words: &str) -> Option<()> {
     let (number, place) = words.split_once(" ")?;
     let (kind, digits) = place.split_once(" ")?;
