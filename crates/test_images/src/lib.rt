@@ -1,6 +1,7 @@
-//! The tests of one image that need a call: values that no text shows, and calls with little memory.
+//! Tests of one image that must call the library: values that no output shows, and calls with little memory.
 //!
-//! They stand over the files of `pe_vectors`, apart from `test_calls`, so that the gate can prove them as soon as images are read.
+//! They use the files of `pe_vectors`, and are apart from `test_calls` so that the gate can prove them as soon as the readers of
+//! images are proved.
 #![tactic(auto)]
 
 #[cfg(test)]

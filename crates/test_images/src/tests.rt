@@ -1,4 +1,4 @@
-//! The tests of one image, and what they share.
+//! The tests of one image, and their common parts.
 
 mod asserts;
 mod cases;

@@ -11,7 +11,7 @@ pub(super) fn layout_of<'a>(rt: &impl Abort, file: &'a [u8]) -> Layout<'a> {
     Layout::new(View::new(file), IMAGE).expect(rt, "a layout")
 }
 
-/// V1 with other bytes in its section, which ends the file.
+/// V1 with other bytes in its section, which is at the end of the file.
 pub(super) fn with_data(rt: &impl Abort, alloc: Global, pieces: &[Piece], data: &[u8]) -> Vec<u8> {
     let mut file = file_of(alloc, Vector::V1).expect(rt, "memory");
     put_pieces(&mut file, pieces).expect(rt, "pieces in the file");
@@ -24,5 +24,5 @@ pub(super) fn with_data(rt: &impl Abort, alloc: Global, pieces: &[Piece], data: 
     file
 }
 
-/// The image number that tests hand in.
+/// The image number that tests pass.
 pub(super) const IMAGE: u16 = 3;

@@ -4,7 +4,7 @@ use crate::tests::asserts::assert_holds;
 use pe_vectors::files::{Piece, put_pieces};
 use pe_vectors::vf;
 
-/// How many forwarders VF has, and the pieces that it has for them.
+/// The number of forwarders of VF, and the pieces that it has for them.
 const CHAINS: &[(u32, &[Piece])] = &[
     (0, &[(0x234, &[0x01]), (0x248, &[0x04, 0x10])]),
     (
@@ -42,7 +42,7 @@ fn a_chain_has_its_forwarders_and_then_its_export(rt: HostRuntime) {
     }
 }
 
-/// Bytes of the longest chain: how many entries it has; its entries 63 to 65; its last two forwarders.
+/// Bytes of the longest chain: its number of entries; its entries 63 to 65; its last two forwarders.
 const LONGEST: &[(usize, &[u8])] = &[
     (0x234, &[0x42, 0x00, 0x00, 0x00]),
     (

@@ -1,4 +1,4 @@
-//! What `pe_tables` writes of base relocation tables, and that a long one is read back.
+//! Base relocation tables that `pe_tables` writes, and a long one that is read back.
 
 use super::cases::{layout_of, with_data};
 use crate::tests::asserts::assert_holds;
@@ -16,7 +16,7 @@ fn fixup((entry, field, kind): Row) -> Fixup {
     Fixup { entry, field, kind }
 }
 
-/// The fixups of rows, in their order.
+/// The fixups of rows.
 fn fixups(rt: &impl Abort, alloc: Global, rows: &[Row]) -> Vec<Fixup> {
     let mut fixups = Vec::new(alloc);
     for row in rows {
@@ -88,7 +88,7 @@ fn fields_that_do_not_ascend(rt: HostRuntime) {
     }
 }
 
-/// How many fixups the long table has.
+/// The number of fixups of the long table.
 const MANY: u32 = 1_000_000;
 
 /// The fixups of the long table.

@@ -1,4 +1,4 @@
-//! What sections take of an image and of its file, also those that no accepted file has.
+//! The sizes of sections in an image and in its file, also of sections that no accepted file has.
 
 use crate::tests::asserts::assert_number;
 use pe_head::SectionHeader;

@@ -1,4 +1,4 @@
-//! What `pe_layout` shows of laid-out images: numbers, directories, and what belongs to the layout itself.
+//! Laid-out images in `pe_layout`: numbers, directories, and the layout's own properties.
 
 use super::cases::{IMAGE, layout_of};
 use crate::tests::asserts::assert_holds;
@@ -23,13 +23,13 @@ fn a_layout_shows_its_headers_and_its_number(rt: HostRuntime) {
     assert_holds(&rt, 0, layout.headers().image_base == 0x1000_0000);
 }
 
-/// What V2 becomes where `.reloc` begins at the end of `.data`, and the headers' last byte is not zero.
+/// V2 with `.reloc` at the end of `.data`, and the last byte of the headers not zero.
 const TOUCHING: &[Piece] = &[(0x1ff, &[0x7f]), (0x16c, &[0x10, 0x10])];
 
 /// An RVA, and the numbers of 2, 4 and 8 bytes there.
 type Numbers = (u32, Option<u16>, Option<u32>, Option<u64>);
 
-/// V2 with pieces that touch: numbers across the headers' end, in a gap, into `.data`, from it into `.reloc`, and behind.
+/// V2 with adjacent sections: numbers across the headers' end, in a gap, into `.data`, from it into `.reloc`, and after that.
 const CROSSING: &[Numbers] = &[
     (0x1fd, Some(0), Some(0x007f_0000), Some(0x007f_0000)),
     (0x1ff, Some(0x7f), Some(0x7f), Some(0x7f)),
@@ -61,7 +61,7 @@ const CROSSING: &[Numbers] = &[
     (0x1018, Some(0x3008), Some(0x3008), Some(0x3008)),
 ];
 
-/// V1 where the image ends with `.data`, at 0x1010.
+/// V1 with the end of the image at that of `.data`, at 0x1010.
 const AT_THE_END: &[Numbers] = &[
     (
         0x1008,
@@ -91,7 +91,7 @@ const AT_THE_LARGEST_END: &[Numbers] = &[
     (0x8000_0000, None, None, None),
 ];
 
-/// A file changed, and its numbers.
+/// A changed file, and its numbers.
 const NUMBERS: &[(Vector, &[Piece], &[Numbers])] = &[
     (Vector::V2, TOUCHING, CROSSING),
     (Vector::V1, &[(0x90, &[0x10, 0x10, 0x00, 0x00])], AT_THE_END),
@@ -115,13 +115,13 @@ fn numbers_cross_pieces_and_end_with_the_image(rt: HostRuntime) {
     }
 }
 
-/// What gives a file the largest SizeOfImage, 2^31.
+/// Sets the largest SizeOfImage, 2^31.
 const LARGEST: &[Piece] = &[(0x90, &[0x00, 0x00, 0x00, 0x80])];
 
-/// Changes of V2, the index of a directory, and its RVA and Size; None where it is absent.
+/// Changes of V2, the index of a directory, and its RVA and Size; `None` if it is absent.
 type Present = (&'static [Piece], usize, Option<(u32, u32)>);
 
-/// V2 names directory 5 alone.
+/// V2 has directory 5 only.
 const DIRECTORIES: &[Present] = &[
     (&[], 5, Some((0x2000, 0x0c))),
     (&[], 0, None),
@@ -134,7 +134,7 @@ const DIRECTORIES: &[Present] = &[
     // RVA 0
     (&[(0xe0, &[0x00, 0x00])], 5, None),
     (&[(0xbc, &[0x60])], 0, None),
-    // Size 0, which makes number 5 alone absent
+    // Size 0, which makes only number 5 absent
     (&[(0xe4, &[0x01])], 5, Some((0x2000, 1))),
     (&[(0xe4, &[0x00])], 5, None),
     (&[(0xb8, &[0x20, 0x10])], 0, Some((0x1020, 0))),
@@ -147,7 +147,7 @@ const DIRECTORIES: &[Present] = &[
     ),
 ];
 
-/// Whether a directory is the one of this RVA and Size, or both are absent.
+/// Whether a directory has this RVA and Size, or both are absent.
 fn is_directory(found: Option<Directory>, expected: Option<(u32, u32)>) -> bool {
     match (found, expected) {
         (Some(found), Some((rva, size))) => found.rva == rva && found.size == size,
@@ -165,9 +165,8 @@ fn a_directory_is_present_where_the_headers_hold_it_and_its_rva_is_not_0(rt: Hos
     }
 }
 
-/// A small image: headers up to 0x16e, then two sections that touch, an empty one, one without raw data, one whose raw
-/// bytes begin in the headers' last two, and an empty one at the image's end, 0x19a; gaps stand before, between and
-/// behind them.
+/// A small image: headers up to 0x16e, then two adjacent sections, an empty one, one without raw data, one whose raw data begins
+/// in the headers' last two bytes, and an empty one at the image's end, 0x19a; there are gaps before, between and after them.
 const SMALL: &[Piece] = &[
     (0x00, &[0x4d, 0x5a]),
     (0x04, &[0x50, 0x45, 0x00, 0x00, 0x4c, 0x01, 0x06]),

@@ -1,4 +1,4 @@
-//! Long texts, of which many may end alike: where they end, by those that were found before.
+//! Long strings, many of which may share their end, found with the ends of earlier ones.
 
 ghost use Rattle.std.specs.Prelude.{◌<◌, ◌*◌};
 
@@ -11,17 +11,17 @@ use std::alloc::{Allocator, Global};
 use std::process::Abort;
 use std::test::Fail;
 
-/// Adds as many bytes.
+/// Appends a byte many times.
 fn push_bytes(rt: &impl Abort, bytes: &mut Vec<u8>, byte: u8, count: usize) {
     for _ in 0..count {
         bytes.push(byte).expect(rt, "memory");
     }
 }
 
-/// A byte, and how many of it.
+/// A byte, and how often it is repeated.
 type Run = (u8, usize);
 
-/// Adds runs of bytes.
+/// Appends runs of bytes.
 fn push_runs(rt: &impl Abort, bytes: &mut Vec<u8>, runs: &[Run]) {
     for (byte, count) in runs {
         push_bytes(rt, bytes, *byte, *count);
@@ -45,10 +45,10 @@ const FILE: &[Run] = &[
     (b'c', 999),
 ];
 
-/// An offset and an end, and how many bytes the text between them has, and of which letter.
+/// An offset and an end, and the length of the string between them and its letter.
 type Text = (u64, u64, Option<(usize, u8)>);
 
-/// The texts of the file of runs.
+/// The strings of the file of runs.
 const RUNS: &[Text] = &[
     (500, 3000, Some((500, b'a'))),
     (100, 3000, Some((900, b'a'))),
@@ -56,7 +56,7 @@ const RUNS: &[Text] = &[
     (999, 3000, Some((1, b'a'))),
     (1000, 3000, Some((0, b'-'))),
     (50, 3000, Some((0, b'-'))),
-    // an end that comes before the zero byte
+    // an end before the zero byte
     (100, 900, None),
     (100, 1000, None),
     (100, 1001, Some((900, b'a'))),
@@ -70,14 +70,14 @@ const RUNS: &[Text] = &[
     (2001, 3000, None),
     (2500, 3000, None),
     (2100, 2900, None),
-    // no part of the file
+    // past the end of the file
     (100, 3001, None),
     (900, 100, None),
     (u64::MAX, u64::MAX, None),
     (100, u64::MAX, None),
 ];
 
-/// Whether a text has so many of a letter, or is none.
+/// Whether a string has this length and letter, or there is none.
 fn is_text(found: Option<&[u8]>, expected: Option<(usize, u8)>) -> bool {
     match (found, expected) {
         (Some(bytes), Some((count, letter))) => {
@@ -88,7 +88,7 @@ fn is_text(found: Option<&[u8]>, expected: Option<(usize, u8)>) -> bool {
     }
 }
 
-/// Place `index` of the places below a count, and then of the same in the other order.
+/// Index `index` of the sequence that counts up to `count` and then back.
 fn there_and_back(index: usize, count: usize) -> usize
     requires { index < 2 * count }
     ensures { result < count }
@@ -100,7 +100,7 @@ fn there_and_back(index: usize, count: usize) -> usize
     }
 }
 
-/// Asks for all texts, in this order and in the other one, with what was found before.
+/// Reads all strings, in this order and then back, with the ends of earlier ones.
 fn assert_runs<A: Allocator + Copy>(rt: &impl Abort, alloc: A, file: &[u8]) {
     let view = View::new(file);
     let mut ends = TextEnds::new(alloc);
@@ -120,13 +120,13 @@ fn assert_runs<A: Allocator + Copy>(rt: &impl Abort, alloc: A, file: &[u8]) {
 fn texts_are_found_by_those_before_them(rt: HostRuntime) -> Result<(), Fail> {
     let file = text_of(&rt, rt.alloc(), FILE);
     assert_runs(&rt, rt.alloc(), &file);
-    // where memory is refused they are searched again
+    // if memory runs out, they are searched again
     let heap = LocalHeap::new(rt.alloc(), 64)?;
     assert_runs(&rt, &heap, &file);
     Ok(())
 }
 
-/// A section of 0xd00 bytes: 600 `a`, a zero, and 2,727 `b`, with zero fill of 0x100 bytes behind.
+/// A section of 0xd00 bytes: 600 `a`, a zero, and 2,727 `b`, followed by zero fill of 0x100 bytes.
 fn two_texts(rt: &impl Abort, alloc: Global) -> Vec<u8> {
     let data = text_of(rt, alloc, &[(b'a', 600), (0, 1), (b'b', 2727)]);
     let mut file = with_data(rt, alloc, &[], &data);
@@ -135,7 +135,7 @@ fn two_texts(rt: &impl Abort, alloc: Global) -> Vec<u8> {
     file
 }
 
-/// An RVA, and how many bytes the text there has, of which letter, and the file offset of its end.
+/// An RVA, and the length of the string there, its letter, and the file offset of its end.
 const IMAGE_TEXTS: &[(u32, usize, u8, u64)] = &[
     (0x1100, 344, b'a', 0x458),
     (0x1000, 600, b'a', 0x458),

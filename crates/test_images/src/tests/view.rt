@@ -1,10 +1,10 @@
-//! `View`: numbers, slices and texts of a file of twelve bytes.
+//! `View`: numbers, slices and strings of a file of twelve bytes.
 
 use crate::tests::asserts::assert_holds;
 use pe_view::View;
 use std::process::Abort;
 
-/// A file of twelve bytes, which differ.
+/// A file of twelve different bytes.
 const FILE: &[u8; 12] = b"\x4d\x5a\x90\x00\x03\xff\x80\x7f\x01\x00\x02\xfe";
 
 #[test]
@@ -80,7 +80,7 @@ fn assert_slices(rt: &impl Abort, file: &[u8], parts: &[Part]) {
     }
 }
 
-/// Asserts the texts of a file by their ends.
+/// Asserts the strings of a file by their ends.
 fn assert_texts(rt: &impl Abort, file: &[u8], parts: &[Part]) {
     let view = View::new(file);
     for (case, (offset, end, expected)) in parts.iter().enumerate() {
@@ -119,7 +119,7 @@ fn a_slice_is_a_part_of_the_file(rt: HostRuntime) {
     assert_slices(&rt, FILE, SLICES);
 }
 
-/// A file of two texts that end, and one that does not.
+/// A file of two strings that end, and one that does not.
 const TEXTS: &[u8] = b"ab\x00cd\x00e";
 
 const ENDED: &[Part] = &[

@@ -1,4 +1,4 @@
-//! `read_image`: the number that an image and its fault have.
+//! `read_image`: the number of an image and of its fault.
 
 use crate::tests::asserts::assert_holds;
 use pe_image::read_image;
