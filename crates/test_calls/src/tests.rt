@@ -1,4 +1,4 @@
-//! The tests, over files that are read and written whole, and what they share.
+//! The tests of files that are read and written whole, and their common parts.
 
 mod asserts;
 mod files;

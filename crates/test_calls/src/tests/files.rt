@@ -1,4 +1,4 @@
-//! The tests of files that are read and written whole, of devices that fail and of calls in little room.
+//! Tests of files that are read and written whole, of devices that fail and of calls with little memory.
 
 mod counted;
 mod devices;

@@ -86,7 +86,7 @@ fn print_same<R: Print>(rt: &R, text: &str, other: &str) -> Option<()> {
     print!(rt; "{text}").ok()
 }
 
-/// Prints the replies of a space to commands, if they can be written as lines.
+/// Prints the replies of a space to commands, if they are equal to `text`.
 fn print_replies_of<R: Print + AllocGlobal, S: Space>(
     rt: &R,
     space: &mut S,

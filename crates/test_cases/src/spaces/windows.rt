@@ -88,7 +88,7 @@ fn print_image<R: Print + AllocGlobal>(rt: &R, both: &Both, image: u16) -> Optio
     println!(rt; "image {image} base {base:#x} size {len:#x} longer refused {is_refused}").ok()
 }
 
-/// Prints the number of images of both spaces, if no image after them has a size.
+/// Prints the number of images of both spaces, and whether any image past them has a size.
 fn print_count<R: Print>(rt: &R, both: &Both) -> Option<()> {
     let count = both.mapped.image_count();
     if both.filed.image_count() != count {

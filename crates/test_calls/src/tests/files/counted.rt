@@ -14,7 +14,7 @@ fn a_reader_gives_its_bytes_and_then_none(rt: HostRuntime) {
     }
 }
 
-/// A piece, what a writer with room for three bytes answers, and the failures before.
+/// A piece, what a writer with room for three bytes returns, and the failures before.
 const WRITES: &[(&[u8], Result<usize, Failed>, u64)] = &[
     (b"abcd", Ok(3), 0),
     (b"", Ok(0), 0),

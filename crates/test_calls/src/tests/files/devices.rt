@@ -1,11 +1,11 @@
-//! The devices of tests: a reader and a writer over memory that work in steps and fail.
+//! The devices of tests: a reader and a writer over memory, which work in steps and fail.
 
 use crate::tests::asserts::{assert_holds, assert_number};
 use pe_tool::{Failed, Sink, Source};
 use pe_vectors::{StepReader, StepWriter};
 use std::process::Abort;
 
-/// Whether a read answered with these bytes, or failed.
+/// Whether a read returned these bytes, or failed.
 fn has_given(buffer: &[u8], given: Result<usize, Failed>, expected: Option<&[u8]>) -> bool {
     match (given, expected) {
         (Ok(count), Some(bytes)) => buffer.get(..count) == Some(bytes),
@@ -14,7 +14,7 @@ fn has_given(buffer: &[u8], given: Result<usize, Failed>, expected: Option<&[u8]
     }
 }
 
-/// What each read of `abcdefg` by 3 bytes gives, the second of which fails, and the failures then.
+/// What each read of `abcdefg` by 3 bytes returns, the second of which fails, and the failures then.
 const READS: &[(Option<&[u8]>, u64)] = &[
     (Some(b"abc"), 0),
     (None, 1),
@@ -24,7 +24,7 @@ const READS: &[(Option<&[u8]>, u64)] = &[
     (Some(b""), 1),
 ];
 
-/// Whether a read of at most 4 bytes gives these, or fails.
+/// Whether a read of at most 4 bytes returns these, or fails.
 fn reads(rt: &impl Abort, reader: &mut StepReader, expected: Option<&[u8]>) -> bool {
     assert!(rt; reader.failures() < 5);
     let mut buffer = [0; 4];
@@ -41,8 +41,8 @@ fn a_reader_gives_its_bytes_in_steps(rt: HostRuntime) {
     }
 }
 
-/// What each write of `abcd` by 3 bytes answers, the second of which fails and the fourth of which finds no room, and what
-/// was then taken.
+/// What each write of `abcd` by 3 bytes returns, the second of which fails and the fourth of which finds no room, and the bytes
+/// taken then.
 const WRITES: &[(Result<usize, Failed>, &[u8])] = &[
     (Ok(3), b"abc"),
     (Err(Failed), b"abc"),
@@ -50,7 +50,7 @@ const WRITES: &[(Result<usize, Failed>, &[u8])] = &[
     (Err(Failed), b"abcab"),
 ];
 
-/// What a write of a piece answers.
+/// What a write of a piece returns.
 fn written(rt: &impl Abort, writer: &mut StepWriter, piece: &[u8]) -> Result<usize, Failed> {
     assert!(rt; writer.failures() < 5);
     writer.write(piece)

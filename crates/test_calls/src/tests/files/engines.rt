@@ -10,7 +10,7 @@ use pe_vectors::{StepReader, StepWriter};
 use pe_view::Place;
 use std::alloc::{AllocError, Allocator, Global};
 
-/// An engine that reads one file and writes a text.
+/// An engine that reads one file.
 #[derive(Clone, Copy)]
 pub(super) enum Engine {
     Check,
@@ -21,7 +21,7 @@ pub(super) enum Engine {
     At,
 }
 
-/// A page with all rows of tables.
+/// A page with all rows.
 const WHOLE_PAGE: ShowOptions = ShowOptions {
     exports: true,
     imports: true,
@@ -30,13 +30,13 @@ const WHOLE_PAGE: ShowOptions = ShowOptions {
     is_coloured: false,
 };
 
-/// What views call the file.
+/// The name of the file in views.
 const NAME: &[u8] = b"a.dll";
 
-/// The place that is told of.
+/// The place that `at` shows.
 const PLACE: Place = Place::Rva(0x40);
 
-/// How the reader and the writer of a run work: the most bytes a call, and the read and the write that fail.
+/// How the reader and the writer of a run work: the most bytes per call, and the read and the write that fail.
 #[derive(Clone, Copy)]
 pub(super) struct Devices {
     pub step: usize,
@@ -44,7 +44,7 @@ pub(super) struct Devices {
     pub failing_write: Option<u64>,
 }
 
-/// Devices of which no call fails.
+/// Devices without a failing call.
 pub(super) fn steps_of(step: usize) -> Devices
     ensures { result.step ≡ step }
 {
@@ -55,10 +55,10 @@ pub(super) fn steps_of(step: usize) -> Devices
     }
 }
 
-/// What an engine answered, and the writer with what it wrote.
+/// The result of an engine, and the writer with its output.
 pub(super) type Answered = (Result<Outcome, ToolError>, StepWriter);
 
-/// Runs an engine over an allocator's memory; the writer's own, of 0x2000 bytes, may be refused.
+/// Runs an engine with the memory of an allocator, which may run out; the writer has 0x2000 bytes of its own.
 pub(super) fn run_over<A: Allocator + Copy>(
     alloc: Global,
     memory: A,
@@ -81,7 +81,7 @@ pub(super) fn run_over<A: Allocator + Copy>(
     Ok((answer, writer))
 }
 
-/// Runs an engine with ample memory.
+/// Runs an engine with enough memory.
 pub(super) fn run(
     alloc: Global,
     engine: Engine,
@@ -93,7 +93,8 @@ pub(super) fn run(
     run_over(alloc, alloc, engine, file, devices)
 }
 
-/// Reports a set over an allocator's memory, with a window or none; the writer's own, of 0x800 bytes, may be refused.
+/// Reports a set, perhaps with a window, with the memory of an allocator, which may run out; the writer has 0x800 bytes of its
+/// own.
 pub(super) fn report_over<A: Allocator + Copy>(
     alloc: Global,
     memory: A,

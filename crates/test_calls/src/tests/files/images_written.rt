@@ -1,4 +1,4 @@
-//! What `pe_write` writes of plans, and which plans it refuses.
+//! The files that `pe_write` writes from plans, and the plans that it refuses.
 
 use super::plans::{
     Heading, NO_DIRECTORIES, V1, V2, V3, VA, VB, VC, VD, VF, VS, plan_of, plan_with, section,
@@ -13,7 +13,7 @@ use pe_write::{Plan, PlanSection, WriteError, write_image};
 use std::alloc::Global;
 use std::process::Abort;
 
-/// Asserts that a file is what is written of its plan.
+/// Asserts that a file is written from its plan.
 fn assert_written(rt: &impl Abort, alloc: Global, case: usize, heading: &Heading, file: &[u8]) {
     let plan = plan_of(rt, alloc, heading, file);
     let written = write_image(alloc, &plan).expect(rt, "a file");
@@ -46,7 +46,7 @@ fn a_chain_of_forwarders_is_what_is_written_of_its_plan(rt: HostRuntime) {
     }
 }
 
-/// A section's VirtualSize and RVA, and how many bytes the file has of it.
+/// A section's VirtualSize and RVA, and the size of its raw data.
 type Placed = (u32, u32, usize);
 
 /// The sections of a plan that is not refused.
@@ -98,7 +98,7 @@ fn assert_judged(
     assert_holds(rt, case, write_image(alloc, &plan).err() == expected);
 }
 
-/// A form, FileAlignment, ImageBase and SizeOfImage, and whether they are refused.
+/// A form, FileAlignment, ImageBase and SizeOfImage, and whether the plan is refused.
 const FIELDS: &[(Magic, u32, u64, u32, bool)] = &[
     (Magic::Pe32, 0x200, 0x1000_0000, 0x3000, false),
     (Magic::Pe32, 0, 0x1000_0000, 0x3000, true),
@@ -130,7 +130,7 @@ fn the_fields_of_a_plan_have_limits(rt: HostRuntime) {
     }
 }
 
-/// A form, SizeOfHeaders and sections in an image of 0x3000 bytes, and whether they are refused.
+/// A form, SizeOfHeaders and sections in an image of 0x3000 bytes, and whether the plan is refused.
 const HEADERS: &[(Magic, u32, &[Placed], bool)] = &[
     // the end of the section table
     (Magic::Pe32, 0x160, &[(0x10, 0x1000, 1)], false),
@@ -158,23 +158,23 @@ fn headers_hold_the_section_table_and_lie_in_the_image(rt: HostRuntime) {
     }
 }
 
-/// Sections in an image of 0x3000 bytes with 0x200 bytes of headers, and whether they are refused.
+/// Sections in an image of 0x3000 bytes with 0x200 bytes of headers, and whether the plan is refused.
 const PLACES: &[(&[Placed], bool)] = &[
     // up to the image's end
     (&[(0x10, 0x2ff0, 1)], false),
     (&[(0x11, 0x2ff0, 1)], true),
     (&[(0xffff_ffff, 0xffff_ffff, 1)], true),
-    // with VirtualSize 0, by the bytes that are filled up
+    // with VirtualSize 0, by the padded raw data
     (&[(0, 0x2e00, 1)], false),
     (&[(0, 0x2e01, 1)], true),
     (&[(0, 0x2c00, 0x201)], false),
     (&[(0, 0x2c01, 0x201)], true),
     (&[(0, 0x3000, 0)], false),
     (&[(0, 0x3001, 0)], true),
-    // behind the headers
+    // directly after the headers
     (&[(0x10, 0x200, 1)], false),
     (&[(0x10, 0x1ff, 1)], true),
-    // behind one another
+    // directly after one another
     (&[(0x10, 0x1000, 1), (0x10, 0x1010, 1)], false),
     (&[(0x10, 0x1000, 1), (0x10, 0x100f, 1)], true),
     (&[(0, 0x1000, 1), (0x10, 0x1200, 1)], false),
@@ -190,7 +190,7 @@ fn sections_ascend_between_the_headers_and_the_images_end(rt: HostRuntime) {
     }
 }
 
-/// So many sections of one byte in the image, and none in the file.
+/// Many sections of one byte in the image, without raw data.
 fn crowded(rt: &impl Abort, alloc: Global, count: u32) -> Vec<PlanSection<'static>> {
     let mut sections = Vec::new(alloc);
     for index in 0..count {
@@ -202,7 +202,7 @@ fn crowded(rt: &impl Abort, alloc: Global, count: u32) -> Vec<PlanSection<'stati
     sections
 }
 
-/// What is written of so many sections.
+/// The result of writing that many sections.
 fn crowded_file(rt: &impl Abort, alloc: Global, count: u32) -> Result<Vec<u8>, WriteError> {
     let heading = Heading {
         size_of_headers: 0x1100,
@@ -245,7 +245,7 @@ fn a_plan_of_no_sections_is_written_as_headers(rt: HostRuntime) {
     assert_holds(&rt, 0, *file.as_slice() == *expected.as_slice());
 }
 
-/// A field of the headers, by its offset and width, and its value.
+/// A header field, by its offset and width, and its value.
 type Field = (usize, usize, u64);
 
 /// Asserts the numbers in a file.
@@ -256,7 +256,7 @@ fn assert_fields(rt: &impl Abort, file: &[u8], fields: &[Field]) {
     }
 }
 
-/// What is written of a plan.
+/// The file of a plan.
 fn written(rt: &impl Abort, alloc: Global, plan: &Plan) -> Vec<u8> {
     write_image(alloc, plan).expect(rt, "a file")
 }
@@ -271,7 +271,7 @@ const RAW_FIELDS: &[Field] = &[
     (0x19c, 4, 0x400),
 ];
 
-/// Asserts the bytes of a file from the end of its section table on: zeros, one byte, filled up, and 0x201 bytes, filled up.
+/// Asserts the bytes of a file from the end of its section table on: zeros, one byte with padding, and 0x201 bytes with padding.
 fn assert_raw_data(rt: &impl Abort, file: &[u8]) {
     let mut expected = [0; 0x650];
     expected[0x50] = 0x90;
@@ -292,7 +292,7 @@ fn raw_data_is_aligned_and_filled_up(rt: HostRuntime) {
     assert_raw_data(&rt, &file);
 }
 
-/// What the plan names, each by a value of its own, in the headers up to the directories.
+/// The header fields before the directories that the plan names, each with a value of its own.
 const NAMED_FIELDS: &[Field] = &[
     (0x44, 2, 0x1111),
     (0x46, 2, 0),
@@ -312,7 +312,7 @@ const NAMED_FIELDS: &[Field] = &[
     (0xc4, 4, 16),
 ];
 
-/// A plan of such values.
+/// A plan with these values.
 fn named_plan(alloc: Global) -> Plan<'static> {
     Plan {
         magic: Magic::Pe32Plus,
@@ -338,7 +338,7 @@ fn each_field_that_a_plan_names_stands_at_its_offset(rt: HostRuntime) {
     assert_fields(&rt, &file, NAMED_FIELDS);
 }
 
-/// Directories that differ.
+/// Directories that all differ.
 fn distinct_directories() -> [Directory; 16] {
     let mut directories = NO_DIRECTORIES;
     for index in 0..16_u32 {

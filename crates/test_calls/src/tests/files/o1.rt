@@ -1,4 +1,4 @@
-//! The object that O1 holds, and objects compared.
+//! The object in O1, and comparison of objects.
 
 use coff_object::{
     ObjSection, Object, ObjectError, RawData, Relocation, Symbol, SymbolSection, read_object,
@@ -52,7 +52,7 @@ pub(super) fn list<T: Drop, const N: usize>(
     Vec::from_array(alloc, items).expect(rt, "memory")
 }
 
-/// The section of O1, with another name.
+/// The section of O1 with another name.
 fn o1_section(rt: &impl Abort, alloc: Global, name: &'static [u8]) -> ObjSection<'static, Global> {
     let relocation = Relocation {
         address: 1,
@@ -69,7 +69,7 @@ fn o1_section(rt: &impl Abort, alloc: Global, name: &'static [u8]) -> ObjSection
     }
 }
 
-/// An object for a machine, of these sections and symbols.
+/// An object for a machine with these sections and symbols.
 pub(super) fn with_sections<'a>(
     machine: u16,
     sections: Vec<ObjSection<'a, Global>>,
@@ -85,7 +85,7 @@ pub(super) fn with_sections<'a>(
     }
 }
 
-/// The object that O1 holds, with another name of its section.
+/// The object in O1, with another name of its section.
 pub(super) fn o1(rt: &impl Abort, alloc: Global, name: &'static [u8]) -> Object<'static, Global> {
     with_sections(
         0x8664,
@@ -94,7 +94,7 @@ pub(super) fn o1(rt: &impl Abort, alloc: Global, name: &'static [u8]) -> Object<
     )
 }
 
-/// What a section holds beside its relocations.
+/// The fields of a section except for its relocations.
 type Fields<'a> = (&'a [u8], u32, u32, RawData<'a>, u32);
 
 fn fields_of<'a, A: Allocator>(section: &ObjSection<'a, A>) -> Fields<'a> {
@@ -150,7 +150,7 @@ pub(super) fn same_object<A: Allocator, B: Allocator>(
     one.optional == other.optional && numbers_of(one) == numbers_of(other)
 }
 
-/// Whether a file is read as an object.
+/// Whether a file is read as this object.
 pub(super) fn reads_as(
     rt: &impl Abort,
     alloc: Global,

@@ -1,10 +1,10 @@
-//! Auxiliary records of objects that no file holds.
+//! Auxiliary records that no object file has.
 
 use super::o1::{list, with_sections};
 use crate::tests::asserts::assert_holds;
 use coff_object::{Aux, Symbol, SymbolSection};
 
-/// Two records of a file's name and two bytes of a third, a record, and what is seen of it.
+/// Two records of a file's name and two bytes of a third. [`VIEWS`] has indexes of records, and the view of each.
 const AUX: &[u8] = b"a.c\x00............../b.h\x00..............x";
 
 const VIEWS: &[(usize, Option<Aux<'static>>)] = &[

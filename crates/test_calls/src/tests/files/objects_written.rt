@@ -1,4 +1,4 @@
-//! What `coff_object` writes of objects, and that it is read back.
+//! Objects that `coff_object` writes, and reads back.
 
 use super::o1::{fault_of, list, o1, reads_as, with_sections};
 use crate::tests::asserts::{assert_holds, has_pieces};
@@ -11,7 +11,7 @@ use pe_view::{Fault, Place};
 use std::alloc::Global;
 use std::process::Abort;
 
-/// What an object of one section, with one relocation, and of one symbol holds.
+/// The content of an object of one section, with one relocation, and of one symbol.
 #[derive(Clone, Copy)]
 struct Parts<'a> {
     machine: u16,
@@ -91,7 +91,7 @@ fn object_of<'a>(rt: &impl Abort, alloc: Global, parts: &Parts<'a>) -> Object<'a
     }
 }
 
-/// A symbol of a name alone.
+/// A symbol with nothing but a name and a section.
 fn named<'a>(name: &'a [u8], section: SymbolSection) -> Symbol<'a> {
     Symbol {
         name,
@@ -121,14 +121,14 @@ fn sections_of<'a>(
     sections
 }
 
-/// Adds a symbol of a name, which no section defines.
+/// Appends an undefined symbol with this name.
 fn push_symbol<'a>(rt: &impl Abort, symbols: &mut Vec<Symbol<'a>>, name: &'a [u8]) {
     symbols
         .push(named(name, SymbolSection::Undefined))
         .expect(rt, "memory");
 }
 
-/// Symbols of these names, which no section defines.
+/// Undefined symbols with these names.
 fn symbols_of<'a>(rt: &impl Abort, alloc: Global, names: &[&'a [u8]]) -> Vec<Symbol<'a>> {
     let mut symbols = Vec::new(alloc);
     for name in names {
@@ -137,7 +137,7 @@ fn symbols_of<'a>(rt: &impl Abort, alloc: Global, names: &[&'a [u8]]) -> Vec<Sym
     symbols
 }
 
-/// An object of such sections and symbols.
+/// An object with these sections and symbols.
 fn bare_object<'a>(
     rt: &impl Abort,
     alloc: Global,
@@ -151,7 +151,7 @@ fn bare_object<'a>(
     )
 }
 
-/// Asserts the fault of a call in a case, by number and item; None where there is none.
+/// Asserts the fault of a call in a case, by number and item; `None` means no fault.
 fn assert_fault(
     rt: &impl Abort,
     case: usize,
@@ -170,14 +170,14 @@ fn assert_fault(
     assert_holds(rt, case, fault_of(error) == fault);
 }
 
-/// Asserts that an object is written and read back equal; what was written.
+/// Asserts that an object is written and read back equal, and returns its file.
 fn read_back(rt: &impl Abort, alloc: Global, case: usize, object: &Object<'_, Global>) -> Vec<u8> {
     let file = write_object(alloc, object).expect(rt, "an object's file");
     assert_holds(rt, case, reads_as(rt, alloc, &file, object));
     file
 }
 
-/// Asserts that an object is written and read back equal, and the length of the file and pieces of it.
+/// Asserts that an object is written and read back equal, and asserts the file's length and pieces.
 fn assert_written(
     rt: &impl Abort,
     alloc: Global,
@@ -189,7 +189,7 @@ fn assert_written(
     assert_holds(rt, len, file.len() == len && has_pieces(&file, pieces));
 }
 
-/// Asserts the same of an object of bare sections and symbols.
+/// Asserts the same for an object of sections without relocations.
 fn assert_bare(
     rt: &impl Abort,
     alloc: Global,
@@ -226,7 +226,7 @@ fn a_section_name_with_a_slash_stands_in_the_string_table(rt: HostRuntime) {
     assert_written(&rt, rt.alloc(), &object, 183, SLASH);
 }
 
-/// Parts that each take bytes of the file.
+/// Parts of which each takes bytes of the file.
 const EACH_PART: Parts<'static> = Parts {
     optional: b"\xa0\xa1\xa2",
     raw: RawData::Bytes(b"\xb0\xb1"),
@@ -255,7 +255,7 @@ fn each_part_stands_behind_the_one_before(rt: HostRuntime) {
     assert_written(&rt, rt.alloc(), &object, EACH_PART_WRITTEN.len(), &pieces);
 }
 
-/// Sections and symbols of which some have equal names.
+/// Sections, some with names equal to those of symbols.
 const EQUAL_SECTIONS: &[Bare] = &[
     (b"second long", RawData::Absent(5), 0x80),
     (b"/", RawData::Absent(0), 0),
@@ -264,7 +264,7 @@ const EQUAL_SECTIONS: &[Bare] = &[
 
 const EQUAL_SYMBOLS: &[&[u8]] = &[b"first long", b"second long", b"first long", b"/"];
 
-/// The string table, and names of sections and symbols that are not in it or point there.
+/// The string table, and names of sections and symbols that are not in it or refer to it.
 const EQUAL_TEXTS: &[Piece] = &[
     (212, b"\x1d\x00\x00\x00second long\x00/\x00first long\x00"),
     (60, b"/16\x00\x00\x00\x00\x00"),
@@ -285,7 +285,7 @@ fn equal_texts_stand_once_in_order_of_first_use(rt: HostRuntime) {
     );
 }
 
-/// The pointer to no symbols, behind which the strings stand, and the strings.
+/// The pointer to the symbol table, which is empty, and the strings after it.
 const STRINGS: &[Piece] = &[
     (8, b"\x3c\x00\x00\x00\x00\x00\x00\x00"),
     (60, b"\x06\x00\x00\x00/\x00"),
@@ -297,7 +297,7 @@ fn strings_without_symbols_have_a_pointer(rt: HostRuntime) {
     assert_bare(&rt, rt.alloc(), sections, &[], 66, STRINGS);
 }
 
-/// The parts of an object, and the fault that stands, by number and item.
+/// The parts of an object, and its first fault, by number and item.
 type Case = (Parts<'static>, Option<(u16, u32)>);
 
 /// Cases of faults 81 and 85.
@@ -357,7 +357,7 @@ const FORMS: &[Case] = &[
         None,
     ),
     (Parts { machine: 0, ..FINE }, None),
-    // bytes that do not stand in the file
+    // bytes that are not in the file
     (
         Parts {
             raw: RawData::Bytes(b""),
@@ -401,7 +401,7 @@ const FORMS: &[Case] = &[
         },
         None,
     ),
-    // sections' numbers
+    // section numbers
     (
         Parts {
             number: SymbolSection::Section(0),
@@ -444,7 +444,7 @@ const FORMS: &[Case] = &[
         },
         None,
     ),
-    // the relocation's symbol, which counts auxiliary records
+    // the relocation's symbol index, which counts auxiliary records
     (Parts { target: 1, ..FINE }, Some((85, 0))),
     (
         Parts {
@@ -464,7 +464,7 @@ const FORMS: &[Case] = &[
     ),
 ];
 
-/// Asserts the fault of writing an object in a case; where there is none, it is read back equal.
+/// Asserts the fault of writing an object in a case; without a fault it is read back equal.
 fn assert_form(
     rt: &impl Abort,
     alloc: Global,
@@ -479,13 +479,13 @@ fn assert_form(
     }
 }
 
-/// How many bytes a part has, and the fault that stands.
+/// A number of bytes, and the fault, by number and item.
 type Length = (usize, Option<(u16, u32)>);
 
-/// The optional bytes.
+/// The size of the optional header.
 const OPTIONAL: &[Length] = &[(65_535, None), (65_536, Some((85, 0)))];
 
-/// The auxiliary bytes of the symbol, 18 a record.
+/// The size of the symbol's auxiliary records, 18 bytes each.
 const AUXILIARY: &[Length] = &[
     (17, Some((85, 0))),
     (18, None),
@@ -494,7 +494,7 @@ const AUXILIARY: &[Length] = &[
     (4_608, Some((85, 0))),
 ];
 
-/// Asserts the fault of writing so many optional bytes.
+/// Asserts the fault of writing an optional header of this size.
 fn assert_optional(rt: &impl Abort, alloc: Global, length: Length) {
     let optional = Vec::from_elem(alloc, 7, length.0).expect(rt, "memory");
     let parts = Parts {
@@ -504,7 +504,7 @@ fn assert_optional(rt: &impl Abort, alloc: Global, length: Length) {
     assert_form(rt, alloc, length.0, &parts, length.1);
 }
 
-/// Asserts the fault of writing so many auxiliary bytes.
+/// Asserts the fault of writing auxiliary records of this size.
 fn assert_auxiliary(rt: &impl Abort, alloc: Global, length: Length) {
     let aux = Vec::from_elem(alloc, 1, length.0).expect(rt, "memory");
     let parts = Parts { aux: &aux, ..FINE };
@@ -529,7 +529,7 @@ fn objects_without_a_form_are_refused(rt: HostRuntime) {
     }
 }
 
-/// So many relocations.
+/// This many relocations.
 fn relocations(rt: &impl Abort, alloc: Global, count: u32) -> Vec<Relocation> {
     let mut relocations = Vec::new(alloc);
     for address in 0..count {
@@ -543,7 +543,7 @@ fn relocations(rt: &impl Abort, alloc: Global, count: u32) -> Vec<Relocation> {
     relocations
 }
 
-/// The fault of writing a section with so many relocations behind one without.
+/// The fault of writing a section with this many relocations, after one without.
 fn crowded(rt: &impl Abort, alloc: Global, count: u32) -> Option<ObjectError> {
     let sections = [
         section(b"", RawData::Absent(0), 0, Vec::new(alloc)),
@@ -561,7 +561,7 @@ fn a_section_has_at_most_65534_relocations(rt: HostRuntime) {
     }
 }
 
-/// What is written of a section's name of so many letters and another that needs the string table.
+/// The result of writing a section with a name of this length, and another whose name needs the string table.
 fn long_named(rt: &impl Abort, alloc: Global, length: usize) -> Result<Vec<u8>, ObjectError> {
     let long = Vec::from_elem(alloc, b'a', length).expect(rt, "memory");
     let sections: &[Bare] = &[
@@ -571,7 +571,7 @@ fn long_named(rt: &impl Abort, alloc: Global, length: usize) -> Result<Vec<u8>, 
     write_object(alloc, &bare_object(rt, alloc, sections, &[]))
 }
 
-/// Asserts of such names that the offset of the other one has 7 digits, or a fault.
+/// Asserts that the offset of the second of these names has 7 digits, or the fault.
 fn assert_long_name(rt: &impl Abort, alloc: Global, length: usize, expected: Option<(u16, u32)>) {
     match long_named(rt, alloc, length) {
         Ok(file) => {
@@ -584,13 +584,13 @@ fn assert_long_name(rt: &impl Abort, alloc: Global, length: usize, expected: Opt
 
 #[test]
 fn the_offset_of_a_sections_name_has_at_most_7_digits(rt: HostRuntime) {
-    // behind the size field, the first name and its zero byte the second name stands at the first's length plus 5
+    // The second name is after the size field, the first name and its zero byte: at the first's length plus 5.
     for (length, expected) in [(9_999_994, None), (9_999_995, Some((82, 1)))] {
         assert_long_name(&rt, rt.alloc(), length, expected);
     }
 }
 
-/// As many sections that are all alike.
+/// A number of equal sections.
 fn repeated<'a>(
     rt: &impl Abort,
     alloc: Global,
@@ -611,7 +611,7 @@ fn a_file_of_4_gib_is_not_written(rt: HostRuntime) {
     assert_fault(&rt, 0, error, Some((84, 0)));
 }
 
-/// The fault of writing so many sections, and a symbol of the section of this number.
+/// The fault of writing this many sections, and a symbol of the section with this number.
 fn numbered(
     rt: &impl Abort,
     alloc: Global,

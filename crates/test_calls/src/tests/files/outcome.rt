@@ -1,10 +1,10 @@
-//! The status and the text of each answer of an engine.
+//! The exit status and the message of each result of an engine.
 
 use crate::tests::asserts::assert_holds;
 use pe_tool::{Outcome, ToolError, status};
 use pe_view::{Fault, Place};
 
-/// An engine's answer, and its status.
+/// An engine's result, and its exit status.
 const STATUSES: &[(Result<Outcome, ToolError>, u8)] = &[
     (Ok(Outcome::Done), 0),
     (

@@ -1,14 +1,14 @@
-//! The plans of which the files are written.
+//! The plans of the small files.
 
 use pe_head::{Directory, Magic};
 use pe_write::{Plan, PlanSection};
 use std::alloc::Global;
 use std::process::Abort;
 
-/// A section of a file: its name, its VirtualSize, and how many bytes the file has of it.
+/// A section of a file: its name, its VirtualSize, and the size of its raw data.
 pub(super) type Part = (&'static [u8; 8], u32, usize);
 
-/// What the headers of a file hold beside what all files have alike. Section k stands at 0x1000 * (k + 1).
+/// The header fields in which the small files differ. Section k is at 0x1000 * (k + 1).
 #[derive(Clone, Copy)]
 pub(super) struct Heading {
     pub magic: Magic,
@@ -18,12 +18,12 @@ pub(super) struct Heading {
     pub file_alignment: u32,
     pub size_of_image: u32,
     pub size_of_headers: u32,
-    /// Each by its index, RVA and size.
+    /// The index, RVA and size of each.
     pub directories: &'static [(usize, u32, u32)],
     pub sections: &'static [Part],
 }
 
-/// What the headers of V1 hold.
+/// The headers of V1.
 pub(super) const V1: Heading = Heading {
     magic: Magic::Pe32,
     machine: 0x14c,
@@ -36,14 +36,14 @@ pub(super) const V1: Heading = Heading {
     sections: &[(b".data\0\0\0", 0x10, 0x200)],
 };
 
-/// What the headers of V2 hold.
+/// The headers of V2.
 pub(super) const V2: Heading = Heading {
     directories: &[(5, 0x2000, 0x0c)],
     sections: &[(b".data\0\0\0", 0x10, 0x200), (b".reloc\0\0", 0x0c, 0x200)],
     ..V1
 };
 
-/// What the headers of V3 hold.
+/// The headers of V3.
 pub(super) const V3: Heading = Heading {
     magic: Magic::Pe32Plus,
     machine: 0x8664,
@@ -52,20 +52,20 @@ pub(super) const V3: Heading = Heading {
     ..V2
 };
 
-/// What the headers of VA hold.
+/// The headers of VA.
 pub(super) const VA: Heading = Heading {
     directories: &[(0, 0x1020, 0x60)],
     sections: &[(b".edata\0\0", 0x80, 0x200)],
     ..V1
 };
 
-/// What the headers of VB hold.
+/// The headers of VB.
 pub(super) const VB: Heading = Heading {
     image_base: 0x2000_0000,
     ..VA
 };
 
-/// What the headers of VC hold.
+/// The headers of VC.
 pub(super) const VC: Heading = Heading {
     characteristics: 0x0102,
     image_base: 0x40_0000,
@@ -74,7 +74,7 @@ pub(super) const VC: Heading = Heading {
     ..V1
 };
 
-/// What the headers of VD hold.
+/// The headers of VD.
 pub(super) const VD: Heading = Heading {
     magic: Magic::Pe32Plus,
     machine: 0x8664,
@@ -83,7 +83,7 @@ pub(super) const VD: Heading = Heading {
     ..VC
 };
 
-/// What the headers of VS hold.
+/// The headers of VS.
 pub(super) const VS: Heading = Heading {
     size_of_image: 0x2_0000,
     directories: &[(0, 0x1020, 0x60), (1, 0x2000, 0x28)],
@@ -91,17 +91,17 @@ pub(super) const VS: Heading = Heading {
     ..VB
 };
 
-/// What the headers of VF(64) hold.
+/// The headers of VF(64).
 pub(super) const VF: Heading = Heading {
     directories: &[(0, 0x1020, 0x5e0)],
     sections: &[(b".edata\0\0", 0x600, 0x600)],
     ..VB
 };
 
-/// No directory.
+/// No directories.
 pub(super) const NO_DIRECTORIES: [Directory; 16] = [Directory { rva: 0, size: 0 }; 16];
 
-/// A plan of these numbers, directories and sections.
+/// A plan with these numbers, directories and sections.
 pub(super) fn plan_with<'a>(
     heading: &Heading,
     directories: [Directory; 16],
@@ -154,7 +154,7 @@ fn directories_of(rt: &impl Abort, heading: &Heading) -> [Directory; 16] {
     directories
 }
 
-/// The sections of a file, whose bytes stand behind its headers, one behind the other.
+/// The sections of a file, whose raw data follows its headers in order.
 fn sections_of<'a>(
     rt: &impl Abort,
     alloc: Global,

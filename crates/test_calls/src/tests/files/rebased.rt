@@ -1,4 +1,4 @@
-//! Files at other bases: what the engine writes of them, and over devices that fail.
+//! Files for other bases: the output of the engine, also over devices that fail.
 
 use crate::tests::asserts::assert_holds;
 use pe_tool::{Outcome, Sink, ToolError, rebase, status};
@@ -9,12 +9,12 @@ use pe_write::rebase_file;
 use std::alloc::{Allocator, Global};
 use std::process::Abort;
 
-/// What a file is at a base.
+/// The file for a base.
 fn rebased(rt: &impl Abort, alloc: Global, file: &[u8], base: u64) -> Vec<u8> {
     rebase_file(alloc, file, base).expect(rt, "a file")
 }
 
-/// How the devices of a run work: the most bytes a call, and the read, and the write of either output, that fails.
+/// How the devices of a run work: the most bytes per call, and the read, and the write of either output, that fails.
 #[derive(Clone, Copy)]
 pub(super) struct Devices {
     pub step: usize,
@@ -23,7 +23,7 @@ pub(super) struct Devices {
     pub failing_line: Option<u64>,
 }
 
-/// Devices of which no call fails.
+/// Devices without a failing call.
 pub(super) const FINE: Devices = Devices {
     step: 7,
     failing_read: None,
@@ -31,7 +31,7 @@ pub(super) const FINE: Devices = Devices {
     failing_line: None,
 };
 
-/// What an engine run wrote: its answer, and both outputs.
+/// The result of a run, and both outputs.
 #[derive(Drop)]
 pub(super) struct Run {
     pub answer: Result<Outcome, ToolError>,
@@ -39,7 +39,7 @@ pub(super) struct Run {
     pub line: StepWriter,
 }
 
-/// Rebases a file over an allocator's memory: V2, or V1 to a base at which it may not stand.
+/// Rebases a file with the memory of an allocator: V2, or V1 to a base that is not valid for it.
 pub(super) fn rebased_over<A: Allocator + Copy>(
     rt: &impl Abort,
     alloc: Global,
@@ -67,7 +67,7 @@ pub(super) fn rebased_v2(rt: &impl Abort, alloc: Global) -> Vec<u8> {
     rebased(rt, alloc, &file, 0x2000_0000)
 }
 
-/// Whether a run answered so, and both outputs got so much.
+/// Whether a run has this result, and both outputs got these bytes.
 fn has_written(run: &Run, answer: Result<Outcome, ToolError>, out: &[u8], line: &[u8]) -> bool {
     run.answer == answer && run.out.taken() == out && run.line.taken() == line
 }
@@ -111,8 +111,8 @@ fn a_refused_file_leaves_the_output_as_it_is(rt: HostRuntime) {
     assert_holds(&rt, 0, status(&run.answer) == 1);
 }
 
-/// Devices of which one call fails, the answer, how many bytes of the file and of its line were written, and how many failures
-/// the two outputs count.
+/// Devices with one failing call, the error, how many bytes of the file and which of its line were written, and the failures that
+/// the two outputs counted.
 type Failure = (Devices, ToolError, usize, &'static [u8], (u64, u64));
 
 const FAILURES: &[Failure] = &[
@@ -148,7 +148,7 @@ const FAILURES: &[Failure] = &[
     ),
 ];
 
-/// Asserts what such devices got and how many failures they count.
+/// Asserts what the outputs got and counted with these devices.
 fn assert_failure(rt: &impl Abort, alloc: Global, case: usize, failure: &Failure, file: &[u8]) {
     let (devices, error, len, line, failures) = failure;
     let out = file.get(..*len).expect(rt, "bytes of the file");
@@ -174,7 +174,7 @@ enum Device {
     Line,
 }
 
-/// Devices of which the call of this number fails, of one of them.
+/// Devices of which one fails at the call with this number.
 fn failing(step: usize, device: Device, call: u64) -> Devices {
     let fine = Devices { step, ..FINE };
     match device {
@@ -196,12 +196,12 @@ fn failing(step: usize, device: Device, call: u64) -> Devices {
 /// The line of V2 at 0x20000000.
 const LINE: &[u8] = b"rebased 0x0000000020000000\n";
 
-/// Whether what is written is a beginning, and not the whole.
+/// Whether the output is a beginning, and not the whole.
 fn is_beginning(written: &[u8], whole: &[u8]) -> bool {
     written.len() < whole.len() && whole.starts_with(written)
 }
 
-/// Whether a run in which a device failed answered so, and left the outputs so.
+/// Whether a run in which a device failed has the right result and outputs.
 fn has_failed(run: &Run, device: Device, file: &[u8]) -> bool {
     let (out, line) = (run.out.taken(), run.line.taken());
     let (error, is_out, is_line) = match device {
@@ -212,7 +212,7 @@ fn has_failed(run: &Run, device: Device, file: &[u8]) -> bool {
     run.answer == Err(error) && is_out && is_line
 }
 
-/// Whether rebasing V2 answers so where a call of a device fails, or None where no call failed.
+/// Whether rebasing V2 is right if a call of a device fails, or `None` if no call failed.
 fn is_told(
     rt: &impl Abort,
     alloc: Global,
@@ -227,7 +227,7 @@ fn is_told(
     Some(has_failed(&run, device, file))
 }
 
-/// Asserts what rebasing V2 answers where each call of a device fails in turn.
+/// Asserts that rebasing V2 is right if each call of a device fails in turn.
 fn assert_each_fails(rt: &impl Abort, alloc: Global, step: usize, device: Device, file: &[u8]) {
     for call in 0..0x1000_u64 {
         match is_told(rt, alloc, failing(step, device, call), device, file) {

@@ -1,4 +1,4 @@
-//! Each public call that takes memory, in too little room: it answers want of memory, until there is room for its answer.
+//! Each public call that allocates, with too little memory: it returns out of memory, until there is enough for its result.
 
 ghost use Rattle.std.specs.Prelude.{◌<◌};
 
@@ -29,7 +29,7 @@ use pe_write::{WriteError, rebase_file, write_image};
 use std::alloc::Global;
 use std::process::Abort;
 
-/// What a call answered: what it answers with ample memory, want of memory, or neither.
+/// The result of a call: the same as with enough memory, out of memory, or neither.
 #[derive(Clone, Copy, Debug, PartialEq, Eq)]
 enum Answer {
     Right,
@@ -37,7 +37,7 @@ enum Answer {
     Wrong,
 }
 
-/// What a call answered that did not want memory.
+/// The result of a call that did not run out of memory.
 fn right_if(is_right: bool) -> Answer {
     if is_right {
         Answer::Right
@@ -46,7 +46,7 @@ fn right_if(is_right: bool) -> Answer {
     }
 }
 
-/// A call over the memory of an arena, with the answer that it has to give.
+/// A call that allocates from an arena.
 #[derive(Clone, Copy)]
 enum Call {
     Exports,
@@ -73,12 +73,12 @@ enum Call {
     At,
 }
 
-/// What VB exports by ordinal, and by name.
+/// The exports of VB by ordinal, and by name.
 const ORDINALS: &[(u64, Target)] = &[(5, Target::Rva(0x1004)), (7, Target::Rva(0x1010))];
 
 const NAMES: &[(&[u8], Target)] = &[(b"g", Target::Rva(0x1010))];
 
-/// What a call answered that was refused by an error of tables.
+/// The result of a call that returned an error of tables.
 fn of_tables(error: TableError) -> Answer {
     match error {
         TableError::Memory => Answer::Memory,
@@ -96,7 +96,7 @@ fn exports(layout: &Layout, arena: &Bump) -> Answer {
     }
 }
 
-/// What VC imports.
+/// The imports of VC.
 const IMPORTS: &[Import] = &[Import {
     module: b"A.DLL",
     key: Key::Name(b"f"),
@@ -125,7 +125,7 @@ fn fixups(layout: &Layout, arena: &Bump) -> Answer {
     }
 }
 
-/// A table of a file that is read, over the memory of an arena.
+/// Reads a table of a file, with the memory of an arena.
 fn table(rt: &impl Abort, alloc: Global, arena: &Bump, call: Call) -> Answer {
     let vector = match call {
         Call::Exports => Vector::Vb,
@@ -143,7 +143,7 @@ fn table(rt: &impl Abort, alloc: Global, arena: &Bump, call: Call) -> Answer {
     }
 }
 
-/// The table of V2's fixup is that of its file, at 0x400.
+/// The encoded table of V2's fixup is that of its file, at 0x400.
 fn encoding(rt: &impl Abort, alloc: Global, arena: &Bump) -> Answer {
     let file = file_of(alloc, Vector::V2).expect(rt, "memory");
     assert!(rt; ascending(FIXUPS));
@@ -153,7 +153,7 @@ fn encoding(rt: &impl Abort, alloc: Global, arena: &Bump) -> Answer {
     }
 }
 
-/// What VS imports.
+/// The imports of VS.
 const OWN_IMPORTS: &[Import] = &[Import {
     module: b"S.DLL",
     key: Key::Ordinal(7),
@@ -175,7 +175,7 @@ fn image(rt: &impl Abort, alloc: Global, arena: &Bump) -> Answer {
     }
 }
 
-/// Where an image stands, what it exports by name, and imports.
+/// The base of an image, its exports by name, and its imports.
 type Seen<'a> = (u64, &'a [(&'a [u8], Target<'a>)], &'a [Import<'a>]);
 
 /// The images of A, B and C.
@@ -195,7 +195,7 @@ const MODULES: &[Seen] = &[
     (C.base, &[], IMPORTS),
 ];
 
-/// Whether a module stands at a base and exports and imports so much.
+/// Whether a module has this base, and these exports and imports.
 fn is_module(found: &Module<'_, &Bump>, expected: &Seen) -> bool {
     let (base, names, imports) = expected;
     found.base == *base
@@ -203,7 +203,7 @@ fn is_module(found: &Module<'_, &Bump>, expected: &Seen) -> bool {
         && same_imports(&found.image.imports, imports)
 }
 
-/// Whether modules are these.
+/// Whether these are the modules.
 fn are_seen(found: &[Module<'_, &Bump>], expected: &[Seen]) -> bool {
     if found.len() != expected.len() {
         return false;
@@ -216,7 +216,7 @@ fn are_seen(found: &[Module<'_, &Bump>], expected: &[Seen]) -> bool {
     true
 }
 
-/// Whether modules are those of A, B and C at their bases.
+/// Whether these are the modules of A, B and C at their bases.
 fn are_modules(found: &[Module<'_, &Bump>]) -> bool {
     are_seen(found, MODULES)
 }
@@ -252,13 +252,13 @@ fn same_space<S: Space, T: Space>(rt: &impl Abort, space: &S, other: &T) -> bool
     *space.bindings() == *other.bindings()
 }
 
-/// Whether a space is that of the set with ample memory.
+/// Whether a space is that of the set with enough memory.
 fn is_space_of<S: Space>(rt: &impl Abort, alloc: Global, set: &[SetEntry], space: &S) -> bool {
     let expected = map(alloc, set, Policy::Strict).expect(rt, "a space");
     same_space(rt, space, &expected)
 }
 
-/// What an accepted set binds, and each module's base, exports and imports.
+/// The bindings of an accepted set, and each module's base, exports and imports.
 fn judging(arena: &Bump, set: &[SetEntry]) -> Answer {
     match judge(arena, set, Policy::Strict) {
         Ok(found) => {
@@ -301,7 +301,7 @@ const COMMANDS: &[Command] = &[
     },
 ];
 
-/// How many of the commands were done on a space, and what the run answered.
+/// How many of the commands were carried out on a space, and the result of the run.
 fn first_run<S: Space>(arena: &Bump, space: &mut S) -> (usize, Answer) {
     match run(arena, space, COMMANDS) {
         Ok(replies) => (COMMANDS.len(), right_if(replies.len() == COMMANDS.len())),
@@ -309,14 +309,14 @@ fn first_run<S: Space>(arena: &Bump, space: &mut S) -> (usize, Answer) {
     }
 }
 
-/// Runs so many of the commands with ample memory, which each give a reply.
+/// Runs the first `done` commands with enough memory; each has a reply.
 fn run_again<S: Space>(rt: &impl Abort, alloc: Global, space: &mut S, done: usize) {
     let commands = COMMANDS.get(..done).expect(rt, "commands");
     let replies = run(alloc, space, commands).expect(rt, "replies");
     assert_holds(rt, done, replies.len() == done);
 }
 
-/// Whether a space is what so many of the commands make of the set.
+/// Whether a space is that of the set after the first `done` commands.
 fn is_space_after<S: Space>(
     rt: &impl Abort,
     alloc: Global,
@@ -337,7 +337,7 @@ fn running<'a>(rt: &impl Abort, alloc: Global, arena: &Bump, set: &'a [SetEntry<
     if is_right { answer } else { Answer::Wrong }
 }
 
-/// What is seen of an engine's answer, and of what it has written, which is nothing where it wants memory.
+/// The result of an engine; if memory ran out, it must have written nothing.
 fn of_engine(answer: Result<Outcome, ToolError>, taken: &[u8], text: &[u8]) -> Answer {
     match answer {
         Ok(Outcome::Done) => right_if(*taken == *text),
@@ -349,7 +349,7 @@ fn of_engine(answer: Result<Outcome, ToolError>, taken: &[u8], text: &[u8]) -> A
 /// The window of the slot of `c.exe`.
 const WINDOW: Option<(u64, u32)> = Some((0x40_1030, 4));
 
-/// The report of a set, which with ample memory is this text.
+/// The report of a set, which with enough memory is this text.
 fn report_in(
     rt: &impl Abort,
     alloc: Global,
@@ -371,7 +371,7 @@ fn reporting(rt: &impl Abort, alloc: Global, arena: &Bump, set: &[SetEntry]) -> 
     report_in(rt, alloc, arena, set, text.taken())
 }
 
-/// A call on the set of A, B and C, over the memory of an arena.
+/// A call on the set of A, B and C, with the memory of an arena.
 fn on_set(rt: &impl Abort, alloc: Global, arena: &Bump, call: Call) -> Answer {
     let files = files_of(alloc, &[A, B, C]).expect(rt, "files");
     let set = set_of(alloc, &[A, B, C], &files).expect(rt, "memory");
@@ -442,7 +442,7 @@ fn whole(rt: &impl Abort, alloc: Global, arena: &Bump) -> Answer {
     }
 }
 
-/// What is seen of an answer of `json`, which may have written a beginning of its line where it wants memory.
+/// The result of `json`, which may have written the beginning of its line if memory ran out.
 fn of_json(answer: Result<Outcome, ToolError>, taken: &[u8], text: &[u8]) -> Answer {
     if answer == Err(ToolError::Memory) {
         return if text.starts_with(taken) {
@@ -454,7 +454,7 @@ fn of_json(answer: Result<Outcome, ToolError>, taken: &[u8], text: &[u8]) -> Ans
     of_engine(answer, taken, text)
 }
 
-/// An engine that reads a file, and with ample memory writes this text of it.
+/// An engine that reads a file, and with enough memory writes this text.
 fn engine_in(
     rt: &impl Abort,
     alloc: Global,
@@ -483,7 +483,7 @@ fn on_vr(rt: &impl Abort, alloc: Global, arena: &Bump, of: Engine) -> Answer {
     engine(rt, alloc, arena, of, &file)
 }
 
-/// Neither output gets a byte where memory is wanted.
+/// Neither output gets a byte if memory runs out.
 fn rebase_engine(rt: &impl Abort, alloc: Global, arena: &Bump) -> Answer {
     let expected = rebased_v2(rt, alloc);
     let devices = super::rebased::Devices { step: 64, ..FINE };
@@ -496,7 +496,7 @@ fn rebase_engine(rt: &impl Abort, alloc: Global, arena: &Bump) -> Answer {
     }
 }
 
-/// Runs a call over an arena.
+/// Runs a call with the memory of an arena.
 fn answer_of(rt: &impl Abort, alloc: Global, arena: &Bump, call: Call) -> Answer {
     match call {
         Call::Exports | Call::Imports | Call::Fixups => table(rt, alloc, arena, call),
@@ -520,11 +520,11 @@ fn answer_of(rt: &impl Abort, alloc: Global, arena: &Bump, call: Call) -> Answer
     }
 }
 
-/// The most room that a call is tried with, in bytes.
+/// The most memory with which a call is tried, in bytes.
 const MOST_ROOM: usize = 0x10000;
 
-/// Runs a call over an arena with so many bytes of room. What is given back is not taken again, unless it was the last: so
-/// where the room ends, any of the call's growths may be the one that is refused.
+/// Runs a call with an arena of this size. Freed memory is not used again, unless it was the last; so the arena may run out at any
+/// allocation of the call.
 fn answer_in(rt: &impl Abort, alloc: Global, room: usize, call: Call) -> Answer {
     let arena = Bump::try_with_capacity(alloc, room).expect(rt, "memory");
     arena.set_allocation_limit(Some(0));
@@ -534,7 +534,8 @@ fn answer_in(rt: &impl Abort, alloc: Global, room: usize, call: Call) -> Answer 
     answer_of(rt, alloc, &arena, call)
 }
 
-/// Asserts that a call wants memory in all room that is too small for it, and is right in the first that is not.
+/// Asserts that a call returns out of memory in each arena that is too small for it, and the right result in the first that is
+/// not.
 fn assert_wants_memory(rt: &impl Abort, alloc: Global, call: Call) {
     for step in 0..MOST_ROOM / 8 {
         match answer_in(rt, alloc, 8 * step, call) {
@@ -647,14 +648,14 @@ fn an_engine_that_wants_memory_has_written_nothing(rt: HostRuntime) {
     }
 }
 
-/// An arena without room.
+/// An arena of size 0.
 fn no_room(alloc: Global) -> Bump {
     let arena = Bump::new(alloc);
     arena.set_allocation_limit(Some(0));
     arena
 }
 
-/// A fault at a place of the file.
+/// A fault at a file offset.
 fn file_fault(number: u16, offset: u64) -> Fault {
     Fault {
         number,
@@ -699,7 +700,7 @@ fn zero_named<'b>(rt: &impl Abort, ample: &'b Bump) -> Object<'static, &'b Bump>
     }
 }
 
-/// Bytes of O1 and what they are changed to, and the number and the place of the fault that then stands.
+/// Bytes of O1 and their changes, and the number and the place of the fault after them.
 const OBJECT_FAULTS: &[(&[(usize, u8)], u16, u64)] = &[
     (&[(41, 0x01)], 64, 20),
     (&[(52, 0xff), (53, 0xff), (59, 0x61)], 65, 20),
@@ -758,17 +759,17 @@ fn a_set_of_no_entry_needs_no_memory(rt: HostRuntime) {
     assert_holds(&rt, 1, space.image_count() == 0);
 }
 
-/// What the space in memory of a set is refused for.
+/// The error of a set, mapped into memory.
 fn mapping_error(arena: &Bump, set: &[SetEntry]) -> Option<MapError> {
     map(arena, set, Policy::Strict).err()
 }
 
-/// What the space over files of a set is refused for.
+/// The error of a set, opened over its files.
 fn opening_error<'a>(arena: &Bump, set: &'a [SetEntry<'a>]) -> Option<MapError> {
     open_space(arena, set, Policy::Strict).err()
 }
 
-/// Asserts that a set is refused by a fault of an entry, whatever room there is.
+/// Asserts that a set is refused by a fault of an entry, without memory.
 fn assert_names(rt: &impl Abort, arena: &Bump, set: &[SetEntry], number: u16, image: u16) {
     let fault = Fault {
         number,
@@ -793,7 +794,7 @@ fn faults_of_names_need_no_memory(rt: HostRuntime) {
     assert_names(&rt, &arena, &set[..10], 42, 9);
 }
 
-/// Each engine that reads, and the line of an empty file.
+/// Each engine that reads, and its line for an empty file.
 const EMPTY_FILES: &[(Engine, &str)] = &[
     (Engine::Check, "fault 2 image 0 file 0x00000000\n"),
     (Engine::Dump, "fault 2 image 0 file 0x00000000\n"),
@@ -809,14 +810,14 @@ const EMPTY_FILES: &[(Engine, &str)] = &[
     ),
 ];
 
-/// Asserts what an engine answers of an empty file, where there is no memory.
+/// Asserts the result of an engine for an empty file without memory.
 fn assert_refused(rt: &impl Abort, alloc: Global, arena: &Bump, engine: Engine, line: &str) {
     let (answer, writer) = run_over(alloc, arena, engine, b"", steps_of(7)).expect(rt, "memory");
     assert_holds(rt, 0, matches!(answer, Ok(Outcome::Refused(_))));
     assert_holds(rt, 1, writer.taken() == line.as_bytes());
 }
 
-/// Asserts what an engine answers where its first read fails, where there is no memory.
+/// Asserts the result of an engine without memory whose first read fails.
 fn assert_unread(rt: &impl Abort, alloc: Global, arena: &Bump, engine: Engine) {
     let devices = Devices {
         failing_read: Some(0),

@@ -1,4 +1,4 @@
-//! Engines over devices that work in steps and fail: the text is the same in any steps, and each failure is told after a
+//! Engines over devices that work in steps and fail: the output is the same in all steps, and each failure is reported after a
 //! beginning of it.
 
 ghost use Rattle.std.specs.Prelude.{◌≡◌, ◌<◌};
@@ -14,7 +14,7 @@ use pe_view::{Fault, Place};
 use std::alloc::Global;
 use std::process::Abort;
 
-/// How many bytes devices give or take a call.
+/// How many bytes devices return or take per call.
 const STEPS: [usize; 4] = [1, 7, 64, 4096];
 
 /// The window of the slot of `c.exe`.
@@ -29,7 +29,7 @@ enum Work<'a> {
     Set(&'a [SetEntry<'a>]),
 }
 
-/// Runs it over devices.
+/// Runs it with these devices.
 fn run_work(rt: &impl Abort, alloc: Global, work: Work, devices: Devices) -> Answered
     requires { 0 < devices.step }
 {
@@ -39,10 +39,10 @@ fn run_work(rt: &impl Abort, alloc: Global, work: Work, devices: Devices) -> Ans
     }
 }
 
-/// What a run answers, and the text that it writes.
+/// The result of a run, and its output.
 type Text<'a> = (Result<Outcome, ToolError>, &'a [u8]);
 
-/// Whether a run in steps gives a text.
+/// Whether a run in steps has this result and output.
 fn gives(rt: &impl Abort, alloc: Global, work: Work, step: usize, text: Text) -> bool
     requires { 0 < step }
 {
@@ -50,7 +50,7 @@ fn gives(rt: &impl Abort, alloc: Global, work: Work, step: usize, text: Text) ->
     answer == text.0 && writer.taken() == text.1
 }
 
-/// Asserts that any steps give the text that one step gives.
+/// Asserts that all steps have the same output.
 fn assert_any_steps(rt: &impl Abort, alloc: Global, work: Work) {
     let (expected, whole) = run_work(rt, alloc, work, steps_of(0x1_0000));
     assert!(rt; expected.is_ok() && !whole.taken().is_empty());
@@ -68,7 +68,7 @@ enum Device {
     Writer,
 }
 
-/// Devices of which a call fails, of one of them.
+/// Devices of which one fails at a call.
 fn failing(step: usize, device: Device, call: u64) -> Devices
     ensures { result.step ≡ step }
 {
@@ -85,13 +85,13 @@ fn failing(step: usize, device: Device, call: u64) -> Devices
     }
 }
 
-/// Whether what was written is a beginning of a text, and not the whole.
+/// Whether the output is a beginning of a text, and not the whole.
 fn is_beginning(written: &[u8], whole: &[u8]) -> bool {
     written.len() < whole.len() && whole.starts_with(written)
 }
 
-/// Whether a run in which a device failed answered so: that reading failed, with nothing written, or that writing failed, after a
-/// beginning of the text.
+/// Whether a run in which a device failed has the right result: that reading failed, with no output, or that writing failed, after
+/// a beginning of the text.
 fn has_failed(
     answer: Result<Outcome, ToolError>,
     device: Device,
@@ -105,7 +105,7 @@ fn has_failed(
     answer == Err(error) && status(&answer) == 3 && is_taken
 }
 
-/// Whether a run answers so where a call of a device fails, or None where no call failed.
+/// Whether a run is right if a call of a device fails, or `None` if no call failed.
 fn is_told(
     rt: &impl Abort,
     alloc: Global,
@@ -123,7 +123,7 @@ fn is_told(
     Some(has_failed(answer, device, writer.taken(), whole))
 }
 
-/// Asserts what is answered where each call of a device fails in turn; there are more calls than so many.
+/// Asserts that a run is right if each call of a device fails in turn; there must be more than a given number of calls.
 fn assert_each_fails(
     rt: &impl Abort,
     alloc: Global,
@@ -154,7 +154,7 @@ fn assert_each_fails(
     assert_holds(rt, step, false);
 }
 
-/// Asserts what is answered where each read fails in turn, in any steps.
+/// Asserts that a run is right if each read fails in turn, in all steps.
 fn assert_reads_fail(rt: &impl Abort, alloc: Global, work: Work) {
     for step in STEPS {
         assert!(rt; step > 0);
@@ -162,7 +162,7 @@ fn assert_reads_fail(rt: &impl Abort, alloc: Global, work: Work) {
     }
 }
 
-/// Asserts what is answered where each write fails in turn, in these steps.
+/// Asserts that a run is right if each write fails in turn, in these steps.
 fn assert_writes_fail(rt: &impl Abort, alloc: Global, work: Work, steps: &[usize]) {
     for step in steps {
         assert!(rt; *step > 0);
@@ -170,7 +170,7 @@ fn assert_writes_fail(rt: &impl Abort, alloc: Global, work: Work, steps: &[usize
     }
 }
 
-/// Asserts that any steps give the same text of a file.
+/// Asserts that all steps have the same output for a file.
 fn assert_same_texts(rt: &impl Abort, alloc: Global, file: &[u8]) {
     assert_any_steps(rt, alloc, Work::File(Engine::Check, file));
     assert_any_steps(rt, alloc, Work::File(Engine::Dump, file));
@@ -197,7 +197,7 @@ const FAILING: &[(Engine, Vector)] = &[
 /// The engines of views.
 const VIEWS: [Engine; 3] = [Engine::Show, Engine::Json, Engine::At];
 
-/// Asserts what is answered where each call of either device fails in turn.
+/// Asserts that a run is right if each call of either device fails in turn.
 fn assert_each_call_fails(rt: &impl Abort, alloc: Global, work: Work) {
     assert_reads_fail(rt, alloc, work);
     assert_writes_fail(rt, alloc, work, &STEPS);
@@ -223,7 +223,7 @@ fn each_read_and_each_write_that_fails_is_told(rt: HostRuntime) {
     assert_each_call_fails(&rt, rt.alloc(), Work::File(Engine::Object, O1));
 }
 
-/// What gives VF two forwarders of one text, 2,100 and 2,500 letters before its end, in a section of 0x2000 bytes.
+/// Gives VF two forwarders that share a string, 2,100 and 2,500 letters before its end, in a section of 0x2000 bytes.
 const LONG: &[Piece] = &[
     (0x91, &[0x40]),
     (0x141, &[0x20]),
@@ -231,7 +231,7 @@ const LONG: &[Piece] = &[
     (0x248, &[0x90, 0x13, 0x00, 0x00, 0x00, 0x12]),
 ];
 
-/// A library with two forwarders whose texts have over 2,000 bytes, more than a writer holds.
+/// A library with two forwarders whose strings have over 2,000 bytes, more than a writer buffers.
 fn long_texts(rt: &impl Abort, alloc: Global) -> Vec<u8> {
     let mut file = vf(alloc, 2).expect(rt, "memory");
     put_pieces(&mut file, LONG).expect(rt, "pieces in the file");
@@ -255,7 +255,7 @@ fn a_write_that_fails_beneath_a_long_text_is_told(rt: HostRuntime) {
     );
 }
 
-/// Asserts that any steps give the same text, and what is answered where each write fails in turn.
+/// Asserts that all steps have the same output, and that a run is right if each write fails in turn.
 fn assert_text(rt: &impl Abort, alloc: Global, work: Work) {
     assert_any_steps(rt, alloc, work);
     assert_writes_fail(rt, alloc, work, &STEPS);
@@ -269,7 +269,7 @@ fn a_report_is_the_same_in_any_steps_and_each_write_that_fails_is_told(rt: HostR
     assert_text(&rt, rt.alloc(), Work::Set(&set));
 }
 
-/// A policy, a window, and the answer and the text of the report of no image.
+/// A policy, a window, and the result and output of the report of no image.
 type Report = (
     Policy,
     Option<(u64, u32)>,
@@ -277,7 +277,7 @@ type Report = (
     &'static [u8],
 );
 
-/// Fault 54 of address 0, where no image stands.
+/// Fault 54 of address 0, which is in no image.
 const NO_WINDOW: Outcome = Outcome::Refused(Fault {
     number: 54,
     image: 0xffff,

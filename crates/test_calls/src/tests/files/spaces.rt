@@ -1,4 +1,5 @@
-//! Which image of a space holds no bytes at an address: that is asked of an image alone, since a window of no bytes is granted anywhere.
+//! Which image of a space contains an address, for a window of 0 bytes: only `image_at` shows it, since an empty window may be
+//! anywhere.
 
 use super::plans::{Heading, NO_DIRECTORIES, VB, plan_with};
 use crate::tests::asserts::assert_holds;
@@ -7,7 +8,7 @@ use pe_view::{Fault, Place};
 use pe_write::write_image;
 use std::process::Abort;
 
-/// What the headers of each image hold, which has no section.
+/// The headers of each image, which has no section.
 const EMPTY: Heading = Heading {
     size_of_image: 0x2_0000,
     directories: &[],
@@ -15,14 +16,14 @@ const EMPTY: Heading = Heading {
     ..VB
 };
 
-/// An address, and the image that holds it, or that of fault 54.
+/// An address, and the image that contains it, or that of fault 54.
 const ASKED: [(u64, Result<u16, u16>); 3] = [
     (0x1002_0000, Err(0xffff)),
     (0x5000_8000, Ok(0)),
     (0, Err(0xffff)),
 ];
 
-/// Asserts which image of a space holds no bytes at each address.
+/// Asserts which image of a space contains each address.
 fn assert_held<S: Space>(rt: &impl Abort, space: &S) {
     for (case, (address, holds)) in ASKED.iter().enumerate() {
         let expected = holds.map_err(|image| Fault {
