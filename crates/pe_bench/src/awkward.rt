@@ -1,5 +1,5 @@
-//! Tables of a module as no linker lays them out, but an attacker may: names that are ends of one text, forwarders one to the
-//! next, and a block for each base relocation, the last page first.
+//! Tables of a module that no linker writes, but an attacker may: names that are ends of one string, each export a forwarder to
+//! the next, and a block for each base relocation, the last page first.
 
 use crate::chance::Chance;
 use crate::export_table::push_directory;
@@ -10,10 +10,10 @@ use crate::shape::{Module, Shape};
 use pe_tables::{Fixup, FixupKind};
 use std::alloc::Global;
 
-/// By how many bytes a name is longer than the next one.
+/// How many bytes a name is longer than the next one.
 const STEP: u32 = 4;
 
-/// Adds the text whose ends are the names of a module's exports, and the zero byte behind it.
+/// Appends the string whose ends are the names of a module's exports, and its zero byte.
 fn push_shared(texts: &mut Vec<u8>, shape: Shape, seed: u64, module: u32) -> Option<()> {
     let mut chance = Chance::new(seed ^ u64::from(module));
     for _ in 0..shape.exports.saturating_mul(STEP) {
@@ -22,7 +22,7 @@ fn push_shared(texts: &mut Vec<u8>, shape: Shape, seed: u64, module: u32) -> Opt
     texts.push(0).ok()
 }
 
-/// Adds a number of five digits.
+/// Appends a number in five digits.
 fn push_digits(texts: &mut Vec<u8>, number: u32) -> Option<()> {
     for power in [10_000, 1_000, 100, 10, 1] {
         texts.push(b'0' + (number / power % 10) as u8).ok()?;
@@ -30,7 +30,8 @@ fn push_digits(texts: &mut Vec<u8>, number: u32) -> Option<()> {
     Some(())
 }
 
-/// Adds the RVA of the forwarder of each export to the ordinal behind it, in the next module, and its text. The last one is code.
+/// Appends for each export the RVA of its forwarder to the next ordinal, in the next module, and its string. The last export is
+/// code.
 fn push_chain(
     table: &mut Vec<u8>,
     texts: &mut Vec<u8>,
@@ -48,7 +49,7 @@ fn push_chain(
     push_u32(table, shape.code_rva)
 }
 
-/// Adds the RVA of each export's name, and its ordinal.
+/// Appends the RVA of each export's name, and its ordinal.
 fn push_names(table: &mut Vec<u8>, texts: u32, exports: u32) -> Option<()> {
     for number in 0..exports {
         push_u32(table, texts.checked_add(number.checked_mul(STEP)?)?)?;
@@ -59,7 +60,7 @@ fn push_names(table: &mut Vec<u8>, texts: u32, exports: u32) -> Option<()> {
     Some(())
 }
 
-/// The bytes of the export table of a module, which stand at an RVA.
+/// The export table of a module, for an RVA.
 pub(crate) fn awkward_exports(
     alloc: Global,
     shape: Shape,
@@ -82,7 +83,7 @@ pub(crate) fn awkward_exports(
     Some(table)
 }
 
-/// The bytes of the import table of a module, which stand at an RVA: names of the next module's exports, as ends of one text.
+/// The import table of a module, for an RVA: names of the next module's exports, as ends of one string.
 pub(crate) fn awkward_imports(
     alloc: Global,
     shape: Shape,
@@ -109,7 +110,7 @@ pub(crate) fn awkward_imports(
     parts.table(alloc)
 }
 
-/// The bytes of a base relocation table with a block for each fixup, the last one first.
+/// A base relocation table with a block for each fixup, the last one first.
 pub(crate) fn awkward_fixups(alloc: Global, fixups: &[Fixup]) -> Option<Vec<u8>> {
     let mut table = Vec::new(alloc);
     for fixup in fixups.iter().rev() {

@@ -1,4 +1,4 @@
-//! Pseudo-random numbers and names: the same for the same seed.
+//! Pseudo-random numbers and names, the same for the same seed.
 
 ghost use Rattle.std.specs.Prelude.{◌<◌};
 
@@ -12,7 +12,7 @@ pub(crate) struct Chance {
 }
 
 impl Chance {
-    /// The numbers of a seed.
+    /// The sequence of a seed.
     pub(crate) fn new(seed: u64) -> Chance {
         Chance {
             numbers: SplitMix64::seed_from_u64(seed),
@@ -24,22 +24,22 @@ impl Chance {
         self.numbers.next_u64()
     }
 
-    /// Fills bytes by chance.
+    /// Fills a slice with pseudo-random bytes.
     fn fill(&mut self, bytes: &mut [u8]) {
         self.numbers.fill_bytes(bytes);
     }
 
-    /// The next number below a limit; 0 where the limit is 0.
+    /// The next number below a limit; 0 if the limit is 0.
     pub(crate) fn below(&mut self, limit: u32) -> u32 {
         let high = (self.next() >> 32) * u64::from(limit) >> 32;
         high as u32
     }
 }
 
-/// How many bytes by chance are made before they come again: no library looks at the code of a section.
+/// The period of pseudo-random bytes; no library looks at the code of a section.
 const BLOCK: usize = 512;
 
-/// Adds bytes by chance.
+/// Appends pseudo-random bytes.
 pub(crate) fn push_bytes(bytes: &mut Vec<u8>, chance: &mut Chance, count: usize) -> Option<()> {
     let mut block = [0; BLOCK];
     chance.fill(&mut block);
@@ -50,21 +50,22 @@ pub(crate) fn push_bytes(bytes: &mut Vec<u8>, chance: &mut Chance, count: usize)
     bytes.extend_from_slice(&block[..count % BLOCK]).ok()
 }
 
-/// The letters of a name's beginning.
+/// The letters at the beginning of names.
 const LETTERS: &[u8; 16] = b"ABCDEFGHILMNOPRS";
 
-/// The words of which a name takes a part.
+/// The words from which a name takes a part.
 const WORDS: &[u8; 128] =
     b"CreateWindowFileExGetProcessTokenInformationQueryObjectThreadPoolBufferHandleSetFirstNextNamedPipeMessageSectionRegistryKeyValue";
 
-/// A letter of a name's beginning.
+/// A letter at the beginning of a name.
 fn letter(number: u32, shift: u32) -> u8
     requires { shift < 32 }
 {
     LETTERS[(number >> shift) as usize % 16]
 }
 
-/// Adds the name of an export of a module, of 10 to 41 bytes. The names of a module ascend with their numbers, which are below 65,536.
+/// Appends the name of an export of a module, of 10 to 41 bytes. The names of a module are in the order of their numbers, which
+/// are below 65,536.
 pub(crate) fn push_name(text: &mut Vec<u8>, seed: u64, module: u32, number: u32) -> Option<()> {
     let mixed = (seed ^ (u64::from(module) << 32) ^ u64::from(number)).wrapping_mul(
         0x9e37_79b9_7f4a_7c15,

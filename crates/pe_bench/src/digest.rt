@@ -1,18 +1,18 @@
 //! `Digest`: everything that a workload returns, as one number.
 
-/// A number that each answer changes. It tells apart what differs by chance, not what was made to collide.
+/// A number that each result changes. It distinguishes results that differ by chance, not ones made to collide.
 #[derive(Clone, Copy)]
 pub(crate) struct Digest {
     state: u64,
 }
 
-/// A state with a number added.
+/// A state with a number mixed in.
 fn mix(state: u64, number: u64) -> u64 {
     let mixed = (state ^ number).wrapping_mul(0x9e37_79b9_7f4a_7c15);
     mixed ^ (mixed >> 29)
 }
 
-/// Sums of the words of blocks, and sums of these sums, which tell the order of the blocks.
+/// Sums of the words of blocks, and sums of these sums, which depend on the order of the blocks.
 #[derive(Drop)]
 struct Sums {
     words: [u64; 8],
@@ -29,7 +29,7 @@ fn add_block(sums: &mut Sums, block: &[u8; 64]) {
 }
 
 impl Digest {
-    /// Of no answers.
+    /// The digest of no results.
     pub(crate) fn new() -> Digest {
         Digest { state: 0 }
     }
@@ -39,12 +39,12 @@ impl Digest {
         self.state
     }
 
-    /// Adds a number.
+    /// Mixes in a number.
     pub(crate) fn number(&mut self, number: u64) {
         self.state = mix(self.state, number);
     }
 
-    /// Adds blocks of 64 bytes by sums, so that this takes little beside what makes them.
+    /// Mixes in blocks of 64 bytes by sums, so that this takes little time next to the work that is measured.
     fn blocks(&mut self, blocks: &[[u8; 64]]) {
         let mut sums = Sums {
             words: [0; 8],
@@ -59,7 +59,7 @@ impl Digest {
         }
     }
 
-    /// Adds bytes, and how many they are.
+    /// Mixes in bytes and their number.
     pub(crate) fn bytes(&mut self, bytes: &[u8]) {
         let (blocks, rest) = bytes.as_chunks::<64>();
         if !blocks.is_empty() {

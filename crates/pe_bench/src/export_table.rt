@@ -6,7 +6,7 @@ use crate::numbers::{next_rva, push_u16, push_u32};
 use crate::shape::{Module, Shape};
 use std::alloc::Global;
 
-/// The parts of an export table behind its directory.
+/// The parts of an export table after its directory.
 #[derive(Drop)]
 struct Parts {
     addresses: Vec<u8>,
@@ -15,7 +15,7 @@ struct Parts {
     texts: Vec<u8>,
 }
 
-/// Adds the text of a forwarder to an export of the next module, and the zero byte behind it.
+/// Appends the string of a forwarder to an export of the next module, with its zero byte.
 fn push_forwarder(texts: &mut Vec<u8>, module: Module, number: u32) -> Option<()> {
     let next = module.next(1);
     push_module(texts, next)?;
@@ -24,7 +24,7 @@ fn push_forwarder(texts: &mut Vec<u8>, module: Module, number: u32) -> Option<()
     texts.push(0).ok()
 }
 
-/// Adds an export: its name, its ordinal, and its RVA or the text of its forwarder.
+/// Appends an export: its name, its ordinal, and its RVA or its forwarder's string.
 fn push_export(
     parts: &mut Parts,
     chance: &mut Chance,
@@ -48,7 +48,7 @@ fn push_export(
     }
 }
 
-/// The bytes of the directory of an export table at an RVA.
+/// Appends the directory of an export table at an RVA.
 pub(crate) fn push_directory(table: &mut Vec<u8>, rva: u32, name: u32, exports: u32) -> Option<()> {
     let addresses = rva.checked_add(40)?;
     let size = exports.checked_mul(4)?;
@@ -63,7 +63,7 @@ pub(crate) fn push_directory(table: &mut Vec<u8>, rva: u32, name: u32, exports: 
     Some(())
 }
 
-/// The bytes of the export table of a module, which stand at an RVA.
+/// The export table of a module, for an RVA.
 pub(crate) fn export_table(
     alloc: Global,
     shape: Shape,

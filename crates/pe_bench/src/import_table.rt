@@ -23,7 +23,7 @@ impl ImportParts {
         }
     }
 
-    /// The table: descriptors, the empty one behind them, look-ups, slots and texts.
+    /// The table: descriptors, an empty one after them, lookup tables, slots and strings.
     pub(crate) fn table(&self, alloc: Global) -> Option<ImportTable> {
         let mut bytes = Vec::new(alloc);
         bytes.extend_from_slice(&self.descriptors).ok()?;
@@ -37,7 +37,7 @@ impl ImportParts {
     }
 }
 
-/// An import table, and where its slots stand.
+/// An import table, and the place of its slots.
 #[derive(Drop)]
 pub(crate) struct ImportTable {
     /// Its bytes, from its descriptors on.
@@ -46,7 +46,7 @@ pub(crate) struct ImportTable {
     pub(crate) descriptors: u32,
 }
 
-/// Where the parts of an import table stand.
+/// The RVAs of the parts of an import table.
 #[derive(Clone, Copy)]
 pub(crate) struct Places {
     pub(crate) lookups: u32,
@@ -54,7 +54,7 @@ pub(crate) struct Places {
     pub(crate) texts: u32,
 }
 
-/// Where the parts of an import table at an RVA stand.
+/// The RVAs of the parts of an import table at an RVA.
 pub(crate) fn places_of(shape: Shape, rva: u32) -> Option<Places> {
     let width = if shape.is_wide { 8 } else { 4 };
     let descriptors = shape.imported.checked_add(1)?.checked_mul(20)?;
@@ -72,7 +72,7 @@ pub(crate) fn places_of(shape: Shape, rva: u32) -> Option<Places> {
     })
 }
 
-/// Adds an import: one in sixteen by its ordinal, the others by a name.
+/// Appends an import: one in sixteen by ordinal, the others by name.
 fn push_import(
     parts: &mut ImportParts,
     chance: &mut Chance,
@@ -94,7 +94,7 @@ fn push_import(
     parts.texts.push(0).ok()
 }
 
-/// Adds the descriptor of the imports from a module, whose look-ups come next, and the module's name.
+/// Appends the descriptor of the imports from a module, whose lookup entries come next, and the module's name.
 pub(crate) fn push_descriptor(parts: &mut ImportParts, places: Places, from: u32) -> Option<()> {
     let name = next_rva(places.texts, &parts.texts)?;
     push_module(&mut parts.texts, from)?;
@@ -107,7 +107,7 @@ pub(crate) fn push_descriptor(parts: &mut ImportParts, places: Places, from: u32
     Some(())
 }
 
-/// Adds the imports from a module: its descriptor, its look-ups and their texts.
+/// Appends the imports from a module: its descriptor, its lookup entries and their strings.
 fn push_imported(
     parts: &mut ImportParts,
     chance: &mut Chance,
@@ -123,7 +123,7 @@ fn push_imported(
     push_address(&mut parts.lookups, shape.is_wide, 0)
 }
 
-/// The bytes of the import table of a module, which stand at an RVA.
+/// The import table of a module, for an RVA.
 pub(crate) fn import_table(
     alloc: Global,
     shape: Shape,

@@ -1,4 +1,4 @@
-//! The file of a synthetic module: code, exports, imports, data and base relocations, as a linker lays them out.
+//! The file of a synthetic module: code, exports, imports, data and base relocations, as a linker arranges them.
 
 use crate::awkward::{awkward_exports, awkward_fixups, awkward_imports};
 use crate::chance::{Chance, push_bytes};
@@ -11,21 +11,21 @@ use pe_tables::{Fixup, FixupKind, ascending, encode_fixups};
 use pe_write::{Plan, PlanSection, write_image};
 use std::alloc::Global;
 
-/// The bytes of a page, to which sections are aligned.
+/// The size of a page, to which sections are aligned, in bytes.
 const PAGE: u32 = 4096;
 
-/// The first RVA of a page that is not before an RVA.
+/// The first RVA of a page at or after an RVA.
 fn page_from(rva: u32) -> Option<u32> {
     let pages = rva.checked_add(PAGE - 1)? / PAGE;
     pages.checked_mul(PAGE)
 }
 
-/// The first RVA of a page behind bytes at an RVA.
+/// The first RVA of a page after bytes at an RVA.
 fn page_behind(rva: u32, bytes: &[u8]) -> Option<u32> {
     page_from(rva.checked_add(u32::try_from(bytes.len()).ok()?)?)
 }
 
-/// The base relocations of a module, whose fields ascend from an RVA on, each 8 to 23 bytes behind the one before.
+/// The base relocations of a module, whose fields ascend from an RVA on, each 8 to 23 bytes after the previous one.
 fn fixups_of(alloc: Global, shape: Shape, module: Module, rva: u32) -> Option<Vec<Fixup>> {
     let mut chance = Chance::new(module.own_seed() ^ 0xf1);
     let kind = if shape.is_wide {
@@ -57,7 +57,7 @@ fn encoded(alloc: Global, fixups: &[Fixup]) -> Option<Vec<u8>> {
     }
 }
 
-/// Where a module prefers to stand.
+/// The preferred address of a module.
 pub(crate) fn preferred_base(shape: Shape, module: Module) -> u64 {
     let start = if shape.is_wide {
         0x1_8000_0000
@@ -99,7 +99,7 @@ struct Parts {
     end: u32,
 }
 
-/// So many bytes by chance.
+/// Pseudo-random bytes.
 fn bytes_of(alloc: Global, seed: u64, count: u32) -> Option<Vec<u8>> {
     let mut bytes = Vec::new(alloc);
     push_bytes(&mut bytes, &mut Chance::new(seed), count as usize)?;
@@ -134,7 +134,7 @@ fn fixup_table(alloc: Global, shape: Shape, module: Module, data: u32) -> Option
     }
 }
 
-/// The parts of a module, one behind the other.
+/// The parts of a module in order.
 fn parts_of(alloc: Global, shape: Shape, module: Module) -> Option<Parts> {
     let seed = module.own_seed();
     let code = bytes_of(alloc, seed ^ 0xc0de, shape.code)?;
@@ -164,7 +164,7 @@ fn parts_of(alloc: Global, shape: Shape, module: Module) -> Option<Parts> {
     })
 }
 
-/// Where the tables of a module stand.
+/// The directories of a module.
 fn directories_of(parts: &Parts) -> [Directory; 16] {
     let mut directories = [Directory { rva: 0, size: 0 }; 16];
     directories[directory_index::EXPORT] = Directory {

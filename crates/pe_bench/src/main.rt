@@ -1,8 +1,8 @@
 //! Runs a workload of the benchmark, and prints all its results as one number.
 //!
-//! The words of its command line are the workload's name, how many rounds it has, and the seed of its inputs; without words each
-//! workload has one round. Where one was not run, as no workload has its name or a call was refused, the status is 1. `bench/run`
-//! compares two builds of it. The workload `written` reads and writes the object on standard input; tests count what it costs.
+//! The words of the command line are the workload's name, the number of rounds, and the seed of the inputs; without words each
+//! workload runs for one round. The status is 1 if a workload was not run, because of an unknown name or a failed call.
+//! `bench/run` compares two builds. The workload `written` reads and writes the object on standard input; tests count its cost.
 #![tactic(auto)]
 
 mod awkward;
@@ -34,7 +34,7 @@ use std::{env, io};
 /// The names of the workloads.
 const WORKLOADS: [&str; 6] = ["map", "open", "texts", "objects", "rebase", "awkward"];
 
-/// Runs a workload, or answers `None` where there is none of this name or something was refused.
+/// Runs a workload; `None` if there is none with this name or a call failed.
 fn run_workload(
     alloc: Global,
     digest: &mut Digest,
@@ -53,7 +53,7 @@ fn run_workload(
     }
 }
 
-/// Prints the name of a workload and its number, or that it was not run. Answers whether it was.
+/// Prints the name of a workload and its number, or that it was not run. Returns whether it was.
 fn print_number<R: Print>(
     rt: &R,
     name: &str,
@@ -67,7 +67,7 @@ fn print_number<R: Print>(
     Ok(was_run.is_some())
 }
 
-/// Runs a workload and prints its name and its number. Answers whether it was run.
+/// Runs a workload and prints its name and its number. Returns whether it was run.
 fn print_workload<R: Print + AllocGlobal>(
     rt: &R,
     name: &str,
@@ -89,12 +89,12 @@ fn print_written<R: Print + Input + AllocGlobal>(rt: &R, rounds: u32) -> io::Res
     print_number(rt, "written", digest, was_run)
 }
 
-/// The number that a word of the command line writes.
+/// The number in a word of the command line.
 fn number_of(word: Option<&String>) -> Option<u32> {
     word?.parse().ok()
 }
 
-/// Runs each workload once, and answers whether all were run.
+/// Runs each workload once, and returns whether all were run.
 fn print_all<R: Print + AllocGlobal>(rt: &R, seed: u64) -> io::Result<bool> {
     let mut all_were_run = true;
     for name in WORKLOADS {
@@ -105,7 +105,7 @@ fn print_all<R: Print + AllocGlobal>(rt: &R, seed: u64) -> io::Result<bool> {
     Ok(all_were_run)
 }
 
-/// Runs what the words name, and answers whether all of it was run.
+/// Runs the workloads that the words name, and returns whether all were run.
 fn run<R: Print + Env + Input + AllocGlobal>(rt: &R) -> io::Result<bool> {
     let words: Vec<String> = env::args(rt)?.skip(1).collect(rt.alloc())?;
     let seed = u64::from(number_of(words.get(2)).unwrap_or(1));

@@ -4,12 +4,12 @@ use crate::chance::{Chance, push_bytes, push_name};
 use coff_object::{ObjSection, Object, RawData, Relocation, Symbol, SymbolSection, write_object};
 use std::alloc::Global;
 
-/// How large the parts of an object are.
+/// The sizes of an object's parts.
 #[derive(Clone, Copy)]
 pub(crate) struct ObjectShape {
     /// How many sections it has, fewer than 65,000.
     pub(crate) sections: u32,
-    /// The bytes of each section.
+    /// The size of each section in bytes.
     pub(crate) bytes: u32,
     /// How many relocations each section has.
     pub(crate) relocations: u32,
@@ -48,7 +48,7 @@ fn relocations_of(
     Some(relocations)
 }
 
-/// The sections of an object, over bytes that they share.
+/// The sections of an object, which share their bytes.
 fn sections_of<'a>(
     alloc: Global,
     shape: ObjectShape,
@@ -78,7 +78,7 @@ fn sections_of<'a>(
     Some(sections)
 }
 
-/// To which section a symbol belongs: one in three is of another object.
+/// The section of a symbol; one in three is undefined.
 fn section_of(shape: ObjectShape, chance: &mut Chance) -> SymbolSection {
     if chance.below(3) == 0 {
         return SymbolSection::Undefined;

@@ -14,7 +14,7 @@ pub(crate) struct Files {
     bases: Vec<u64>,
 }
 
-/// The files of so many modules.
+/// The files of a number of modules.
 pub(crate) fn files_of(alloc: Global, shape: Shape, seed: u64, count: u32) -> Option<Files> {
     let mut files = Files {
         names: Vec::new(alloc),
@@ -40,7 +40,7 @@ impl Files {
         &self.files
     }
 
-    /// The set, each module so far behind where it prefers to stand.
+    /// The set, with the base of each module its ImageBase plus `shift`.
     pub(crate) fn set(&self, alloc: Global, shift: u64) -> Option<Vec<SetEntry<'_>>> {
         let mut set = Vec::new(alloc);
         for ((name, file), base) in self.names.iter().zip(&self.files).zip(&self.bases) {

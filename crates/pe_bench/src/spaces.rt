@@ -1,13 +1,13 @@
-//! What a workload does with a space: it reads bytes and bindings, and moves images.
+//! The use of a space by a workload: it reads bytes and bindings, and moves images.
 
 use crate::chance::Chance;
 use crate::digest::Digest;
 use pe_space::Space;
 
-/// How many bytes a window has at most.
+/// The greatest length of a window in bytes.
 const WINDOW: usize = 4096;
 
-/// Adds all bytes of an image, a window at a time.
+/// Mixes in all bytes of an image, a window at a time.
 fn read_image<S: Space>(digest: &mut Digest, space: &S, image: u16) -> Option<()> {
     let mut window = [0; WINDOW];
     let base = space.base_of(image)?;
@@ -24,7 +24,7 @@ fn read_image<S: Space>(digest: &mut Digest, space: &S, image: u16) -> Option<()
     Some(())
 }
 
-/// Adds all bytes of all images.
+/// Mixes in all bytes of all images.
 pub(crate) fn read_images<S: Space>(digest: &mut Digest, space: &S) -> Option<()> {
     for image in 0..space.image_count() {
         read_image(digest, space, image)?;
@@ -32,14 +32,14 @@ pub(crate) fn read_images<S: Space>(digest: &mut Digest, space: &S) -> Option<()
     Some(())
 }
 
-/// An address by chance in an image, not before so many bytes of its end.
+/// A pseudo-random address in an image, at least `count` bytes before its end.
 fn some_address<S: Space>(space: &S, chance: &mut Chance, image: u16, count: u32) -> Option<u64> {
     let size = space.size_of(image)?;
     let offset = chance.below(size.checked_sub(count)?);
     space.base_of(image)?.checked_add(u64::from(offset))
 }
 
-/// Adds bytes at addresses by chance: a byte, an address and a line of sixteen each time, as a debugger asks for them.
+/// Mixes in bytes at pseudo-random addresses: each time a byte, an address and a line of sixteen bytes, as a debugger reads them.
 pub(crate) fn read_here_and_there<S: Space>(
     digest: &mut Digest,
     space: &S,
@@ -60,7 +60,7 @@ pub(crate) fn read_here_and_there<S: Space>(
     Some(())
 }
 
-/// Moves each image so far on.
+/// Moves each image by `step`.
 pub(crate) fn move_images<S: Space>(digest: &mut Digest, space: &mut S, step: u64) -> Option<()> {
     for image in 0..space.image_count() {
         let base = space.base_of(image)?.checked_add(step)?;
@@ -71,7 +71,7 @@ pub(crate) fn move_images<S: Space>(digest: &mut Digest, space: &mut S, step: u6
     Some(())
 }
 
-/// Adds where each slot stands and ends: its image and RVA, and those of the export.
+/// Mixes in each binding: the image and RVA of its slot, and those of the export.
 pub(crate) fn read_bindings<S: Space>(digest: &mut Digest, space: &S) {
     for binding in space.bindings() {
         digest.number(u64::from(binding.image));

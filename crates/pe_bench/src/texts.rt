@@ -1,4 +1,4 @@
-//! What the engines write of a file.
+//! The output of the engines for a file.
 
 use crate::digest::Digest;
 use pe_tool::{
@@ -43,7 +43,7 @@ fn write_text(
     }
 }
 
-/// Adds what an engine writes of a file, and the status of its answer.
+/// Mixes in the output of an engine for a file, and the exit status.
 pub(crate) fn read_text(
     alloc: Global,
     digest: &mut Digest,

@@ -1,9 +1,9 @@
-//! The workloads: jobs that users of the libraries wait for, over files that are made up from a seed.
+//! The workloads: jobs that users of the libraries wait for, over files made from a seed.
 //!
-//! `map` maps sets of libraries into memory, moves each image and reads all bytes. `open` opens such sets over their files, and reads
-//! here and there between moves. `texts` writes what `check`, `dump`, `show --all` and `json` say of libraries. `objects` writes
-//! objects, and reads them whole, as lines and as JSON. `rebase` moves the files of libraries to other bases. `awkward` maps and
-//! dumps sets as no linker makes them. `written` is over an object that is given.
+//! `map` maps sets of libraries into memory, moves each image and reads all bytes. `open` opens such sets over their files, and
+//! reads at random places between moves. `texts` writes the output of `check`, `dump`, `show --all` and `json` for libraries.
+//! `objects` writes objects, and reads them as lists, as lines and as JSON. `rebase` writes the files of libraries for other
+//! bases. `awkward` maps and checks sets that no linker makes. `written` reads and writes the object on standard input.
 
 mod awkward;
 mod map;

@@ -8,7 +8,7 @@ use crate::texts::{Engine, read_text};
 use pe_space::{Policy, map};
 use std::alloc::Global;
 
-/// Libraries of many names that are ends of one text.
+/// Libraries with many names that are ends of one string.
 const SHAPE: Shape = Shape {
     is_wide: true,
     code_rva: 0x1000,
@@ -21,7 +21,7 @@ const SHAPE: Shape = Shape {
     fixups: 20_000,
 };
 
-/// Maps a set of four libraries, moves each image, and adds what `check` says of each.
+/// Maps a set of four libraries, moves each image, and mixes in the output of `check` for each.
 fn map_set(alloc: Global, digest: &mut Digest, seed: u64) -> Option<()> {
     let files = files_of(alloc, SHAPE, seed, 4)?;
     let set = files.set(alloc, 0)?;
@@ -35,7 +35,7 @@ fn map_set(alloc: Global, digest: &mut Digest, seed: u64) -> Option<()> {
     Some(())
 }
 
-/// Maps so many sets.
+/// Maps a set in each round.
 pub(crate) fn run_awkward(
     alloc: Global,
     digest: &mut Digest,

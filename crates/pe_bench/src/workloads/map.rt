@@ -32,7 +32,7 @@ fn map_set(alloc: Global, digest: &mut Digest, seed: u64, round: u32) -> Option<
     read_images(digest, &space)
 }
 
-/// Maps so many sets.
+/// Maps a set in each round.
 pub(crate) fn run_map(alloc: Global, digest: &mut Digest, seed: u64, rounds: u32) -> Option<()> {
     for round in 0..rounds {
         map_set(alloc, digest, round_seed(seed, round), round)?;

@@ -15,7 +15,7 @@ const SHAPE: ObjectShape = ObjectShape {
     symbols: 3000,
 };
 
-/// Adds a section's name, numbers, bytes and relocations.
+/// Mixes in a section's name, numbers, bytes and relocations.
 fn read_section(digest: &mut Digest, section: &ObjSection<Global>) {
     digest.bytes(section.name);
     digest.number(u64::from(section.virtual_size));
@@ -32,7 +32,7 @@ fn read_section(digest: &mut Digest, section: &ObjSection<Global>) {
     }
 }
 
-/// The number by which a file names the section of a symbol.
+/// The section number of a symbol in a file.
 fn section_number(section: SymbolSection) -> u16 {
     match section {
         SymbolSection::Undefined => 0,
@@ -42,7 +42,7 @@ fn section_number(section: SymbolSection) -> u16 {
     }
 }
 
-/// Adds a symbol's name, value, section, type, class and auxiliary records.
+/// Mixes in a symbol's name, value, section, type, class and auxiliary records.
 fn read_symbol(digest: &mut Digest, symbol: &Symbol) {
     digest.bytes(symbol.name);
     digest.number(u64::from(symbol.value));
@@ -52,7 +52,7 @@ fn read_symbol(digest: &mut Digest, symbol: &Symbol) {
     digest.bytes(symbol.aux);
 }
 
-/// Adds what a reader that makes lists has of an object.
+/// Mixes in an object as the reader that makes lists returns it.
 fn read_lists(alloc: Global, digest: &mut Digest, file: &[u8]) -> Option<()> {
     let object = read_object(alloc, file).ok()?;
     for section in &object.sections {
@@ -64,7 +64,7 @@ fn read_lists(alloc: Global, digest: &mut Digest, file: &[u8]) -> Option<()> {
     Some(())
 }
 
-/// Writes an object, reads it, and adds what each engine writes of it.
+/// Writes an object, reads it, and mixes in the output of each engine for it.
 fn write_and_read(alloc: Global, digest: &mut Digest, seed: u64) -> Option<()> {
     let file = object(alloc, SHAPE, seed)?;
     digest.bytes(&file);
@@ -75,7 +75,7 @@ fn write_and_read(alloc: Global, digest: &mut Digest, seed: u64) -> Option<()> {
     Some(())
 }
 
-/// Writes and reads so many objects.
+/// Writes and reads an object in each round.
 pub(crate) fn run_objects(
     alloc: Global,
     digest: &mut Digest,

@@ -37,7 +37,7 @@ fn open_set(alloc: Global, digest: &mut Digest, seed: u64, round: u32) -> Option
     Some(())
 }
 
-/// Opens so many sets.
+/// Opens a set in each round.
 pub(crate) fn run_open(alloc: Global, digest: &mut Digest, seed: u64, rounds: u32) -> Option<()> {
     for round in 0..rounds {
         open_set(alloc, digest, round_seed(seed, round), round)?;

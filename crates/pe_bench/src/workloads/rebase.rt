@@ -21,7 +21,7 @@ fn shape(round: u32) -> Shape {
     }
 }
 
-/// Adds the files of a library at eight other bases.
+/// Mixes in the files of a library for eight other bases.
 fn rebase_library(alloc: Global, digest: &mut Digest, seed: u64, round: u32) -> Option<()> {
     let module = Module {
         seed,
@@ -37,7 +37,7 @@ fn rebase_library(alloc: Global, digest: &mut Digest, seed: u64, round: u32) -> 
     Some(())
 }
 
-/// Moves so many libraries.
+/// Rebases a library in each round.
 pub(crate) fn run_rebase(alloc: Global, digest: &mut Digest, seed: u64, rounds: u32) -> Option<()> {
     for round in 0..rounds {
         rebase_library(alloc, digest, round_seed(seed, round), round)?;

@@ -1,4 +1,4 @@
-//! The workload `texts`: what each engine writes of the libraries of a set.
+//! The workload `texts`: the output of each engine for the libraries of a set.
 
 use crate::digest::Digest;
 use crate::sets::files_of;
@@ -21,7 +21,7 @@ fn shape(round: u32) -> Shape {
     }
 }
 
-/// Adds what each engine writes of each library of a set of eight.
+/// Mixes in the output of each engine for each library of a set of eight.
 fn write_set(alloc: Global, digest: &mut Digest, seed: u64, round: u32) -> Option<()> {
     let files = files_of(alloc, shape(round), seed, 8)?;
     for file in files.each() {
@@ -32,7 +32,7 @@ fn write_set(alloc: Global, digest: &mut Digest, seed: u64, round: u32) -> Optio
     Some(())
 }
 
-/// Writes of the libraries of so many sets.
+/// Writes the output for the libraries of a set in each round.
 pub(crate) fn run_texts(alloc: Global, digest: &mut Digest, seed: u64, rounds: u32) -> Option<()> {
     for round in 0..rounds {
         write_set(alloc, digest, round_seed(seed, round), round)?;

@@ -4,7 +4,7 @@ use crate::digest::Digest;
 use coff_object::{read_object, write_object};
 use std::alloc::Global;
 
-/// Reads an object and writes it, so many times.
+/// Reads and writes an object in each round.
 pub(crate) fn run_written(
     alloc: Global,
     digest: &mut Digest,
