@@ -1,6 +1,6 @@
 //! Values of the COFF header's fields Machine (`machine`) and Characteristics (`characteristic`).
 
-/// Values of the COFF header's Machine field ("PE Format", Machine Types).
+/// Values of the COFF header's field Machine ("PE Format", Machine Types).
 pub mod machine {
     /// Intel 386 and later.
     pub const I386: u16 = 0x14c;
@@ -14,7 +14,7 @@ pub mod machine {
     pub const ARMNT: u16 = 0x1c4;
 }
 
-/// Flags of the COFF header's Characteristics field ("PE Format", Characteristics).
+/// Flags of the COFF header's field Characteristics ("PE Format", Characteristics).
 pub mod characteristic {
     /// The image has no base relocations and must be loaded at its ImageBase.
     pub const RELOCS_STRIPPED: u16 = 0x0001;

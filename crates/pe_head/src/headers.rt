@@ -16,83 +16,83 @@ pub struct Headers {
     /// The file offset of the signature.
     pub pe_offset: u32,
 
-    // the COFF header
-    /// The processor that the image is for.
+    // The COFF header.
+    /// The machine that the image is for.
     pub machine: u16,
-    /// How many section headers there are.
+    /// The number of section headers.
     pub number_of_sections: u16,
-    /// When the image was made, as its maker wrote it.
+    /// When the image was made, as its linker wrote it.
     pub time_date_stamp: u32,
     /// The file offset of the symbol table, which is not read.
     pub pointer_to_symbol_table: u32,
-    /// How many records the symbol table has.
+    /// The number of symbol table records.
     pub number_of_symbols: u32,
-    /// The bytes from the optional header's beginning to the section table.
+    /// The size of the optional header in bytes, which ends where the section table begins.
     pub size_of_optional_header: u16,
-    /// Flags of the image.
+    /// The flags of the image.
     pub characteristics: u16,
 
-    // the optional header
-    /// The linker's version.
+    // The optional header.
+    /// The linker's major version.
     pub major_linker_version: u8,
-    /// The second part of the linker's version.
+    /// The linker's minor version.
     pub minor_linker_version: u8,
-    /// The bytes of all code.
+    /// The size of all code in bytes.
     pub size_of_code: u32,
-    /// The bytes of all initialized data.
+    /// The size of all initialized data in bytes.
     pub size_of_initialized_data: u32,
-    /// The bytes of all uninitialized data.
+    /// The size of all uninitialized data in bytes.
     pub size_of_uninitialized_data: u32,
-    /// The RVA where the image starts to run, or 0.
+    /// The RVA of the entry point, or 0 if there is none.
     pub address_of_entry_point: u32,
     /// The RVA where code begins.
     pub base_of_code: u32,
-    /// The RVA where data begins, in PE32 alone.
+    /// The RVA where data begins, in PE32 only.
     pub base_of_data: Option<u32>,
-    /// The address at which the image prefers to stand.
+    /// The preferred address of the image.
     pub image_base: u64,
     /// The alignment of sections in the laid-out image, in bytes.
     pub section_alignment: u32,
     /// The alignment of raw data in the file, in bytes.
     pub file_alignment: u32,
-    /// The operating system's version that the image needs.
+    /// The major version of the operating system that the image needs.
     pub major_operating_system_version: u16,
-    /// The second part of the operating system's version.
+    /// The minor version of the operating system.
     pub minor_operating_system_version: u16,
-    /// The image's own version.
+    /// The image's own major version.
     pub major_image_version: u16,
-    /// The second part of the image's version.
+    /// The image's own minor version.
     pub minor_image_version: u16,
-    /// The subsystem's version that the image needs.
+    /// The major version of the subsystem that the image needs.
     pub major_subsystem_version: u16,
-    /// The second part of the subsystem's version.
+    /// The minor version of the subsystem.
     pub minor_subsystem_version: u16,
     /// Reserved.
     pub win32_version_value: u32,
-    /// The bytes of the laid-out image.
+    /// The size of the laid-out image in bytes.
     pub size_of_image: u32,
-    /// The bytes of the headers, as a piece of the laid-out image.
+    /// The size of the headers in bytes, as they are laid out.
     pub size_of_headers: u32,
-    /// As it is written; it is not computed.
+    /// The checksum as written in the file; it is not computed.
     pub check_sum: u32,
-    /// What the image needs to run.
+    /// The subsystem that the image needs to run.
     pub subsystem: u16,
-    /// Flags of a library.
+    /// The flags in DllCharacteristics.
     pub dll_characteristics: u16,
-    /// The bytes of stack to reserve.
+    /// The size of stack to reserve in bytes.
     pub size_of_stack_reserve: u64,
-    /// The bytes of stack to commit.
+    /// The size of stack to commit in bytes.
     pub size_of_stack_commit: u64,
-    /// The bytes of heap to reserve.
+    /// The size of heap to reserve in bytes.
     pub size_of_heap_reserve: u64,
-    /// The bytes of heap to commit.
+    /// The size of heap to commit in bytes.
     pub size_of_heap_commit: u64,
     /// Reserved.
     pub loader_flags: u32,
-    /// As it is written; at most 16 directories are held.
+    /// The number as written in the file; `directories` has at most 16.
     pub number_of_rva_and_sizes: u32,
 
-    /// The data directories that the headers hold, by index.
+    /// The data directories in the headers, by index.
     pub directories: ArrayVec<Directory, 16>,
     /// The section table.
     pub sections: ArrayVec<SectionHeader, 96>,

@@ -44,7 +44,7 @@ impl Magic {
     }
 }
 
-/// Values of the optional header's Subsystem field ("PE Format", Windows Subsystem).
+/// Values of the optional header's field Subsystem ("PE Format", Windows Subsystem).
 pub mod subsystem {
     /// An unknown subsystem.
     pub const UNKNOWN: u16 = 0;
@@ -76,7 +76,7 @@ pub mod subsystem {
     pub const WINDOWS_BOOT_APPLICATION: u16 = 16;
 }
 
-/// Flags of the optional header's DllCharacteristics field ("PE Format", DLL Characteristics).
+/// Flags of the optional header's field DllCharacteristics ("PE Format", DLL Characteristics).
 pub mod dll_characteristic {
     /// The image can handle a 64-bit address space with high-entropy randomization.
     pub const HIGH_ENTROPY_VA: u16 = 0x0020;

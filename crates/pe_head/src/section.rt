@@ -3,23 +3,23 @@
 /// A row of the section table ("PE Format", Section Table). Sizes count bytes.
 #[derive(Clone, Copy, Debug, Default, PartialEq, Eq)]
 pub struct SectionHeader {
-    /// The name, filled up with zero bytes.
+    /// The name, padded with zero bytes.
     pub name: [u8; 8],
-    /// The size in the laid-out image; 0 stands for SizeOfRawData.
+    /// The size in the laid-out image; 0 means SizeOfRawData.
     pub virtual_size: u32,
     /// The RVA of the first byte.
     pub virtual_address: u32,
     /// The size in the file.
     pub size_of_raw_data: u32,
-    /// The file offset of the first byte; 0 where the file holds none.
+    /// The file offset of the first byte; 0 if the section has no raw data.
     pub pointer_to_raw_data: u32,
     /// The file offset of the object's relocations; 0 in images.
     pub pointer_to_relocations: u32,
     /// The file offset of the line numbers.
     pub pointer_to_linenumbers: u32,
-    /// How many relocations there are.
+    /// The number of relocations.
     pub number_of_relocations: u16,
-    /// How many line numbers there are.
+    /// The number of line numbers.
     pub number_of_linenumbers: u16,
     /// The section's flags.
     pub characteristics: u32,

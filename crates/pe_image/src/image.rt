@@ -52,8 +52,8 @@ fn read_whole<A: Allocator + Copy>(alloc: A, layout: Layout<'_>) -> Result<Image
 
 /// Reads a whole image: `file` is its complete file, and faults name the image by `number`.
 ///
-/// Faults are tested in phases: headers and sections (1 to 15), exports (16 to 22), imports (24 to 32), base relocations and how
-/// they overlap import address table entries (33 to 38). The error is [`TableError::Fault`] with the first fault, or
+/// Faults are tested in phases: headers and sections (1 to 15), exports (16 to 22), imports (24 to 32), base relocations, whose
+/// fields may not overlap import address table entries (33 to 38). The error is [`TableError::Fault`] with the first fault, or
 /// [`TableError::Memory`] if an allocation failed and no earlier phase has a fault; it is never [`TableError::Memory`] for a file
 /// with one of faults 1 to 15, such as an empty file. On an error all memory is freed.
 ///

@@ -29,7 +29,7 @@ mod-split n {m} {c} hm hc =
 pow_pos256 : (n : ℕ) → zero < 256 ^ n
 pow_pos256 n = let h = one-le-pow n 256 (omega arith) in omega arith
 
--- the number in bytes that are those of v from byte j on is what is left of v
+-- the number in bytes that are those of v from byte j on is v without its lowest j bytes
 num_of_digits : (byte : ℕ → ℕ) (a j w v : ℕ) → ((k : ℕ) → k < w → byte (a + k) ≡ digit v (j + k)) → num byte a w ≡ v / 256 ^ j % 256 ^ w
 num_of_digits byte a j zero v h = omega arith
 num_of_digits byte a j (suc w) v h =

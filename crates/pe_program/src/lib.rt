@@ -1,4 +1,4 @@
-//! The program `petool`, over any runtime: it opens files, has the engines write, reports errors and returns the exit status.
+//! The program `petool`, over any runtime: it opens files, runs the engines, reports errors and returns the exit status.
 //!
 //! ```text
 //! fn main(rt: HostRuntime) -> ExitCode {

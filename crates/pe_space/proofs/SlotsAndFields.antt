@@ -89,7 +89,7 @@ field_byte c j fields_and_slots =
         let d = in_g.1 in
         elim apart [ inl before ↦ absurd (omega arith) | inr after ↦ absurd (omega arith) ]
 
--- a slot that a search finds
+-- a slot found by a search
 pub slot_found : (images : List SpaceImage) (j r : ℕ) (bs : List Binding) (b : Binding) → find (in_slot j (nth_image images j).magic r) bs ≡ Some b → Contains bs b × IsAt images j r b
 slot_found images j r bs b h =
     let held = find_in (in_slot j (nth_image images j).magic r) bs b h in

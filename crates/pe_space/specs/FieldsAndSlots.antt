@@ -5,7 +5,7 @@ use Rattle.pe_set.specs.declared.binding.Binding.{Binding}
 use Rattle.pe_space.specs.Content.{SpaceImage, Content, nth_image, width_of, slot_width, byte_in}
 use Rattle.pe_space.specs.Memory.{memory_of}
 
--- two ranges have no number in common
+-- two ranges are disjoint
 abbrev pub Apart : ℕ → ℕ → ℕ → ℕ → Type 0
 Apart a n b m = (a + n ≤ b) ⊎ (b + m ≤ a)
 

@@ -23,7 +23,7 @@ image_content m = record {
   fixups = m.fixups;
 }
 
--- the images as their files lay them out, and the slots that are bound
+-- the images as their files lay them out, and the bound slots
 unfoldable pub laid_out : List Module → Content
 laid_out s = record { images = map image_content s; bindings = bindings_of s }
 

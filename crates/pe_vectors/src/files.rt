@@ -5,7 +5,7 @@ ghost use Rattle.std.specs.Prelude.{◌+◌, ◌≤◌, IfOk, vec_len, length};
 use crate::images::{made_of, put_data};
 use std::alloc::{AllocError, AllocFailed, Global};
 
-/// Why there is no file.
+/// Why a file was not made.
 #[derive(Clone, Copy, Debug, PartialEq, Eq)]
 pub enum FileError {
     /// A piece that begins at this offset is not inside the file.

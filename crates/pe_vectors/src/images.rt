@@ -1,4 +1,4 @@
-//! The small files V1, V2, V3, VA, VB, VC, VD, VS, VF and VR, byte by byte: each is zeros, over which pieces are written.
+//! The small files V1, V2, V3, VA, VB, VC, VD, VS, VF and VR, byte by byte: each is zeros with pieces written over them.
 
 ghost use Rattle.std.specs.Prelude.{◌≡◌, ◌≤◌, IfOk, vec_len};
 

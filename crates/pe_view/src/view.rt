@@ -32,7 +32,7 @@ impl<'a> View<'a> {
         self.bytes.len() as u64
     }
 
-    /// Whether the file has no bytes.
+    /// Whether the file is empty.
     pub fn is_empty(&self) -> bool
         ensures { IsTrue result ↔ (size_of self.now ≡ 0) }
     {

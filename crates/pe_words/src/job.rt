@@ -1,4 +1,4 @@
-//! `Job`: what a command line tells the program to do; and `WordsError`, why it does not.
+//! `Job`: what a command line says to do; and `WordsError`, why there is no job.
 
 use pe_text::ShowOptions;
 use pe_view::Place;
@@ -15,7 +15,7 @@ pub struct MapFile {
     pub name: String,
 }
 
-/// What the words tell the program to do.
+/// What the words say to do.
 #[derive(Debug, Drop, PartialEq, Eq)]
 pub enum Job<P> {
     /// `check FILE`: check an image and write one line.

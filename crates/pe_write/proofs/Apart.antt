@@ -11,7 +11,7 @@ use Rattle.pe_view.specs.Faults.{first_standing}
 use Rattle.pe_view.specs.FirstStanding.{none_stands, none-append}
 use Rattle.pe_write.specs.RebaseFaults.{raw_meets, range_test, ranges_tests}
 
--- no byte of the file is raw data of both
+-- the raw data of both is disjoint in the file
 pub record Apart (s t : SectionHeader) : Type 0 where
   pub apart : 0 < rawlen s → 0 < rawlen t → (s.pointer_to_raw_data + rawlen s ≤ t.pointer_to_raw_data) ⊎ (t.pointer_to_raw_data + rawlen t ≤ s.pointer_to_raw_data)
 

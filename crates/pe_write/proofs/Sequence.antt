@@ -23,7 +23,7 @@ abbrev pub EachPair : {X : Type 0} → (X → X → Type 0) → List X → Type 
 EachPair R [] = Unit {0}
 EachPair R (x ∷ xs) = Each (R x) xs × EachPair R xs
 
--- two writes have no byte in common
+-- two writes are disjoint
 abbrev pub AreClear : Write → Write → Type 0
 AreClear v w = (v.offset + v.width ≤ w.offset) ⊎ (w.offset + w.width ≤ v.offset)
 

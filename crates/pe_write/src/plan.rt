@@ -29,9 +29,9 @@ pub struct Plan<'a, A: Allocator = Global> {
     pub magic: Magic,
     /// The machine that the image is for.
     pub machine: u16,
-    /// When the image was made, in seconds since the beginning of 1970.
+    /// The time stamp of the image, in seconds since the beginning of 1970.
     pub time_stamp: u32,
-    /// Flags of the image.
+    /// The flags of the image.
     pub characteristics: u16,
     /// The RVA of the entry point; 0 if there is none.
     pub entry: u32,

@@ -1,4 +1,4 @@
-//! The workload `open`: sets of sixteen libraries, opened over their files, read here and there, and moved.
+//! The workload `open`: sets of sixteen libraries, opened over their files, read at random places, and moved.
 
 use crate::chance::Chance;
 use crate::digest::Digest;
@@ -23,7 +23,7 @@ fn shape(round: u32) -> Shape {
     }
 }
 
-/// Opens a set of sixteen libraries, and reads here and there between moves of each image.
+/// Opens a set of sixteen libraries, and reads at random places between moves of each image.
 fn open_set(alloc: Global, digest: &mut Digest, seed: u64, round: u32) -> Option<()> {
     let files = files_of(alloc, shape(round), seed, 16)?;
     let set = files.set(alloc, 0x10_0000)?;

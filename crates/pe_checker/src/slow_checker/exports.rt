@@ -19,7 +19,7 @@ pub(super) enum Target {
     Forwarder(Forwarder),
 }
 
-/// The fields of the export directory that are read.
+/// The fields of the export directory that are used.
 #[derive(Clone, Copy)]
 struct ExportTable {
     directory: Directory,

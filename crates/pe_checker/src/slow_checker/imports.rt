@@ -54,7 +54,7 @@ fn name_rva(entry: u64) -> u64 {
     (entry & 0x7fff_ffff) + 2
 }
 
-/// The fields of a descriptor that are read.
+/// The fields of a descriptor that are used.
 #[derive(Clone, Copy)]
 struct Descriptor {
     rva: u64,
@@ -114,7 +114,7 @@ impl Descriptor {
     }
 }
 
-/// The lookup entry at an RVA; 0 past the image.
+/// The lookup entry at an RVA; 0 past the end of the image.
 fn entry_at(image: &PlainImage, rva: u64) -> u64 {
     if image.headers.is_plus() {
         image.u64_at(rva)

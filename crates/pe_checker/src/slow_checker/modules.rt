@@ -1,4 +1,4 @@
-//! The searches of imports through the modules of a set: faults 48 to 50.
+//! The searches for imports through the modules of a set: faults 48 to 50.
 
 use super::exports::{Target, target_of};
 use super::forwarders::{Forwarder, Wanted};

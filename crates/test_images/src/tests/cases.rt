@@ -1,4 +1,4 @@
-//! What tests of one image's file share.
+//! Common parts of the tests of one image's file.
 
 use pe_layout::Layout;
 use pe_vectors::files::{Piece, Vector, file_of, put, put_pieces};
