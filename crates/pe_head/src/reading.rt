@@ -17,7 +17,7 @@ const FILE_LIMIT: u64 = 0x1_0000_0000;
 /// The greatest size of a laid-out image in bytes: 2^31.
 const IMAGE_LIMIT: u32 = 0x8000_0000;
 
-/// The greatest number of sections.
+/// The greatest number of sections: the limit of the Windows loader.
 const SECTION_LIMIT: u16 = 96;
 
 /// `MZ`, the first two bytes of the file.

@@ -9,7 +9,7 @@ use std::io::ErrorKind;
 use std::rt::Env;
 use std::{env, str};
 
-/// The size of the buffer for a word of the command line, in bytes.
+/// The size of the buffer for a word of the command line, in bytes. Linux passes no longer words.
 const WORD_BUFFER: usize = 1 << 17;
 
 /// Why the command line has no words.

@@ -5,7 +5,7 @@ use std::io::{self, Error, ErrorKind, Write};
 use std::os::unix::fs::MetadataExt;
 use std::rt::Files;
 
-/// A file that is created, or truncated if it exists, at the first write to it.
+/// A file that is created, or truncated if it exists, at the first write to it, so that a refused input leaves it as it was.
 #[derive(Drop)]
 pub(crate) struct LateFile<'a, R: Files> {
     rt: &'a R,

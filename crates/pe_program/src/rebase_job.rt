@@ -16,7 +16,8 @@ use std::rt::Files;
 /// The size of the buffer for the line, in bytes.
 const LINE_BUFFER: usize = 1 << 8;
 
-/// Writes the file of an image for another base and then its line, and returns the engine's result.
+/// Writes the file of an image for another base and then its line, which thus means that the file is complete, and returns the
+/// engine's result.
 fn print_rebase<R: Print + Alloc>(
     rt: &R,
     base: u64,

@@ -102,7 +102,7 @@ fn write_export_count<A: Allocator + Copy, W: Sink>(text: &mut TextWriter<W>, ex
     );
 }
 
-/// The first modules, each with its number of consecutive imports, and the number of all modules.
+/// The first runs of imports from one module, each as the module's name and the number of imports, and the number of all runs.
 fn first_runs<'a>(imports: &[Import<'a>]) -> (ArrayVec<(&'a [u8], usize), MODULES_SHOWN>, usize) {
     let mut shown = ArrayVec::new();
     let mut modules: usize = 0;

@@ -25,7 +25,7 @@ own_bases : (es : List Entry) → at_bases (sets.bases_of es) es ≡ es
 own_bases [] = refl
 own_bases (e ∷ es) = ap (λ (rest : List Entry). e ∷ rest) (own_bases es)
 
--- changing bases twice is changing them once to the second ones
+-- bases that were changed twice can be set at once
 put_twice : (later first : List ℕ) (es : List Entry) → at_bases (sets.bases_of (at_bases later (at_bases first es))) es ≡ at_bases later (at_bases first es)
 put_twice [] [] [] = refl
 put_twice [] (b ∷ first) [] = refl

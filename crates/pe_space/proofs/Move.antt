@@ -138,7 +138,7 @@ rebased_content hs bs i base h new lt is made =
           ∙ ap (shifted_all (pos base -ℤ pos (nth_image (images_of hs) i).base) (nth_image (images_of hs) i).fixups) (memory_read hs i h lt is)),
     )
 
--- the slots in the part of a list that is ordered by exporter
+-- the slots of one exporter in a list ordered by exporter are those bound to it
 pub ending_from : (c : Content) (slots l lent : List Binding) (i : ℕ) → IsOrdered exporter_of c.bindings slots → l ≡ slots
     → ((b : Binding) → Contains lent b → Contains l b × (b.exporter ≡ i)) → ((b : Binding) → Contains l b → b.exporter ≡ i → Contains lent b) → AreEnding c i lent
 ending_from c slots l lent i ordered same held all = record {

@@ -16,7 +16,8 @@ pub(crate) fn slot_width(magic: Magic) -> usize
     magic.image_base_width() as usize
 }
 
-/// Relocates fields from one base to another.
+/// Relocates fields from one base to another. For HIGH fields this gives the same as relocating them from ImageBase only because
+/// bases are multiples of 65,536 (fault 44).
 pub(crate) fn shift_fields(memory: &mut [u8], fixups: &[Fixup], from: u64, to: u64)
     requires { Each (λ f. f.field + width_of f.kind ≤ length memory.old) fixups.now }
     ensures { memory.new ≡ shifted_all (pos to -ℤ pos from) fixups.now memory.old }

@@ -104,7 +104,7 @@ fn write_bytes_line<W: Sink>(line: &mut TextWriter<W>, address: u64, bytes: &[u8
     line.text(b"\n");
 }
 
-/// Adds the lines of a window, which is inside one image. It reads the bytes line by line.
+/// Adds the lines of a window, which is inside one image. It reads the bytes line by line, so it allocates nothing.
 pub(crate) fn write_window<S: Space, W: Sink>(
     text: &mut TextWriter<W>,
     space: &S,

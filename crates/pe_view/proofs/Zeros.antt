@@ -67,7 +67,7 @@ module _ (file : List ℕ) (offset end : ℕ) (inside : end ≤ length file) whe
   byte_at : (k : ℕ) → k < end - offset → get_or (slice_range file offset end) k 0 ≡ byte_of file (offset + k)
   byte_at k lt = get_or-take (end - offset) (drop offset file) k 0 lt ∙ get_or-drop offset file k 0
 
-  -- the bytes up to the end of a string that was found are not zero
+  -- where a string that was found ends: at a zero byte, with none before it
   pub record IsFound (text : List ℕ) : Type 0 where
     pub short : offset + length text < end
     pub none : HasNoZero file offset (offset + length text)

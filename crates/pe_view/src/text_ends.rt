@@ -67,7 +67,7 @@ impl<A: Allocator + Copy> TextEnds<A> {
         Some((*start, *end))
     }
 
-    /// An offset greater than `offset`, with no zero byte between the two.
+    /// An offset after `offset` such that no byte from `offset` up to it is zero.
     fn past(&self, view: View<'_>, offset: u64, end: u64) -> u64
         requires known { AreEndsOf (bytes_of view) self.now }
         requires before { offset < end }
@@ -104,8 +104,8 @@ impl<A: Allocator + Copy> TextEnds<A> {
         }
     }
 
-    /// The first zero byte from `offset` on if it is before `end`, otherwise an offset that is not before `end`; no byte before
-    /// the result is zero.
+    /// The first zero byte from `offset` on if it is before `end`, otherwise an offset that is not before `end`; no byte from
+    /// `offset` up to the result is zero.
     fn zero_from(&mut self, view: View<'_>, offset: u64, end: u64) -> u64
         requires known { AreEndsOf (bytes_of view) self.old }
         requires before { offset < end }

@@ -40,8 +40,8 @@ pub fn rebased_is_relocated()
     pe_tables::laws::fields_are_apart();
 }
 
-/// If the signature is not in the first 16 bytes, the new file has the old headers except for ImageBase and CheckSum, and none of
-/// faults 1 to 15, with every image number with which the old file has none.
+/// If the signature is not in the first 16 bytes, where ImageBase may overlap the field at 0x3c, the new file has the old headers
+/// except for ImageBase and CheckSum, and none of faults 1 to 15, with every image number with which the old file has none.
 pub fn rebased_headers()
     ensures head { (file : List ℕ) (base : ℕ) → first_standing (rebase_tests file base) ≡ None → 16 ≤ (head_of file).pe_offset
         → head_of (rebased file base) ≡ rebased_head (head_of file) base }

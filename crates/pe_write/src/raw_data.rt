@@ -34,7 +34,8 @@ fn raw_section(headers: &Headers, fixup: Fixup) -> Option<SectionHeader>
     None
 }
 
-/// The section whose raw data contains all of a field, or fault 51. `last`, the section of an earlier field, is tried first.
+/// The section whose raw data contains all of a field, or fault 51. `last`, the section of the previous field, is tried first,
+/// since most fields follow others of their section.
 pub(crate) fn holder(
     headers: &Headers,
     last: SectionHeader,

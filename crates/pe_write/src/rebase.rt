@@ -121,7 +121,6 @@ fn rewrite(bytes: &mut [u8], layout: &Layout, fixups: &[Fixup], base: u64) -> Re
 /// is not claimed that the tables of the new file read as before.
 ///
 /// ("PE Format": Optional Header, The .reloc Section.)
-/// ("PE Format": Optional Header, The .reloc Section.)
 pub fn rebase_file<A: Allocator + Copy>(
     alloc: A,
     file: &[u8],

@@ -28,7 +28,6 @@ impl Directory {
 
 /// The directory of an index. It is absent if the headers do not hold it or its RVA is 0; that of the base relocation table also
 /// if its Size is 0.
-/// relocation table also where its Size is 0.
 pub(super) fn find_directory(image: &PlainImage, index: u32) -> Option<Directory> {
     if index >= image.headers.directories() {
         return None;
