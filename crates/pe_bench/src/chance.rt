@@ -36,7 +36,7 @@ impl Chance {
     }
 }
 
-/// The period of pseudo-random bytes; no library looks at the code of a section.
+/// After how many bytes pseudo-random code repeats; no library reads the code of a section.
 const BLOCK: usize = 512;
 
 /// Appends pseudo-random bytes.

@@ -57,7 +57,7 @@ impl Report for DumpReport {
     }
 }
 
-/// Checks the image whose file the reader returns, and writes one line: `accepted PE32 sections N` (or `PE32+`), or the image's
+/// Checks the image whose file comes from the reader, and writes one line: `accepted PE32 sections N` (or `PE32+`), or the image's
 /// first fault.
 ///
 /// The file is read to its end, or to 2^32 + 1 bytes; the line is written only after all faults were tested. On the error `Write`

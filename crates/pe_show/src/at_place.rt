@@ -294,7 +294,7 @@ impl Report for AtReport {
     }
 }
 
-/// Writes what is at a place of the image whose file the reader returns. The place is an RVA, an address with the image at its
+/// Writes what is at a place of the image whose file comes from the reader. The place is an RVA, an address with the image at its
 /// ImageBase, or a file offset. The output is the RVA, the address, the file offset and the section with its permissions; the last
 /// export at or before it in the section; the import whose slot contains it; the base relocation whose field contains it, with the
 /// field's target; and 16 bytes. For a refused image it is the line of the first fault.

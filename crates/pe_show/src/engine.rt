@@ -28,7 +28,7 @@ impl<'p> Report for Page<'p> {
     }
 }
 
-/// Writes a readable page on the image or object whose file the reader returns: its headers, its sections, the tables that the
+/// Writes a readable page on the image or object whose file comes from the reader: its headers, its sections, the tables that the
 /// options select, and its first fault in words. `name` is that of the file.
 ///
 /// A file that begins like an object is checked as an object, any other as an image. For a refused image the page shows what comes

@@ -49,9 +49,9 @@ pub fn content_serves_at_all_bases()
     pe_set::laws::bases_change_no_binding();
 }
 
-/// After any list of commands, with accepted and refused moves, the files are accepted at the current bases, and the space has the
-/// content of the same files there: each address has the byte that the format defines for the files at their current bases, even
-/// if the space no longer has the files.
+/// After any list of commands on a space of an accepted set, with accepted and refused moves, the files are accepted at the
+/// current bases, and the space has the content of the same files there: each address has the byte that the format defines for the
+/// files at their current bases, even if the space does not hold the files.
 pub fn commands_keep_what_files_define()
     ensures accepted { (policy : Policy) (es : List Entry) (commands : List Command) → set_error policy es ≡ None → let c = after_all commands (content_of (modules_of es)) in
         set_error policy (at_bases (bases_of c) es) ≡ None }

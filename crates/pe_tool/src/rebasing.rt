@@ -45,8 +45,8 @@ fn tell<W: Sink>(writer: &mut W, base: u64, outcome: Outcome) -> Result<Outcome,
     }
 }
 
-/// Writes to `out` the file of an image for another base, which `pe_write::rebase_file` makes from the file that the reader
-/// returns, and then to `writer` the line `rebased 0x` with 16 digits of the base; or writes to `writer` the line of the first
+/// Writes to `out` the file of an image for another base, which `pe_write::rebase_file` makes from the file that comes from the
+/// reader, and then to `writer` the line `rebased 0x` with 16 digits of the base; or writes to `writer` the line of the first
 /// fault, and nothing to `out`.
 ///
 /// The file is read to its end, or to 2^32 + 1 bytes; output is written only after all faults were tested. On the error `Write`

@@ -58,7 +58,8 @@ pub(super) fn steps_of(step: usize) -> Devices
 /// The result of an engine, and the writer with its output.
 pub(super) type Answered = (Result<Outcome, ToolError>, StepWriter);
 
-/// Runs an engine with the memory of an allocator, which may run out; the writer has 0x2000 bytes of its own.
+/// Runs an engine with the memory of an allocator, which may run out. An error means that the writer's own 0x2000 bytes could not
+/// be allocated.
 pub(super) fn run_over<A: Allocator + Copy>(
     alloc: Global,
     memory: A,
@@ -93,8 +94,8 @@ pub(super) fn run(
     run_over(alloc, alloc, engine, file, devices)
 }
 
-/// Reports a set, perhaps with a window, with the memory of an allocator, which may run out; the writer has 0x800 bytes of its
-/// own.
+/// Reports a set, perhaps with a window, with the memory of an allocator, which may run out. An error means that the writer's own
+/// 0x800 bytes could not be allocated.
 pub(super) fn report_over<A: Allocator + Copy>(
     alloc: Global,
     memory: A,
