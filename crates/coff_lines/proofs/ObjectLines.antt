@@ -7,9 +7,8 @@ use Rattle.std.proofs.lemmas.List.{at_drop_more}
 use Rattle.std.proofs.lemmas.List.FromFn.{get_or-map-range_with_len}
 use Rattle.std.proofs.lemmas.Option.{get_or_from_slice_get}
 use Rattle.pe_view.specs.Number.{part}
-use Rattle.coff_object.specs.Auxiliary.{AuxRecord, aux_of, aux_record}
-use Rattle.coff_object.specs.Records.{Section, Symbol}
-use Rattle.coff_object.specs.Written.{aux_records}
+use Rattle.coff_read.specs.Auxiliary.{AuxRecord, aux_of, aux_record}
+use Rattle.coff_read.specs.Records.{Section, Symbol, aux_records}
 use Rattle.pe_text.specs.Text.{numbered}
 
 -- one more section is written, with its relocations

@@ -8,13 +8,12 @@ use Rattle.std.proofs.lemmas.List.Folds.{flat_map-map}
 use Rattle.pe_view.specs.Faults.{first_standing}
 use Rattle.pe_view.specs.FirstStanding.{none-append, none_stands}
 use Rattle.pe_view.specs.Number.{part}
-use Rattle.coff_object.specs.Auxiliary.{aux_of}
-use Rattle.coff_object.specs.ObjectFaults.{object_tests, symbol_tests}
-use Rattle.coff_object.specs.Reading.{object_of, record_start, aux_count, symbol_at, symbols_from, symbol_indexes}
-use Rattle.coff_object.specs.Records.{Symbol}
-use Rattle.coff_object.specs.Strings.{record_count, strings_start}
-use Rattle.coff_object.specs.SymbolsLeft.{indexed}
-use Rattle.coff_object.specs.Written.{aux_records}
+use Rattle.coff_read.specs.Auxiliary.{aux_of}
+use Rattle.coff_read.specs.ObjectFaults.{object_tests, symbol_tests}
+use Rattle.coff_read.specs.Reading.{object_of, record_start, aux_count, symbol_at, symbols_from, symbol_indexes}
+use Rattle.coff_read.specs.Records.{Symbol, aux_records}
+use Rattle.coff_read.specs.Strings.{record_count, strings_start}
+use Rattle.coff_read.specs.SymbolsLeft.{indexed}
 use Rattle.coff_read.proofs.WholeTable.{aux_inside, table_stands}
 use Rattle.coff_lines.specs.ObjectLines.{symbol_line, aux_line, aux_lines, symbol_lines}
 use Rattle.coff_lines.specs.ObjectPlaces.{aux_record_line, record_lines}

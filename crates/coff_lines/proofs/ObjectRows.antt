@@ -1,10 +1,10 @@
 -- The lines of an object's dump as the definitions give them, written out.
 use Rattle.std.proofs.Common.{◌≡◌, ℕ, List, [], ◌∷◌, refl, codes}
 use Rattle.std.specs.Fmt.{digits}
-use Rattle.coff_object.specs.Auxiliary as auxiliary
-use Rattle.coff_object.specs.Records.{Bytes, Absent, Section, Symbol}
+use Rattle.coff_read.specs.Auxiliary as auxiliary
+use Rattle.coff_read.specs.Records.{Bytes, Absent, Section, Symbol}
 use Rattle.coff_read.specs.declared.symbol.SymbolSection.TheVariants as belongs
-use Rattle.coff_object.specs.TypeNames.{storage_class_names, amd64_type_names, i386_type_names}
+use Rattle.coff_read.specs.TypeNames.{storage_class_names, amd64_type_names, i386_type_names}
 use Rattle.pe_head.specs.Names.{machine_names}
 use Rattle.pe_text.specs.MachineLine.{machine_line}
 use Rattle.pe_text.specs.Field.{field_line}

@@ -1,6 +1,6 @@
 pub use Rattle.pe_view.specs.Faults
-pub use Rattle.coff_object.specs.ObjectFaults
-pub use Rattle.coff_object.specs.Reading
+pub use Rattle.coff_read.specs.ObjectFaults
+pub use Rattle.coff_read.specs.Reading
 pub use Rattle.pe_text.specs.Engine
 pub mod ObjectLines
 pub mod ObjectPlaces

@@ -3,12 +3,11 @@ use Rattle.std.specs.Prelude.{ℕ, ◌+◌, ◌*◌, ◌==◌, Bool, if◌then�
 use Rattle.std.specs.List.{list_any, range_with_len}
 use Rattle.pe_view.specs.Number.{part}
 use Rattle.pe_head.specs.Names.{name_in}
-use Rattle.coff_object.specs.TypeNames.{storage_class_names, relocation_type_names}
-use Rattle.coff_object.specs.Auxiliary as auxiliary
-use Rattle.coff_object.specs.Auxiliary.{AuxRecord, aux_of}
-use Rattle.coff_object.specs.Records as object
-use Rattle.coff_object.specs.Records.{Object, Raw, Section, Symbol}
-use Rattle.coff_object.specs.Written.{raw_size, aux_records}
+use Rattle.coff_read.specs.TypeNames.{storage_class_names, relocation_type_names}
+use Rattle.coff_read.specs.Auxiliary as auxiliary
+use Rattle.coff_read.specs.Auxiliary.{AuxRecord, aux_of}
+use Rattle.coff_read.specs.Records as object
+use Rattle.coff_read.specs.Records.{Object, Raw, Section, Symbol, raw_size, aux_records}
 use Rattle.coff_read.specs.declared.relocation.Relocation.{Relocation}
 use Rattle.coff_read.specs.declared.symbol.SymbolSection.{SymbolSection}
 use Rattle.coff_read.specs.declared.symbol.SymbolSection.TheVariants as belongs

@@ -2,8 +2,8 @@
 use Rattle.std.specs.Prelude.{ℕ, ◌+◌, List, ◌++◌, flat_map}
 use Rattle.std.specs.List.{range_with_len}
 use Rattle.pe_view.specs.Number.{part}
-use Rattle.coff_object.specs.Auxiliary.{aux_of}
-use Rattle.coff_object.specs.Reading.{aux_count, record_start, symbol_at}
+use Rattle.coff_read.specs.Auxiliary.{aux_of}
+use Rattle.coff_read.specs.Reading.{aux_count, record_start, symbol_at}
 use Rattle.coff_lines.specs.ObjectLines.{symbol_line, aux_line}
 
 -- the record of this index behind the symbol of record k, in the symbol's shape

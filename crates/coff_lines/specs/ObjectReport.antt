@@ -1,7 +1,7 @@
 -- What an object's dump says of its file.
 use Rattle.std.specs.Prelude.{ℕ, List}
-use Rattle.coff_object.specs.ObjectFaults.{object_tests}
-use Rattle.coff_object.specs.Reading.{object_of}
+use Rattle.coff_read.specs.ObjectFaults.{object_tests}
+use Rattle.coff_read.specs.Reading.{object_of}
 use Rattle.pe_text.specs.declared.outcome.Outcome.{Outcome}
 use Rattle.pe_text.specs.Engine.{IsFileText}
 use Rattle.coff_lines.specs.ObjectLines.{object_text}

@@ -5,7 +5,7 @@ ghost use Rattle.pe_text.specs.Engine.{Ran};
 ghost use Rattle.coff_lines.specs.ObjectReport.{IsObjectText};
 
 use crate::object_lines::write_object;
-use coff_object::ObjectFile;
+use coff_read::ObjectFile;
 use pe_text::{Outcome, Report, Sink, Source, TextWriter, ToolError, refuse, run_report};
 use std::alloc::{AllocError, Allocator};
 

@@ -2,8 +2,8 @@
 
 ghost use Rattle.std.specs.Prelude.{◌≡◌, ℕ, List, None, flat_map};
 ghost use Rattle.pe_view.specs.Faults.{first_standing};
-ghost use Rattle.coff_object.specs.ObjectFaults.{object_tests};
-ghost use Rattle.coff_object.specs.Reading.{object_of, symbol_indexes};
+ghost use Rattle.coff_read.specs.ObjectFaults.{object_tests};
+ghost use Rattle.coff_read.specs.Reading.{object_of, symbol_indexes};
 ghost use Rattle.coff_lines.specs.ObjectLines.{symbol_lines};
 ghost use Rattle.coff_lines.specs.ObjectPlaces.{record_lines};
 

@@ -1,19 +1,19 @@
 //! The lines of an object's dump: its sections, relocations, symbols and auxiliary records.
 
 ghost use Rattle.std.specs.Prelude.{◌≡◌, ◌+◌, ◌^◌, ◌≤◌, ◌∷◌, [], codes, decimal, flat_map, option_map};
-ghost use Rattle.coff_object.specs.Auxiliary.{Function, Section as SectionRecord};
-ghost use Rattle.coff_object.specs.AuxiliaryView.{aux_view};
-ghost use Rattle.coff_object.specs.FileView.{file_section_view, relocations_view};
-ghost use Rattle.coff_object.specs.ObjectFile.{file_of};
-ghost use Rattle.coff_object.specs.ObjectView.{raw_view, symbol_view};
-ghost use Rattle.coff_object.specs.Reading.{object_of};
-ghost use Rattle.coff_object.specs.Written.{raw_size};
+ghost use Rattle.coff_read.specs.Auxiliary.{Function, Section as SectionRecord};
+ghost use Rattle.coff_read.specs.AuxiliaryView.{aux_view};
+ghost use Rattle.coff_read.specs.FileView.{file_section_view, relocations_view};
+ghost use Rattle.coff_read.specs.ObjectFile.{file_of};
+ghost use Rattle.coff_read.specs.ObjectView.{raw_view, symbol_view};
+ghost use Rattle.coff_read.specs.Reading.{object_of};
+ghost use Rattle.coff_read.specs.Records.{raw_size};
 ghost use Rattle.coff_lines.specs.ObjectLines.{type_name, class_name, raw_word, section_line, section_lines, relocation_line, section_text, symbol_line, shape_text, aux_line, aux_lines, symbol_lines, object_text};
 ghost use Rattle.pe_text.specs.Part.{joined, name_text};
 ghost use Rattle.pe_text.specs.Text.{hex, numbered};
 ghost use Rattle.pe_text.specs.TextWriter.{IsReady, Adds};
 
-use coff_object::{
+use coff_read::{
     Aux, FileSection, ObjectFile, RawData, Relocation, Relocations, Symbol, SymbolSection,
     relocation_type_name, storage_class_name,
 };

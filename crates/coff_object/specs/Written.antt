@@ -7,7 +7,7 @@ use Rattle.pe_numbers.specs.declared.number.Number.TheVariants.{U8, U16, U32}
 use Rattle.pe_numbers.specs.Numbers.{numbers_bytes}
 use Rattle.coff_read.specs.Names.{decimal_digits, padded, is_long, is_long_section_name}
 use Rattle.coff_read.specs.Records.{Raw, Bytes, Absent, Section, Symbol, Object}
-pub use Rattle.coff_read.specs.Records.{aux_records, records_of}
+pub use Rattle.coff_read.specs.Records.{raw_size, aux_records, records_of}
 use Rattle.coff_read.specs.Strings.{with_strings, offset_of, string_bytes}
 use Rattle.coff_read.specs.declared.relocation.Relocation.{Relocation}
 use Rattle.coff_read.specs.declared.symbol.SymbolSection.{SymbolSection}
@@ -32,10 +32,6 @@ relocation_bytes r = numbers_bytes (relocation_numbers r)
 abbrev pub raw_bytes : Raw → List ℕ
 raw_bytes (Bytes bytes) = bytes
 raw_bytes (Absent size) = []
-
-abbrev pub raw_size : Raw → ℕ
-raw_size (Bytes bytes) = length bytes
-raw_size (Absent size) = size
 
 -- a pointer to a part of so many entries: 0 where it has none
 abbrev pub pointer_to : ℕ → ℕ → ℕ

@@ -9,6 +9,11 @@ pub data Raw : Type 0 where
   Bytes : (bytes : List ℕ) → Raw
   Absent : (size : ℕ) → Raw
 
+-- how many bytes a section has: its SizeOfRawData
+abbrev pub raw_size : Raw → ℕ
+raw_size (Bytes bytes) = length bytes
+raw_size (Absent size) = size
+
 pub record Section : Type 0 where
   pub name : List ℕ
   pub virtual_size : ℕ

@@ -1,5 +1,5 @@
 pub use Rattle.pe_image.specs.ImageTests
-pub use Rattle.coff_object.specs.ObjectFaults
+pub use Rattle.coff_read.specs.ObjectFaults
 pub use Rattle.pe_text.specs.Engine
 pub use Rattle.pe_text.specs.FileKind
 pub use Rattle.pe_names.specs.Judged

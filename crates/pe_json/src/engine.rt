@@ -1,7 +1,7 @@
 //! `json`: the engine of `petool json`, which judges a file as an image or an object and writes its line.
 
 ghost use Rattle.std.specs.Prelude.{◌-◌, ◌^◌, ◌<◌, ◌↔◌, length, IfOk, OnErr, IsErrOf};
-ghost use Rattle.coff_object.specs.ObjectFaults.{object_tests};
+ghost use Rattle.coff_read.specs.ObjectFaults.{object_tests};
 ghost use Rattle.pe_image.specs.ImageTests.{image_tests};
 ghost use Rattle.pe_json.specs.Growing.{Grows};
 ghost use Rattle.pe_json.specs.JsonReport.{Prints, Ran};
@@ -12,7 +12,7 @@ use crate::beginning::{begin, refuse};
 use crate::image::write_image;
 use crate::json_text::JsonText;
 use crate::object::write_object;
-use coff_object::ObjectFile;
+use coff_read::ObjectFile;
 use pe_image::read_image;
 use pe_names::is_object;
 use pe_tables::TableError;

@@ -2,7 +2,7 @@
 
 use crate::value::Value::{Absent, Flags, Number, Wide};
 use crate::value::{Member, text_if};
-use coff_object::FileHeader;
+use coff_read::FileHeader;
 use pe_head::{Headers, Magic, machine_name, subsystem_name};
 use pe_names::FlagKind;
 

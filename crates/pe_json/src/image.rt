@@ -10,7 +10,7 @@ use crate::sections::section_members;
 use crate::tables::{write_fixups, write_imports};
 use crate::value::Value::{Number, Text};
 use crate::value::text_if;
-use coff_object::FileHeader;
+use coff_read::FileHeader;
 use pe_head::{Headers, Magic, SectionHeader, directory_name};
 use pe_image::Image;
 use pe_names::{section_name, string_table};

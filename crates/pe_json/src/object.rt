@@ -8,7 +8,7 @@ use crate::json_text::JsonText;
 use crate::sections::section_members;
 use crate::value::Value::{Bytes, Name, Number, Text};
 use crate::value::{Member, text_if};
-use coff_object::{
+use coff_read::{
     Aux, FileSection, ObjectFile, Relocation, Relocations, Symbol, SymbolSection,
     relocation_type_name, storage_class_name,
 };

@@ -2,7 +2,7 @@
 use Rattle.std.specs.Prelude.{ℕ, ◌≡◌, Bool, true, false, if◌then◌else◌, List, Option, None, Some}
 use Rattle.pe_view.specs.Faults.{Test, first_standing}
 use Rattle.pe_image.specs.ImageTests.{image_tests}
-use Rattle.coff_object.specs.ObjectFaults.{object_tests}
+use Rattle.coff_read.specs.ObjectFaults.{object_tests}
 use Rattle.pe_text.specs.declared.file_beginning.FileKind.{FileKind}
 use Rattle.pe_text.specs.declared.file_beginning.FileKind.TheVariants.{Image, Elf, Archive, Text, Object}
 use Rattle.pe_text.specs.declared.outcome.Outcome.{Outcome}

@@ -2,10 +2,10 @@
 use Rattle.std.proofs.Common.{◌≡◌, ◌≢◌, ◌∙◌, ℕ, ◌≤◌, ◌^◌, List, Option, None, Some, length, arith}
 use Rattle.std.proofs.lemmas.List.{length-map}
 use Rattle.std.proofs.lemmas.List.FromFn.{length-map-range_with_len}
-use Rattle.coff_object.specs.Field.{field}
-use Rattle.coff_object.specs.ObjectFile.{file_of}
-use Rattle.coff_object.specs.Reading.{object_of, section_in, section_start, section_starts}
-use Rattle.coff_object.specs.Records.{Section}
+use Rattle.coff_read.specs.Field.{field}
+use Rattle.coff_read.specs.ObjectFile.{file_of}
+use Rattle.coff_read.specs.Reading.{object_of, section_in, section_start, section_starts}
+use Rattle.coff_read.specs.Records.{Section}
 use Rattle.coff_read.specs.declared.file.ObjectFile.{ObjectFile}
 use Rattle.pe_records_c.specs.ObjectRows.{TellsRelocations}
 use Rattle.pe_records_c.specs.declared.object.ObjectRelocationRow.{ObjectRelocationRow}

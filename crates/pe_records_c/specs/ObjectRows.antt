@@ -1,8 +1,8 @@
 -- Sections and relocations of an object as C has them, with texts and bytes as lists.
 use Rattle.std.specs.Prelude.{◌≡◌, ℕ, List, [], length, Option, None, Some}
 use Rattle.std.specs.List.{flat_map}
-use Rattle.coff_object.specs.Reading.{object_of}
-use Rattle.coff_object.specs.Records.{Raw, Bytes, Absent, Section}
+use Rattle.coff_read.specs.Reading.{object_of}
+use Rattle.coff_read.specs.Records.{Raw, Bytes, Absent, Section}
 use Rattle.coff_read.specs.declared.relocation.Relocation.{Relocation}
 use Rattle.pe_records_c.specs.declared.object.ObjectRelocationRow.{ObjectRelocationRow}
 use Rattle.pe_records_c.specs.declared.object.ObjectSectionRow.{ObjectSectionRow}

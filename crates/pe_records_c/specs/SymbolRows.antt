@@ -1,8 +1,8 @@
 -- Symbols of an object as C has them, with texts as their bytes.
 use Rattle.std.specs.Prelude.{ℕ, List}
-use Rattle.coff_object.specs.Reading.{symbol_indexes}
-use Rattle.coff_object.specs.Records.{Symbol}
-use Rattle.coff_object.specs.SymbolsLeft.{indexed}
+use Rattle.coff_read.specs.Reading.{symbol_indexes}
+use Rattle.coff_read.specs.Records.{Symbol}
+use Rattle.coff_read.specs.SymbolsLeft.{indexed}
 use Rattle.coff_read.specs.declared.symbol.SymbolSection.{SymbolSection}
 use Rattle.coff_read.specs.declared.symbol.SymbolSection.TheVariants.{Undefined, Absolute, Debug, Section}
 use Rattle.pe_records_c.specs.declared.symbol.ObjectSymbolRow.{ObjectSymbolRow}

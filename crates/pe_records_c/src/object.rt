@@ -1,15 +1,15 @@
 //! Sections and relocations of an object as C has them: `ObjectSectionRow` and `ObjectRelocationRow`.
 
 ghost use Rattle.std.specs.Prelude.{◌≡◌, ◌++◌, drop, length, slice_get};
-ghost use Rattle.coff_object.specs.FileView.{file_section_view, relocations_view};
-ghost use Rattle.coff_object.specs.ObjectFile.{file_of};
-ghost use Rattle.coff_object.specs.Reading.{object_of};
+ghost use Rattle.coff_read.specs.FileView.{file_section_view, relocations_view};
+ghost use Rattle.coff_read.specs.ObjectFile.{file_of};
+ghost use Rattle.coff_read.specs.Reading.{object_of};
 ghost use Rattle.pe_records_c.specs.ObjectRows.{section_text, section_row, relocation_row, relocations_of, FillsRelocations, TellsRelocations};
 ghost use Rattle.pe_records_c.specs.Rows.{Fills, TellsTable};
 
 use crate::row::table_status;
 use crate::status;
-use coff_object::{FileSection, ObjectFile, RawData, Relocation, Relocations};
+use coff_read::{FileSection, ObjectFile, RawData, Relocation, Relocations};
 use std::alloc::Global;
 
 /// A section of an object. Sizes count bytes.

@@ -1,12 +1,12 @@
 //! The headers of an object as C has them: `ObjectHeaderRecord` and `SectionHeaderRow`.
 
 ghost use Rattle.std.specs.Prelude.{◌≡◌};
-ghost use Rattle.coff_object.specs.Headers.{file_header, section_headers};
-ghost use Rattle.coff_object.specs.ObjectFile.{file_of};
+ghost use Rattle.coff_read.specs.Headers.{file_header, section_headers};
+ghost use Rattle.coff_read.specs.ObjectFile.{file_of};
 ghost use Rattle.pe_records_c.specs.ObjectHeaderRows.{object_header_record, section_header_row};
 ghost use Rattle.pe_records_c.specs.Rows.{filled, Fills};
 
-use coff_object::ObjectFile;
+use coff_read::ObjectFile;
 use pe_head::SectionHeader;
 
 /// The COFF file header of an object, field by field and in the file's order.

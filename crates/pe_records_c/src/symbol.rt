@@ -1,13 +1,13 @@
 //! `ObjectSymbolRow`: a symbol of an object as C has it.
 
 ghost use Rattle.std.specs.Prelude.{◌≡◌, length};
-ghost use Rattle.coff_object.specs.ObjectFile.{file_of};
-ghost use Rattle.coff_object.specs.ObjectView.{symbol_view};
+ghost use Rattle.coff_read.specs.ObjectFile.{file_of};
+ghost use Rattle.coff_read.specs.ObjectView.{symbol_view};
 ghost use Rattle.pe_records_c.specs.Rows.{Fills, TellsTable};
 ghost use Rattle.pe_records_c.specs.SymbolRows.{section_number, symbol_row, symbol_text, symbols_of};
 
 use crate::row::table_status;
-use coff_object::{ObjectFile, Symbol, SymbolSection};
+use coff_read::{ObjectFile, Symbol, SymbolSection};
 use std::alloc::Global;
 
 /// A symbol of an object.

@@ -5,8 +5,8 @@ use Rattle.std.specs.List.{All}
 use Rattle.std.proofs.lemmas.List.{map-append, get_or-map, length-map}
 use Rattle.std.proofs.lemmas.List.Elements.{All-cons}
 use Rattle.std.proofs.lemmas.List.Kept.{AllPairs-cons}
-use Rattle.coff_object.specs.Reading.{aux_count, symbols_from}
-use Rattle.coff_object.specs.SymbolsLeft.{indexed}
+use Rattle.coff_read.specs.Reading.{aux_count, symbols_from}
+use Rattle.coff_read.specs.SymbolsLeft.{indexed}
 
 -- the first of each pair
 abbrev pub indexes : {X : Type 0} → List (ℕ × X) → List ℕ

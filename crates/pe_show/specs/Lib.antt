@@ -1,6 +1,6 @@
 pub use Rattle.pe_view.specs.Faults
 pub use Rattle.pe_image.specs.ImageTests
-pub use Rattle.coff_object.specs.ObjectFaults
+pub use Rattle.coff_read.specs.ObjectFaults
 pub use Rattle.pe_text.specs.Engine
 pub use Rattle.pe_text.specs.FileKind
 pub use Rattle.pe_text.specs.TextWriter

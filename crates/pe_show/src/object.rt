@@ -1,7 +1,7 @@
 //! The page of a COFF object.
 
 ghost use Rattle.std.specs.Prelude.{◌≡◌, ◌<◌, length, IfOk, OnErr};
-ghost use Rattle.coff_object.specs.ObjectFaults.{object_tests};
+ghost use Rattle.coff_read.specs.ObjectFaults.{object_tests};
 ghost use Rattle.pe_text.specs.TextWriter.{IsReady};
 ghost use Rattle.pe_show.specs.Page.{AddsSome};
 ghost use Rattle.pe_names.specs.Judged.{IsOutcomeOf};
@@ -13,7 +13,7 @@ use crate::header_rows::{named, write_flag_row, write_stamp};
 use crate::heading::{Page, write_title};
 use crate::object_sections::{read_sections, write_relocations, write_sections};
 use crate::symbols::{SymbolNames, write_symbols};
-use coff_object::{FileSection, ObjectFile};
+use coff_read::{FileSection, ObjectFile};
 use pe_head::machine_name;
 use pe_names::FlagKind;
 use pe_text::Part::Text;

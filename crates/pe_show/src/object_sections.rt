@@ -12,7 +12,7 @@ use crate::name::{name_width, write_name};
 use crate::place::cut;
 use crate::sections::{content, permissions};
 use crate::symbols::SymbolNames;
-use coff_object::{FileSection, ObjectFile, RawData, Relocation, relocation_type_name};
+use coff_read::{FileSection, ObjectFile, RawData, Relocation, relocation_type_name};
 use pe_names::FlagKind;
 use pe_text::Part::{Hex, Text};
 use pe_text::{ShowOptions, Sink, TextWriter, hex_width};

@@ -11,7 +11,7 @@ use crate::cell::{decimal_width, write_column, write_right};
 use crate::heading::write_heading;
 use crate::name::write_name;
 use crate::place::cut;
-use coff_object::{FileSection, ObjectFile, Symbol, SymbolSection, storage_class_name};
+use coff_read::{FileSection, ObjectFile, Symbol, SymbolSection, storage_class_name};
 use pe_text::{ShowOptions, Sink, TextWriter};
 use std::alloc::{AllocError, Allocator};
 

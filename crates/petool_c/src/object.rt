@@ -2,15 +2,15 @@
 
 ghost use Rattle.std.specs.Prelude.{◌≡◌, ◌≢◌, ◌⊎◌, drop, slice_get};
 ghost use Rattle.pe_view.specs.Faults.{first_standing};
-ghost use Rattle.coff_object.specs.ObjectFaults.{object_tests};
-ghost use Rattle.coff_object.specs.Headers.{file_header, section_headers};
-ghost use Rattle.coff_object.specs.Reading.{object_of};
+ghost use Rattle.coff_read.specs.ObjectFaults.{object_tests};
+ghost use Rattle.coff_read.specs.Headers.{file_header, section_headers};
+ghost use Rattle.coff_read.specs.Reading.{object_of};
 ghost use Rattle.pe_records_c.specs.Faults.{IsRefusedBy};
 ghost use Rattle.pe_records_c.specs.ObjectHeaderRows.{object_header_record, section_header_row};
 ghost use Rattle.pe_records_c.specs.ObjectRows.{section_text, section_row, relocation_row, relocations_of, TellsRelocations};
 ghost use Rattle.pe_records_c.specs.Rows.{filled, TellsTable};
 
-use coff_object::ObjectFile;
+use coff_read::ObjectFile;
 use pe_records_c::fault::{FaultRecord, refuse};
 use pe_records_c::object::{
     ObjectRelocationRow, ObjectSectionRow, tell_all_relocations, tell_relocations, tell_sections,

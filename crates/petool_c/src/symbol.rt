@@ -2,12 +2,12 @@
 
 ghost use Rattle.std.specs.Prelude.{◌≡◌, ◌≢◌};
 ghost use Rattle.pe_view.specs.Faults.{first_standing};
-ghost use Rattle.coff_object.specs.ObjectFaults.{object_tests};
+ghost use Rattle.coff_read.specs.ObjectFaults.{object_tests};
 ghost use Rattle.pe_records_c.specs.Faults.{IsRefusedBy};
 ghost use Rattle.pe_records_c.specs.Rows.{TellsTable};
 ghost use Rattle.pe_records_c.specs.SymbolRows.{symbol_row, symbol_text, symbols_of};
 
-use coff_object::ObjectFile;
+use coff_read::ObjectFile;
 use pe_records_c::fault::{FaultRecord, refuse};
 use pe_records_c::symbol::{ObjectSymbolRow, tell_symbols};
 use std::alloc::Global;

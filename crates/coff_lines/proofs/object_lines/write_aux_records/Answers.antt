@@ -1,7 +1,7 @@
 -- One record more.
 use Rattle.std.proofs.Common.{arith}
-use Rattle.coff_object.specs.AuxiliaryView.{aux_view}
-use Rattle.coff_object.specs.ObjectView.{symbol_view}
+use Rattle.coff_read.specs.AuxiliaryView.{aux_view}
+use Rattle.coff_read.specs.ObjectView.{symbol_view}
 use Rattle.pe_text.proofs.Adding.{◌then◌}
 use Rattle.pe_text.proofs.Numbering.{line_more}
 use Rattle.coff_lines.proofs.ObjectLines.{record_told}

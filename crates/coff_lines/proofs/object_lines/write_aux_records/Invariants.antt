@@ -2,8 +2,8 @@ use Rattle.std.proofs.Common.{ℕ, ◌+◌, ◌*◌}
 use Rattle.std.specs.Prelude.{flat_map}
 use Rattle.std.specs.List.{range_with_len}
 use Rattle.pe_view.specs.Number.{part}
-use Rattle.coff_object.specs.Auxiliary.{aux_of}
-use Rattle.coff_object.specs.ObjectView.{symbol_view}
+use Rattle.coff_read.specs.Auxiliary.{aux_of}
+use Rattle.coff_read.specs.ObjectView.{symbol_view}
 use Rattle.coff_lines.specs.ObjectLines.{aux_line}
 use Rattle.pe_text.specs.TextWriter.{Adds}
 use Rattle.coff_lines.proofs.object_lines.write_aux_records.Given as goal

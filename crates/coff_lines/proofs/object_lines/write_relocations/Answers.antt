@@ -5,7 +5,7 @@ use Rattle.std.specs.List.{range_with_len}
 use Rattle.std.proofs.lemmas.List.Folds.{flat_map-map}
 use Rattle.std.proofs.lemmas.List.FromFn.{length-map-range_with_len}
 use Rattle.pe_view.specs.View.{bytes_of}
-use Rattle.coff_object.specs.Reading.{relocation_at}
+use Rattle.coff_read.specs.Reading.{relocation_at}
 use Rattle.coff_read.specs.declared.relocation.Relocation.{Relocation}
 use Rattle.pe_text.specs.TextWriter.{Adds}
 use Rattle.pe_text.proofs.Adding.{◌then◌}

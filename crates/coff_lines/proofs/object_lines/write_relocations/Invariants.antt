@@ -2,7 +2,7 @@ use Rattle.std.proofs.Common.{ℕ, ◌+◌, ◌*◌}
 use Rattle.std.specs.Prelude.{flat_map}
 use Rattle.std.specs.List.{range_with_len}
 use Rattle.pe_view.specs.View.{bytes_of}
-use Rattle.coff_object.specs.Reading.{relocation_at}
+use Rattle.coff_read.specs.Reading.{relocation_at}
 use Rattle.coff_lines.specs.ObjectLines.{relocation_line}
 use Rattle.pe_text.specs.TextWriter.{Adds}
 use Rattle.coff_lines.proofs.object_lines.write_relocations.Given as goal

@@ -1,6 +1,6 @@
 use Rattle.std.proofs.Common.{List, ℕ, ◌≡◌, ◌+◌, ◌++◌, drop}
-use Rattle.coff_object.specs.ObjectFile.{file_of}
-use Rattle.coff_object.specs.Reading.{object_of}
+use Rattle.coff_read.specs.ObjectFile.{file_of}
+use Rattle.coff_read.specs.Reading.{object_of}
 use Rattle.coff_lines.specs.ObjectLines.{section_lines}
 use Rattle.pe_text.specs.Text.{numbered}
 use Rattle.pe_text.specs.TextWriter.{Adds}

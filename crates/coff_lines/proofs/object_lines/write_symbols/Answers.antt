@@ -1,9 +1,9 @@
 -- One symbol more, with its auxiliary records.
 use Rattle.std.proofs.Common.{◌∙◌, [], ℕ, List, ◌++◌, refl, ap, sym, subst, append-nil}
 use Rattle.std.specs.Prelude.{flat_map}
-use Rattle.coff_object.specs.ObjectFile.{file_of}
-use Rattle.coff_object.specs.Records.{Symbol}
-use Rattle.coff_object.specs.SymbolsLeft.{symbols_left}
+use Rattle.coff_read.specs.ObjectFile.{file_of}
+use Rattle.coff_read.specs.Records.{Symbol}
+use Rattle.coff_read.specs.SymbolsLeft.{symbols_left}
 use Rattle.pe_text.specs.TextWriter.{Adds}
 use Rattle.pe_text.proofs.Adding.{Adds-held, ◌then◌}
 use Rattle.coff_lines.proofs.ObjectPlaces.{item_lines, items-next, items_shown}

@@ -1,8 +1,8 @@
 use Rattle.std.proofs.Common.{List, ℕ, ◌≡◌, ◌++◌}
 use Rattle.std.specs.Prelude.{flat_map}
-use Rattle.coff_object.specs.ObjectFile.{file_of}
-use Rattle.coff_object.specs.Reading.{symbol_indexes}
-use Rattle.coff_object.specs.SymbolsLeft.{indexed, symbols_left}
+use Rattle.coff_read.specs.ObjectFile.{file_of}
+use Rattle.coff_read.specs.Reading.{symbol_indexes}
+use Rattle.coff_read.specs.SymbolsLeft.{indexed, symbols_left}
 use Rattle.pe_text.specs.TextWriter.{Adds}
 use Rattle.coff_lines.proofs.ObjectPlaces.{item_lines}
 use Rattle.coff_lines.proofs.object_lines.write_symbols.Given as goal

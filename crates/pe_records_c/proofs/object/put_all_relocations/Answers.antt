@@ -2,11 +2,11 @@
 use Rattle.std.proofs.Common.{◌≡◌, ◌∙◌, ◌+◌, ◌∷◌, ℕ, List, drop, length, take, sym, ap, subst, arith}
 use Rattle.std.specs.List.{flat_map}
 use Rattle.std.proofs.lemmas.List.{drop_all, length-drop, length-take-le, take_all}
-use Rattle.coff_object.specs.FileView.{file_section_view, relocations_view}
-use Rattle.coff_object.specs.ObjectFile.{file_of}
-use Rattle.coff_object.specs.Reading.{object_of}
-use Rattle.coff_object.specs.Records.{Section}
-use Rattle.coff_object.specs.SectionsLeft.{each_section_left}
+use Rattle.coff_read.specs.FileView.{file_section_view, relocations_view}
+use Rattle.coff_read.specs.ObjectFile.{file_of}
+use Rattle.coff_read.specs.Reading.{object_of}
+use Rattle.coff_read.specs.Records.{Section}
+use Rattle.coff_read.specs.SectionsLeft.{each_section_left}
 use Rattle.coff_read.specs.declared.relocation.Relocation.{Relocation}
 use Rattle.pe_records_c.specs.ObjectRows.{relocation_row, relocations_of, FillsRelocations}
 use Rattle.pe_records_c.specs.declared.object.ObjectRelocationRow.{ObjectRelocationRow}

@@ -1,9 +1,9 @@
 use Rattle.std.proofs.Common.{◌≡◌, ◌+◌, ◌*◌, ◌≤◌, drop, length, take}
 use Rattle.std.specs.List.{flat_map}
-use Rattle.coff_object.specs.ObjectFile.{file_of}
-use Rattle.coff_object.specs.Reading.{object_of}
-use Rattle.coff_object.specs.Records.{Section}
-use Rattle.coff_object.specs.SectionsLeft.{each_section_left}
+use Rattle.coff_read.specs.ObjectFile.{file_of}
+use Rattle.coff_read.specs.Reading.{object_of}
+use Rattle.coff_read.specs.Records.{Section}
+use Rattle.coff_read.specs.SectionsLeft.{each_section_left}
 use Rattle.pe_records_c.specs.ObjectRows.{relocations_of, FillsRelocations}
 use Rattle.pe_records_c.proofs.object.put_all_relocations.Given as goal
 

@@ -1,7 +1,7 @@
 -- The rows behind the first tell of the section's relocations.
 use Rattle.std.proofs.Common.{◌≡◌, ℕ, ◌-◌, length, arith, min, drop, subst}
 use borrow.Rule.Slice.PartMut.{mid_of}
-use Rattle.coff_object.specs.FileView.{relocations_view}
+use Rattle.coff_read.specs.FileView.{relocations_view}
 use Rattle.coff_read.specs.declared.relocation.Relocation.{Relocation}
 use Rattle.pe_records_c.specs.ObjectRows.{relocation_row, FillsRelocations}
 use Rattle.pe_records_c.specs.declared.object.ObjectRelocationRow.{ObjectRelocationRow}

@@ -1,7 +1,7 @@
 -- One relocation more.
 use Rattle.std.proofs.Common.{◌≡◌, ◌∙◌, ◌+◌, ◌<◌, Some, drop, length, sym, rules}
 use Rattle.std.specs.Prelude.{slice_get}
-use Rattle.coff_object.specs.FileView.{relocations_view}
+use Rattle.coff_read.specs.FileView.{relocations_view}
 use Rattle.pe_records_c.specs.ObjectRows.{relocation_row}
 use Rattle.pe_records_c.proofs.Left.{got_left}
 use Rattle.pe_records_c.proofs.Rows.{told_step, rest_step}

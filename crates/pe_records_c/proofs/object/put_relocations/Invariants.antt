@@ -1,5 +1,5 @@
 use Rattle.std.proofs.Common.{◌≡◌, ℕ, ◌<◌, drop, get_or}
-use Rattle.coff_object.specs.FileView.{relocations_view}
+use Rattle.coff_read.specs.FileView.{relocations_view}
 use Rattle.coff_read.specs.declared.relocation.Relocation.{Relocation}
 use Rattle.pe_records_c.specs.ObjectRows.{relocation_row}
 use Rattle.pe_records_c.specs.declared.object.ObjectRelocationRow.{ObjectRelocationRow}

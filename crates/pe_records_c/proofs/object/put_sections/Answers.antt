@@ -1,9 +1,9 @@
 -- One section more, of those that are left.
 use Rattle.std.proofs.Common.{◌<◌, ◌≤◌, ◌∙◌, length, refl, sym, rules, arith}
-use Rattle.coff_object.specs.FileView.{file_section_view}
-use Rattle.coff_object.specs.ObjectFile.{file_of}
-use Rattle.coff_object.specs.Reading.{object_of}
-use Rattle.coff_object.specs.SectionsLeft.{each_section_left}
+use Rattle.coff_read.specs.FileView.{file_section_view}
+use Rattle.coff_read.specs.ObjectFile.{file_of}
+use Rattle.coff_read.specs.Reading.{object_of}
+use Rattle.coff_read.specs.SectionsLeft.{each_section_left}
 use Rattle.pe_records_c.specs.ObjectRows.{section_text, section_row}
 use Rattle.pe_records_c.proofs.Left.{first_left, none_left}
 use Rattle.pe_records_c.proofs.Rows.{told_step, rest_step}

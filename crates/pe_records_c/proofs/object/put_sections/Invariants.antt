@@ -1,8 +1,8 @@
 use Rattle.std.proofs.Common.{◌≡◌, ℕ, ◌<◌, drop, get_or}
-use Rattle.coff_object.specs.ObjectFile.{file_of}
-use Rattle.coff_object.specs.Reading.{object_of}
-use Rattle.coff_object.specs.Records.{Section}
-use Rattle.coff_object.specs.SectionsLeft.{each_section_left}
+use Rattle.coff_read.specs.ObjectFile.{file_of}
+use Rattle.coff_read.specs.Reading.{object_of}
+use Rattle.coff_read.specs.Records.{Section}
+use Rattle.coff_read.specs.SectionsLeft.{each_section_left}
 use Rattle.pe_records_c.specs.ObjectRows.{section_text, section_row}
 use Rattle.pe_records_c.specs.declared.object.ObjectSectionRow.{ObjectSectionRow}
 use Rattle.pe_records_c.proofs.object.put_sections.Given as goal

@@ -1,6 +1,6 @@
 -- The rows tell of the relocations that the object's sections have, behind the skipped ones.
 use Rattle.std.proofs.Common.{drop}
-use Rattle.coff_object.specs.ObjectFile.{file_of}
+use Rattle.coff_read.specs.ObjectFile.{file_of}
 use Rattle.pe_records_c.specs.ObjectRows.{relocation_row, relocations_of}
 use Rattle.pe_records_c.proofs.Rows.{table_of}
 use Rattle.pe_records_c.proofs.object.tell_all_relocations.Goals as goal

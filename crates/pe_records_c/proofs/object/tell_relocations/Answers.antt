@@ -1,7 +1,7 @@
 -- The rows tell of the relocations of the section that is there.
 use Rattle.std.proofs.Common.{Option, subst, refl}
-use Rattle.coff_object.specs.FileView.{relocations_view}
-use Rattle.coff_object.specs.Records.{Section}
+use Rattle.coff_read.specs.FileView.{relocations_view}
+use Rattle.coff_read.specs.Records.{Section}
 use Rattle.pe_records_c.specs.ObjectRows.{relocation_row, TellsRelocations}
 use Rattle.pe_records_c.proofs.Rows.{table_of}
 use Rattle.pe_records_c.proofs.object.tell_relocations.Goals as goal

@@ -1,6 +1,6 @@
 -- The rows tell of the sections that the object has.
-use Rattle.coff_object.specs.ObjectFile.{file_of}
-use Rattle.coff_object.specs.Reading.{object_of}
+use Rattle.coff_read.specs.ObjectFile.{file_of}
+use Rattle.coff_read.specs.Reading.{object_of}
 use Rattle.pe_records_c.specs.ObjectRows.{section_text, section_row}
 use Rattle.pe_records_c.proofs.Rows.{table_of}
 use Rattle.pe_records_c.proofs.object.tell_sections.Goals as goal

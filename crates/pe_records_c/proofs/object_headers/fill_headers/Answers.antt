@@ -1,8 +1,8 @@
 -- One header more.
 use Rattle.std.proofs.Common.{◌≡◌, ◌<◌, Some, length, sym, rules}
 use Rattle.std.specs.Prelude.{slice_get}
-use Rattle.coff_object.specs.Headers.{section_headers}
-use Rattle.coff_object.specs.ObjectFile.{file_of}
+use Rattle.coff_read.specs.Headers.{section_headers}
+use Rattle.coff_read.specs.ObjectFile.{file_of}
 use Rattle.pe_records_c.specs.ObjectHeaderRows.{section_header_row}
 use Rattle.pe_records_c.proofs.Rows.{told_step, rest_step}
 use Rattle.pe_records_c.proofs.object_headers.fill_headers.Goals as goal

@@ -1,7 +1,7 @@
 use Rattle.std.proofs.Common.{◌≡◌, ℕ, ◌<◌, drop, get_or}
 use Rattle.pe_head.specs.declared.section.SectionHeader.{SectionHeader}
-use Rattle.coff_object.specs.Headers.{section_headers}
-use Rattle.coff_object.specs.ObjectFile.{file_of}
+use Rattle.coff_read.specs.Headers.{section_headers}
+use Rattle.coff_read.specs.ObjectFile.{file_of}
 use Rattle.pe_records_c.specs.ObjectHeaderRows.{section_header_row}
 use Rattle.pe_records_c.specs.declared.object_headers.SectionHeaderRow.{SectionHeaderRow}
 use Rattle.pe_records_c.proofs.object_headers.fill_headers.Given as goal

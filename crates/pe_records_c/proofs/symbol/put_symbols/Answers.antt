@@ -1,9 +1,9 @@
 -- One symbol more, of those that are left.
 use Rattle.std.proofs.Common.{ℕ, ◌<◌, ◌≤◌, ◌∙◌, length, refl, sym, rules, arith}
-use Rattle.coff_object.specs.ObjectFile.{file_of}
-use Rattle.coff_object.specs.ObjectView.{symbol_view}
-use Rattle.coff_object.specs.Records.{Symbol}
-use Rattle.coff_object.specs.SymbolsLeft.{each_symbol_left}
+use Rattle.coff_read.specs.ObjectFile.{file_of}
+use Rattle.coff_read.specs.ObjectView.{symbol_view}
+use Rattle.coff_read.specs.Records.{Symbol}
+use Rattle.coff_read.specs.SymbolsLeft.{each_symbol_left}
 use Rattle.pe_records_c.specs.SymbolRows.{symbol_row, symbol_text, symbols_of}
 use Rattle.pe_records_c.proofs.Left.{first_left, none_left}
 use Rattle.pe_records_c.proofs.Rows.{told_step, rest_step}

@@ -1,7 +1,7 @@
 use Rattle.std.proofs.Common.{◌≡◌, ℕ, ◌<◌, drop, get_or}
-use Rattle.coff_object.specs.ObjectFile.{file_of}
-use Rattle.coff_object.specs.Records.{Symbol}
-use Rattle.coff_object.specs.SymbolsLeft.{each_symbol_left}
+use Rattle.coff_read.specs.ObjectFile.{file_of}
+use Rattle.coff_read.specs.Records.{Symbol}
+use Rattle.coff_read.specs.SymbolsLeft.{each_symbol_left}
 use Rattle.pe_records_c.specs.SymbolRows.{symbol_row, symbol_text, symbols_of}
 use Rattle.pe_records_c.specs.declared.symbol.ObjectSymbolRow.{ObjectSymbolRow}
 use Rattle.pe_records_c.proofs.symbol.put_symbols.Given as goal

@@ -1,5 +1,5 @@
 -- The rows tell of the symbols that the object has.
-use Rattle.coff_object.specs.ObjectFile.{file_of}
+use Rattle.coff_read.specs.ObjectFile.{file_of}
 use Rattle.pe_records_c.specs.SymbolRows.{symbol_row, symbol_text, symbols_of}
 use Rattle.pe_records_c.proofs.Rows.{table_of}
 use Rattle.pe_records_c.proofs.symbol.tell_symbols.Goals as goal

@@ -1,7 +1,7 @@
 -- What is told of the section is told of the file's object, and is no fault.
 use Rattle.std.proofs.Common.{List, ℕ, subst}
 use Rattle.std.specs.Prelude.{slice_get}
-use Rattle.coff_object.specs.Reading.{object_of}
+use Rattle.coff_read.specs.Reading.{object_of}
 use Rattle.pe_records_c.specs.ObjectRows.{TellsRelocations}
 use Rattle.pe_records_c.proofs.Objects.{relocations_no_fault}
 use Rattle.pe_records_c.proofs.Telling.{fault_told, none_refused}

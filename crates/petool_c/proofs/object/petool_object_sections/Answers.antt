@@ -1,6 +1,6 @@
 -- The rows tell of the sections of the file's object.
 use Rattle.std.proofs.Common.{List, ℕ, subst}
-use Rattle.coff_object.specs.Reading.{object_of}
+use Rattle.coff_read.specs.Reading.{object_of}
 use Rattle.pe_records_c.specs.ObjectRows.{section_text, section_row}
 use Rattle.pe_records_c.specs.Rows.{TellsTable}
 use Rattle.pe_records_c.proofs.Telling.{fault_told, none_refused, table_no_fault}

@@ -1,10 +1,10 @@
 use Rattle.std.proofs.Common.{◌≡◌, ◌∙◌, ◌++◌, ◌<◌, ap, sym, subst, refl, List, ℕ, length, append-nil, arith}
 use Rattle.std.specs.Prelude.{AllPairs}
-use Rattle.coff_object.specs.ObjectFile.{file_of}
-use Rattle.coff_object.specs.Reading.{symbol_indexes}
-use Rattle.coff_object.specs.Records.{Symbol}
-use Rattle.coff_object.specs.SymbolsLeft.{item_view, each_symbol_left}
-use Rattle.coff_object.specs.Strings.{record_count}
+use Rattle.coff_read.specs.ObjectFile.{file_of}
+use Rattle.coff_read.specs.Reading.{symbol_indexes}
+use Rattle.coff_read.specs.Records.{Symbol}
+use Rattle.coff_read.specs.SymbolsLeft.{item_view, each_symbol_left}
+use Rattle.coff_read.specs.Strings.{record_count}
 use Rattle.pe_show.proofs.SymbolIndexes.{indexes, symbols_ascend, indexes-indexed, one_more, ascend_by_index}
 use Rattle.pe_show.proofs.symbols.SymbolNames.new.Goals as goal
 

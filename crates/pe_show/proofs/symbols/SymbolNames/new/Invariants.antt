@@ -1,7 +1,7 @@
 use Rattle.std.proofs.Common.{◌≡◌, ◌++◌}
-use Rattle.coff_object.specs.ObjectFile.{file_of}
-use Rattle.coff_object.specs.Reading.{symbol_indexes}
-use Rattle.coff_object.specs.SymbolsLeft.{each_symbol_left}
+use Rattle.coff_read.specs.ObjectFile.{file_of}
+use Rattle.coff_read.specs.Reading.{symbol_indexes}
+use Rattle.coff_read.specs.SymbolsLeft.{each_symbol_left}
 use Rattle.pe_show.proofs.SymbolIndexes.{indexes}
 use Rattle.pe_show.proofs.symbols.SymbolNames.new.Given as goal
 
