@@ -4,7 +4,7 @@ use Rattle.std.proofs.Math.Seq.{take-add}
 use Rattle.std.proofs.lemmas.List.{take_rest, take-append-drop}
 use Rattle.pe_text.specs.declared.device.Failed.{Failed}
 use Rattle.pe_text.specs.declared.text_writer.TextWriter.{TextWriter}
-use Rattle.pe_text.specs.TextWriter.{IsBeginning, WritesAll, IsFresh, IsReady, Stands, Adds}
+use Rattle.pe_text.specs.TextWriter.{IsBeginning, WritesAll, IsFresh, IsReady, Stands, Adds, TellsFailure, TakesNoMore}
 
 -- one more call took n bytes of the rest
 pub taken-more : (at n : ℕ) (piece before mid now : List ℕ) → mid ≡ before ++ take at piece
@@ -25,6 +25,11 @@ part-taken before now held text k p q = (drop k held, rw (append-nil, q, p, appe
 -- what was there at the start is still there after more
 beginning-more : (start before now more : List ℕ) → IsBeginning start before → now ≡ before ++ more → IsBeginning start now
 beginning-more start before now more p q = (p.0 ++ more, rw (q, p.1) (append_assoc start p.0 more))
+
+-- of what holds after a failure and without one, the counts
+counted-either : (failed : Bool) (A B C D : Type 0) → MatchBool failed (A × B) (C × D) → MatchBool failed A C
+counted-either true A B C D s = s.0
+counted-either false A B C D s = s.0
 
 module _ {W : Type 0} (taken : W → List ℕ) (failures : W → ℕ) where
   -- these bytes are held beside what was held
@@ -61,6 +66,15 @@ module _ {W : Type 0} (taken : W → List ℕ) (failures : W → ℕ) where
     ready = λ no. cc;
     text = λ start t n s. let more = rw failed at (held-more a.failed (taken a.writer.now) a.held.items bytes t (failures a.writer.now) n s.1) in rw (f, failed, w) (s.0, more);
   }
+
+  -- a failure is told as it is counted
+  pub tells_failure : (a : TextWriter W) → TellsFailure taken failures a a.failed
+  unfolding Stands
+  tells_failure a start text count s = counted-either a.failed _ _ _ _ s.1
+
+  -- after a failure no more is written
+  pub takes-no-more : (a : TextWriter W) → a.failed ≡ true → TakesNoMore taken failures a
+  takes-no-more a failed bytes = Adds-failed a a bytes failed refl refl
 
   -- after the last write, where one has failed
   pub ends-failed : (a b : TextWriter W) → Adds taken failures a b [] → b.failed ≡ true

@@ -1,10 +1,10 @@
 -- The lines of a table's rows.
-use Rattle.std.proofs.Common.{ℕ, ◌≡◌, ◌∙◌, ◌+◌, ◌<◌, List, [], ◌∷◌, ◌++◌, drop, length, get_or, add-one, append_assoc, append-nil, drop-cons, sym, ap, arith}
+use Rattle.std.proofs.Common.{ℕ, ◌≡◌, ◌∙◌, ◌+◌, ◌<◌, ◌≤◌, List, [], ◌∷◌, ◌++◌, take, drop, length, get_or, add-one, append_assoc, append-nil, drop-cons, sym, ap, arith}
 use Rattle.std.specs.Prelude.{flat_map}
 use Rattle.std.specs.List.{range_with_len}
 use Rattle.std.proofs.lemmas.Grind.{flat_map-append}
-use Rattle.std.proofs.lemmas.List.{map-id}
-use Rattle.std.proofs.lemmas.List.FromFn.{map-range_with_len_more}
+use Rattle.std.proofs.lemmas.List.{map-id, take-append-drop}
+use Rattle.std.proofs.lemmas.List.FromFn.{map-range_with_len_more, take-map-range_with_len}
 use Rattle.pe_text.specs.Text.{numbered}
 
 -- one more row is written
@@ -21,3 +21,12 @@ numbers_more n = sym (map-id (range_with_len 0 (n + 1))) ∙ map-range_with_len_
 -- one more line, of lines by their numbers
 pub line_more : (line : ℕ → List ℕ) (k : ℕ) → flat_map line (range_with_len 0 (k + 1)) ≡ flat_map line (range_with_len 0 k) ++ line k
 line_more line k = ap (flat_map line) (numbers_more k) ∙ flat_map-append line (range_with_len 0 k) (k ∷ []) ∙ ap (λ (xs : List ℕ). flat_map line (range_with_len 0 k) ++ xs) (append-nil (line k))
+
+-- the lines up to a number are the first of all
+pub lines_left : (line : ℕ → List ℕ) (k n : ℕ) → k ≤ n
+    → flat_map line (range_with_len 0 n) ≡ flat_map line (range_with_len 0 k) ++ flat_map line (drop k (range_with_len 0 n))
+lines_left line k n within =
+    let first : take k (range_with_len 0 n) ≡ range_with_len 0 k =
+    sym (ap (take k) (map-id (range_with_len 0 n))) ∙ take-map-range_with_len (λ j. j) 0 n k within ∙ map-id (range_with_len 0 k) in
+    ap (flat_map line) (sym (take-append-drop k (range_with_len 0 n)) ∙ ap (λ (xs : List ℕ). xs ++ drop k (range_with_len 0 n)) first)
+    ∙ flat_map-append line (range_with_len 0 k) (drop k (range_with_len 0 n))

@@ -1,5 +1,5 @@
 -- What a text writer has written, and what it still holds.
-use Rattle.std.specs.Prelude.{ℕ, ◌≡◌, ◌+◌, ◌-◌, ◌^◌, ◌<◌, false, MatchBool, Result, MatchResult, List, [], ◌++◌, take}
+use Rattle.std.specs.Prelude.{ℕ, ◌≡◌, ◌+◌, ◌-◌, ◌^◌, ◌<◌, false, Bool, MatchBool, Result, MatchResult, List, [], ◌++◌, take}
 use Rattle.pe_text.specs.declared.device.Failed.{Failed}
 use Rattle.pe_text.specs.declared.text_writer.TextWriter.{TextWriter}
 
@@ -42,3 +42,12 @@ module _ {W : Type 0} (taken : W → List ℕ) (failures : W → ℕ) where
     pub same : new.writer.ghost_name ≡ old.writer.ghost_name
     pub ready : IsReady failures new
     pub text : (start text : List ℕ) (count : ℕ) → Stands old start text count → Stands new start (text ++ bytes) count
+
+  -- where the text stands, whether a call has failed since the count
+  abbrev pub TellsFailure : TextWriter W → Bool → Type 0
+  TellsFailure t answer = (start text : List ℕ) (count : ℕ) → Stands t start text count
+      → MatchBool answer (failures t.writer.now ≡ count + 1) (failures t.writer.now ≡ count)
+
+  -- whatever bytes are added to the text, the writer may stay as it is
+  abbrev pub TakesNoMore : TextWriter W → Type 0
+  TakesNoMore t = (bytes : List ℕ) → Adds t t bytes

@@ -54,7 +54,7 @@ fn plain_len(bytes: &[u8]) -> usize
 }
 
 impl<'w, W: Sink> TextWriter<'w, W> {
-    ghost use Rattle.pe_text.specs.TextWriter.{IsFresh, IsReady, Stands, Adds};
+    ghost use Rattle.pe_text.specs.TextWriter.{IsFresh, IsReady, Stands, Adds, TellsFailure, TakesNoMore};
 
     /// A writer of a text that goes on where the sink is.
     pub fn new(writer: &'w mut W) -> TextWriter<'w, W>
@@ -66,6 +66,16 @@ impl<'w, W: Sink> TextWriter<'w, W> {
             held: ArrayVec::new(),
             failed: false,
         }
+    }
+
+    /// Whether a write has failed. Whatever is added then, the writer stays as it is: a caller may leave out what is left of its
+    /// text, and need not read it.
+    #[inline]
+    pub fn has_failed(&self) -> bool
+        ensures tells { TellsFailure W.taken W.failures self.now result }
+        ensures ends { result ≡ true → TakesNoMore W.taken W.failures self.now }
+    {
+        self.failed
     }
 
     /// Writes what is held.
