@@ -83,6 +83,10 @@ class Costs(unittest.TestCase):
         with tempfile.TemporaryDirectory() as folder:
             for command, kinds, name in (
                 ("dump", crafted.kinds, "names_ends.dll"),
+                ("json", crafted.kinds, "names_ends.dll"),
+                ("json", crafted.object_kinds, "shown_symbols.obj"),
+                ("object", crafted.object_kinds, "shown_sections.obj"),
+                ("object", crafted.object_kinds, "shown_symbols.obj"),
                 ("show", crafted.object_kinds, "shown_symbols.obj"),
             ):
                 options = ["--symbols"] if command == "show" else []
@@ -92,5 +96,5 @@ class Costs(unittest.TestCase):
                     file.write_bytes(made(kinds, name.split(".")[0], size))
                     return counted(PROGRAM, command, "--most", "64K", *options, file)
 
-                with self.subTest(command):
+                with self.subTest(command, name=name):
                     self.grows(5, count)

@@ -1,5 +1,5 @@
 -- The lines of an object's dump.
-use Rattle.std.proofs.Common.{◌≡◌, ◌∙◌, ℕ, ◌+◌, ◌*◌, ◌<◌, List, ◌∷◌, ◌++◌, drop, length, map, Some, ap, sym, append_assoc, zero-add}
+use Rattle.std.proofs.Common.{◌≡◌, ◌∙◌, ℕ, ◌+◌, ◌*◌, ◌<◌, List, ◌∷◌, ◌++◌, drop, length, map, Some, ap, sym, subst, append_assoc, zero-add}
 use Rattle.std.specs.Prelude.{slice_get}
 use Rattle.std.specs.List.{range_with_len}
 use Rattle.std.proofs.lemmas.Bool.{lt-ltb}
@@ -10,6 +10,9 @@ use Rattle.pe_view.specs.Number.{part}
 use Rattle.coff_read.specs.Auxiliary.{AuxRecord, aux_of, aux_record}
 use Rattle.coff_read.specs.Records.{Section, Symbol, aux_records}
 use Rattle.pe_text.specs.Text.{numbered}
+use Rattle.pe_text.specs.TextWriter.{Adds, TakesNoMore}
+use Rattle.pe_text.specs.declared.text_writer.TextWriter.{TextWriter}
+use Rattle.pe_text.proofs.Adding.{◌then◌}
 
 -- one more section is written, with its relocations
 pub section-next : (lines : ℕ → Section → List ℕ) (index : ℕ) (sections : List Section) (section : Section) (written all : List ℕ) → index < length sections → slice_get sections index ≡ Some section
@@ -29,3 +32,8 @@ pub record_told : (s : Symbol) (k : ℕ) (aux : AuxRecord) → k < aux_records s
 record_told s k aux below is =
     let e : Some aux ≡ Some (aux_of s (part s.aux (18 * k) 18)) = rw (lt-ltb k (aux_records s) below) at is in
     cc
+
+-- a writer that takes no more need not be given what is left
+pub left-out : {W : Type 0} {taken : W → List ℕ} {failures : W → ℕ} (a b : TextWriter W) (written left all : List ℕ)
+    → Adds taken failures a b written → TakesNoMore taken failures b → written ++ left ≡ all → Adds taken failures a b all
+left-out {taken = taken} {failures = failures} a b written left all adds ends is = subst (Adds taken failures a b) is (adds then ends left)

@@ -1,4 +1,4 @@
-//! The lines of an object's dump: its sections, relocations, symbols and auxiliary records.
+//! The lines of an object's dump: its sections, relocations, symbols and auxiliary records. They end once a write has failed.
 
 ghost use Rattle.std.specs.Prelude.{◌≡◌, ◌+◌, ◌^◌, ◌≤◌, ◌∷◌, [], codes, decimal, flat_map, option_map};
 ghost use Rattle.coff_read.specs.Auxiliary.{Function, Section as SectionRecord};
@@ -113,6 +113,9 @@ fn write_relocations<W: Sink>(text: &mut TextWriter<W>, machine: u16, relocation
     ensures { Adds W.taken W.failures text.old text.new (flat_map (relocation_line machine) (relocations_view relocations.entry)) }
 {
     for index in 0..relocations.len() {
+        if text.has_failed() {
+            return;
+        }
         let relocation = relocations.get(index).unwrap();
         write_relocation(text, machine, &relocation);
     }
@@ -125,6 +128,9 @@ fn write_sections<W: Sink>(text: &mut TextWriter<W>, machine: u16, object: &Obje
         (numbered (section_lines machine) 1 (object_of (file_of object.now)).sections) }
 {
     for index in 0..object.section_count() {
+        if text.has_failed() {
+            return;
+        }
         let section = object.section(index).unwrap();
         write_section(text, index as u64 + 1, &section);
         write_relocations(text, machine, section.relocations);
@@ -309,6 +315,9 @@ fn write_aux_records<W: Sink>(text: &mut TextWriter<W>, symbol: &Symbol, index: 
     ensures { Adds W.taken W.failures text.old text.new (aux_lines index (symbol_view symbol.now)) }
 {
     for k in 0..symbol.aux_count() {
+        if text.has_failed() {
+            return;
+        }
         let aux = symbol.aux_record(k).unwrap();
         write_aux(text, index + k as u64, &aux);
     }
@@ -320,6 +329,9 @@ fn write_symbols<W: Sink>(text: &mut TextWriter<W>, object: &ObjectFile)
     ensures { Adds W.taken W.failures text.old text.new (symbol_lines 0 (object_of (file_of object.now)).symbols) }
 {
     for (index, symbol) in object.symbols() {
+        if text.has_failed() {
+            return;
+        }
         write_symbol(text, u64::from(index), &symbol);
         write_aux_records(text, &symbol, u64::from(index) + 1);
     }

@@ -55,6 +55,9 @@ fn write_ordinal<A: Allocator + Copy, W: Sink>(
         json.put(text);
     }
     for (_, index) in own {
+        if text.has_failed() {
+            break;
+        }
         if let Some((name, _)) = names.get(*index) {
             add_export(json, ordinal, Some(name), target);
             json.put(text);
@@ -73,6 +76,9 @@ fn write_rows<A: Allocator + Copy, W: Sink>(
     ensures { Grows W.taken W.failures text.old text.new }
 {
     for (ordinal, target) in exports.ordinals() {
+        if text.has_failed() {
+            break;
+        }
         let own = names_of(names, *ordinal);
         write_ordinal(json, text, exports.names(), own, *ordinal, target);
     }

@@ -66,6 +66,9 @@ fn write_sections<A: Allocator + Copy, W: Sink>(
 {
     json.begin_list("sections");
     for (index, section) in sections.iter().enumerate() {
+        if text.has_failed() {
+            break;
+        }
         let name = section_name(table, &section.name);
         let index = ("index", Number(index as u64));
         json.object(&section_members(index, name, section));

@@ -8,8 +8,8 @@
 //! let answer = json(alloc, b"zlib1.dll", &mut reader, &mut writer);
 //! ```
 //!
-//! The line's members are those of docs/JSON.md. Its text is written row by row, as a row is made: no line is held whole. Its
-//! beginning, and all of a refused file's line, takes no memory.
+//! The line's members are those of docs/JSON.md. Its text is written row by row, as a row is made: no line is held whole, and
+//! after a write that failed no further row is made. Its beginning, and all of a refused file's line, takes no memory.
 #![tactic(auto)]
 
 mod beginning;

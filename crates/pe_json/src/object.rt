@@ -44,6 +44,9 @@ fn write_relocations<A: Allocator + Copy, W: Sink>(
 {
     json.begin_list("relocations");
     for index in 0..relocations.len() {
+        if text.has_failed() {
+            break;
+        }
         if let Some(relocation) = relocations.get(index) {
             add_relocation(json, machine, &relocation);
             json.put(text);
@@ -82,6 +85,9 @@ fn write_sections<A: Allocator + Copy, W: Sink>(
 {
     json.begin_list("sections");
     for index in 0..object.section_count() {
+        if text.has_failed() {
+            break;
+        }
         if let (Some(header), Some(section)) = (
             object.section_header(index),
             object.section(index),
@@ -205,6 +211,9 @@ fn write_symbols<A: Allocator + Copy, W: Sink>(
 {
     json.begin_list("symbols");
     for (index, symbol) in object.symbols() {
+        if text.has_failed() {
+            break;
+        }
         add_symbol(json, index, &symbol);
         json.put(text);
     }

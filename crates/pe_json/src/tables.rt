@@ -27,6 +27,9 @@ pub(crate) fn write_imports<A: Allocator + Copy, W: Sink>(
 {
     json.begin_list("imports");
     for import in imports {
+        if text.has_failed() {
+            break;
+        }
         json.begin_object();
         json.name("module", "module_hex", import.module);
         add_key(json, &import.key);
@@ -61,6 +64,9 @@ pub(crate) fn write_fixups<A: Allocator + Copy, W: Sink>(
 {
     json.begin_list("fixups");
     for fixup in fixups {
+        if text.has_failed() {
+            break;
+        }
         add_fixup(json, fixup);
         json.put(text);
     }

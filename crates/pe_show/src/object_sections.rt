@@ -206,7 +206,8 @@ fn relocation_count(sections: &[FileSection]) -> usize {
     count
 }
 
-/// Adds the relocations of an object, section by section, if the options select them.
+/// Adds the relocations of an object, section by section, if the options select them. After a write that failed no further section is
+/// read: all sections may share the same relocations.
 pub(crate) fn write_relocations<A: Allocator + Copy, W: Sink>(
     text: &mut TextWriter<W>,
     options: &ShowOptions,
@@ -222,6 +223,9 @@ pub(crate) fn write_relocations<A: Allocator + Copy, W: Sink>(
     }
     write_heading(text, options, b"Relocations", relocation_count(sections));
     for section in sections {
+        if text.has_failed() {
+            return;
+        }
         write_section_relocations(text, machine, names, section);
     }
 }

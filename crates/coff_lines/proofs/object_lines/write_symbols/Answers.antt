@@ -6,6 +6,7 @@ use Rattle.coff_read.specs.Records.{Symbol}
 use Rattle.coff_read.specs.SymbolsLeft.{symbols_left}
 use Rattle.pe_text.specs.TextWriter.{Adds}
 use Rattle.pe_text.proofs.Adding.{Adds-held, ◌then◌}
+use Rattle.coff_lines.proofs.ObjectLines.{left-out}
 use Rattle.coff_lines.proofs.ObjectPlaces.{item_lines, items-next, items_shown}
 use Rattle.coff_lines.proofs.object_lines.write_symbols.Goals as goal
 
@@ -29,3 +30,8 @@ returns g c =
     subst (Adds g.W.Sink.taken g.W.Sink.failures c.args.text.now c.loop-index.text)
     (sym (append-nil i.0) ∙ ap (λ (left : List (ℕ × Symbol)). i.0 ++ flat_map item_lines left) (sym c.in-None.ensures.steps.0) ∙ i.2 ∙ items_shown (file_of c.args.object.now) c.args.object.now.accepted)
     i.1
+
+pub returns-then-has_failed : goal.returns-then-has_failed
+returns-then-has_failed g c =
+    let i = c.loop-index.invariant in
+    left-out _ _ i.0 _ _ i.1 (c.has_failed.ensures.ends c.if-has_failed.true) (i.2 ∙ items_shown (file_of c.args.object.now) c.args.object.now.accepted)
