@@ -1,0 +1,3 @@
+mod Kept
+pub mod Stored
+pub mod Handles

@@ -1,0 +1,121 @@
+//! `OpenedImage`: an image that was read whole, and is asked for what its tables hold.
+
+ghost use Rattle.std.specs.Prelude.{◌≡◌, ◌+◌, ◌≤◌, ◌↔◌, None, IsErrOf, IsTrue, length, map, option_map};
+ghost use Rattle.std.specs.Bool.{OnTrue, OnFalse};
+ghost use Rattle.pe_view.specs.Faults.{AnswersOrWants, first_standing};
+ghost use Rattle.pe_view.specs.declared.refusal.Refusal.{Refusal};
+ghost use Rattle.pe_head.specs.Head.{head_of};
+ghost use Rattle.pe_layout.specs.Image.{bytes_at, image_of_file};
+ghost use Rattle.pe_layout.specs.Locating.{located};
+ghost use Rattle.pe_layout.specs.SectionFaults.{layout_tests};
+ghost use Rattle.pe_tables.specs.Exports.{exports_of, target_at};
+ghost use Rattle.pe_tables.specs.ExportsView.{ordinal_view};
+ghost use Rattle.pe_tables.specs.NameIndex.{export_view};
+ghost use Rattle.pe_tables.specs.Fixups.{fixups_of};
+ghost use Rattle.pe_tables.specs.Imports.{imports_of};
+ghost use Rattle.pe_tables.specs.ImportView.{import_view};
+ghost use Rattle.pe_tables.specs.Key.{Ordinal, Name, target_view};
+ghost use Rattle.pe_image.specs.ImageTests.{image_tests};
+
+use pe_image::{Image, read_image};
+use pe_layout::Located;
+use pe_tables::{Fixup, Import, Target};
+use pe_view::Refusal;
+use std::alloc::Global;
+use std::marker::Model;
+
+/// An image in whose file no fault stands, and what its tables hold. It borrows the file, and to contracts it is the file's bytes.
+#[derive(Drop)]
+pub struct OpenedImage<'a> {
+    image: Image<'a, Global>,
+}
+
+impl<'a> Model for OpenedImage<'a> {
+    ghost use Rattle.std.specs.Prelude.{ℕ, List};
+    ghost use Rattle.pe_layout.specs.Layout.{file_of};
+    ghost use Rattle.pe_image.specs.ImageOf.{IsImageOf};
+
+    ghost Value = { List ℕ };
+
+    ghost view = { λ o. file_of o.image.layout };
+
+    ghost invariant = { λ o. IsImageOf 0 (file_of o.image.layout) o.image };
+}
+
+impl<'a> OpenedImage<'a> {
+    /// Opens the image of a file: judges it, and keeps what its tables hold. The answer is the first that stands of faults 1 to 38, in
+    /// image 0, or want of memory, which never comes where one of 1 to 15 stands.
+    pub fn open(alloc: Global, file: &'a [u8]) -> Result<OpenedImage<'a>, Refusal>
+        ensures exact { AnswersOrWants (image_tests 0 file.entry.now) (λ opened. opened ≡ file.entry.now) result }
+        ensures memory { IsErrOf result Refusal.Memory → first_standing (layout_tests 0 file.entry.now) ≡ None }
+    {
+        let mut image = read_image(alloc, file, 0)?;
+        image.exports.guess_names(alloc);
+        Ok(OpenedImage { image })
+    }
+
+    /// What a name exports: what the first of the names with this text does.
+    pub fn by_name(&self, name: &[u8]) -> Option<Target<'a>>
+        ensures { option_map target_view result ≡ target_at (exports_of (image_of_file 0 self.now)) (Name name.now) }
+    {
+        self.image.exports.by_name(name)
+    }
+
+    /// What an ordinal exports.
+    pub fn by_ordinal(&self, ordinal: u32) -> Option<Target<'a>>
+        ensures { option_map target_view result ≡ target_at (exports_of (image_of_file 0 self.now)) (Ordinal ordinal) }
+    {
+        self.image.exports.by_ordinal(ordinal)
+    }
+
+    /// The exports by ordinal, in the order of the export address table.
+    pub fn ordinals(&self) -> &[(u64, Target<'a>)]
+        ensures { map ordinal_view result.now ≡ (exports_of (image_of_file 0 self.now)).ordinals }
+    {
+        self.image.exports.ordinals()
+    }
+
+    /// The exports by name, in the order of the name pointer table: each text once, where it stands first.
+    pub fn names(&self) -> &[(&'a [u8], Target<'a>)]
+        ensures { map export_view result.now ≡ (exports_of (image_of_file 0 self.now)).names }
+    {
+        self.image.exports.names()
+    }
+
+    /// The imports, in the order of the import table.
+    pub fn imports(&self) -> &[Import<'a>]
+        ensures { map import_view result.now ≡ imports_of (image_of_file 0 self.now) }
+    {
+        self.image.imports.as_slice()
+    }
+
+    /// The base relocations, in the order of their table.
+    pub fn fixups(&self) -> &[Fixup]
+        ensures { result.now ≡ fixups_of (image_of_file 0 self.now) }
+    {
+        self.image.fixups.as_slice()
+    }
+
+    /// Fills a buffer with the bytes from an RVA on, where they all lie inside the image, and tells whether they do.
+    pub fn read(&self, rva: u32, buffer: &mut [u8]) -> bool
+        ensures fits { IsTrue result ↔ (rva + length buffer.old ≤ (image_of_file 0 self.now).size) }
+        ensures filled { OnTrue result (buffer.new ≡ bytes_at (image_of_file 0 self.now) rva (length buffer.old)) }
+        ensures unchanged { OnFalse result (buffer.new ≡ buffer.old) }
+    {
+        self.image.layout.fill(rva, buffer)
+    }
+
+    /// The zero-ended text at an RVA, without its zero byte.
+    pub fn text(&self, rva: u32) -> Option<&'a [u8]>
+        ensures { option_map (λ text. text.now) result ≡ (image_of_file 0 self.now).text rva }
+    {
+        self.image.layout.name_at(rva)
+    }
+
+    /// What stands at an RVA.
+    pub fn locate(&self, rva: u32) -> Located
+        ensures { result ≡ located (head_of self.now) rva }
+    {
+        self.image.layout.locate(rva)
+    }
+}
