@@ -11,7 +11,7 @@ import sys
 import tempfile
 
 TOP = pathlib.Path(__file__).resolve().parents[1]
-CRATES = ("pe_records_c", "pe_handle", "petool_c", "pe_json")
+CRATES = ("pe_records_c", "pe_handle", "pe_opened", "petool_c", "pe_json")
 #: The crates that ask faults or have a table of them.
 FAULT_CRATES = (
     "pe_text",
@@ -76,6 +76,7 @@ COMPARED = [
     ("crates/pe_records_c/src/headers.rt", "pub directories: [DirectoryRow; 16]", "pub directories: [DirectoryRow; 8]"),
     ("crates/pe_records_c/src/text.rt", "pub bytes: &'a [u8]", "pub bytes: u64"),
     ("crates/pe_handle/src/handle.rt", "pub is_open: bool", "pub is_open: u8"),
+    ("crates/pe_opened/src/handle.rt", "pub is_open: bool", "pub is_open: u8"),
     ("crates/petool_c/src/fixup.rt", "rows: &mut [FixupRow]", "rows: &mut [ImportRow]"),
     ("crates/petool_c/src/fixup.rt", "fn petool_fixups(", "fn petool_relocations("),
     ("crates/petool_c/src/words.rt", "number: u16", "number: u32"),

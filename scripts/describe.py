@@ -140,7 +140,7 @@ def comparisons(description, faults):
     yield list(wrong_parts(FAULTS_PAGE, regions.parts(read(FAULTS_PAGE), FAULTS), fault_texts.parts(faults)))
     yield missing_sources(faults)
     yield rattle_sources.prototype_faults(description, HEADER, read(HEADER))
-    yield rattle_sources.record_faults(description, sources("pe_records_c", "pe_handle"))
+    yield rattle_sources.record_faults(description, sources("pe_records_c", "pe_handle", "pe_opened"))
     yield rattle_sources.call_faults(description, sources("petool_c"))
     yield rattle_sources.key_faults(description, sources("pe_json"))
 

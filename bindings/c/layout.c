@@ -103,6 +103,10 @@ AT(petool_counts, names, 8);
 AT(petool_counts, imports, 16);
 AT(petool_counts, fixups, 24);
 
+SIZE(petool_image, 16);
+AT(petool_image, state, 0);
+AT(petool_image, is_open, 8);
+
 SIZE(petool_entry, 40);
 AT(petool_entry, name, 0);
 AT(petool_entry, file, 16);

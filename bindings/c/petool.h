@@ -3,9 +3,9 @@
  *
  * RULES, which hold for every call
  *
- * Bytes.    A file is a pointer and a length: all of its bytes. They are only read, and only while the call runs; nobody may
- *           change them meanwhile. No pointer may be NULL, even if a length or a room is 0: then any pointer of the right type
- *           will do, such as that of PETOOL_NONE.
+ * Bytes.    A file is a pointer and a length: all of its bytes. They are only read, and only while the call runs, or while an
+ *           image is open that petool_image_open made of them; nobody may change them meanwhile. No pointer may be NULL, even if a
+ *           length or a room is 0: then any pointer of the right type will do, such as that of PETOOL_NONE.
  * Texts.    A petool_text points into the file, or to a string of this library. It does not end in a zero byte, and is valid as
  *           long as the file's bytes are. Unless it is empty, its offset in the file is `text.at - file`; an empty one may point
  *           anywhere.
@@ -15,11 +15,11 @@
  *           they do not, the status is PETOOL_SMALL, and as many of the first rows are set as there is room for.
  *           Records that hold texts must be initialized before a call, by petool_exports_init and the like, or by an earlier call.
  * Pointers. A pointer is aligned as its type requires, and a result shares no byte with another argument.
- * Threads.  Calls keep nothing but a space, so any number of threads may call at once, even with the same file. Make no call from
- *           a signal handler, nor in a forked child of a process with threads before that runs another program.
- * Memory.   A call frees all the memory that it has allocated before it returns, except that of a space, until that is closed. It
- *           calls malloc, realloc and free, which must align to 16 bytes, and returns PETOOL_MEMORY if an allocation fails;
- *           petool_object_sections, petool_object_symbols and petool_object_all_relocations then do without.
+ * Threads.  Calls keep nothing but open images and spaces, so any number of threads may call at once, even with the same file. Make
+ *           no call from a signal handler, nor in a forked child of a process with threads before that runs another program.
+ * Memory.   A call frees all the memory that it has allocated before it returns, except that of an image or a space, until that is
+ *           closed. It calls malloc, realloc and free, which must align to 16 bytes, and returns PETOOL_MEMORY if an allocation
+ *           fails; petool_object_sections, petool_object_symbols and petool_object_all_relocations then do without.
  *
  * Nothing checks that a caller keeps these rules; what is proved of each call is proved for callers that do.
  */
@@ -47,7 +47,7 @@ enum {
     PETOOL_ABSENT = 3,   /* bytes outside the image or the file, or no such string, export, section, image or fault */
     PETOOL_SMALL = 4,    /* too little room: the count says how much is needed */
     PETOOL_ARGUMENT = 5, /* an argument has a value that it may not have; nothing was done */
-    PETOOL_CLOSED = 6    /* the space is not open */
+    PETOOL_CLOSED = 6    /* the image or the space is not open */
 };
 
 /* from describe/records.txt: text */
@@ -219,29 +219,6 @@ uint32_t petool_export_names(const uint8_t *file, size_t len, petool_export *row
 uint32_t petool_imports(const uint8_t *file, size_t len, petool_import *rows, size_t room, size_t *count, petool_fault *fault);
 uint32_t petool_fixups(const uint8_t *file, size_t len, petool_fixup *rows, size_t room, size_t *count, petool_fault *fault);
 
-/* An index of rows by name, to look up many names: petool_index_exports sorts the rows that petool_export_names has filled, and
- * petool_find_export then returns the row with a name, or NULL. Names are ordered by length, and those of one length by their bytes,
- * so that names which share a string and end alike, as those of a crafted file may, are told apart without reading them. */
-static inline int petool_order_of_exports(const void *one, const void *other)
-{
-    const petool_text a = ((const petool_export *)one)->name, b = ((const petool_export *)other)->name;
-    return a.len != b.len ? (a.len > b.len) - (a.len < b.len) : memcmp(a.at, b.at, a.len);
-}
-
-static inline void petool_index_exports(petool_export *rows, size_t count)
-{
-    qsort(rows, count, sizeof *rows, petool_order_of_exports);
-}
-
-static inline const petool_export *petool_find_export(const petool_export *rows, size_t count, const uint8_t *name, size_t len)
-{
-    petool_export key;
-    petool_exports_init(&key, 1);
-    key.name.at = name;
-    key.name.len = len;
-    return (const petool_export *)bsearch(&key, rows, count, sizeof key, petool_order_of_exports);
-}
-
 /* from describe/records.txt: counts */
 typedef struct petool_counts {
     size_t exports, names, imports, fixups;
@@ -254,11 +231,57 @@ uint32_t petool_tables(const uint8_t *file, size_t len, petool_export *exports, 
                        size_t name_room, petool_import *imports, size_t import_room, petool_fixup *fixups, size_t fixup_room,
                        petool_counts *counts, petool_fault *fault);
 
-/* What one name or one ordinal exports. As petool_exports, but with ABSENT instead of SMALL. Each call reads the whole table; *target
- * must be initialized before. */
+/* What one name or one ordinal exports. As petool_exports, but with ABSENT instead of SMALL. Each call reads the whole table: to look up
+ * many, open the image. *target must be initialized before. */
 uint32_t petool_export_by_name(const uint8_t *file, size_t len, const uint8_t *name, size_t name_len, petool_target *target,
                                petool_fault *fault);
 uint32_t petool_export_by_ordinal(const uint8_t *file, size_t len, uint32_t ordinal, petool_target *target, petool_fault *fault);
+
+/* ---- an image that is kept open between calls ---- */
+
+/* The caller owns the struct, and sets it to PETOOL_IMAGE_CLOSED before the first call. petool_image_open opens it;
+ * petool_image_close closes it, and does nothing to a closed one. The bytes of the file must stay, unchanged, until the image and
+ * each that shares it is closed. The struct may be moved to another place in memory between two calls, but never copy it: both
+ * copies would own the same memory, and closing both would free it twice; petool_image_share makes another struct of an image.
+ * Only this library writes its fields; is_open may be read.
+ * One call at a time may use a struct, from any thread: between calls from two threads there must be a lock, or the start or the
+ * end of a thread. Threads that are to use one image at once need a struct each. */
+/* from describe/records.txt: image */
+typedef struct petool_image {
+    void *state;
+    bool is_open;
+} petool_image;
+/* end of describe/records.txt */
+
+#define PETOOL_IMAGE_CLOSED {NULL, false}
+
+/* Judges a file as petool_check does, and keeps what its tables hold, so that no later call reads them again. An open image is
+ * closed first. OK, and then the image is open; otherwise it is closed: FAULT, with the first of 1 to 38; or MEMORY, but not if the
+ * file has one of faults 1 to 15. */
+uint32_t petool_image_open(petool_image *image, const uint8_t *file, size_t len, petool_fault *fault);
+
+/* Makes `other` another struct of the same image; if it is open, it is closed first. Each must be closed, and the last that is frees
+ * the memory. OK, and then `other` is open if `image` is, and otherwise closed; or MEMORY, which leaves `other` closed, but not if
+ * `image` is closed. */
+uint32_t petool_image_share(petool_image *image, petool_image *other);
+void petool_image_close(petool_image *image);
+
+/* What petool_read, petool_read_text and petool_locate return for the image's file. OK; ABSENT; or CLOSED. Like the calls below, they
+ * allocate nothing. *text must be initialized before. */
+uint32_t petool_image_read(petool_image *image, uint32_t rva, uint8_t *buffer, size_t count);
+uint32_t petool_image_read_text(petool_image *image, uint32_t rva, petool_text *text);
+uint32_t petool_image_locate(petool_image *image, uint32_t rva, uint64_t *offset);
+
+/* What one name or one ordinal exports, by an index that the image keeps. OK; ABSENT; or CLOSED. *target must be initialized
+ * before. */
+uint32_t petool_image_export_by_name(petool_image *image, const uint8_t *name, size_t name_len, petool_target *target);
+uint32_t petool_image_export_by_ordinal(petool_image *image, uint32_t ordinal, petool_target *target);
+
+/* The tables, in the order in which petool_exports and so on have them. OK; SMALL; or CLOSED. */
+uint32_t petool_image_exports(petool_image *image, petool_export *rows, size_t room, size_t *count);
+uint32_t petool_image_export_names(petool_image *image, petool_export *rows, size_t room, size_t *count);
+uint32_t petool_image_imports(petool_image *image, petool_import *rows, size_t room, size_t *count);
+uint32_t petool_image_fixups(petool_image *image, petool_fixup *rows, size_t room, size_t *count);
 
 /* ---- files at other bases ---- */
 

@@ -19,14 +19,14 @@ static const char usage[] =
     "Shows who exports what a program imports: follows its imports, and those of each DLL of a folder that they lead to.\n"
     "A DLL that is refused is reported on standard error, and counts as missing.\n";
 
-/* An image: the program, or a file of the folder, which is read when it is first asked for. */
+/* An image: the program, or a file of the folder, which is read when it is first asked for. It stays open as long as its file. */
 typedef struct module {
     char *path;
     petool_text file;
-    petool_export *names; /* in the order of petool_index_exports */
+    petool_image image;
     petool_import *imports;
-    petool_counts counts;
-    bool is_asked, is_accepted, is_met;
+    size_t import_count;
+    bool is_asked, is_met;
 } module;
 
 typedef struct folder {
@@ -44,68 +44,56 @@ typedef struct search {
 
 /* ---- images ---- */
 
-/* Makes rows for the tables of an image that was counted: whether there is memory. */
-static bool make_rows(module *image)
+/* Makes rows for the imports of an open image, and fills them. */
+static uint32_t read_imports(module *module)
 {
-    image->names = (petool_export *)malloc((image->counts.names + 1) * sizeof *image->names);
-    image->imports = (petool_import *)malloc((image->counts.imports + 1) * sizeof *image->imports);
-    if (image->names == NULL || image->imports == NULL)
-        return false;
-    petool_exports_init(image->names, image->counts.names);
-    petool_imports_init(image->imports, image->counts.imports);
-    return true;
-}
-
-/* Judges an image whose bytes are read, and reads its exports by name and its imports. */
-static uint32_t read_tables(module *image, petool_fault *fault)
-{
-    petool_export no_export, no_name;
-    petool_import no_import;
-    petool_fixup no_fixup;
-    petool_text file = image->file;
-    petool_counts *counts = &image->counts;
-    /* no row: the call judges the file and counts what it has */
-    uint32_t status = petool_tables(file.at, file.len, &no_export, 0, &no_name, 0, &no_import, 0, &no_fixup, 0, counts, fault);
-    if (status != PETOOL_OK && status != PETOOL_SMALL)
+    petool_import none;
+    /* no row: the call counts */
+    uint32_t status = petool_image_imports(&module->image, &none, 0, &module->import_count);
+    if (status != PETOOL_SMALL)
         return status;
-    if (!make_rows(image))
+    module->imports = (petool_import *)malloc(module->import_count * sizeof *module->imports);
+    if (module->imports == NULL)
         return PETOOL_MEMORY;
-    status = petool_export_names(file.at, file.len, image->names, counts->names, &counts->names, fault);
-    if (status != PETOOL_OK)
-        return status;
-    petool_index_exports(image->names, counts->names);
-    return petool_imports(file.at, file.len, image->imports, counts->imports, &counts->imports, fault);
+    petool_imports_init(module->imports, module->import_count);
+    return petool_image_imports(&module->image, module->imports, module->import_count, &module->import_count);
 }
 
-/* Reads an image, where that was not tried before; the exit status. */
-static int open_module(module *image)
+/* Reads and opens an image, where that was not tried before; the exit status. */
+static int open_module(module *module)
 {
     petool_fault fault = {0, 0, 0, 0};
     uint32_t status;
-    if (image->is_asked)
+    if (module->is_asked)
         return 0;
-    image->is_asked = true;
-    if (!read_file(image->path, &image->file))
+    module->is_asked = true;
+    if (!read_file(module->path, &module->file))
         return DEVICE_FAILED;
-    status = read_tables(image, &fault);
-    image->is_accepted = status == PETOOL_OK;
-    return image->is_accepted ? 0 : refused(image->path, status, &fault);
+    status = petool_image_open(&module->image, module->file.at, module->file.len, &fault);
+    if (status == PETOOL_OK)
+        status = read_imports(module);
+    if (status == PETOOL_OK)
+        return 0;
+    petool_image_close(&module->image);
+    return refused(module->path, status, &fault);
 }
 
-static void set_module(module *image, char *path)
+static void set_module(module *module, char *path)
 {
     petool_text none = PETOOL_NONE;
-    memset(image, 0, sizeof *image);
-    image->path = path;
-    image->file = none;
+    petool_image closed = PETOOL_IMAGE_CLOSED;
+    memset(module, 0, sizeof *module);
+    module->path = path;
+    module->file = none;
+    module->image = closed;
 }
 
-static void free_module(module *image)
+static void free_module(module *module)
 {
-    free(image->names);
-    free(image->imports);
-    free_bytes(image->file);
-    free(image->path);
+    petool_image_close(&module->image);
+    free(module->imports);
+    free_bytes(module->file);
+    free(module->path);
 }
 
 /* ---- the folder ---- */
@@ -182,7 +170,7 @@ static module *image_of(folder *files, petool_text name)
             int status = open_module(&files->modules[i]);
             if (status > files->status)
                 files->status = status;
-            return files->modules[i].is_accepted ? &files->modules[i] : NULL;
+            return files->modules[i].image.is_open ? &files->modules[i] : NULL;
         }
     }
     return NULL;
@@ -218,16 +206,11 @@ static void print_import(const char *importer, const search *wanted)
 }
 
 /* What an image exports of what is searched for: whether there is such an export. */
-static bool find_export(const module *image, const search *wanted, petool_target *target)
+static bool find_export(module *module, const search *wanted, petool_target *target)
 {
-    petool_fault fault = {0, 0, 0, 0};
-    const petool_export *row;
     if (wanted->by_ordinal)
-        return petool_export_by_ordinal(image->file.at, image->file.len, wanted->ordinal, target, &fault) == PETOOL_OK;
-    row = petool_find_export(image->names, image->counts.names, wanted->name.at, wanted->name.len);
-    if (row != NULL)
-        *target = row->target;
-    return row != NULL;
+        return petool_image_export_by_ordinal(&module->image, wanted->ordinal, target) == PETOOL_OK;
+    return petool_image_export_by_name(&module->image, wanted->name.at, wanted->name.len, target) == PETOOL_OK;
 }
 
 static void print_end(petool_text name, const char *found)
@@ -268,7 +251,7 @@ static module *search_exporter(folder *files, search wanted)
 static size_t follow(folder *files, const module *image, module **waiting, size_t count)
 {
     size_t i;
-    for (i = 0; i < image->counts.imports; i++) {
+    for (i = 0; i < image->import_count; i++) {
         const petool_import *row = &image->imports[i];
         search wanted = {row->module, row->name, row->ordinal, row->by_ordinal};
         module *exporter;

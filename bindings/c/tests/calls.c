@@ -240,24 +240,6 @@ static void check_searches(void)
     CHECK(is_fault(fault, 2, PETOOL_PLACE_FILE, 9));
 }
 
-/* Rows by name in an order that is not theirs: by length, and those of 3 bytes by these. */
-static void check_index(void)
-{
-    petool_export rows[3];
-    petool_fault fault = UNTOLD;
-    size_t count = 99;
-    petool_exports_init(rows, 3);
-    CHECK(petool_export_names(vr.at, vr.len, rows, 3, &count, &fault) == PETOOL_OK);
-    petool_index_exports(rows, count);
-    CHECK(is_text(rows[0].name, "\"q\\", 3) && is_text(rows[1].name, "\x7f\x80 ", 3) && is_text(rows[2].name, "plain", 5));
-    CHECK(petool_find_export(rows, count, (const uint8_t *)"\x7f\x80 ", 3) == &rows[1]);
-    CHECK(petool_find_export(rows, count, (const uint8_t *)"plain", 5) == &rows[2]);
-    CHECK(petool_find_export(rows, count, (const uint8_t *)"\x7f\x80!", 3) == NULL);
-    CHECK(petool_find_export(rows, count, (const uint8_t *)"plai", 4) == NULL);
-    CHECK(petool_find_export(rows, count, (const uint8_t *)"plainer", 7) == NULL);
-    CHECK(petool_find_export(rows, 0, (const uint8_t *)"plain", 5) == NULL);
-}
-
 static int is_import(const petool_import *row, const char *module, size_t module_len, const char *name, size_t len, uint16_t ordinal, uint32_t slot)
 {
     return is_text(row->module, module, module_len) && is_text(row->name, name, len) && row->ordinal == ordinal
@@ -397,7 +379,6 @@ int main(int argc, char **argv)
     check_bytes();
     check_exports();
     check_searches();
-    check_index();
     check_imports();
     check_fixups();
     check_tables();

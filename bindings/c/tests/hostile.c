@@ -72,6 +72,32 @@ static void ask_tables(const uint8_t *file, size_t len, uint32_t judged, const p
     CHECK(right);
 }
 
+/* An image is open exactly where the file has no fault, and a look-up then answers as the call over the file. */
+static void ask_opened(const uint8_t *file, size_t len, uint32_t judged, const petool_fault *first)
+{
+    petool_image image = PETOOL_IMAGE_CLOSED;
+    petool_fault fault = {0, 0, 0, 0};
+    petool_target target, same_target;
+    uint8_t bytes[16];
+    uint32_t status = petool_image_open(&image, file, len, &fault);
+    int right = status == judged && memcmp(&fault, first, sizeof fault) == 0 && image.is_open == (status == PETOOL_OK);
+    petool_target_init(&target);
+    petool_target_init(&same_target);
+    if (image.is_open) {
+        status = petool_export_by_name(file, len, (const uint8_t *)"f", 1, &target, &fault);
+        right = right && petool_image_export_by_name(&image, (const uint8_t *)"f", 1, &same_target) == status;
+        right = right && target.kind == same_target.kind && target.value == same_target.value;
+        status = petool_export_by_ordinal(file, len, 1, &target, &fault);
+        right = right && petool_image_export_by_ordinal(&image, 1, &same_target) == status;
+        right = right && target.kind == same_target.kind && target.value == same_target.value;
+        right = right && petool_image_read(&image, 0, bytes, sizeof bytes) == PETOOL_OK && memcmp(bytes, file, sizeof bytes) == 0;
+    } else {
+        right = right && petool_image_export_by_ordinal(&image, 1, &target) == PETOOL_CLOSED;
+    }
+    petool_image_close(&image);
+    CHECK(right);
+}
+
 static void ask_spaces(const uint8_t *file, size_t len)
 {
     petool_space space = PETOOL_SPACE_CLOSED;
@@ -107,6 +133,7 @@ static void ask(const uint8_t *file, size_t len)
     CHECK(is_answer(judged, &first, 38));
     ask_headers(file, len, judged, &first);
     ask_tables(file, len, judged, &first);
+    ask_opened(file, len, judged, &first);
     ask_spaces(file, len);
     status = petool_rebase(file, len, 0x20000000, out, len, &fault);
     /* a rebase asks nothing of exports, of which faults 16 to 22 tell */

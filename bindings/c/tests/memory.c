@@ -47,6 +47,7 @@ void __wrap_free(void *at)
 static bytes va, vb, vc, vr, v2;
 static petool_entry abc[3];
 static petool_fault fault;
+static petool_image image;
 static petool_space space;
 static size_t count;
 
@@ -95,6 +96,39 @@ static uint32_t find_ordinal(void)
     petool_target target;
     petool_target_init(&target);
     return petool_export_by_ordinal(vr.at, vr.len, 65537, &target, &fault);
+}
+
+static uint32_t open_file(void)
+{
+    uint32_t status = petool_image_open(&image, vr.at, vr.len, &fault);
+    CHECK(image.is_open == (status == PETOOL_OK));
+    petool_image_close(&image);
+    return status;
+}
+
+/* Opens a file over an open image, which is closed first. */
+static uint32_t open_over(void)
+{
+    uint32_t status = petool_image_open(&image, vb.at, vb.len, &fault);
+    if (status == PETOOL_OK)
+        status = petool_image_open(&image, vr.at, vr.len, &fault);
+    CHECK(image.is_open == (status == PETOOL_OK));
+    petool_image_close(&image);
+    return status;
+}
+
+/* Shares an open image, which then stays open. */
+static uint32_t share_image(void)
+{
+    petool_image other = PETOOL_IMAGE_CLOSED;
+    uint32_t status = petool_image_open(&image, vr.at, vr.len, &fault);
+    if (status == PETOOL_OK) {
+        status = petool_image_share(&image, &other);
+        CHECK(image.is_open && other.is_open == (status == PETOOL_OK));
+    }
+    petool_image_close(&image);
+    petool_image_close(&other);
+    return status;
 }
 
 static uint32_t move_file(void)
@@ -152,6 +186,36 @@ static void refuse_each(const char *name, uint32_t (*call)(void))
     printf("%s: each of %ld growths refused\n", name, all);
 }
 
+/* The calls of an open image ask for no memory, nor does sharing a closed one. */
+static void check_opened(void)
+{
+    petool_image other = PETOOL_IMAGE_CLOSED;
+    petool_export exports[5];
+    petool_import imports[5];
+    petool_fixup fixups[4];
+    petool_target target;
+    petool_text text = PETOOL_NONE;
+    uint64_t offset = 0;
+    uint8_t bytes[4];
+    petool_exports_init(exports, 5);
+    petool_imports_init(imports, 5);
+    memset(fixups, 0, sizeof fixups);
+    petool_target_init(&target);
+    CHECK(petool_image_open(&image, vr.at, vr.len, &fault) == PETOOL_OK);
+    asked = 0;
+    CHECK(petool_image_export_by_name(&image, (const uint8_t *)"plain", 5, &target) == PETOOL_OK);
+    CHECK(petool_image_export_by_ordinal(&image, 65537, &target) == PETOOL_OK);
+    CHECK(petool_image_exports(&image, exports, 5, &count) == PETOOL_OK);
+    CHECK(petool_image_export_names(&image, exports, 5, &count) == PETOOL_OK);
+    CHECK(petool_image_imports(&image, imports, 5, &count) == PETOOL_OK);
+    CHECK(petool_image_fixups(&image, fixups, 4, &count) == PETOOL_OK);
+    CHECK(petool_image_read(&image, 0, bytes, 4) == PETOOL_OK);
+    CHECK(petool_image_read_text(&image, 0, &text) == PETOOL_OK);
+    CHECK(petool_image_locate(&image, 0, &offset) == PETOOL_OK);
+    petool_image_close(&image);
+    CHECK(petool_image_share(&image, &other) == PETOOL_OK && asked == 0);
+}
+
 int main(int argc, char **argv)
 {
     if (argc != 2)
@@ -169,10 +233,14 @@ int main(int argc, char **argv)
     refuse_each("petool_fixups", read_fixups);
     refuse_each("petool_export_by_name", find_name);
     refuse_each("petool_export_by_ordinal", find_ordinal);
+    refuse_each("petool_image_open", open_file);
+    refuse_each("petool_image_open over an open image", open_over);
+    refuse_each("petool_image_share", share_image);
     refuse_each("petool_rebase", move_file);
     refuse_each("petool_judge", judge_set);
     refuse_each("petool_space_map", map_set);
     refuse_each("petool_space_map over an open space", map_over);
+    check_opened();
     free(va.at), free(vb.at), free(vc.at), free(vr.at), free(v2.at);
     return told();
 }

@@ -81,6 +81,10 @@ class Counts(Structure):
     _fields_ = [("exports", c_size_t), ("names", c_size_t), ("imports", c_size_t), ("fixups", c_size_t)]
 
 
+class Image(Structure):
+    _fields_ = [("state", c_void_p), ("is_open", c_bool)]
+
+
 class Entry(Structure):
     _fields_ = [("name", Text), ("file", Text), ("base", c_uint64)]
 
@@ -164,6 +168,18 @@ CALLS: Dict[str, Tuple[Any, List[Any]]] = {
     ),
     "petool_export_by_name": (c_uint32, [c_void_p, c_size_t, c_void_p, c_size_t, POINTER(Target), POINTER(Fault)]),
     "petool_export_by_ordinal": (c_uint32, [c_void_p, c_size_t, c_uint32, POINTER(Target), POINTER(Fault)]),
+    "petool_image_open": (c_uint32, [POINTER(Image), c_void_p, c_size_t, POINTER(Fault)]),
+    "petool_image_share": (c_uint32, [POINTER(Image), POINTER(Image)]),
+    "petool_image_read": (c_uint32, [POINTER(Image), c_uint32, c_void_p, c_size_t]),
+    "petool_image_read_text": (c_uint32, [POINTER(Image), c_uint32, POINTER(Text)]),
+    "petool_image_locate": (c_uint32, [POINTER(Image), c_uint32, POINTER(c_uint64)]),
+    "petool_image_export_by_name": (c_uint32, [POINTER(Image), c_void_p, c_size_t, POINTER(Target)]),
+    "petool_image_export_by_ordinal": (c_uint32, [POINTER(Image), c_uint32, POINTER(Target)]),
+    "petool_image_exports": (c_uint32, [POINTER(Image), c_void_p, c_size_t, POINTER(c_size_t)]),
+    "petool_image_export_names": (c_uint32, [POINTER(Image), c_void_p, c_size_t, POINTER(c_size_t)]),
+    "petool_image_imports": (c_uint32, [POINTER(Image), c_void_p, c_size_t, POINTER(c_size_t)]),
+    "petool_image_fixups": (c_uint32, [POINTER(Image), c_void_p, c_size_t, POINTER(c_size_t)]),
+    "petool_image_close": (None, [POINTER(Image)]),
     "petool_rebase": (c_uint32, [c_void_p, c_size_t, c_uint64, c_void_p, c_size_t, POINTER(Fault)]),
     "petool_judge": (
         c_uint32,

@@ -12,8 +12,8 @@ use std::sync::Arc;
 
 /// An opened image, or none. In C it is `struct { void *state; bool is_open; }`, and all zero it is closed.
 ///
-/// A handle is one of the owners of what was read of the image: a second copy of its bytes is no second owner, but [`share`] makes one.
-/// Dropping the last owner gives the memory back.
+/// A handle is one of the owners of what was read of the image: a second copy of its bytes is no second owner, but [`share`] makes
+/// one. Dropping the last owner gives the memory back.
 #[repr(C)]
 pub struct ImageHandle {
     state: *mut u8,
@@ -94,8 +94,9 @@ impl ImageHandle {
     }
 }
 
-/// Makes another handle of an image, in the place of `other`, which is closed first: both keep the image, and it goes with the last of
-/// them. Of a closed one the other is closed too. Where memory is refused, the other stays closed; that never comes for a closed one.
+/// Makes another handle of an image, in the place of `other`, which is closed first: both keep the image, and it goes with the last
+/// of them. Of a closed one the other is closed too. Where memory is refused, the other stays closed; that never comes for a closed
+/// one.
 pub fn share(
     alloc: Global,
     image: &mut ImageHandle,

@@ -43,8 +43,8 @@ impl<'a> Model for OpenedImage<'a> {
 }
 
 impl<'a> OpenedImage<'a> {
-    /// Opens the image of a file: judges it, and keeps what its tables hold. The answer is the first that stands of faults 1 to 38, in
-    /// image 0, or want of memory, which never comes where one of 1 to 15 stands.
+    /// Opens the image of a file: judges it, and keeps what its tables hold. The answer is the first that stands of faults 1 to 38,
+    /// in image 0, or want of memory, which never comes where one of 1 to 15 stands.
     pub fn open(alloc: Global, file: &'a [u8]) -> Result<OpenedImage<'a>, Refusal>
         ensures exact { AnswersOrWants (image_tests 0 file.entry.now) (λ opened. opened ≡ file.entry.now) result }
         ensures memory { IsErrOf result Refusal.Memory → first_standing (layout_tests 0 file.entry.now) ≡ None }

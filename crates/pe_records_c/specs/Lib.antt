@@ -3,6 +3,7 @@ pub mod ExportRows
 pub mod Faults
 pub mod FixupRows
 pub mod HeaderRows
+pub mod Images
 pub mod ImportRows
 pub mod Lines
 pub mod ObjectHeaderRows

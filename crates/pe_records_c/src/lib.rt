@@ -1,4 +1,5 @@
-//! The work of the calls of libpetool: records and rows as C has them, statuses, and how tables, faults and spaces are reported.
+//! The work of the calls of libpetool: records and rows as C has them, statuses, and how tables, faults, open images and spaces are
+//! reported.
 //!
 //! ```text
 //! let mut rows = [row; 4];
@@ -17,6 +18,7 @@ pub mod laws;
 pub mod mapping;
 pub mod object;
 pub mod object_headers;
+pub mod opened;
 pub mod reading;
 pub mod rebase;
 pub mod row;

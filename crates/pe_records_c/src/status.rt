@@ -13,5 +13,5 @@ pub const ABSENT: u32 = 3;
 pub const SMALL: u32 = 4;
 /// An argument has a value that it may not have.
 pub const ARGUMENT: u32 = 5;
-/// The space is not open.
+/// The space, or the image, is not open.
 pub const CLOSED: u32 = 6;

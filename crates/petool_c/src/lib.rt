@@ -1,7 +1,7 @@
 //! The calls of libpetool, for programs that are not written in Rattle; bindings/c/petool.h declares them.
 //!
-//! Nothing is kept between calls but in a space, which its caller owns and closes; nothing else has to be freed. A number says how
-//! a call ended:
+//! Nothing is kept between calls but in an open image and in a space, which their caller owns and closes; nothing else has to be
+//! freed. A number says how a call ended:
 //!
 //! ```text
 //! uint8_t bytes[4];
@@ -16,6 +16,9 @@ mod headers;
 mod image;
 mod import;
 mod object;
+mod opened;
+mod opened_bytes;
+mod opened_tables;
 mod rebase;
 mod set;
 mod space;

@@ -5,6 +5,7 @@
 
 mod images;
 mod objects;
+mod opened;
 mod spaces;
 
 use pe_records_c::fault::FaultRecord;

@@ -21,7 +21,7 @@ pub const PETOOL_ABSENT: u32 = 3;
 pub const PETOOL_SMALL: u32 = 4;
 /// An argument has a value that it may not have; nothing was done.
 pub const PETOOL_ARGUMENT: u32 = 5;
-/// The space is not open.
+/// The image or the space is not open.
 pub const PETOOL_CLOSED: u32 = 6;
 
 /// A fault's place counts bytes of the file.
@@ -295,6 +295,16 @@ pub struct Counts {
     pub fixups: usize,
 }
 
+/// An image that is kept open between calls. Set to [`Image::CLOSED`] before the first call, and never copied.
+#[repr(C)]
+#[derive(Debug)]
+pub struct Image {
+    /// Private to the library.
+    pub state: *mut c_void,
+    /// Whether an image is open.
+    pub is_open: bool,
+}
+
 /// An image of a set.
 #[repr(C)]
 #[derive(Clone, Copy, Debug)]
@@ -483,6 +493,14 @@ impl Text {
     }
 }
 
+impl Image {
+    /// An image without a file.
+    pub const CLOSED: Image = Image {
+        state: core::ptr::null_mut(),
+        is_open: false,
+    };
+}
+
 impl Space {
     /// A space without a set.
     pub const CLOSED: Space = Space {
@@ -569,6 +587,19 @@ extern "C" {
         target: *mut Target,
         fault: *mut Fault,
     ) -> u32;
+
+    pub fn petool_image_open(image: *mut Image, file: *const u8, len: usize, fault: *mut Fault) -> u32;
+    pub fn petool_image_share(image: *mut Image, other: *mut Image) -> u32;
+    pub fn petool_image_read(image: *mut Image, rva: u32, buffer: *mut u8, count: usize) -> u32;
+    pub fn petool_image_read_text(image: *mut Image, rva: u32, text: *mut Text) -> u32;
+    pub fn petool_image_locate(image: *mut Image, rva: u32, offset: *mut u64) -> u32;
+    pub fn petool_image_export_by_name(image: *mut Image, name: *const u8, name_len: usize, target: *mut Target) -> u32;
+    pub fn petool_image_export_by_ordinal(image: *mut Image, ordinal: u32, target: *mut Target) -> u32;
+    pub fn petool_image_exports(image: *mut Image, rows: *mut Export, room: usize, count: *mut usize) -> u32;
+    pub fn petool_image_export_names(image: *mut Image, rows: *mut Export, room: usize, count: *mut usize) -> u32;
+    pub fn petool_image_imports(image: *mut Image, rows: *mut Import, room: usize, count: *mut usize) -> u32;
+    pub fn petool_image_fixups(image: *mut Image, rows: *mut Fixup, room: usize, count: *mut usize) -> u32;
+    pub fn petool_image_close(image: *mut Image);
 
     pub fn petool_rebase(
         file: *const u8,

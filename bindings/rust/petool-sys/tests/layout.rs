@@ -46,6 +46,11 @@ fn the_records_of_tables_are_laid_out_as_in_c() {
 }
 
 #[test]
+fn the_records_of_open_images_are_laid_out_as_in_c() {
+    layout!(Image, 16, 8, state 0, is_open 8);
+}
+
+#[test]
 fn the_records_of_sets_and_spaces_are_laid_out_as_in_c() {
     layout!(Entry, 40, 8, name 0, file 16, base 32);
     layout!(Binding, 16, 4, image 0, slot 4, exporter 8, rva 12);

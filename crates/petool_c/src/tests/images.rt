@@ -24,20 +24,20 @@ use std::alloc::Global;
 use std::process::Abort;
 
 /// What no call tells.
-const NO_TARGET: TargetRecord<'static> = TargetRecord {
+pub(super) const NO_TARGET: TargetRecord<'static> = TargetRecord {
     kind: 9,
     value: 9,
     module: b"?",
     name: b"?",
 };
 
-const NO_EXPORT: ExportRow<'static> = ExportRow {
+pub(super) const NO_EXPORT: ExportRow<'static> = ExportRow {
     ordinal: 9,
     name: b"?",
     target: NO_TARGET,
 };
 
-const NO_IMPORT: ImportRow<'static> = ImportRow {
+pub(super) const NO_IMPORT: ImportRow<'static> = ImportRow {
     module: b"?",
     name: b"?",
     slot: 9,
@@ -45,7 +45,7 @@ const NO_IMPORT: ImportRow<'static> = ImportRow {
     by_ordinal: false,
 };
 
-const NO_FIXUP: FixupRow = FixupRow {
+pub(super) const NO_FIXUP: FixupRow = FixupRow {
     entry: 9,
     field: 9,
     kind: 9,

@@ -1,0 +1,63 @@
+-- How the calls of an opened image answer: as those over the bytes of its file do, and by 6 where there is no image.
+use Rattle.std.specs.Prelude.{◌≡◌, ◌<◌, ◌≤◌, ◌+◌, ◌⊎◌, ℕ, List, [], Option, None, Some}
+use Rattle.pe_head.specs.Head.{head_of}
+use Rattle.pe_layout.specs.Image.{image_of_file, bytes_at}
+use Rattle.pe_layout.specs.Locating.{located, file_offset}
+use Rattle.pe_tables.specs.Exports.{exports_of, target_at}
+use Rattle.pe_tables.specs.Key.{Key, Target}
+use Rattle.pe_tables.specs.Imports.{imports_of, Import}
+use Rattle.pe_tables.specs.Fixups.{fixups_of}
+use Rattle.pe_tables.specs.declared.fixups.Fixup.{Fixup}
+use Rattle.pe_records_c.specs.ExportRows.{TellsTarget}
+use Rattle.pe_records_c.specs.declared.export.TargetRecord.{TargetRecord}
+use Rattle.pe_records_c.specs.declared.text.TextRecord.{TextRecord}
+
+-- what a name or an ordinal exports
+abbrev pub TellsTargetOf : Option (List ℕ) → Key → TargetRecord → TargetRecord → ℕ → Type 0
+TellsTargetOf None key before after status = (status ≡ 6) × (after ≡ before)
+TellsTargetOf (Some file) key before after status = TellsTarget (target_at (exports_of (image_of_file 0 file)) key) before after status
+
+-- the tables of an image that is there
+abbrev pub opened_ordinals : Option (List ℕ) → List (ℕ × Target)
+opened_ordinals None = []
+opened_ordinals (Some file) = (exports_of (image_of_file 0 file)).ordinals
+
+abbrev pub opened_names : Option (List ℕ) → List (List ℕ × Target)
+opened_names None = []
+opened_names (Some file) = (exports_of (image_of_file 0 file)).names
+
+abbrev pub opened_imports : Option (List ℕ) → List Import
+opened_imports None = []
+opened_imports (Some file) = imports_of (image_of_file 0 file)
+
+abbrev pub opened_fixups : Option (List ℕ) → List Fixup
+opened_fixups None = []
+opened_fixups (Some file) = fixups_of (image_of_file 0 file)
+
+-- a read of n bytes: status 0 and the bytes, or 3 where they do not all lie in the image
+abbrev pub IsRead : List ℕ → ℕ → ℕ → List ℕ → List ℕ → ℕ → Type 0
+IsRead file rva n old new status =
+    ((status ≡ 0) × (rva + n ≤ (image_of_file 0 file).size) × (new ≡ bytes_at (image_of_file 0 file) rva n))
+    ⊎ ((status ≡ 3) × ((image_of_file 0 file).size < rva + n) × (new ≡ old))
+
+abbrev pub IsBytesOf : Option (List ℕ) → ℕ → ℕ → List ℕ → List ℕ → ℕ → Type 0
+IsBytesOf None rva n old new status = (status ≡ 6) × (new ≡ old)
+IsBytesOf (Some file) rva n old new status = IsRead file rva n old new status
+
+-- a text: status 0 and its bytes, or 3 where there is none
+abbrev pub IsText : Option (List ℕ) → TextRecord → TextRecord → ℕ → Type 0
+IsText None old new status = (status ≡ 3) × (new ≡ old)
+IsText (Some text) old new status = (status ≡ 0) × (new.bytes.now ≡ text)
+
+abbrev pub IsTextOf : Option (List ℕ) → ℕ → TextRecord → TextRecord → ℕ → Type 0
+IsTextOf None rva old new status = (status ≡ 6) × (new ≡ old)
+IsTextOf (Some file) rva old new status = IsText ((image_of_file 0 file).text rva) old new status
+
+-- where the file holds a byte: status 0 and its offset, or 3
+abbrev pub IsOffset : Option ℕ → ℕ → ℕ → ℕ → Type 0
+IsOffset None old new status = (status ≡ 3) × (new ≡ old)
+IsOffset (Some offset) old new status = (status ≡ 0) × (new ≡ offset)
+
+abbrev pub IsOffsetOf : Option (List ℕ) → ℕ → ℕ → ℕ → ℕ → Type 0
+IsOffsetOf None rva old new status = (status ≡ 6) × (new ≡ old)
+IsOffsetOf (Some file) rva old new status = IsOffset (file_offset (located (head_of file) rva)) old new status

@@ -1,0 +1,89 @@
+//! Bytes of an open image: `petool_image_read`, `_read_text` and `_locate`.
+
+ghost use Rattle.std.specs.Prelude.{◌≡◌, ◌↔◌, false, length};
+ghost use Rattle.pe_opened.specs.Held.{file_in};
+ghost use Rattle.pe_records_c.specs.Images.{IsBytesOf, IsTextOf, IsOffsetOf};
+
+use pe_opened::ImageHandle;
+use pe_records_c::opened::{tell_bytes, tell_offset, tell_text};
+use pe_records_c::status;
+use pe_records_c::text::TextRecord;
+use std::alloc::Global;
+
+/// Fills a buffer with the bytes of an open image from an RVA on, as the file lays them out: raw data, or 0.
+///
+/// The status is 0; 3 where the bytes do not all lie inside the image; or 6 where it is closed. The buffer is left as it was by all
+/// but 0. No memory is taken.
+#[unsafe(no_mangle)]
+pub extern "C" fn petool_image_read(
+    alloc: Global,
+    image: &mut ImageHandle,
+    rva: u32,
+    buffer: &mut [u8],
+) -> u32
+    ensures exact { IsBytesOf (file_in image.old.image) rva (length buffer.old) buffer.old buffer.new result }
+    ensures closed { (result ≡ 6) ↔ (image.old.is_open ≡ false) }
+    ensures image_kept { file_in image.new.image ≡ file_in image.old.image }
+    ensures open_kept { image.new.is_open ≡ image.old.is_open }
+{
+    match std::mem::replace(image, ImageHandle::closed(alloc)).take() {
+        Some(opened) => {
+            let answer = tell_bytes(&opened, rva, buffer);
+            *image = ImageHandle::of(opened);
+            answer
+        }
+        None => status::CLOSED,
+    }
+}
+
+/// Reads the zero-ended text at an RVA of an open image, as a part of the file; the zero byte is none of its bytes.
+///
+/// The status is 0; 3 where no zero byte ends a text inside the headers or the section in which it begins, and past the image; or 6
+/// where the image is closed. The text is left as it was by all but 0. No memory is taken.
+#[unsafe(no_mangle)]
+pub extern "C" fn petool_image_read_text(
+    alloc: Global,
+    image: &mut ImageHandle,
+    rva: u32,
+    text: &mut TextRecord<'static>,
+) -> u32
+    ensures exact { IsTextOf (file_in image.old.image) rva text.old text.new result }
+    ensures closed { (result ≡ 6) ↔ (image.old.is_open ≡ false) }
+    ensures image_kept { file_in image.new.image ≡ file_in image.old.image }
+    ensures open_kept { image.new.is_open ≡ image.old.is_open }
+{
+    match std::mem::replace(image, ImageHandle::closed(alloc)).take() {
+        Some(opened) => {
+            let answer = tell_text(&opened, rva, text);
+            *image = ImageHandle::of(opened);
+            answer
+        }
+        None => status::CLOSED,
+    }
+}
+
+/// Tells where the file of an open image holds the byte at an RVA: its offset.
+///
+/// The status is 0; 3 where the file does not hold the byte, which is one of zero fill, of a gap, or past the image; or 6 where the
+/// image is closed. The offset is left as it was by all but 0. No memory is taken.
+#[unsafe(no_mangle)]
+pub extern "C" fn petool_image_locate(
+    alloc: Global,
+    image: &mut ImageHandle,
+    rva: u32,
+    offset: &mut u64,
+) -> u32
+    ensures exact { IsOffsetOf (file_in image.old.image) rva offset.old offset.new result }
+    ensures closed { (result ≡ 6) ↔ (image.old.is_open ≡ false) }
+    ensures image_kept { file_in image.new.image ≡ file_in image.old.image }
+    ensures open_kept { image.new.is_open ≡ image.old.is_open }
+{
+    match std::mem::replace(image, ImageHandle::closed(alloc)).take() {
+        Some(opened) => {
+            let answer = tell_offset(&opened, rva, offset);
+            *image = ImageHandle::of(opened);
+            answer
+        }
+        None => status::CLOSED,
+    }
+}

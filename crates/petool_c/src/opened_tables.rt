@@ -1,0 +1,174 @@
+//! Tables of an open image: `petool_image_export_by_name`, `_export_by_ordinal`, `_exports`, `_export_names`, `_imports` and
+//! `_fixups`.
+
+ghost use Rattle.std.specs.Prelude.{◌≡◌, ◌≢◌, ◌↔◌, false};
+ghost use Rattle.pe_tables.specs.Key.{Name, Ordinal};
+ghost use Rattle.pe_opened.specs.Held.{file_in};
+ghost use Rattle.pe_records_c.specs.ExportRows.{export_text, export_by_ordinal, export_by_name};
+ghost use Rattle.pe_records_c.specs.FixupRows.{fixup_row};
+ghost use Rattle.pe_records_c.specs.Images.{TellsTargetOf, opened_ordinals, opened_names, opened_imports, opened_fixups};
+ghost use Rattle.pe_records_c.specs.ImportRows.{import_text, import_row};
+ghost use Rattle.pe_records_c.specs.Rows.{TellsTable};
+
+use pe_opened::ImageHandle;
+use pe_records_c::export::{ExportRow, TargetRecord};
+use pe_records_c::fixup::FixupRow;
+use pe_records_c::import::ImportRow;
+use pe_records_c::opened::{
+    tell_exports, tell_fixups, tell_imports, tell_name, tell_names, tell_ordinal,
+};
+use pe_records_c::status;
+use std::alloc::Global;
+
+/// Tells what a name of an open image exports: what the first of the names with this text does.
+///
+/// The status is 0; 3 where no such name exports anything; or 6 where the image is closed. The target is left as it was by all but
+/// 0. No memory is taken, and no table is read again: the name is looked up in the index that the image keeps.
+#[unsafe(no_mangle)]
+pub extern "C" fn petool_image_export_by_name(
+    alloc: Global,
+    image: &mut ImageHandle,
+    name: &[u8],
+    target: &mut TargetRecord<'static>,
+) -> u32
+    ensures exact { TellsTargetOf (file_in image.old.image) (Name name.now) target.old target.new result }
+    ensures closed { (result ≡ 6) ↔ (image.old.is_open ≡ false) }
+    ensures image_kept { file_in image.new.image ≡ file_in image.old.image }
+    ensures open_kept { image.new.is_open ≡ image.old.is_open }
+{
+    match std::mem::replace(image, ImageHandle::closed(alloc)).take() {
+        Some(opened) => {
+            let answer = tell_name(&opened, name, target);
+            *image = ImageHandle::of(opened);
+            answer
+        }
+        None => status::CLOSED,
+    }
+}
+
+/// Tells what an ordinal of an open image exports. It answers as [`petool_image_export_by_name`] does.
+#[unsafe(no_mangle)]
+pub extern "C" fn petool_image_export_by_ordinal(
+    alloc: Global,
+    image: &mut ImageHandle,
+    ordinal: u32,
+    target: &mut TargetRecord<'static>,
+) -> u32
+    ensures exact { TellsTargetOf (file_in image.old.image) (Ordinal ordinal) target.old target.new result }
+    ensures closed { (result ≡ 6) ↔ (image.old.is_open ≡ false) }
+    ensures image_kept { file_in image.new.image ≡ file_in image.old.image }
+    ensures open_kept { image.new.is_open ≡ image.old.is_open }
+{
+    match std::mem::replace(image, ImageHandle::closed(alloc)).take() {
+        Some(opened) => {
+            let answer = tell_ordinal(&opened, ordinal, target);
+            *image = ImageHandle::of(opened);
+            answer
+        }
+        None => status::CLOSED,
+    }
+}
+
+/// Tells the exports by ordinal of an open image, in the order of the export address table, in the caller's rows.
+///
+/// The status is 0; 4 where there are more than rows, of which the first are then told; or 6 where the image is closed. The count
+/// tells how many there are; it and the rows are left as they were by 6. No memory is taken.
+#[unsafe(no_mangle)]
+pub extern "C" fn petool_image_exports(
+    alloc: Global,
+    image: &mut ImageHandle,
+    rows: &mut [ExportRow<'static>],
+    count: &mut usize,
+) -> u32
+    ensures table { result ≢ 6 → TellsTable export_text export_by_ordinal (opened_ordinals (file_in image.old.image)) rows.old rows.new count.new result }
+    ensures rows_kept { result ≡ 6 → rows.new ≡ rows.old }
+    ensures count_kept { result ≡ 6 → count.new ≡ count.old }
+    ensures closed { (result ≡ 6) ↔ (image.old.is_open ≡ false) }
+    ensures image_kept { file_in image.new.image ≡ file_in image.old.image }
+    ensures open_kept { image.new.is_open ≡ image.old.is_open }
+{
+    match std::mem::replace(image, ImageHandle::closed(alloc)).take() {
+        Some(opened) => {
+            let answer = tell_exports(&opened, rows, count);
+            *image = ImageHandle::of(opened);
+            answer
+        }
+        None => status::CLOSED,
+    }
+}
+
+/// Tells the exports by name of an open image, in the order of the name pointer table and each text once. It answers as
+/// [`petool_image_exports`] does.
+#[unsafe(no_mangle)]
+pub extern "C" fn petool_image_export_names(
+    alloc: Global,
+    image: &mut ImageHandle,
+    rows: &mut [ExportRow<'static>],
+    count: &mut usize,
+) -> u32
+    ensures table { result ≢ 6 → TellsTable export_text export_by_name (opened_names (file_in image.old.image)) rows.old rows.new count.new result }
+    ensures rows_kept { result ≡ 6 → rows.new ≡ rows.old }
+    ensures count_kept { result ≡ 6 → count.new ≡ count.old }
+    ensures closed { (result ≡ 6) ↔ (image.old.is_open ≡ false) }
+    ensures image_kept { file_in image.new.image ≡ file_in image.old.image }
+    ensures open_kept { image.new.is_open ≡ image.old.is_open }
+{
+    match std::mem::replace(image, ImageHandle::closed(alloc)).take() {
+        Some(opened) => {
+            let answer = tell_names(&opened, rows, count);
+            *image = ImageHandle::of(opened);
+            answer
+        }
+        None => status::CLOSED,
+    }
+}
+
+/// Tells the imports of an open image, in the order of its import table. It answers as [`petool_image_exports`] does.
+#[unsafe(no_mangle)]
+pub extern "C" fn petool_image_imports(
+    alloc: Global,
+    image: &mut ImageHandle,
+    rows: &mut [ImportRow<'static>],
+    count: &mut usize,
+) -> u32
+    ensures table { result ≢ 6 → TellsTable import_text import_row (opened_imports (file_in image.old.image)) rows.old rows.new count.new result }
+    ensures rows_kept { result ≡ 6 → rows.new ≡ rows.old }
+    ensures count_kept { result ≡ 6 → count.new ≡ count.old }
+    ensures closed { (result ≡ 6) ↔ (image.old.is_open ≡ false) }
+    ensures image_kept { file_in image.new.image ≡ file_in image.old.image }
+    ensures open_kept { image.new.is_open ≡ image.old.is_open }
+{
+    match std::mem::replace(image, ImageHandle::closed(alloc)).take() {
+        Some(opened) => {
+            let answer = tell_imports(&opened, rows, count);
+            *image = ImageHandle::of(opened);
+            answer
+        }
+        None => status::CLOSED,
+    }
+}
+
+/// Tells the base relocations of an open image, in the order of their table. It answers as [`petool_image_exports`] does.
+#[unsafe(no_mangle)]
+pub extern "C" fn petool_image_fixups(
+    alloc: Global,
+    image: &mut ImageHandle,
+    rows: &mut [FixupRow],
+    count: &mut usize,
+) -> u32
+    ensures table { result ≢ 6 → TellsTable (λ row. row) fixup_row (opened_fixups (file_in image.old.image)) rows.old rows.new count.new result }
+    ensures rows_kept { result ≡ 6 → rows.new ≡ rows.old }
+    ensures count_kept { result ≡ 6 → count.new ≡ count.old }
+    ensures closed { (result ≡ 6) ↔ (image.old.is_open ≡ false) }
+    ensures image_kept { file_in image.new.image ≡ file_in image.old.image }
+    ensures open_kept { image.new.is_open ≡ image.old.is_open }
+{
+    match std::mem::replace(image, ImageHandle::closed(alloc)).take() {
+        Some(opened) => {
+            let answer = tell_fixups(&opened, rows, count);
+            *image = ImageHandle::of(opened);
+            answer
+        }
+        None => status::CLOSED,
+    }
+}
