@@ -231,8 +231,8 @@ uint32_t petool_tables(const uint8_t *file, size_t len, petool_export *exports, 
                        size_t name_room, petool_import *imports, size_t import_room, petool_fixup *fixups, size_t fixup_room,
                        petool_counts *counts, petool_fault *fault);
 
-/* What one name or one ordinal exports. As petool_exports, but with ABSENT instead of SMALL. Each call reads the whole table: to look up
- * many, open the image. *target must be initialized before. */
+/* What one name or one ordinal exports. As petool_exports, but with ABSENT instead of SMALL. Each call reads the whole table: to look
+ * up many, open the image. *target must be initialized before. */
 uint32_t petool_export_by_name(const uint8_t *file, size_t len, const uint8_t *name, size_t name_len, petool_target *target,
                                petool_fault *fault);
 uint32_t petool_export_by_ordinal(const uint8_t *file, size_t len, uint32_t ordinal, petool_target *target, petool_fault *fault);
@@ -260,21 +260,21 @@ typedef struct petool_image {
  * file has one of faults 1 to 15. */
 uint32_t petool_image_open(petool_image *image, const uint8_t *file, size_t len, petool_fault *fault);
 
-/* Makes `other` another struct of the same image; if it is open, it is closed first. Each must be closed, and the last that is frees
- * the memory. OK, and then `other` is open if `image` is, and otherwise closed; or MEMORY, which leaves `other` closed, but not if
+/* Makes `other` another struct of the same image; if it is open, it is closed first. Each must be closed, and the last that is
+ * frees the memory. OK, and then `other` is open if `image` is, and otherwise closed; or MEMORY, which leaves `other` closed, but not if
  * `image` is closed. */
 uint32_t petool_image_share(petool_image *image, petool_image *other);
 void petool_image_close(petool_image *image);
 
-/* What petool_read, petool_read_text and petool_locate return for the image's file. OK; ABSENT; or CLOSED. Like the calls below, they
- * allocate nothing. *text must be initialized before. */
+/* What petool_read, petool_read_text and petool_locate return for the image's file. OK; ABSENT; or CLOSED. Like the calls below,
+ * they allocate nothing. *text must be initialized before. */
 uint32_t petool_image_read(petool_image *image, uint32_t rva, uint8_t *buffer, size_t count);
 uint32_t petool_image_read_text(petool_image *image, uint32_t rva, petool_text *text);
 uint32_t petool_image_locate(petool_image *image, uint32_t rva, uint64_t *offset);
 
 /* What one name or one ordinal exports, by an index that the image keeps. OK; ABSENT; or CLOSED. *target must be initialized
  * before. */
-uint32_t petool_image_export_by_name(petool_image *image, const uint8_t *name, size_t name_len, petool_target *target);
+uint32_t petool_image_export_by_name(petool_image *image, const uint8_t *name, size_t len, petool_target *target);
 uint32_t petool_image_export_by_ordinal(petool_image *image, uint32_t ordinal, petool_target *target);
 
 /* The tables, in the order in which petool_exports and so on have them. OK; SMALL; or CLOSED. */

@@ -593,7 +593,7 @@ extern "C" {
     pub fn petool_image_read(image: *mut Image, rva: u32, buffer: *mut u8, count: usize) -> u32;
     pub fn petool_image_read_text(image: *mut Image, rva: u32, text: *mut Text) -> u32;
     pub fn petool_image_locate(image: *mut Image, rva: u32, offset: *mut u64) -> u32;
-    pub fn petool_image_export_by_name(image: *mut Image, name: *const u8, name_len: usize, target: *mut Target) -> u32;
+    pub fn petool_image_export_by_name(image: *mut Image, name: *const u8, len: usize, target: *mut Target) -> u32;
     pub fn petool_image_export_by_ordinal(image: *mut Image, ordinal: u32, target: *mut Target) -> u32;
     pub fn petool_image_exports(image: *mut Image, rows: *mut Export, room: usize, count: *mut usize) -> u32;
     pub fn petool_image_export_names(image: *mut Image, rows: *mut Export, room: usize, count: *mut usize) -> u32;

@@ -96,7 +96,7 @@ impl<'a> Image<'a> {
         Tables::of(self.file, self.counts)
     }
 
-    /// What a name exports. Each call reads the export table: to look up many names, call [`Image::tables`] once.
+    /// What a name exports. Each call reads the export table: to look up many names, use an [`OpenImage`](crate::OpenImage).
     pub fn export_by_name(&self, name: &[u8]) -> Result<Option<Target<'a>>, OutOfMemory> {
         let (mut target, mut fault) = (sys::Target::NONE, sys::Fault::default());
         // SAFETY: the file and the name are all of slices, which nobody writes to; the target's texts are set

@@ -1,9 +1,9 @@
 //! Reads, judges and moves PE images, and reads COFF objects, from files that may be hostile, with the proved calls of
 //! libpetool.
 //!
-//! An [`Image`] is a file without a fault: it is judged once, and then read. [`Headers`] reads headers and sections
-//! only. [`judge`] returns what the imports of a set of images are bound to, a
-//! [`Space`] maps a set and moves its images, and an [`Object`] is a COFF object.
+//! An [`Image`] is a file without a fault: it is judged once, and then read. An [`OpenImage`] keeps what its tables hold,
+//! for many look-ups. [`Headers`] reads headers and sections only. [`judge`] returns what the imports of a set of images
+//! are bound to, a [`Space`] maps a set and moves its images, and an [`Object`] is a COFF object.
 //!
 //! ```
 //! use petool::{Error, Image};
@@ -31,6 +31,7 @@ mod fault;
 mod headers;
 mod image;
 mod object;
+mod opened;
 mod rows;
 mod set;
 mod space;
@@ -40,6 +41,7 @@ pub use fault::{Error, Fault, OutOfMemory, Place, SetError};
 pub use headers::{Headers, Section};
 pub use image::Image;
 pub use object::{Object, ObjectSection, Symbol};
+pub use opened::OpenImage;
 #[doc(inline)]
 pub use petool_sys::{Binding, Directory, Fixup, Moved, ObjectHeader, ObjectRelocation as Relocation, SectionHeader};
 pub use set::{judge, Entry, Policy};

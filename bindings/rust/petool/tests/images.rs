@@ -1,7 +1,7 @@
 //! One image, on its good path and refused. The values are those of the files, which were made by hand from the format:
 //! vr.dll has another value in each field.
 
-use petool::{Error, Fault, Headers, Image, Import, Key, OutOfMemory, Place, Target};
+use petool::{Error, Fault, Headers, Image, Import, Key, OpenImage, OutOfMemory, Place, Target};
 
 const V1: &[u8] = include_bytes!("../../../../crates/test_cases/data/v1.dll");
 const V2: &[u8] = include_bytes!("../../../../crates/test_cases/data/v2.dll");
@@ -355,6 +355,60 @@ fn an_image_and_its_tables_go_to_any_number_of_threads() {
                 for _ in 0..200 {
                     assert_eq!(image.export_by_name(b"plain"), Ok(Some(ORDINAL_OF_O)));
                     assert_eq!(tables.names().nth(2), Some((&b"plain"[..], ORDINAL_OF_O)));
+                }
+            });
+        }
+    });
+}
+
+#[test]
+fn an_open_image_answers_as_the_calls_over_its_file() {
+    for file in [V1, V2, VA, VB, VR] {
+        let image = Image::new(file).unwrap();
+        let mut open = OpenImage::new(file).unwrap();
+        assert_eq!(open.file(), file);
+        for (name, target) in image.tables().unwrap().names() {
+            assert_eq!(open.export_by_name(name), Some(target));
+            assert_eq!(
+                open.export_by_name(&name[1..]),
+                image.export_by_name(&name[1..]).unwrap()
+            );
+        }
+        for ordinal in 0..10 {
+            assert_eq!(
+                open.export_by_ordinal(ordinal),
+                image.export_by_ordinal(ordinal).unwrap()
+            );
+        }
+        for rva in [0, 0x1ff, 0x1000, 0x2fff, 0x30123, 0x41000, u32::MAX] {
+            let (mut one, mut other) = ([9; 4], [9; 4]);
+            assert_eq!(open.read(rva, &mut one), image.read(rva, &mut other));
+            assert_eq!((one, open.text(rva)), (other, image.text(rva)));
+            assert_eq!(open.locate(rva), image.locate(rva));
+        }
+    }
+    assert_eq!(OpenImage::new(VR).unwrap().export_by_name(b"plain"), Some(ORDINAL_OF_O));
+}
+
+#[test]
+fn an_open_image_is_refused_as_an_image_is() {
+    for len in (0..V1.len()).step_by(5) {
+        assert_eq!(OpenImage::new(&V1[..len]).err(), Image::new(&V1[..len]).err());
+    }
+}
+
+#[test]
+fn threads_share_an_open_image() {
+    let mut image = OpenImage::new(VB).unwrap();
+    let shared: Vec<_> = (0..4).map(|_| image.shared().unwrap()).collect();
+    drop(image);
+    std::thread::scope(|scope| {
+        for mut mine in shared {
+            scope.spawn(move || {
+                for _ in 0..1000 {
+                    let mut other = mine.shared().unwrap();
+                    assert_eq!(mine.export_by_name(b"g"), Some(Target::Rva(0x1010)));
+                    assert_eq!(other.export_by_ordinal(6), None);
                 }
             });
         }

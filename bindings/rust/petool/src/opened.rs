@@ -1,0 +1,126 @@
+//! Images that are kept open for many look-ups.
+
+use crate::rows::text_of;
+use crate::{Error, OutOfMemory, Target};
+use petool_sys as sys;
+
+/// An image that is kept open: what its tables hold is kept, so that no look-up reads them again.
+///
+/// One call at a time may use it: it is `Send` and not `Sync`. Another thread gets an [`OpenImage::shared`] one of its own.
+///
+/// ```compile_fail,E0277
+/// fn share<T: Sync>() {}
+/// share::<petool::OpenImage>();
+/// ```
+///
+/// ```
+/// use petool::{OpenImage, Target};
+///
+/// let file: &[u8] = include_bytes!("../../../../crates/test_cases/data/vb.dll");
+/// let mut image = OpenImage::new(file)?;
+/// assert_eq!(image.export_by_name(b"g"), Some(Target::Rva(0x1010)));
+/// let mut other = image.shared()?;
+/// let found = std::thread::scope(|scope| scope.spawn(move || other.export_by_ordinal(7)).join());
+/// assert_eq!(found.unwrap(), Some(Target::Rva(0x1010)));
+/// # Ok::<(), petool::Error>(())
+/// ```
+///
+/// The file is borrowed as long as the image is open:
+///
+/// ```compile_fail,E0505
+/// let file = vec![0; 64];
+/// let image = petool::OpenImage::new(&file);
+/// drop(file);
+/// drop(image);
+/// ```
+#[derive(Debug)]
+pub struct OpenImage<'a> {
+    raw: sys::Image,
+    file: &'a [u8],
+}
+
+// SAFETY: an open image goes to one call at a time of any thread, which owning it or `&mut` gives; what it shares with
+// others is only read, and counted by the library
+unsafe impl Send for OpenImage<'_> {}
+
+impl<'a> OpenImage<'a> {
+    /// Judges a file as [`Image::new`](crate::Image::new) does, and keeps what its tables hold.
+    pub fn new(file: &'a [u8]) -> Result<OpenImage<'a>, Error> {
+        let mut image = OpenImage {
+            raw: sys::Image::CLOSED,
+            file,
+        };
+        let mut fault = sys::Fault::default();
+        // SAFETY: the image is closed; the file is all of a slice, which nobody writes to while the image borrows it
+        let status = unsafe { sys::petool_image_open(&mut image.raw, file.as_ptr(), file.len(), &mut fault) };
+        match status {
+            sys::PETOOL_OK => Ok(image),
+            _ => Err(Error::of(status, fault)),
+        }
+    }
+
+    /// All bytes of the file.
+    pub fn file(&self) -> &'a [u8] {
+        self.file
+    }
+
+    /// The same image for another thread. The memory goes back when the last of them is dropped.
+    pub fn shared(&mut self) -> Result<OpenImage<'a>, OutOfMemory> {
+        let mut other = OpenImage {
+            raw: sys::Image::CLOSED,
+            file: self.file,
+        };
+        // SAFETY: the image is open and the other one closed, and both borrow the file
+        let status = unsafe { sys::petool_image_share(&mut self.raw, &mut other.raw) };
+        match status {
+            sys::PETOOL_OK => Ok(other),
+            _ => Err(OutOfMemory),
+        }
+    }
+
+    /// What a name exports.
+    pub fn export_by_name(&mut self, name: &[u8]) -> Option<Target<'a>> {
+        let mut target = sys::Target::NONE;
+        // SAFETY: the image is open; the name is all of a slice; the target's texts are set
+        let status = unsafe { sys::petool_image_export_by_name(&mut self.raw, name.as_ptr(), name.len(), &mut target) };
+        (status == sys::PETOOL_OK).then(|| Target::of(self.file, target))
+    }
+
+    /// What an ordinal exports.
+    pub fn export_by_ordinal(&mut self, ordinal: u32) -> Option<Target<'a>> {
+        let mut target = sys::Target::NONE;
+        // SAFETY: the image is open; the target's texts are set
+        let status = unsafe { sys::petool_image_export_by_ordinal(&mut self.raw, ordinal, &mut target) };
+        (status == sys::PETOOL_OK).then(|| Target::of(self.file, target))
+    }
+
+    /// Fills the buffer with the bytes from an RVA on, as [`Image::read`](crate::Image::read) does.
+    pub fn read(&mut self, rva: u32, buffer: &mut [u8]) -> Option<()> {
+        // SAFETY: the image is open; the buffer is all of a slice, and nobody else's
+        let status = unsafe { sys::petool_image_read(&mut self.raw, rva, buffer.as_mut_ptr(), buffer.len()) };
+        (status == sys::PETOOL_OK).then_some(())
+    }
+
+    /// The zero-terminated string at an RVA, without its zero byte; `None` if there is none.
+    pub fn text(&mut self, rva: u32) -> Option<&'a [u8]> {
+        let mut text = sys::Text::NONE;
+        // SAFETY: the image is open; the text is set
+        let status = unsafe { sys::petool_image_read_text(&mut self.raw, rva, &mut text) };
+        (status == sys::PETOOL_OK).then(|| text_of(self.file, text))
+    }
+
+    /// The file offset of the byte at an RVA; `None` if the file does not hold it.
+    pub fn locate(&mut self, rva: u32) -> Option<u64> {
+        let mut offset = 0;
+        // SAFETY: the image is open
+        let status = unsafe { sys::petool_image_locate(&mut self.raw, rva, &mut offset) };
+        (status == sys::PETOOL_OK).then_some(offset)
+    }
+}
+
+impl Drop for OpenImage<'_> {
+    fn drop(&mut self) {
+        // SAFETY: the image is closed or open, was never copied, and is not used again; its file is still borrowed
+        unsafe { sys::petool_image_close(&mut self.raw) }
+    }
+}
