@@ -111,6 +111,7 @@ def kinds(size):
     count = size // 16
     text = b"a" * (size - 1) + b"\0"
     other = b"b" + b"a" * (size - 2) + b"\0"
+    last = lambda byte: b"a" * (size - 2) + byte + b"\0"
     forwarder = b"a" * (size // 2) + b"." + b"b" * (size // 2) + b"\0"
     ordinal = b"a." + b"#" + b"0" * size + b"1\0"
     yield "names_one", lambda: exports([0] * count, text, [16])
@@ -119,6 +120,7 @@ def kinds(size):
     yield "names_ends_down", lambda: exports(list(range(count - 1, -1, -1)), text, [16])
     yield "names_ends_of_two", lambda: exports([o for k in range(count // 2) for o in (k, size + k)], text * 2, [16])
     yield "names_ends_of_others", lambda: exports([o for k in range(1, count // 2) for o in (k, size + k)], text + other, [16])
+    yield "names_last_bytes", lambda: exports([o for k in range(count // 2) for o in (k, size + k)], last(b"x") + last(b"y"), [16])
     yield "imports_one", lambda: imports([0], [[2] * (16 * count)], b"m\0" + bytes(2) + text)
     yield "imports_ends", lambda: imports([0], [list(range(2 + 16 * count - 2, 2, -1))], b"m\0" + bytes(2) + text)
     yield "imports_module", lambda: imports([4] * (65000 * count // 65536), [[0]] * (65000 * count // 65536), b"\0\0m\0" + text)

@@ -65,18 +65,20 @@ class Costs(unittest.TestCase):
                     self.grows(0, count)
 
     def test_exports_are_indexed_whatever_their_names(self):
+        # the program imports the longest of many names: ends of one string, or of two that differ in their last byte
         with tempfile.TemporaryDirectory() as folder:
+            for name, last in (("names_ends", b"a"), ("names_last_bytes", b"y")):
 
-            def count(size):
-                # the program imports the longest of many names, which are ends of one string
-                exporter = made(crafted.kinds, "names_ends", size)
-                program = crafted.imports([0], [[6]], b"m.dll\0" + bytes(2) + b"a" * (size - 1) + b"\0")
-                paths = [pathlib.Path(folder, file) for file in ("m.dll", "c.exe")]
-                for path, data in zip(paths, (exporter, program)):
-                    path.write_bytes(data)
-                return counted(EXAMPLES / "imports_closure", paths[1], folder)
+                def count(size):
+                    exporter = made(crafted.kinds, name, size)
+                    program = crafted.imports([0], [[6]], b"m.dll\0" + bytes(2) + b"a" * (size - 2) + last + b"\0")
+                    paths = [pathlib.Path(folder, file) for file in ("m.dll", "c.exe")]
+                    for path, data in zip(paths, (exporter, program)):
+                        path.write_bytes(data)
+                    return counted(EXAMPLES / "imports_closure", paths[1], folder)
 
-            self.grows(0, count)
+                with self.subTest(name):
+                    self.grows(0, count)
 
     @unittest.skipUnless(PROGRAM, "left out without program: PETOOL_PROGRAM names none")
     def test_a_text_ends_where_it_may_be_no_longer(self):
