@@ -261,8 +261,8 @@ typedef struct petool_image {
 uint32_t petool_image_open(petool_image *image, const uint8_t *file, size_t len, petool_fault *fault);
 
 /* Makes `other` another struct of the same image; if it is open, it is closed first. Each must be closed, and the last that is
- * frees the memory. OK, and then `other` is open if `image` is, and otherwise closed; or MEMORY, which leaves `other` closed, but not if
- * `image` is closed. */
+ * frees the memory. OK, and then `other` is open if `image` is, and otherwise closed; or MEMORY, which leaves `other` closed, but
+ * not if `image` is closed. */
 uint32_t petool_image_share(petool_image *image, petool_image *other);
 void petool_image_close(petool_image *image);
 
