@@ -1,6 +1,6 @@
 -- Trails by exporter and end: one that is taken out, and one that is put in.
 use Rattle.std.proofs.Common.{◌≡◌, ◌∙◌, ℕ, Bool, true, false, cond, List, [], Option, None, Some, refl, sym, ap, subst, inl, inr}
-use Rattle.std.specs.Prelude.{IfSome, slice_get}
+use Rattle.std.specs.Prelude.{IfSome, option_map, slice_get}
 use Rattle.std.specs.Ordering.{is_eq}
 use Rattle.std.specs.BTreeMap.{get, is_at}
 use Rattle.std.specs.Map.{lookup}
@@ -20,6 +20,11 @@ use Rattle.pe_set.proofs.Remembering.{same_query}
 pub if_some : {X : Type 0} (P : X → Type 0) (o : Option X) → ((x : X) → o ≡ Some x → P x) → IfSome o P
 if_some P None each = tt
 if_some P (Some x) each = each x refl
+
+-- what holds of the second part of a pair
+pub second_of : (P : ℕ → Type 0) (o : Option (ℕ × ℕ)) → IfSome o (λ p. P p.1) → IfSome (option_map (λ p. p.1) o) P
+second_of P None h = tt
+second_of P (Some p) h = h
 
 module _ {A : Type 0} (modules : List (code_module.Module A)) (file : List ℕ) where
   pub no_trails : (trails : Trails A) → AreEndsOf file trails.texts → trails.trails.entries ≡ [] → AreTrailsOf modules file trails

@@ -1,6 +1,6 @@
 //! `Remembered`: how the searches of an image's imports by long names ended, by where the names stand.
 
-ghost use Rattle.std.specs.Prelude.{◌≡◌, ℕ, List, Some, IfSome, IfOk, IsTrue, OnOk, map, slice_get};
+ghost use Rattle.std.specs.Prelude.{◌≡◌, ℕ, List, Some, IfSome, IfOk, IsTrue, OnOk, map, option_map, slice_get};
 ghost use Rattle.pe_layout.specs.Image.{LaidOut};
 ghost use Rattle.pe_layout.specs.Layout.{image_of};
 ghost use Rattle.pe_tables.specs.ImportNames.{AreNamedAt};
@@ -79,6 +79,17 @@ pub(crate) fn query_of(
         return None;
     }
     Some((number, rva))
+}
+
+/// Where the name stands by which the search of an import is remembered.
+#[inline(always)]
+pub(crate) fn place_of(query: Option<(usize, u32)>) -> Option<u32>
+    ensures { result ≡ option_map (λ query. query.1) query }
+{
+    match query {
+        Some((_, rva)) => Some(rva),
+        None => None,
+    }
 }
 
 impl<A: Allocator + Copy> Remembered<A> {

@@ -1,10 +1,10 @@
 //! The search from an import through forwarders: where it ends, or the length of the cycle that it runs in.
 
-ghost use Rattle.std.specs.Prelude.{◌≡◌, ◌^◌, ◌≤◌, [], length, option_map, IfOk, IfSome, OnOk};
+ghost use Rattle.std.specs.Prelude.{◌≡◌, ◌^◌, ◌<◌, ◌≤◌, [], length, option_map, IfOk, IfSome, OnOk};
 ghost use Rattle.pe_layout.specs.Layout.{file_of, image_of};
 ghost use Rattle.pe_tables.specs.ImportNames.{IsNamedAt};
 ghost use Rattle.pe_tables.specs.ImportView.{import_view};
-ghost use Rattle.pe_tables.specs.Key.{key_view, target_view};
+ghost use Rattle.pe_tables.specs.Key.{Name, key_view, target_view};
 ghost use Rattle.pe_tables.specs.Exports.{target_at};
 ghost use Rattle.pe_set.specs.Set.{named};
 ghost use Rattle.pe_set.specs.SetView.{module_view, modules_view};
@@ -12,14 +12,14 @@ ghost use Rattle.pe_set.specs.NamesView.{names_in, lowered};
 ghost use Rattle.pe_set.specs.Search.{resolve, pairs_of, target_in};
 ghost use Rattle.pe_set.specs.EndsView.{AreEnds};
 ghost use Rattle.pe_set.specs.PathView.{path_view, IsPath, LeadsTo};
-ghost use Rattle.pe_set.specs.RememberedView.{AreRemembered};
+ghost use Rattle.pe_set.specs.RememberedView.{AreRemembered, text_at};
 ghost use Rattle.pe_set.specs.TrailsView.{AreTrailsOf};
 
 use crate::ends::Ends;
 use crate::module_names::Names;
 use crate::path::Path;
 use crate::reading::Module;
-use crate::remembered::{Remembered, query_of};
+use crate::remembered::{Remembered, place_of, query_of};
 use crate::standing::Standing;
 use crate::trails::Trails;
 use pe_layout::Layout;
@@ -58,35 +58,43 @@ fn target<'a, A: Allocator + Copy>(image: &Module<'a, A>, key: Key) -> Option<Ta
     }
 }
 
-/// What a module exports by a key, which may be known already.
+/// What the image of a number exports by a key: where the key is a long name at a known RVA of the image with this layout, by its trail.
 #[inline(always)]
-fn target_unless_known<'a, A: Allocator + Copy>(
-    known: Option<Option<Target<'a>>>,
-    image: &Module<'a, A>,
+fn target_of<'a, A: Allocator + Copy>(
+    modules: &[Module<'a, A>],
+    layout: &Layout<'a>,
+    number: usize,
     key: Key,
-) -> Option<Target<'a>>
-    requires { IfSome known (λ found. option_map target_view found ≡ target_at (module_view image.now).exports (key_view key)) }
-    ensures { option_map target_view result ≡ target_at (module_view image.now).exports (key_view key.entry) }
+    place: Option<u32>,
+    trails: &mut Trails<A>,
+) -> Result<Option<Target<'a>>, AllocError>
+    requires number { number < length modules.now }
+    requires placed { IfSome place (λ rva. key_view key ≡ Name (text_at (image_of layout.now) rva)) }
+    requires trails { AreTrailsOf modules.now (file_of layout.now) trails.old }
+    ensures exact { IfOk result (λ found. option_map target_view found ≡ target_in (modules_view modules.now) (key_view key.entry) number) }
+    ensures trails { OnOk result (AreTrailsOf modules.now (file_of layout.now) trails.new) }
 {
-    match known {
-        Some(found) => found,
-        None => target(image, key),
+    match place {
+        Some(rva) => trails.look_up(modules, layout, number, rva),
+        None => Ok(target(&modules[number], key)),
     }
 }
 
-/// Where the search for what an import names ends. `image` is the number of the image that has the name of its module, and `first`
-/// what this exports by the import's key, if that is known. The path, which has no forwarder yet, gets those to which the search comes,
-/// up to the first one whose end is known. `buffer` has room for names while it runs.
+/// Where the search for what an import of the image with this layout names ends. `image` is the number of the image that has the name
+/// of its module, and `place` where its own name stands, if that is long and this is known. The path, which has no forwarder yet, gets
+/// those to which the search comes, up to the first one whose end is known. `buffer` has room for names while it runs.
 ///
 /// A search that comes to a forwarder of its path runs in a cycle, which is as long as that is back.
 fn search<'a, A: Allocator + Copy>(
     modules: &[Module<'a, A>],
     names: &Names<A>,
+    layout: &Layout<'a>,
     import: &Import<'a>,
     image: Option<usize>,
-    first: Option<Option<Target<'a>>>,
+    place: Option<u32>,
     ends: &Ends<'a, A>,
     path: &mut Path<'a, A>,
+    trails: &mut Trails<A>,
     buffer: &mut Vec<u8, A>,
 ) -> Result<Resolution, AllocError>
     requires few { length modules.now ≤ 256 }
@@ -94,16 +102,17 @@ fn search<'a, A: Allocator + Copy>(
     requires few_exports { pairs_of (modules_view modules.now) ≤ 2 ^ 25 }
     requires known { AreEnds (modules_view modules.now) ends.now }
     requires image { image ≡ named (modules_view modules.now) import.now.«module».now }
-    requires first { IfSome first (λ found. IfSome image (λ number. option_map target_view found ≡ target_in (modules_view modules.now) (key_view import.now.key) number)) }
+    requires placed { IfSome place (λ rva. key_view import.now.key ≡ Name (text_at (image_of layout.now) rva)) }
+    requires trails { AreTrailsOf modules.now (file_of layout.now) trails.old }
     requires path { path_view path.old ≡ [] }
     requires whole { IsPath path.old }
     ensures exact { IfOk result (λ end. end ≡ resolve (modules_view modules.now) import.now.«module».now (key_view import.now.key)) }
     ensures leads { IfOk result (λ end. LeadsTo (modules_view modules.now) import.now.«module».now (key_view import.now.key) end (path_view path.new)) }
+    ensures trails { OnOk result (AreTrailsOf modules.now (file_of layout.now) trails.new) }
 {
-    let (mut image, mut key) = (image, import.key);
-    let mut known = first;
+    let (mut image, mut key, mut place) = (image, import.key, place);
     while let Some(number) = image {
-        match target_unless_known(known, &modules[number], key) {
+        match target_of(modules, layout, number, key, place, trails)? {
             None => return Ok(Resolution::Unknown),
             Some(Target::Rva(rva)) => {
                 return Ok(Resolution::Bound {
@@ -121,23 +130,25 @@ fn search<'a, A: Allocator + Copy>(
                 }
                 image = names.find_forwarded(buffer, module)?;
                 key = next;
-                known = None;
+                place = None;
             }
         }
     }
     Ok(Resolution::Missing)
 }
 
-/// Where the search for what an import names ends. `image` is the number of the image that has the name of its module, and `first`
-/// what this exports by the import's key, if that is known. It is kept for the forwarders to which the search comes that they end so.
-/// `buffer` has room for names while it runs.
+/// Where the search for what an import of the image with this layout names ends. `image` is the number of the image that has the name
+/// of its module, and `place` where its own name stands, if that is long and this is known. It is kept for the forwarders to which the
+/// search comes that they end so. `buffer` has room for names while it runs.
 pub(crate) fn resolve<'a, A: Allocator + Copy>(
     modules: &[Module<'a, A>],
     names: &Names<A>,
+    layout: &Layout<'a>,
     import: &Import<'a>,
     image: Option<usize>,
-    first: Option<Option<Target<'a>>>,
+    place: Option<u32>,
     ends: &mut Ends<'a, A>,
+    trails: &mut Trails<A>,
     buffer: &mut Vec<u8, A>,
 ) -> Result<Resolution, AllocError>
     requires few { length modules.now ≤ 256 }
@@ -145,13 +156,15 @@ pub(crate) fn resolve<'a, A: Allocator + Copy>(
     requires few_exports { pairs_of (modules_view modules.now) ≤ 2 ^ 25 }
     requires known { AreEnds (modules_view modules.now) ends.old }
     requires image { image ≡ named (modules_view modules.now) import.now.«module».now }
-    requires first { IfSome first (λ found. IfSome image (λ number. option_map target_view found ≡ target_in (modules_view modules.now) (key_view import.now.key) number)) }
+    requires placed { IfSome place (λ rva. key_view import.now.key ≡ Name (text_at (image_of layout.now) rva)) }
+    requires trails { AreTrailsOf modules.now (file_of layout.now) trails.old }
     ensures exact { IfOk result (λ end. end ≡ resolve (modules_view modules.now) import.now.«module».now (key_view import.now.key)) }
     ensures known { OnOk result (AreEnds (modules_view modules.now) ends.new) }
+    ensures trails { OnOk result (AreTrailsOf modules.now (file_of layout.now) trails.new) }
 {
     let mut path = Path::new(ends.alloc);
     let end = search(
-        modules, names, import, image, first, ends, &mut path, buffer,
+        modules, names, layout, import, image, place, ends, &mut path, trails, buffer,
     )?;
     if let Resolution::Endless { .. } = end {
         return Ok(end);
@@ -194,8 +207,10 @@ pub(crate) fn resolve_once<'a, A: Allocator + Copy>(
     if let Some(end) = remembered.find(query) {
         return Ok(end);
     }
-    let first = trails.first_target(modules, layout, query)?;
-    let end = resolve(modules, names, import, image, first, ends, buffer)?;
+    let place = place_of(query);
+    let end = resolve(
+        modules, names, layout, import, image, place, ends, trails, buffer,
+    )?;
     remembered.keep(query, end)?;
     Ok(end)
 }

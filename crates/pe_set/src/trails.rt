@@ -1,6 +1,6 @@
 //! `Trails`: how far the long names by which an image imports have been looked up in the images that export them.
 
-ghost use Rattle.std.specs.Prelude.{◌≡◌, ◌<◌, ℕ, List, [], Some, length, slice_get, option_map, IfOk, IfSome, OnOk};
+ghost use Rattle.std.specs.Prelude.{◌≡◌, ◌<◌, ℕ, List, [], length, slice_get, option_map, IfOk, IfSome, OnOk};
 ghost use Rattle.pe_view.specs.TextEnds.{AreEndsOf};
 ghost use Rattle.pe_layout.specs.Layout.{file_of, image_of};
 ghost use Rattle.pe_tables.specs.Key.{Name, target_view};
@@ -56,22 +56,22 @@ impl<A: Allocator + Copy> Trails<A> {
         }
     }
 
-    /// What the image of a number exports by the name at an RVA of the image with this layout; nothing is known where there is no name.
+    /// What the image of a number exports by the name at an RVA of the image with this layout.
     #[inline(never)]
-    fn look_up<'a>(
+    pub fn look_up<'a>(
         &mut self,
         modules: &[Module<'a, A>],
         layout: &Layout<'a>,
         number: usize,
         rva: u32,
-    ) -> Result<Option<Option<Target<'a>>>, AllocError>
+    ) -> Result<Option<Target<'a>>, AllocError>
         requires number { number < length modules.now }
         requires known { AreTrailsOf modules.now (file_of layout.now) self.old }
-        ensures found { IfOk result (λ known. IfSome known (λ target. option_map target_view target ≡ target_in (modules_view modules.now) (Name (text_at (image_of layout.now) rva)) number)) }
+        ensures found { IfOk result (λ target. option_map target_view target ≡ target_in (modules_view modules.now) (Name (text_at (image_of layout.now) rva)) number) }
         ensures known { OnOk result (AreTrailsOf modules.now (file_of layout.now) self.new) }
     {
         let Some(text) = layout.text_at(&mut self.texts, rva) else {
-            return Ok(None);
+            return Ok(modules[number].image.exports.by_name(b""));
         };
         let mut trail = self.take(modules, number, text.end);
         let target = modules[number]
@@ -79,27 +79,6 @@ impl<A: Allocator + Copy> Trails<A> {
             .exports
             .by_name_along(text, &mut trail)?;
         self.trails.insert((number, text.end), trail)?;
-        Ok(Some(target))
-    }
-
-    /// What the first image to which a search comes exports by the import's name: the image of a number, by the name at an RVA. Nothing is
-    /// known where these are not.
-    #[inline(always)]
-    pub fn first_target<'a>(
-        &mut self,
-        modules: &[Module<'a, A>],
-        layout: &Layout<'a>,
-        query: Option<(usize, u32)>,
-    ) -> Result<Option<Option<Target<'a>>>, AllocError>
-        requires number { IfSome query (λ place. place.0 < length modules.now) }
-        requires known { AreTrailsOf modules.now (file_of layout.now) self.old }
-        ensures found { IfOk result (λ known. IfSome known (λ target. (place : ℕ × ℕ) × (query ≡ Some place)
-            × (option_map target_view target ≡ target_in (modules_view modules.now) (Name (text_at (image_of layout.now) place.1)) place.0))) }
-        ensures known { OnOk result (AreTrailsOf modules.now (file_of layout.now) self.new) }
-    {
-        match query {
-            Some((number, rva)) => self.look_up(modules, layout, number, rva),
-            None => Ok(None),
-        }
+        Ok(target)
     }
 }

@@ -1,17 +1,15 @@
-use Rattle.std.proofs.Common.{◌≡◌, ◌∙◌, ◌+◌, ◌++◌, ◌∷◌, [], ℕ, suc, List, Option, length, Some, refl, sym, ap, subst, arith}
-use Rattle.std.specs.Prelude.{option_map, IfSome}
-use Rattle.std.proofs.lemmas.Option.{IfSome_then}
+use Rattle.std.proofs.Common.{◌≡◌, ◌∙◌, ◌+◌, ◌++◌, ◌∷◌, [], ℕ, suc, List, length, Some, sym, ap, subst, arith}
+use Rattle.std.specs.Prelude.{option_map}
 use Rattle.std.proofs.lemmas.List.{length-append}
 use Rattle.pe_tables.specs.Key.{Key, key_view, target_view}
-use Rattle.pe_tables.specs.Exports.{target_at}
-use Rattle.pe_set.specs.Search.{from_image, resolve_in, target_in}
+use Rattle.pe_set.specs.Search.{from_image, resolve_in}
 use Rattle.pe_set.specs.Set.{forwarded_name}
-use Rattle.pe_set.specs.SetView.{module_view, modules_view}
+use Rattle.pe_set.specs.SetView.{modules_view}
 use Rattle.pe_set.specs.NamesView.{names_in}
 use Rattle.pe_set.specs.StandView.{Stand, stand_of}
 use Rattle.pe_set.specs.PathView.{AreApart, path_view}
 use Rattle.pe_set.specs.declared.search.Resolution.TheVariants.{Bound, Missing, Unknown, Endless}
-use Rattle.pe_set.proofs.Searching.{resolve_missing, resolve_unknown, resolve_bound, target_is, number_within, found_named}
+use Rattle.pe_set.proofs.Searching.{resolve_missing, resolve_unknown, resolve_bound, number_within, found_named}
 use Rattle.pe_set.proofs.Walking.{walk_begins, walk_on, walk_ends, walk_leads, walk_fits, walk_cycles, cycle_leads}
 use Rattle.pe_set.proofs.search.search.Goals as goal
 
@@ -21,31 +19,14 @@ loop-image-init g c =
     record {
       name = c.args.import.now.«module».now;
       here = c.requires.image;
-      known = c.requires.first;
+      placed = c.requires.placed;
+      trails = c.requires.trails;
       whole = c.requires.whole;
       walked = rw c.requires.path (walk_begins s c.args.import.now.«module».now (key_view c.args.import.now.key));
     }
 
-pub bounds-modules-number : goal.bounds-modules-number
-bounds-modules-number g c = number_within c.args.modules.now c.loop-image.invariant.name c.in-Some.number (sym c.loop-image.invariant.here ∙ c.in-Some.is)
-
-pub offset_bounds-modules-number : goal.offset_bounds-modules-number
-offset_bounds-modules-number g c =
-    let lt = number_within c.args.modules.now c.loop-image.invariant.name c.in-Some.number (sym c.loop-image.invariant.here ∙ c.in-Some.is) in
-    omega (arith, lt)
-
-pub target_unless_known-requires : goal.target_unless_known-requires
-target_unless_known-requires g c =
-    let ms = c.args.modules.now in
-    let s = modules_view ms in
-    let at = c.loop-image.invariant in
-    let key : Key = key_view c.loop-image.key in
-    let i : ℕ = c.in-Some.number in
-    let m = c.index-modules-number.result in
-    let is : target_in s key i ≡ target_at (module_view m).exports key =
-    target_is ms m i key (target_at (module_view m).exports key) (number_within ms at.name i (sym at.here ∙ c.in-Some.is)) c.index-modules-number.is refl in
-    IfSome_then c.loop-image.known at.known (λ found there.
-    subst (λ (o : Option ℕ). IfSome o (λ number. option_map target_view found ≡ target_in s key number)) c.in-Some.is there ∙ is)
+pub target_of-requires-clause-number : goal.target_of-requires-clause-number
+target_of-requires-clause-number g c = number_within c.args.modules.now c.loop-image.invariant.name c.in-Some.number (sym c.loop-image.invariant.here ∙ c.in-Some.is)
 
 pub overflow_cast-result : goal.overflow_cast-result
 overflow_cast-result g c =
@@ -61,7 +42,7 @@ returns-in-None-clause-exact g c =
     let key : Key = key_view c.loop-image.key in
     let i : ℕ = c.in-Some.number in
     let here = sym at.here ∙ c.in-Some.is in
-    let lacks = target_is ms c.index-modules-number.result i key (option_map target_view c.target_unless_known.result) (number_within ms at.name i here) c.index-modules-number.is c.target_unless_known.ensures ∙ ap (option_map target_view) c.in-None.is in
+    let lacks = sym c.in_ok-target_of.ensures.exact ∙ ap (option_map target_view) c.in-None.is in
     walk_ends s c.args.import.now.«module».now (key_view c.args.import.now.key) (path_view c.loop-image.path) at.name key at.walked 1 Unknown (resolve_unknown s at.name key 0 i here lacks)
 
 pub returns-in-None-clause-leads : goal.returns-in-None-clause-leads
@@ -72,7 +53,7 @@ returns-in-None-clause-leads g c =
     let key : Key = key_view c.loop-image.key in
     let i : ℕ = c.in-Some.number in
     let here = sym at.here ∙ c.in-Some.is in
-    let lacks = target_is ms c.index-modules-number.result i key (option_map target_view c.target_unless_known.result) (number_within ms at.name i here) c.index-modules-number.is c.target_unless_known.ensures ∙ ap (option_map target_view) c.in-None.is in
+    let lacks = sym c.in_ok-target_of.ensures.exact ∙ ap (option_map target_view) c.in-None.is in
     walk_leads s c.args.import.now.«module».now (key_view c.args.import.now.key) (path_view c.loop-image.path) at.name key at.walked 1 Unknown (resolve_unknown s at.name key 0 i here lacks)
 
 pub returns-in-Some-Rva-clause-exact : goal.returns-in-Some-Rva-clause-exact
@@ -83,7 +64,7 @@ returns-in-Some-Rva-clause-exact g c =
     let key : Key = key_view c.loop-image.key in
     let i : ℕ = c.in-Some.number in
     let here = sym at.here ∙ c.in-Some.is in
-    let found = target_is ms c.index-modules-number.result i key (option_map target_view c.target_unless_known.result) (number_within ms at.name i here) c.index-modules-number.is c.target_unless_known.ensures ∙ ap (option_map target_view) (c.in-Some-Rva.is ∙ ap (λ t. Some t) c.in-Some-Rva.field-0-is) in
+    let found = sym c.in_ok-target_of.ensures.exact ∙ ap (option_map target_view) (c.in-Some-Rva.is ∙ ap (λ t. Some t) c.in-Some-Rva.field-0-is) in
     walk_ends s c.args.import.now.«module».now (key_view c.args.import.now.key) (path_view c.loop-image.path) at.name key at.walked 1 (Bound i c.in-Some-Rva.rva) (resolve_bound s at.name key 0 i here c.in-Some-Rva.rva found)
 
 pub returns-in-Some-Rva-clause-leads : goal.returns-in-Some-Rva-clause-leads
@@ -94,7 +75,7 @@ returns-in-Some-Rva-clause-leads g c =
     let key : Key = key_view c.loop-image.key in
     let i : ℕ = c.in-Some.number in
     let here = sym at.here ∙ c.in-Some.is in
-    let found = target_is ms c.index-modules-number.result i key (option_map target_view c.target_unless_known.result) (number_within ms at.name i here) c.index-modules-number.is c.target_unless_known.ensures ∙ ap (option_map target_view) (c.in-Some-Rva.is ∙ ap (λ t. Some t) c.in-Some-Rva.field-0-is) in
+    let found = sym c.in_ok-target_of.ensures.exact ∙ ap (option_map target_view) (c.in-Some-Rva.is ∙ ap (λ t. Some t) c.in-Some-Rva.field-0-is) in
     walk_leads s c.args.import.now.«module».now (key_view c.args.import.now.key) (path_view c.loop-image.path) at.name key at.walked 1 (Bound i c.in-Some-Rva.rva) (resolve_bound s at.name key 0 i here c.in-Some-Rva.rva found)
 
 pub returns-in-Some-get-clause-exact : goal.returns-in-Some-get-clause-exact
@@ -152,13 +133,14 @@ loop-image-preserved g c =
     let here = sym at.here ∙ c.in-Some.is in
     let to = c.in-Some-Forward.«module».now in
     let next : Key = key_view c.in-Some-Forward.next in
-    let on = target_is ms c.index-modules-number.result i key (option_map target_view c.target_unless_known.result) (number_within ms at.name i here) c.index-modules-number.is c.target_unless_known.ensures ∙ ap (option_map target_view) (c.in-Some-Forward.is ∙ ap (λ t. Some t) c.in-Some-Forward.field-0-is) in
+    let on = sym c.in_ok-target_of.ensures.exact ∙ ap (option_map target_view) (c.in-Some-Forward.is ∙ ap (λ t. Some t) c.in-Some-Forward.field-0-is) in
     let adds = rw c.in_default-2.is at c.in_ok-length-in-Some-Forward.ensures.adds in
     let longer = adds.0 ∙ ap (λ (p : Stand). path ++ p ∷ []) c.at-at.ensures in
     record {
       name = forwarded_name to;
       here = c.in_ok-image-in-Some-Forward.ensures ∙ found_named ms (names_in c.args.names.now) (forwarded_name to) c.requires.named;
-      known = tt;
+      placed = tt;
+      trails = c.in_ok-target_of.ensures.trails;
       whole = c.in_ok-length-in-Some-Forward.ensures.whole;
       walked = rw longer (walk_on s c.args.import.now.«module».now (key_view c.args.import.now.key) path at.name key at.walked i here to next on);
     }
@@ -174,7 +156,7 @@ loop-image-smaller g c =
     let here = sym at.here ∙ c.in-Some.is in
     let to = c.in-Some-Forward.«module».now in
     let next : Key = key_view c.in-Some-Forward.next in
-    let on = target_is ms c.index-modules-number.result i key (option_map target_view c.target_unless_known.result) (number_within ms at.name i here) c.index-modules-number.is c.target_unless_known.ensures ∙ ap (option_map target_view) (c.in-Some-Forward.is ∙ ap (λ t. Some t) c.in-Some-Forward.field-0-is) in
+    let on = sym c.in_ok-target_of.ensures.exact ∙ ap (option_map target_view) (c.in-Some-Forward.is ∙ ap (λ t. Some t) c.in-Some-Forward.field-0-is) in
     let adds = rw c.in_default-2.is at c.in_ok-length-in-Some-Forward.ensures.adds in
     let longer = adds.0 ∙ ap (λ (p : Stand). path ++ p ∷ []) c.at-at.ensures in
     let walk = walk_on s c.args.import.now.«module».now (key_view c.args.import.now.key) path at.name key at.walked i here to next on in

@@ -21,14 +21,14 @@ returns-clause-found g c =
     let file = file_of c.args.layout.now in
     let image = image_of c.args.layout.now in
     let number : ℕ = c.args.number in
-    let m = c.index-modules-number.result in
+    let m = c.index-modules-number-2.result in
     let end : ℕ = c.in-Some.text.end in
     let trail = c.take-trail.result in
     let known = trails_kept ms file c.args.self.now _ c.requires.known c.text_at.ensures.known refl in
     let there : slice_get ms number ≡ Some (get_or ms number m) = slice_get-get_or ms number m c.requires.number in
     let its = subst (λ (o : Option (code_module.Module g.row.A.Denot)). IfSome o (λ x. IsTrailOf x.image.exports file end trail)) there (c.take-trail.ensures.trail file known) in
     let text : c.in-Some.text.bytes.now ≡ text_at image c.args.rva = ap (λ (o : Option (List ℕ)). unwrap_or o []) c.in-Some.ensures.text in
-    let is : m ≡ get_or ms number m = c.index-modules-number.is in
+    let is : m ≡ get_or ms number m = c.index-modules-number-2.is in
     let key : Key = Name (text_at image c.args.rva) in
     c.in_ok-target.ensures.exact file c.in-Some.ensures.place its
     ∙ ap (λ (bytes : List ℕ). target_at (exports_view (get_or ms number m).image.exports) (Name bytes)) text
@@ -40,7 +40,7 @@ returns-clause-known g c =
     let ms = c.args.modules.now in
     let file = file_of c.args.layout.now in
     let number : ℕ = c.args.number in
-    let m = c.index-modules-number.result in
+    let m = c.index-modules-number-2.result in
     let end : ℕ = c.in-Some.text.end in
     let trail = c.take-trail.result in
     let known = trails_kept ms file c.args.self.now _ c.requires.known c.text_at.ensures.known refl in
@@ -50,3 +50,18 @@ returns-clause-known g c =
     trails_more ms file c.take-trail.new.self _ number end on (c.take-trail.ensures.known file known) refl
     (subst (λ (o : Option (code_module.Module g.row.A.Denot)). IfSome o (λ x. IsTrailOf x.image.exports file end on)) (sym there) (c.in_ok-target.ensures.follows file c.in-Some.ensures.place its))
     c.in_ok-insert.ensures.updates.0
+
+pub returns-in_default-clause-found : goal.returns-in_default-clause-found
+unfolding module_view
+returns-in_default-clause-found g c =
+    let ms = c.args.modules.now in
+    let image = image_of c.args.layout.now in
+    let number : ℕ = c.args.number in
+    let m = c.index-modules-number.result in
+    let is : m ≡ get_or ms number m = c.index-modules-number.is in
+    let key : Key = Name (text_at image c.args.rva) in
+    let text : [] ≡ text_at image c.args.rva = ap (λ (o : Option (List ℕ)). unwrap_or o []) c.in_default.ensures.text in
+    c.by_name.ensures
+    ∙ ap (λ (bytes : List ℕ). target_at (exports_view (get_or ms number m).image.exports) (Name bytes)) text
+    ∙ sym (target_is ms m number key (target_at (exports_view (get_or ms number m).image.exports) key) c.requires.number is
+    (ap (λ (x : code_module.Module g.row.A.Denot). target_at (exports_view x.image.exports) key) (sym is)))
