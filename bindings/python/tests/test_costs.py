@@ -86,6 +86,7 @@ class Costs(unittest.TestCase):
             for command, kinds, name in (
                 ("dump", crafted.kinds, "names_ends.dll"),
                 ("json", crafted.kinds, "names_ends.dll"),
+                ("json", crafted.object_kinds, "shown_sections.obj"),
                 ("json", crafted.object_kinds, "shown_symbols.obj"),
                 ("object", crafted.object_kinds, "shown_sections.obj"),
                 ("object", crafted.object_kinds, "shown_symbols.obj"),

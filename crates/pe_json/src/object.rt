@@ -72,6 +72,7 @@ fn write_section<'a, A: Allocator + Copy, W: Sink>(
     json.members(&section_members(number, section.name, header));
     write_relocations(json, text, machine, section.relocations);
     json.end_object();
+    json.put(text);
 }
 
 /// Writes the list of sections.
