@@ -30,8 +30,9 @@ def image(data, directories):
     return (dos + b"PE\0\0" + coff + optional + section).ljust(HEADERS, b"\0") + data
 
 
-def exports(names, texts, addresses, inside=False):
-    """An export table: the offsets of its names in the texts, and its addresses, in the texts where they are inside."""
+def exports(names, texts, addresses, inside=False, entries_of=None):
+    """An export table: the offsets of its names in the texts, and its addresses, in the texts where they are inside. Each name has
+    the first address, unless the indexes of others are given."""
     entries = BASE + 40
     pointers = entries + 4 * len(addresses)
     ordinals = pointers + 4 * len(names)
@@ -40,7 +41,7 @@ def exports(names, texts, addresses, inside=False):
     data = directory
     data += struct.pack(f"<{len(addresses)}I", *(place + a if inside else a for a in addresses))
     data += struct.pack(f"<{len(names)}I", *(place + name for name in names))
-    data += struct.pack(f"<{len(names)}H", *([0] * len(names)))
+    data += struct.pack(f"<{len(names)}H", *(entries_of or [0] * len(names)))
     data += texts
     return image(data, [(0, BASE, len(data) if inside else 40)])
 
@@ -129,10 +130,27 @@ def kinds(size):
     yield "forwarders_ordinal", lambda: exports([], ordinal, [0] * count, inside=True)
 
 
+#: The name of the module from which the files of sets import, and the room of a hint.
+EXPORTER = b"m.dll\0"
+HINT = bytes(2)
+
+
+def importer(names, texts):
+    """A file that imports these names of the texts."""
+    return imports([0], [[len(EXPORTER) + name for name in names]], EXPORTER + HINT + texts)
+
+
+def forwarding(count, text):
+    """A module whose names are ends of a text, and all forwarded to one more name of it, and a file that imports them."""
+    strings = text + b"m.z\0z\0"
+    forwarder, name = len(text), len(text) + 4
+    exporter = exports([*range(count), name], strings, [forwarder, len(strings)], inside=True, entries_of=[0] * count + [1])
+    return exporter, importer(range(count), text)
+
+
 def importing(names, texts, count):
-    """A module `m` that exports these names of the texts, and a file that imports them in turn, so many times in all."""
-    lookups = [2 + names[k % len(names)] for k in range(count)]
-    return exports(names, texts, [16]), imports([0], [lookups], b"m\0" + bytes(2) + texts)
+    """A module that exports these names of the texts, and a file that imports them in turn, so many times in all."""
+    return exports(names, texts, [16]), importer([names[k % len(names)] for k in range(count)], texts)
 
 
 def sets(size):
@@ -146,6 +164,7 @@ def sets(size):
     yield "last_byte", lambda: importing([(length + 2) * k for k in range(90)], alike, size)
     yield "ends_up", lambda: importing(list(range(count - 1, -1, -1)), text, count)
     yield "ends_down", lambda: importing(list(range(count)), text, count)
+    yield "ends_forwarded", lambda: forwarding(count, text)
 
 
 def main():
@@ -158,7 +177,7 @@ def main():
     for name, make in sets(size):
         inner = os.path.join(folder, f"set_{name}")
         os.makedirs(inner, exist_ok=True)
-        for file, data in zip(("m", "c.dll"), make()):
+        for file, data in zip(("m.dll", "c.dll"), make()):
             with open(os.path.join(inner, file), "wb") as written:
                 written.write(data)
 

@@ -53,10 +53,10 @@ class Costs(unittest.TestCase):
     @unittest.skipUnless(PROGRAM, "left out without program: PETOOL_PROGRAM names none")
     def test_imports_that_share_long_names_are_bound(self):
         with tempfile.TemporaryDirectory() as folder:
-            for name in ("one", "two", "last_byte"):
+            for name in ("one", "two", "last_byte", "ends_up", "ends_down", "ends_forwarded"):
 
                 def count(size):
-                    paths = [pathlib.Path(folder, file) for file in ("m", "c.dll")]
+                    paths = [pathlib.Path(folder, file) for file in ("m.dll", "c.dll")]
                     for path, data in zip(paths, made(crafted.sets, name, size)):
                         path.write_bytes(data)
                     return counted(PROGRAM, "map", f"20000000={paths[0]}", f"40000000={paths[1]}")
