@@ -68,8 +68,8 @@ impl<'w, W: Sink> TextWriter<'w, W> {
         }
     }
 
-    /// Whether a write has failed. Whatever is added then, the writer stays as it is: a caller may leave out what is left of its
-    /// text, and need not read it.
+    /// Whether a write has failed. Then nothing more is written, so a caller may leave out what is left of its text, and need not
+    /// read it.
     #[inline]
     pub fn has_failed(&self) -> bool
         ensures tells { TellsFailure W.taken W.failures self.now result }
