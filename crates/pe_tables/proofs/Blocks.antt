@@ -1,4 +1,4 @@
--- The blocks of a table, one after the other.
+-- The blocks of a table, block by block.
 use Rattle.std.proofs.Common.{◌≡◌, ℕ, zero, suc, ◌+◌, ◌-◌, ◌<◌, ◌≤◌, true, false, List, [], ◌∷◌, ◌++◌, Option, Some, None, refl, sym, ap, subst, ◌∙◌, append_assoc, arith, inl, inr}
 use Rattle.std.specs.Prelude.{nat_lt, nat_le, not, ◌==◌, option_to_list, IsTrue}
 use Rattle.std.specs.List.{flat_map}
@@ -15,12 +15,12 @@ use Rattle.pe_tables.specs.FixupFaults.{field_tests, entries_tests, blocks_tests
 use Rattle.pe_tables.specs.TableFaults.{goes_past}
 use Rattle.pe_tables.specs.declared.fixups.Fixup.{Fixup}
 
--- no block stands where the table ends
+-- there is no block where the table ends
 pub blocks-end : (i : LaidOut) (end rva n : ℕ) → ends_table i end rva ≡ true → blocks_from n i end rva ≡ []
 blocks-end i end rva zero ends = refl
 blocks-end i end rva (suc n) ends = rw ends refl
 
--- a block stands where it goes on
+-- there is a block where it continues
 blocks-more : (i : LaidOut) (end rva n : ℕ) → ends_table i end rva ≡ false → blocks_from (suc n) i end rva ≡ block_at i rva ∷ blocks_from n i end (rva + (block_at i rva).size)
 blocks-more i end rva n goes = rw goes refl
 
@@ -48,7 +48,7 @@ enough i end (suc n) (suc m) rva le le' = elim (cases_Bool (ends_table i end rva
       ∙ sym (blocks-more i end rva m goes))
 ]
 
--- the blocks from an RVA on, where one stands there
+-- the blocks from an RVA on, if there is one
 pub blocks-step : (i : LaidOut) (end rva : ℕ) → ends_table i end rva ≡ false
     → blocks_from (end - rva) i end rva ≡ block_at i rva ∷ blocks_from (end - (rva + (block_at i rva).size)) i end (rva + (block_at i rva).size)
 blocks-step i end rva goes =
@@ -118,7 +118,7 @@ unfolding entries_tests
 same_entries i slots others same before [] = refl
 same_entries i slots others same before (e ∷ es) = rw (same_field i slots others same before (fixup_of e), same_entries i slots others same (before ++ option_to_list (fixup_of e)) es) refl
 
--- slots that no test tells apart have the same tests
+-- lists of the same slots have the same tests
 pub same_blocks : (i : LaidOut) (slots others : List (ℕ × ℕ)) → SameRanges slots others → (end : ℕ) (before : List Fixup) (bs : List Block) → blocks_tests i slots end before bs ≡ blocks_tests i others end before bs
 unfolding blocks_tests
 same_blocks i slots others same end before [] = refl
@@ -155,7 +155,7 @@ module _ (i : LaidOut) (others : List (ℕ × ℕ)) (d : Directory) (inside : d.
       table-past i others others d (λ test. refl) inside ∙ ap (λ (bs : List Block). first_standing (blocks_tests i others (d.rva + d.size) [] bs)) all_blocks
       ∙ blocks-bad_size i others (d.rva + d.size) d.rva [] goes bad
 
-  -- the size of the first block of a table has been asked
+  -- the size of the first block of a table was tested
   pub table-asked : ends_table i (d.rva + d.size) d.rva ≡ false → is_bad_size (d.rva + d.size) d.rva (block_at i d.rva).size ≡ false → IsTrue (goes_past 33 (fixup_tests_at i others (Some d)))
   unfolding blocks_tests
   table-asked goes sized =

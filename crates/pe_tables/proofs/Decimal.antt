@@ -1,4 +1,4 @@
--- A number grows with each digit, so that digits of too great a number write no ordinal whatever follows them.
+-- A number grows with each digit, so that digits write no ordinal once their number is too great.
 use Rattle.std.proofs.Common.{◌≡◌, ℕ, ◌+◌, ◌-◌, ◌*◌, ◌<◌, ◌≤◌, Bool, true, false, List, [], ◌∷◌, length, drop, get_or, None, refl, ap, arith}
 use Rattle.std.specs.Prelude.{nat_le, nat_lt, ◌&&◌}
 use Rattle.std.specs.List.{list_all}

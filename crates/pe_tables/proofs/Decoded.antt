@@ -208,7 +208,7 @@ pub all-pages : (fs : List Fixup) → All (λ (f : Fixup). f.field < 2 ^ 32) fs 
 all-pages [] low = tt
 all-pages (f ∷ fs) low = all-before f (pages_of fs) (All-head (λ (g : Fixup). g.field < 2 ^ 32) f fs low) (all-pages fs (All-tail (λ (g : Fixup). g.field < 2 ^ 32) f fs low))
 
--- a table that stands as a whole directory, read back
+-- a table that is a whole directory, read back
 pub table_read : (i : LaidOut) (d : Directory) (fs : List Fixup) → All (λ (f : Fixup). f.field < 2 ^ 32) fs → StandsAt i d.rva (encoded fs) → d.size ≡ length (encoded fs) → d.size < 2 ^ 32
     → map view (fixups_at i (Some d)) ≡ map view fs
 table_read i d fs low stands size small =

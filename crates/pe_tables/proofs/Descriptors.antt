@@ -1,4 +1,4 @@
--- The descriptors of an import table, one after the other.
+-- The descriptors of an import table, one by one.
 use Rattle.std.proofs.Common.{◌≡◌, ℕ, zero, suc, ◌+◌, ◌-◌, ◌≤◌, true, false, List, [], ◌∷◌, ◌++◌, Some, None, refl, sym, ap, ◌∙◌, append_assoc, arith, inl, inr, subst}
 use Rattle.std.specs.Prelude.{if◌then◌else◌, IsTrue}
 use Rattle.std.specs.List.{flat_map}
@@ -14,7 +14,7 @@ use Rattle.pe_tables.specs.TableFaults.{goes_past}
 use Rattle.pe_tables.proofs.Past.{past-in, past-later}
 use Rattle.pe_tables.proofs.Lookups.{inside_of, past_ends}
 
--- the descriptors behind the first
+-- the descriptors after the first
 abbrev pub descriptors_behind : ℕ → LaidOut → ℕ → List Descriptor
 descriptors_behind zero i rva = []
 descriptors_behind (suc n) i rva = if ends_list i (descriptor_at i rva) then [] else descriptors_from n i (rva + 20)
@@ -43,7 +43,7 @@ descriptors-enough i (suc n) (suc m) rva le le' = elim (cases_Bool (ends_list i 
       ∙ sym (descriptors-more m i rva goes))
 ]
 
--- the descriptors from an RVA on, where the list goes on
+-- the descriptors from an RVA on, where the list continues
 pub descriptors-step : (i : LaidOut) (rva : ℕ) → ends_list i (descriptor_at i rva) ≡ false → descriptors_from (i.size - rva) i rva ≡ descriptor_at i rva ∷ descriptors_from (i.size - (rva + 20)) i (rva + 20)
 descriptors-step i rva goes =
     let inside : rva + 20 ≤ i.size = inside_of (rva + 20) i.size _ goes in
@@ -63,7 +63,7 @@ module _ (i : LaidOut) (before : List Import) (rva : ℕ) where
       ap (λ ds. first_standing (descriptors_tests i before ds)) (descriptors-first n i rva)
       ∙ first-in (descriptor_tests i before here) (descriptors_tests i (before ++ imports_in i here) (descriptors_behind n i rva)) y some
 
-  -- a descriptor without one, behind which others follow
+  -- a descriptor without one, after which others follow
   pub descriptors-past : (left : List Descriptor) (n : ℕ) → descriptors_from n i rva ≡ here ∷ left → first_standing (descriptor_tests i before here) ≡ None
       → first_standing (descriptors_tests i before (descriptors_from n i rva)) ≡ first_standing (descriptors_tests i (before ++ imports_in i here) left)
   unfolding descriptors_tests
@@ -78,7 +78,7 @@ module _ (i : LaidOut) (before : List Import) (rva : ℕ) where
       ap (λ ds. before ++ flat_map (imports_in i) ds) e
       ∙ sym (append_assoc before (imports_in i here) (flat_map (imports_in i) left))
 
-  -- the last fault of an import of the descriptor has been asked
+  -- the last fault of an import of the descriptor was tested
   pub descriptors-asked : (n : ℕ) → IsTrue (goes_past 31 (descriptor_tests i before here)) → IsTrue (goes_past 31 (descriptors_tests i before (descriptors_from n i rva)))
   unfolding descriptors_tests
   descriptors-asked n past =

@@ -1,4 +1,4 @@
--- Tests and values of the first n numbers, one after the other.
+-- Tests and values of the first n numbers, number by number.
 use Rattle.std.proofs.Common.{◌≡◌, ℕ, zero, suc, ◌+◌, ◌-◌, ◌<◌, List, [], ◌∷◌, ◌++◌, Option, Some, None, refl, sym, ap, ◌∙◌, append-nil, arith}
 use Rattle.std.specs.Prelude.{option_to_list}
 use Rattle.std.specs.List.{flat_map, filter_map, range_with_len}
@@ -32,7 +32,7 @@ unfolding each_tests
 each-none tests = refl
 
 module _ (tests : ℕ → List Test) (k : ℕ) (none : first_standing (each_tests tests k) ≡ None) where
-  -- no test of the first k stands, nor one of the next
+  -- no test of the first k holds, nor one of the next
   pub each-more : first_standing (tests k) ≡ None → first_standing (each_tests tests (k + 1)) ≡ None
   unfolding each_tests
   each-more next =
@@ -41,7 +41,7 @@ module _ (tests : ℕ → List Test) (k : ℕ) (none : first_standing (each_test
       ∙ first-past (flat_map tests (range_with_len 0 k)) (tests k ++ []) none
       ∙ ap first_standing (append-nil (tests k)) ∙ next
 
-  -- a test of the next stands
+  -- a test of the next holds
   pub each-in : (n : ℕ) (fault : Fault) → k < n → first_standing (tests k) ≡ Some fault → first_standing (each_tests tests n) ≡ Some fault
   unfolding each_tests
   each-in n fault lt next =

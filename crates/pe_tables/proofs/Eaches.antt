@@ -42,7 +42,7 @@ each_range P from (suc n) k e low high = elim (cases_eq from k) [
   | inr ne ↦ each_range P (from + 1) n k e.1 (omega (arith, ne)) (omega arith)
 ]
 
--- no test stands of any of some items
+-- no test of any of some items holds
 pub flat_none : {X : Type 0} (f : X → List Test) (xs : List X) → first_standing (flat_map f xs) ≡ None → Each (λ x. first_standing (f x) ≡ None) xs
 flat_none f [] none = tt
 flat_none f (x ∷ xs) none = let parts = none-append (f x) (flat_map f xs) none in (parts.0, flat_none f xs parts.1)

@@ -1,4 +1,4 @@
--- The faults that an encoded table may have where it stands as a whole directory.
+-- The faults that an encoded table may have as a whole directory.
 use Rattle.std.proofs.Common.{◌≡◌, ◌⊎◌, ℕ, zero, suc, ◌+◌, ◌-◌, ◌*◌, ◌/◌, ◌%◌, ◌^◌, ◌<◌, ◌≤◌, Bool, true, false, cond, List, [], ◌∷◌, ◌++◌, length, Option, Some, None, refl, sym, ap, subst, ◌∙◌, length-append, append_assoc, arith, inl, inr}
 use Rattle.std.specs.Prelude.{map, not, replicate, All, ◌==◌, nat_lt, option_to_list}
 use Rattle.std.specs.List.{flat_map, range_with_len}
@@ -19,7 +19,7 @@ use Rattle.pe_tables.specs.declared.fixups.FixupKind.TheVariants.{Bits32, Bits64
 use Rattle.pe_tables.proofs.Blocks.{blocks-step}
 use Rattle.pe_tables.proofs.Decoded.{stands-front, stands-back, byte_at, reads_2, type_small, IsBlockOf, block_read, length-block, goes_on, AllPages, all-pages}
 
--- of these tests only such stand as are of a field or of the whole directory
+-- of these tests only those of a field or of the whole directory hold
 abbrev Spares : List Test → Type 0
 Spares [] = Unit {0}
 Spares (t ∷ ts) = ((t.stands ≡ false) ⊎ IsFieldFault t.fault.number) × Spares ts

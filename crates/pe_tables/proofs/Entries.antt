@@ -1,4 +1,4 @@
--- The entries of a block, one after the other.
+-- The entries of a block, entry by entry.
 use Rattle.std.proofs.Common.{◌≡◌, ℕ, zero, suc, ◌+◌, ◌-◌, ◌*◌, ◌/◌, ◌<◌, ◌≤◌, List, [], ◌∷◌, ◌++◌, length, drop, get_or, Option, Some, None, refl, sym, ap, ◌∙◌, append_assoc, append-nil, arith}
 use Rattle.std.specs.Prelude.{map, option_to_list}
 use Rattle.std.specs.List.{filter_map, cons_option, range_with_len}
@@ -63,7 +63,7 @@ entries-end i slots f n k before le = ap (λ es. first_standing (entries_tests i
 pub fixups-end : (f : ℕ → Entry) (n k : ℕ) (before : List Fixup) → n ≤ k → before ++ filter_map fixup_of (drop k (map f (range_with_len 0 n))) ≡ before
 fixups-end f n k before le = ap (λ es. before ++ filter_map fixup_of es) (drop-given-end f n k le) ∙ append-nil before
 
--- the number in bytes of an image that stand apart
+-- a number in bytes of an image that were read as a part
 byte_of_part : (i : LaidOut) (rva n k : ℕ) (bytes : List ℕ) → bytes ≡ bytes_at i rva n → k < n → byte_of bytes k ≡ i.byte (rva + k)
 byte_of_part i rva n k bytes is lt = ap (λ (bs : List ℕ). byte_of bs k) is ∙ get_or-map-range_with_len i.byte rva n k (rva + k) 0 lt refl
 
@@ -104,7 +104,7 @@ range-apart from (suc m) n =
     let b : from + 1 + m ≡ from + suc m = omega arith in
     rw a (ap (λ (ks : List ℕ). from ∷ ks) (range-apart (from + 1) m n ∙ rw b refl))
 
--- what a function gives from one number on is what it gives of the numbers behind
+-- what a function gives from one number on is what it gives of the later numbers
 shifted_range : {X : Type 0} (f g : ℕ → X) (from m n : ℕ) → ((k : ℕ) → f (from + k) ≡ g (m + k)) → map f (range_with_len from n) ≡ map g (range_with_len m n)
 shifted_range f g from m zero same = refl
 shifted_range f g from m (suc n) same =
@@ -112,7 +112,7 @@ shifted_range f g from m (suc n) same =
     let later = shifted_range f g (from + 1) (m + 1) n (λ k. ap f (omega arith) ∙ same (suc k) ∙ ap g (omega arith)) in
     ap (λ (x : _). x ∷ map f (range_with_len (from + 1) n)) here ∙ ap (λ (xs : List _). g m ∷ xs) later
 
--- the entries of a block from index k on: some, and those behind them
+-- the entries of a block from index k on: some, and those after them
 pub block-parts : (i : LaidOut) (b : Block) (k some : ℕ) → k + some ≤ (b.size - 8) / 2
     → drop k (entries_of i b) ≡ entries_at i b.page (b.rva + 8 + 2 * k) some ++ drop (k + some) (entries_of i b)
 block-parts i b k some le =

@@ -138,12 +138,12 @@ module _ (i : LaidOut) (d : Directory) where
   pub ordinals-ascend : AllPairs (λ (p q : ℕ × Target). p.0 < q.0) (exports_at i (Some d)).ordinals
   ordinals-ascend = ascend entries (table_at i d.rva).ordinal_base 0 (table_at i d.rva).entry_count
 
--- names of which none has the text
+-- names none of which is this string
 abbrev Away : List ℕ → List Named → Type 0
 Away text [] = Unit {0}
 Away text (n ∷ ns) = (bytes_eq text n.0 ≡ false) × Away text ns
 
--- no name has the text of another
+-- no two names are equal
 abbrev Apart : List Named → Type 0
 Apart [] = Unit {0}
 Apart (n ∷ ns) = Away n.0 ns × Apart ns

@@ -1,4 +1,4 @@
--- Export tables as the definitions read them, written out.
+-- Export tables by the definitions, as examples.
 use Rattle.std.proofs.Common.{◌≡◌, ℕ, ◌-◌, false, List, [], ◌∷◌, ◌++◌, Some, None, get_or, drop, refl}
 use Rattle.std.specs.Prelude.{codes}
 use Rattle.pe_view.specs.declared.fault.Place.TheVariants as place

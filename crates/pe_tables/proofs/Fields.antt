@@ -16,7 +16,7 @@ use Rattle.pe_tables.proofs.Entries.{filter_map-cons}
 use Rattle.pe_tables.proofs.Lookups.{affirmed, leb-≤}
 use Rattle.pe_tables.proofs.Pairs.{AllPairs-nil, AllPairs-snoc}
 
--- the field has no byte of any of these ranges
+-- the field shares no byte with any of these ranges
 abbrev pub IsOff : List (ℕ × ℕ) → Fixup → Type 0
 IsOff ranges f = All (λ (range : ℕ × ℕ). AreApart range (range_of f)) ranges
 

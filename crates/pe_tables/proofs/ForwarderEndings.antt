@@ -1,4 +1,4 @@
--- The texts of forwarders that end alike.
+-- Forwarder strings that end alike.
 use Rattle.std.proofs.Common.{◌≡◌, ℕ, zero, suc, ◌+◌, ◌-◌, ◌<◌, ◌≤◌, Bool, true, false, cond, List, [], ◌∷◌, ◌++◌, length, take, drop, Option, Some, None, refl, sym, ap, subst, ◌∙◌, arith, inl, inr, append-nil, length-drop}
 use Rattle.std.specs.Prelude.{◌==◌, nat_lt, option_map, option_and_then}
 use Rattle.std.specs.Ordering.{nat_cmp, is_eq}
@@ -19,7 +19,7 @@ use Rattle.pe_tables.specs.Forwarders.{part_before, IsEndingOf, AreForwardersOf}
 use Rattle.pe_tables.proofs.Forwarding.{sides}
 use Rattle.pe_tables.proofs.LastDot.{no_dot}
 
--- more bytes before a text stand before its last dot
+-- more bytes before a string come before its last dot
 dot_later : (more text front back : List ℕ) → at_last_dot text ≡ Some (front, back) → at_last_dot (more ++ text) ≡ Some (more ++ front, back)
 dot_later [] text front back is = is
 dot_later (byte ∷ more) text front back is = ap (at_dot byte (more ++ text)) (dot_later more text front back is)
@@ -51,7 +51,7 @@ pub dot_first : (text front back : List ℕ) → at_last_dot text ≡ Some (fron
 dot_first text front back is =
     dot_sooner text front back (length front) is (omega arith) ∙ ap (λ (bs : List ℕ). Some (bs, back)) (drop_all (length front) front (omega arith))
 
--- behind the last dot there is none
+-- after the last dot there is none
 dot_behind : (text back : List ℕ) (k : ℕ) → at_last_dot text ≡ Some ([], back) → 0 < k → at_last_dot (drop k text) ≡ None
 dot_behind text back zero is some = absurd (omega (arith, some))
 dot_behind text back (suc k) is some =
@@ -60,13 +60,13 @@ dot_behind text back (suc k) is some =
     ∙ no_dot (drop k back)
     (λ i lt is_dot. let size = length-drop k back in s.no_dot (k + i) 0 (omega (arith, lt, size)) (sym (get_or-drop k back i 0) ∙ eqb-true _ _ is_dot))
 
--- ---- the text of a forwarder
+-- ---- a forwarder string
 forwards : (front back : List ℕ) (key : Key) → key_of back ≡ Some key → 0 < length front → forward_to (front, back) ≡ Some (Forward front key)
 forwards front back key named some =
     let there : nat_lt 0 (length front) ≡ true = lt-ltb _ _ some in
     (let e : forward_to (front, back) ≡ option_map (Forward front) (key_of back) = rw there refl in e) ∙ ap (option_map (Forward front)) named
 
--- what stands before its last dot, and the key behind it
+-- the part before its last dot, and the key after it
 pub record IsParted (text module_name : List ℕ) (key : Key) : Type 0 where
   pub back : List ℕ
   pub dot : at_last_dot text ≡ Some (module_name, back)
@@ -89,7 +89,7 @@ parted text module_name key is = by (at_last_dot text) refl is
         let named = forwarded front back module_name key (nat_lt 0 (length front)) same in
         record { back = back; dot = found ∙ ap (λ (bs : List ℕ). Some (bs, back)) named.0; names = named.1 }
 
--- a module's name is shorter than the text
+-- a module's name is shorter than the string
 pub module_short : (text module_name : List ℕ) (key : Key) → IsParted text module_name key → length module_name < length text
 module_short text module_name key p =
     let s = sides text module_name p.back p.dot in
@@ -106,7 +106,7 @@ part_drop file end len less inside le =
     ∙ ap (take less) (drop-drop (len - less) (end - len) file ∙ ap (λ (n : ℕ). drop n file) there)
 
 module _ (file : List ℕ) (end tail : ℕ) (back : List ℕ) (key : Key) (inside : tail ≤ end) (dot : at_last_dot (part_before file end tail) ≡ Some ([], back)) (names : key_of back ≡ Some key) where
-  -- a text that begins before the dot
+  -- a string that begins before the dot
   pub longer : (text : List ℕ) → tail < length text → length text ≤ end → text ≡ part_before file end (length text) → forwarder_of text ≡ Some (Forward (take (length text - tail) text) key)
   longer text lt le is =
       let front : List ℕ = take (length text - tail) text in
@@ -130,7 +130,7 @@ module _ (file : List ℕ) (end tail : ℕ) (back : List ℕ) (key : Key) (insid
         ap (option_and_then forward_to) at)
   ]
 
--- ---- of a text that is a forwarder's, all behind the module's name
+-- ---- the part of a forwarder string after the module's name
 pub ending_dot : (file : List ℕ) (end : ℕ) (text module_name : List ℕ) (key : Key) (p : IsParted text module_name key) → length text ≤ end → text ≡ part_before file end (length text)
     → at_last_dot (part_before file end (length text - length module_name)) ≡ Some ([], p.back)
 ending_dot file end text module_name key p le is =

@@ -1,4 +1,4 @@
--- The texts of forwarders.
+-- Forwarder strings.
 use Rattle.std.proofs.Common.{◌≡◌, ◌≢◌, ℕ, Bool, true, false, cond, List, [], ◌∷◌, ◌++◌, length, Option, Some, None, refl, sym, ap, subst, ◌∙◌, arith, inl, inr}
 use Rattle.std.specs.Prelude.{◌==◌, ◌&&◌, All, nat_lt, nat_le, option_map, option_and_then}
 use Rattle.std.specs.List.{list_all}
@@ -12,7 +12,7 @@ use Rattle.pe_tables.specs.Forwarder.{is_digit, decimal_value, key_of, at_dot, a
 no_dot_byte : (byte : ℕ) → (byte == 46) ≡ false → byte ≢ 46
 no_dot_byte byte other is = grind (arith, nat_tests)
 
--- a text without a last dot has none
+-- a string without a last dot has no dot
 without : (text : List ℕ) → at_last_dot text ≡ None → All (λ (byte : ℕ). byte ≢ 46) text
 without [] none = All-nil _
 without (byte ∷ bytes) none = by (without bytes) (at_last_dot bytes) refl none
@@ -24,7 +24,7 @@ without (byte ∷ bytes) none = by (without bytes) (at_last_dot bytes) refl none
       | inr other ↦ All-cons (λ (byte : ℕ). byte ≢ 46) byte bytes (no_dot_byte byte other) (later is)
     ]
 
--- a text is what stands before its last dot, the dot, and what stands behind it
+-- a string is the part before its last dot, the dot, and the part after it
 pub record AreSides (text front back : List ℕ) : Type 0 where
   pub parts : text ≡ front ++ 46 ∷ back
   pub no_dot : All (λ (byte : ℕ). byte ≢ 46) back
@@ -62,7 +62,7 @@ digits_of digits true key is some =
     subst (IsKeyText (35 ∷ digits)) (same_Some _ _ some) (digits, refl, parts.0, refl)
 digits_of digits false key is some = absurd cc
 
--- the text of a key
+-- the string of a key
 key_text : (text : List ℕ) (key : Key) → key_of text ≡ Some key → IsKeyText text key
 key_text [] key is = absurd cc
 key_text (byte ∷ bytes) key is = elim (cases_Bool (byte == 35)) [

@@ -1,4 +1,4 @@
--- Each export is held for its text, one name after the other.
+-- Each export is stored for its name, name by name.
 use Rattle.std.proofs.Common.{◌≡◌, ℕ, true, List, [], Option, Some, None, get_or, refl, sym, subst, ◌∙◌, inl, inr}
 use Rattle.std.specs.Borrow.{Bor}
 use Rattle.std.specs.Prelude.{All, option_map, option_to_list, if◌then◌else◌}
@@ -17,7 +17,7 @@ module _ {A : Type 0} (old new : NameIndex A) (text : Bor (List ℕ)) (ordinal :
   abbrev IsHeldIn : NameIndex A → Export → Type 0
   IsHeldIn index export = held index export.0.now ≡ Some (Some export.1)
 
-  -- an export of before has another text than one that was not held
+  -- an export from before has another name than one that was not stored
   kept : held old text.now ≡ None → Gains old new text ordinal target → (e : Export) → IsHeldIn old e → IsHeldIn new e
   kept unknown gains e is = elim (cases_Bool (bytes_eq e.0.now text.now)) [
     | inl same ↦

@@ -1,4 +1,4 @@
--- Where the names of imports stand: those of one entry and of one descriptor after the other, and each by its import.
+-- Where the names of imports are, entry by entry and descriptor by descriptor, and each by its import.
 use Rattle.std.proofs.Common.{◌≡◌, ◌∙◌, ℕ, zero, suc, ◌+◌, ◌-◌, ◌%◌, ◌^◌, ◌<◌, true, false, List, [], ◌∷◌, ◌++◌, Option, Some, None, refl, sym, ap, subst, append-nil, arith, inl, inr}
 use Rattle.std.specs.Prelude.{option_to_list, unwrap_or}
 use Rattle.std.specs.List.{filter_map, flat_map, cons_option}
@@ -13,7 +13,7 @@ use Rattle.pe_tables.specs.declared.imports.Descriptor.{Descriptor}
 use Rattle.pe_tables.proofs.Entries.{filter_map-cons}
 use Rattle.pe_tables.proofs.Lookups.{lookups-end, lookups-more, lookups-enough, lookups-step}
 
--- where a slot is tells nothing of a name
+-- the RVAs of names do not depend on where the slots are
 slotless : (i : LaidOut) (n rva s t : ℕ) → filter_map (name_of_lookup i) (lookups_from n i rva s) ≡ filter_map (name_of_lookup i) (lookups_from n i rva t)
 slotless i zero rva s t = refl
 slotless i (suc n) rva s t =
@@ -26,7 +26,7 @@ slotless i (suc n) rva s t =
           ∙ sym (ap names (lookups-more n i rva t goes)))
     ]
 
--- where the names stand that the entries from an RVA on tell
+-- the RVAs of the names of the entries from an RVA on
 abbrev pub names_from : LaidOut → ℕ → List ℕ
 names_from i rva = filter_map (name_of_lookup i) (lookups_from (i.size - rva) i rva 0)
 
@@ -44,7 +44,7 @@ module _ (i : LaidOut) (some : 0 < i.slot_width) where
       slotless i (i.size - lookup_table d) (lookup_table d) 0 d.addresses
       ∙ ap (filter_map (name_of_lookup i)) (lookups-enough i some (i.size - lookup_table d) i.size (lookup_table d) d.addresses (omega arith) (omega arith))
 
-  -- that of an entry, and those of the entries behind it
+  -- that of an entry, and those of the entries after it
   pub names-step : (rva : ℕ) → ends_table i (lookup_at i rva 0) ≡ false → names_from i rva ≡ option_to_list (name_of_lookup i (lookup_at i rva 0)) ++ names_from i (rva + i.slot_width)
   names-step rva goes =
       let here : Lookup = lookup_at i rva 0 in
@@ -55,7 +55,7 @@ module _ (i : LaidOut) (some : 0 < i.slot_width) where
 
 -- ---- each by its import
 module _ (i : LaidOut) where
-  -- each import has the text at the RVA of its place
+  -- each import has the string at its RVA
   abbrev Named : List ℕ → List Import → Type 0
   Named [] [] = Unit {0}
   Named [] (x ∷ xs) = ⊥

@@ -1,4 +1,4 @@
--- Import tables as the definitions read them, written out.
+-- Import tables by the definitions, as examples.
 use Rattle.std.proofs.Common.{◌≡◌, ℕ, ◌-◌, ◌++◌, false, List, [], ◌∷◌, Option, Some, None, drop, get_or, refl}
 use Rattle.std.specs.Prelude.{◌==◌, codes, replicate, if◌then◌else◌}
 use Rattle.pe_view.specs.declared.fault.Place.TheVariants.{Rva}
@@ -29,7 +29,7 @@ image_at rva width bytes = record {
 abbrev image : List ℕ → LaidOut
 image bytes = image_at 0x1000 4 bytes
 
--- a descriptor with its lookup table at 0x1000 and so much, its time stamp, its name at 0x1040, its slots at 0x1030
+-- a descriptor: its lookup table is this far after 0x1000, then its time stamp; its name is at 0x1040, its slots at 0x1030
 abbrev descriptor : ℕ → ℕ → List ℕ
 descriptor lookup time_stamp =
     lookup ∷ 0x10 ∷ 0x00 ∷ 0x00 ∷ time_stamp ∷ 0x00 ∷ 0x00 ∷ 0x00 ∷ 0x00 ∷ 0x00 ∷ 0x00 ∷ 0x00
@@ -91,7 +91,7 @@ entry_outside = refl
 eight_bytes : imports_of (image_at 0x1000 8 (descriptor 0x28 0 ++ (last ++ (f ++ (replicate 8 0x00 ++ texts))))) ≡ record { module_name = codes "A.DLL"; key = Name (codes "f"); slot = 0x1030 } ∷ []
 eight_bytes = refl
 
--- bit 31 is no top bit there
+-- bit 31 is not the top bit there
 bit_31 : first_standing (import_tests (image_at 0x1000 8 (descriptor 0x28 0 ++ (last ++ (0x38 ∷ 0x10 ∷ 0x00 ∷ 0x80 ∷ 0x00 ∷ 0x00 ∷ 0x00 ∷ 0x00 ∷ (replicate 8 0x00 ++ texts))))))
     ≡ Some (record { number = 28; image = 0; place = Rva 0x1028 })
 unfolding descriptors_tests lookups_tests
@@ -101,7 +101,7 @@ bit_63 : imports_of (image_at 0x1000 8 (descriptor 0x28 0 ++ (last ++ (0x05 ∷ 
     ≡ record { module_name = codes "A.DLL"; key = Ordinal 5; slot = 0x1030 } ∷ []
 bit_63 = refl
 
--- no text stands at 0x80000001, and bit 32 is set too
+-- no string is at 0x80000001, and bit 32 is set too
 name_before_bits : first_standing (import_tests (image_at 0x1000 8 (descriptor 0x28 0 ++ (last ++ (0xff ∷ 0xff ∷ 0xff ∷ 0x7f ∷ 0x01 ∷ 0x00 ∷ 0x00 ∷ 0x00 ∷ (replicate 8 0x00 ++ texts))))))
     ≡ Some (record { number = 27; image = 0; place = Rva 0x1028 })
 unfolding descriptors_tests lookups_tests

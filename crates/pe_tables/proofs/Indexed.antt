@@ -1,4 +1,4 @@
--- An index of names, one name after the other.
+-- An index of names, name by name.
 use Rattle.std.proofs.Common.{◌≡◌, ℕ, Bool, true, false, List, [], ◌∷◌, ◌++◌, Option, Some, None, length, take, get_or, ◌+◌, ◌<◌, refl, sym, ap, subst, ◌∙◌, append-nil, inl, inr}
 use Rattle.std.specs.Borrow.{Bor}
 use Rattle.std.specs.Prelude.{map, option_map, option_and_then, option_to_list, is_some, if◌then◌else◌}
@@ -106,7 +106,7 @@ and_then_map : {X Y : Type 0} (g : X → Option Y) (o : Option X) → option_and
 and_then_map g None = refl
 and_then_map g (Some x) = refl
 
--- an index serves searches by text
+-- an index serves searches by name
 pub searchable : {A : Type 0} (f : ℕ → Option Target) (base : ℕ) (ns : List Named) (index : NameIndex A) → IsIndexOf f base ns index → IsSearchable index
 searchable f base ns index indexed = λ text.
     sym (and_then_map (option_map target_view) (held index text))

@@ -1,4 +1,4 @@
--- A text on the two sides of its last dot, by the dot's index.
+-- A string before and after its last dot, by the dot's index.
 use Rattle.std.proofs.Common.{◌≡◌, ℕ, zero, suc, ◌+◌, ◌<◌, true, false, List, [], ◌∷◌, length, take, drop, Some, None, refl, sym, ap, ◌∙◌, arith}
 use Rattle.std.specs.Prelude.{◌==◌, slice_index}
 use Rattle.std.proofs.lemmas.Bool.{false_from_ne_true}

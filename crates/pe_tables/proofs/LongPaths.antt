@@ -1,4 +1,4 @@
--- Paths along the blocks of long texts that have one end.
+-- Paths along the blocks of long strings that have one end.
 use Rattle.std.proofs.Common.{◌≡◌, Bool, true, false, cond, ℕ, zero, suc, ◌+◌, ◌-◌, ◌*◌, ◌/◌, ◌≤◌, List, [], ◌∷◌, ◌++◌, length, get_or, take, drop, Some, None, refl, sym, ap, subst, ◌∙◌, arith, inl, inr}
 use Rattle.std.specs.Prelude.{option_and_then, max}
 use Rattle.std.specs.Ordering.{nat_cmp}
@@ -18,7 +18,7 @@ use Rattle.pe_tables.specs.declared.long_texts.LongTexts.{LongTexts}
 use Rattle.pe_tables.proofs.ForwarderEndings.{part_drop, equal_only}
 use Rattle.pe_tables.proofs.LongTexts.{node_kept, node_same, entry_before}
 
--- the last blocks of a text are those of its end
+-- the last blocks of a string are those of its end
 block_end : (more text : List ℕ) (k : ℕ) → 256 * (k + 1) ≤ length text → block (more ++ text) k ≡ block text k
 block_end more text k le =
     let size : length (more ++ text) ≡ length more + length text = length-append more text in
@@ -36,7 +36,7 @@ module _ {A : Type 0} where
       ap (λ (bs : List ℕ). option_and_then (λ n. longer nodes n bs) (node_of nodes (more ++ text) k)) (block_end more text k (omega (arith, le)))
       ∙ ap (option_and_then (λ n. longer nodes n (block text k))) (node_end nodes more text k (omega (arith, le)))
 
-  -- a text and the last bytes before its end lead to one node
+  -- a string and the last bytes before its end lead to one node
   pub same_node : (nodes : List (Node A)) (file : List ℕ) (end : ℕ) (text : List ℕ) (k : ℕ) → length text ≤ end → text ≡ part_before file end (length text) → 256 * k ≤ length text
       → node_of nodes text k ≡ node_of nodes (part_before file end (256 * k)) k
   same_node nodes file end text k inside is le =
@@ -52,7 +52,7 @@ module _ {A : Type 0} where
   pub path_kept : (old new : List (Node A)) → Grows old new → (file : List ℕ) (end : ℕ) (path : List ℕ) → IsPath old file end path → IsPath new file end path
   path_kept old new grows file end path along = λ k le. ((along k le).0, node_kept old new grows (part_before file end (256 * k)) k (get_or (0 ∷ path) k 0) (along k le).1)
 
-  -- a path that goes on along a text
+  -- a path that continues along a string
   pub path_on : (nodes : List (Node A)) (file : List ℕ) (end : ℕ) (text old more : List ℕ) → length text ≤ end → text ≡ part_before file end (length text) → IsPath nodes file end old
       → Leads nodes text (old ++ more) → 256 * (length text / 256) ≤ length text → length (old ++ more) ≤ max (length old) (length text / 256) → IsPath nodes file end (old ++ more)
   path_on nodes file end text old more inside is along leads whole needed = λ k le. elim (cases_lt (length old) k) [
@@ -62,7 +62,7 @@ module _ {A : Type 0} where
         (omega (arith, fits, inside), sym (same_node nodes file end text k inside is fits) ∙ leads k le fits))
   ]
 
-  -- what is known stays where links are added
+  -- paths remain valid when links are added
   pub known_kept : (file : List ℕ) (old new : LongTexts A) → AreLongTextsOf file old → Grows old.nodes.items new.nodes.items → IsTrie new.nodes.items → new.paths ≡ old.paths → AreLongTextsOf file new
   known_kept file old new known grows trie paths = record {
     trie = trie;
@@ -95,7 +95,7 @@ module _ {A : Type 0} where
           (subst (λ (p : Vec ℕ A). IsPath old.nodes.items file end p.items) (same_Some _ _ is) along)
       by q other false here is = known.paths q other is
 
-  -- what is known stays where a target is added
+  -- paths remain valid when a target is added
   pub known_same : (file : List ℕ) (old new : LongTexts A) → AreLongTextsOf file old → ((n : ℕ) (bytes : List ℕ) → longer new.nodes.items n bytes ≡ longer old.nodes.items n bytes)
       → length new.nodes.items ≡ length old.nodes.items → new.paths ≡ old.paths → AreLongTextsOf file new
   known_same file old new known links count paths = record {
@@ -109,7 +109,7 @@ module _ {A : Type 0} where
         (along.0, node_same old.nodes.items new.nodes.items links (part_before file end (256 * k)) k ∙ along.1);
   }
 
-  -- without texts nothing is known
+  -- without strings there are no paths
   pub nothing_known : (file : List ℕ) (texts : LongTexts A) → texts.nodes.items ≡ [] → texts.paths.entries ≡ [] → AreLongTextsOf file texts
   nothing_known file texts nodes paths = record {
     trie = record {

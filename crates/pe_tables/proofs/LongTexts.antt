@@ -1,4 +1,4 @@
--- Long texts by their blocks.
+-- Long strings by their blocks.
 use Rattle.std.proofs.Common.{◌≡◌, ◌≢◌, Bool, true, false, ℕ, zero, suc, ◌+◌, ◌-◌, ◌*◌, ◌/◌, ◌%◌, ◌<◌, ◌≤◌, List, [], ◌∷◌, ◌++◌, length, get_or, take, drop, ◌⊎◌, Option, Some, None, refl, sym, ap, ◌∙◌, arith, inl, inr}
 use Rattle.std.specs.Borrow.{Bor}
 use Rattle.std.specs.Prelude.{◌==◌, ◌&&◌, slice_get, slice_set, option_and_then, if◌then◌else◌}
@@ -19,7 +19,7 @@ use Rattle.pe_tables.specs.declared.long_texts.Node.{Node}
 eqb-true-same : (k : ℕ) → (k == k) ≡ true
 eqb-true-same k = elim (eqb_tells k k) [ inl same ↦ same.0 | inr apart ↦ absurd (apart.1 refl) ]
 
--- a block and the bytes behind it
+-- a block and the bytes after it
 blocks_left : (text : List ℕ) (k : ℕ) → 256 * (k + 1) ≤ length text → block text k ++ drop (length text - 256 * k) text ≡ drop (length text - 256 * (k + 1)) text
 blocks_left text k le =
     let start : length text - 256 * k - 256 ≡ length text - 256 * (k + 1) = omega arith in
@@ -29,7 +29,7 @@ blocks_left text k le =
     ∙ ap (λ (bs : List ℕ). take 256 (drop (length text - 256 * k - 256) text) ++ bs) (ap (λ (n : ℕ). drop n text) (sym end) ∙ sym (drop-drop 256 (length text - 256 * k - 256) text))
     ∙ take-append-drop 256 (drop (length text - 256 * k - 256) text) ∙ ap (λ (n : ℕ). drop n text) start
 
--- the nodes of a path, of which the first is that of no block
+-- the nodes of a path, of which the first is the root
 pub entry_before : (path more : List ℕ) (k : ℕ) → k ≤ length path → get_or (0 ∷ path) k 0 ≡ get_or (0 ∷ (path ++ more)) k 0
 entry_before path more zero le = refl
 entry_before [] more (suc k) le = absurd (omega (arith, le))
@@ -55,7 +55,7 @@ module _ {A : Type 0} where
   pub target_at : (nodes : List (Node A)) (n : ℕ) (node : Node A) (bytes : List ℕ) → slice_get nodes n ≡ Some node → held_at nodes n bytes ≡ found bytes node.targets.entries
   target_at nodes n node bytes at = ap (option_and_then (λ (x : Node A). found bytes x.targets.entries)) at
 
-  -- no node more is found behind one that is not
+  -- after a missing node no other is found
   pub none_on : (nodes : List (Node A)) (text : List ℕ) (k more : ℕ) → node_of nodes text k ≡ None → node_of nodes text (more + k) ≡ None
   none_on nodes text k zero none = let e : 0 + k ≡ k = omega arith in ap (node_of nodes text) e ∙ none
   none_on nodes text k (suc more) none =
@@ -65,7 +65,7 @@ module _ {A : Type 0} where
   pub node_after : (nodes : List (Node A)) (text : List ℕ) (k : ℕ) → node_of nodes text (k + 1) ≡ option_and_then (λ n. longer nodes n (block text k)) (node_of nodes text k)
   node_after nodes text k = let e : k + 1 ≡ suc k = omega arith in ap (node_of nodes text) e
 
-  -- ---- a node in the place of another
+  -- ---- a node replaced by another
   module _ (nodes : List (Node A)) (n : ℕ) (new : Node A) where
     set_same : n < length nodes → slice_get (slice_set nodes n new) n ≡ Some new
     set_same lt = let size = length-set nodes n new in slice_get-get_or (slice_set nodes n new) n new (omega (arith, lt, size)) ∙ ap (λ (x : Node A). Some x) (get_or-set_same nodes n new new lt)
@@ -165,7 +165,7 @@ module _ {A : Type 0} where
       link = λ n c other is. linked n c other (n == node && bytes_eq other bytes) refl (sym (links n other) ∙ is);
     }
 
-  -- ---- nodes stay where links are added
+  -- ---- nodes remain when links are added
   module _ (old new : List (Node A)) (grows : Grows old new) (text : List ℕ) where
     pub node_kept : (k n : ℕ) → node_of old text k ≡ Some n → node_of new text k ≡ Some n
     node_kept zero n is = is
@@ -192,7 +192,7 @@ module _ {A : Type 0} where
     target_past : (n : ℕ) (bytes : List ℕ) → length old ≤ n → held_at old n bytes ≡ None
     target_past n bytes le = ap (option_and_then (λ (x : Node A). found bytes x.targets.entries)) (slice_get_past old n le)
 
-    -- what is held for a text stays
+    -- what is stored for a string remains
     pub held_kept : long_held new text ≡ long_held old text
     held_kept = by (node_of old text count) refl (node_of new text count) refl
       where
@@ -224,7 +224,7 @@ module _ {A : Type 0} where
             (trie.link m n (block text k) some).0 ∙ ap (λ (bs : List ℕ). block text k ++ bs) (below m at)
             ∙ blocks_left text k (omega (arith, le)) ∙ ap (λ (j : ℕ). drop (length text - j) text) (sym more)
 
-    -- texts that lead to one node and begin alike are the same
+    -- strings that lead to one node and begin alike are equal
     pub same_text : (a b : List ℕ) (n : ℕ) → node_of nodes a (length a / 256) ≡ Some n → node_of nodes b (length b / 256) ≡ Some n → front a ≡ front b → a ≡ b
     same_text a b n at_a at_b fronts =
         sym (take-append-drop (length a % 256) a) ∙ ap (λ (bs : List ℕ). bs ++ drop (length a % 256) a) fronts

@@ -1,4 +1,4 @@
--- The entries of a lookup table, one after the other.
+-- The entries of a lookup table, entry by entry.
 use Rattle.std.proofs.Common.{◌≡◌, ℕ, zero, suc, ◌+◌, ◌-◌, ◌<◌, ◌≤◌, Bool, true, false, List, [], ◌∷◌, ◌++◌, Some, None, refl, sym, ap, ◌∙◌, ◌||◌, append_assoc, arith, inl, inr, subst}
 use Rattle.std.specs.Prelude.{nat_le, not, ◌==◌, option_to_list, if◌then◌else◌, IsTrue}
 use Rattle.std.specs.List.{filter_map}
@@ -20,7 +20,7 @@ inside_of n limit rest e = grind (arith, nat_tests)
 pub past_ends : (n limit : ℕ) (rest : Bool) → limit < n → (not (nat_le n limit) || rest) ≡ true
 past_ends n limit rest lt = let e : nat_le n limit ≡ false = grind (arith, nat_tests) in rw e refl
 
--- the entries behind the first
+-- the entries after the first
 abbrev pub lookups_behind : ℕ → LaidOut → ℕ → ℕ → List Lookup
 lookups_behind zero i rva slot = []
 lookups_behind (suc n) i rva slot = if ends_table i (lookup_at i rva slot) then [] else lookups_from n i (rva + i.slot_width) (slot + i.slot_width)
@@ -50,7 +50,7 @@ module _ (i : LaidOut) (some : 0 < i.slot_width) where
         ∙ sym (lookups-more m i rva slot goes))
   ]
 
-  -- the entries from an RVA on, where the table goes on
+  -- the entries from an RVA on, where the table continues
   pub lookups-step : (rva slot : ℕ) → ends_table i (lookup_at i rva slot) ≡ false
       → lookups_from (i.size - rva) i rva slot ≡ lookup_at i rva slot ∷ lookups_from (i.size - (rva + i.slot_width)) i (rva + i.slot_width) (slot + i.slot_width)
   lookups-step rva slot goes =
@@ -74,7 +74,7 @@ module _ (i : LaidOut) (module_name : List ℕ) (before : List Import) (rva slot
       ap (λ ls. first_standing (lookups_tests i module_name before ls)) (lookups-first n i rva slot)
       ∙ first-in (lookup_tests i before here) (lookups_tests i module_name with_here (lookups_behind n i rva slot)) y some
 
-  -- an entry without one, behind which others follow
+  -- an entry without one, after which others follow
   pub lookups-past : (left : List Lookup) (n : ℕ) → lookups_from n i rva slot ≡ here ∷ left → first_standing (lookup_tests i before here) ≡ None
       → first_standing (lookups_tests i module_name before (lookups_from n i rva slot)) ≡ first_standing (lookups_tests i module_name with_here left)
   unfolding lookups_tests
@@ -90,7 +90,7 @@ module _ (i : LaidOut) (module_name : List ℕ) (before : List Import) (rva slot
       ∙ ap (λ (more : List Import). before ++ more) (filter_map-cons (import_of i module_name) here left)
       ∙ sym (append_assoc before (option_to_list (import_of i module_name here)) (filter_map (import_of i module_name) left))
 
-  -- the entry's last fault has been asked
+  -- the entry's last fault was tested
   pub lookups-asked : (n : ℕ) → IsTrue (goes_past 31 (lookup_tests i before here)) → IsTrue (goes_past 31 (lookups_tests i module_name before (lookups_from n i rva slot)))
   unfolding lookups_tests
   lookups-asked n past =

@@ -19,7 +19,7 @@ use Rattle.pe_tables.proofs.Entries.{filter_map-cons}
 use Rattle.pe_tables.proofs.Names.{Named, has, behind, first-push, find-other}
 use Rattle.pe_tables.proofs.Pairs.{AllPairs-nil}
 
--- a search finds a name that stands last
+-- a search finds a name that is last
 found_last : (ns : List Named) (n : Named) (text : List ℕ) → bytes_eq text n.0 ≡ true → is_some (find (has text) (ns ++ n ∷ [])) ≡ true
 found_last [] n text same = rw same refl
 found_last (m ∷ ns) n text same = here (found_last ns n text same) (bytes_eq text m.0) refl
@@ -32,15 +32,15 @@ module _ (i : LaidOut) (d : Directory) (t : Table) where
   abbrev Exported : Type 0
   Exported = List ℕ × Target
 
-  -- the first n names that have a text
+  -- the first n names that are there
   abbrev first_names : ℕ → List Named
   first_names n = filter_map (named i t) (range_with_len 0 n)
 
-  -- those that export something, each text where it stands first
+  -- those that export something, each name once, where it first occurs
   abbrev listed : ℕ → List Exported
   listed n = filter_map (by_name i d t) (first_of_each (first_names n))
 
-  -- a text that a search among the first n names does not find is none of theirs
+  -- a name that a search among the first n names does not find is none of them
   abbrev IsNew : ℕ → List ℕ → Type 0
   IsNew n text = (j : ℕ) → j < n → name_text i t j ≢ Some text
 

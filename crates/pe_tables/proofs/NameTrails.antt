@@ -1,4 +1,4 @@
--- Trails: the nodes to which the last blocks of a text lead.
+-- Trails: the nodes to which the last blocks of a string lead.
 use Rattle.std.proofs.Common.{◌≡◌, ℕ, zero, suc, ◌+◌, ◌*◌, ◌/◌, ◌≤◌, List, [], ◌∷◌, ◌++◌, length, get_or, take, drop, Option, None, refl, sym, ap, subst, ◌∙◌, arith, inl, inr}
 use Rattle.std.specs.Prelude.{option_and_then, max}
 use Rattle.std.proofs.lemmas.Bool.{cases_lt}
@@ -11,7 +11,7 @@ use Rattle.pe_tables.specs.declared.long_texts.Node.{Node}
 use Rattle.pe_tables.proofs.LongPaths.{same_node}
 use Rattle.pe_tables.proofs.LongTexts as texts
 
--- the nodes of a trail that goes on
+-- the nodes of a trail that is extended
 pub node_before : (trail more : List (Option ℕ)) (k : ℕ) → k ≤ length trail → node_after trail k ≡ node_after (trail ++ more) k
 node_before trail more zero le = refl
 node_before [] more (suc k) le = absurd (omega (arith, le))
@@ -47,19 +47,19 @@ module _ {A : Type 0} where
         ∙ sym is ∙ sym (ap (node_after (trail ++ next ∷ [])) here ∙ node_last trail next))
   ]
 
-  -- a text follows the trail of its end
+  -- a string follows the trail of its end
   pub follows_trail : (nodes : List (Node A)) (file : List ℕ) (end : ℕ) (text : List ℕ) (trail : List (Option ℕ)) → length text ≤ end → text ≡ part_before file end (length text)
       → IsTrail nodes file end trail → Follows nodes text trail
   follows_trail nodes file end text trail inside is along = λ k le fits. same_node nodes file end text k inside is fits ∙ (along k le).1
 
-  -- the node to which all blocks of a text lead, by a trail that has gone on to them
+  -- the node to which all blocks of a string lead, by a trail extended to them
   pub node_reached : (nodes : List (Node A)) (file : List ℕ) (end : ℕ) (text : List ℕ) (old new : List (Option ℕ)) → length text ≤ end → text ≡ part_before file end (length text) → IsTrail nodes file end old
       → (Follows nodes text old → Follows nodes text new) → length text / 256 ≤ length new → node_of nodes text (length text / 256) ≡ node_after new (length text / 256)
   node_reached nodes file end text old new inside is along goes whole =
       let parts = div-add-mod (length text) 256 in
       goes (follows_trail nodes file end text old inside is along) (length text / 256) whole (omega (arith, parts))
 
-  -- a trail that goes on along a text
+  -- a trail that is extended along a string
   trail_more : (nodes : List (Node A)) (file : List ℕ) (end : ℕ) (text : List ℕ) (old more : List (Option ℕ)) → length text ≤ end → text ≡ part_before file end (length text) → IsTrail nodes file end old
       → Follows nodes text (old ++ more) → length (old ++ more) ≤ max (length old) (length text / 256) → IsTrail nodes file end (old ++ more)
   trail_more nodes file end text old more inside is along follows needed = λ k le. elim (cases_lt (length old) k) [
@@ -78,7 +78,7 @@ module _ {A : Type 0} where
       subst (IsTrail nodes file end) (sym all)
       (trail_more nodes file end text old more.0 inside is along (subst (Follows nodes text) all follows) (subst (λ (ns : List (Option ℕ)). length ns ≤ max (length old) (length text / 256)) all needed))
 
-  -- a trail of no text
+  -- a trail of no string
   pub no_trail : (nodes : List (Node A)) (file : List ℕ) (end : ℕ) → IsTrail nodes file end []
   no_trail nodes file end zero le = (omega arith, refl)
   no_trail nodes file end (suc k) le = absurd (omega (arith, le))

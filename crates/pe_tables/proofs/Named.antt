@@ -1,4 +1,4 @@
--- In an import table without a fault each name has a text.
+-- In an import table without a fault each name is there.
 use Rattle.std.proofs.Common.{◌≡◌, ℕ, zero, suc, ◌+◌, ◌*◌, ◌<◌, ◌≤◌, Bool, true, false, not, List, [], ◌∷◌, ◌++◌, Option, Some, None, refl, sym, ap, subst, ◌∙◌, arith}
 use Rattle.std.specs.Prelude.{◌==◌, ◌&&◌, is_none, IsSome, option_to_list}
 use Rattle.std.proofs.lemmas.Bool.{or_parts}
@@ -35,14 +35,14 @@ entry_named i before l goes none =
     value_named i (record { stands = not (is_inside i l.rva i.slot_width); fault = fault_at 26 i l.rva }) before l (rw some at none)
 
 module _ (i : LaidOut) (module_name : List ℕ) where
-  -- what an entry at an RVA names has a text
+  -- the strings that an entry at an RVA names are there
   abbrev IsNamed : ℕ → Type 0
   IsNamed rva = is_ordinal i (number_at i.slot_width i rva) ≡ false → IsSome (name_of i (number_at i.slot_width i rva))
 
   abbrev with_entry : ℕ → ℕ → List Import → List Import
   with_entry rva slot before = before ++ option_to_list (import_of i module_name (lookup_at i rva slot))
 
-  -- an entry and those behind it
+  -- an entry and those after it
   first_named : (n rva slot : ℕ) (before : List Import) → HasEntry i rva → first_standing (lookups_tests i module_name before (lookups_from (suc n) i rva slot)) ≡ None
       → IsNamed rva × (first_standing (lookups_tests i module_name (with_entry rva slot before) (lookups_from n i (rva + i.slot_width) (slot + i.slot_width))) ≡ None)
   unfolding lookups_tests
@@ -79,11 +79,11 @@ module _ (i : LaidOut) where
       let parts = parts_by (record { stands = not (is_inside i rva 20); fault = fault_at 24 i rva }) (descriptor_at i rva) before (rw named at none) in
       (parts.0, entries_named i (module_of i d) i.size (table_rva i rva) (addresses_rva i rva) k before some room all parts.1)
 
-  -- the descriptor at an RVA has no fault, behind some imports
+  -- the descriptor at an RVA has no fault, after some imports
   abbrev Passes : ℕ → Type 0
   Passes rva = (found : List Import) × (first_standing (descriptor_tests i found (descriptor_at i rva)) ≡ None)
 
-  -- a descriptor and those behind it
+  -- a descriptor and those after it
   first_passes : (n rva : ℕ) (before : List Import) → HasDescriptor i rva → first_standing (descriptors_tests i before (descriptors_from (suc n) i rva)) ≡ None
       → Passes rva × (first_standing (descriptors_tests i (before ++ imports_in i (descriptor_at i rva)) (descriptors_from n i (rva + 20))) ≡ None)
   unfolding descriptors_tests

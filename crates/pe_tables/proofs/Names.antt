@@ -1,4 +1,4 @@
--- Names, each text where it stands first.
+-- Names, each once, where it first occurs.
 use Rattle.std.proofs.Common.{◌≡◌, ℕ, Bool, true, false, List, [], ◌∷◌, ◌++◌, Option, Some, None, refl, sym, ap, ◌∙◌, inl, inr}
 use Rattle.std.specs.Prelude.{not, filter, option_map, option_and_then, is_some, if◌then◌else◌}
 use Rattle.std.specs.List.{filter_map, find, cons_option}
@@ -15,18 +15,18 @@ use Rattle.pe_tables.specs.Exports.{first_of_each}
 abbrev pub Named : Type 0
 Named = List ℕ × ℕ
 
--- a name has the text
+-- a name is this string
 abbrev pub has : List ℕ → Named → Bool
 has text n = bytes_eq text n.0
 
--- a name has another text than x
+-- a name is another string than x
 abbrev pub differs : Named → Named → Bool
 differs x n = not (bytes_eq x.0 n.0)
 
 same : (a b : List ℕ) → bytes_eq a b ≡ true → a ≡ b
 same a b = (bytes_eq-Decides a b).0
 
--- a name behind others counts unless its text stands there already
+-- a name after others counts unless one of them is equal
 abbrev pub behind : Bool → Named → List Named
 behind true n = []
 behind false n = n ∷ []
@@ -68,13 +68,13 @@ none_is : (o : Option Named) → is_some o ≡ false → o ≡ None
 none_is None is = refl
 none_is (Some n) is = absurd (true≢false is)
 
--- a search for another text passes over the last name
+-- a search for another string passes over the last name
 pub find-other : (ns : List Named) (n : Named) (text : List ℕ) → bytes_eq text n.0 ≡ false → find (has text) (ns ++ n ∷ []) ≡ find (has text) ns
 find-other ns n text is =
     let last : find (has text) (n ∷ []) ≡ None = rw is refl in
     find-append (has text) ns (n ∷ []) ∙ ap (option_or (find (has text) ns)) last ∙ or_none (find (has text) ns)
 
--- a text that stands there already is found where it stood
+-- a string that occurred before is found where it was
 pub find-known : (ns : List Named) (n : Named) → is_some (find (has n.0) ns) ≡ true → (text : List ℕ) → find (has text) (ns ++ n ∷ []) ≡ find (has text) ns
 find-known ns n known text = elim (cases_Bool (bytes_eq text n.0)) [
   | inl is ↦
@@ -83,14 +83,14 @@ find-known ns n known text = elim (cases_Bool (bytes_eq text n.0)) [
   | inr is ↦ find-other ns n text is
 ]
 
--- a new text is found at its name
+-- a new string is found at its name
 pub find-new : (ns : List Named) (n : Named) → is_some (find (has n.0) ns) ≡ false → (text : List ℕ) → bytes_eq text n.0 ≡ true → find (has text) (ns ++ n ∷ []) ≡ Some n
 find-new ns n new text is =
     let none : find (has text) ns ≡ None = none_is (find (has text) ns) (ap (λ (t : List ℕ). is_some (find (has t) ns)) (same text n.0 is) ∙ new) in
     let last : find (has text) (n ∷ []) ≡ Some n = rw is refl in
     find-append (has text) ns (n ∷ []) ∙ ap (λ (o : Option Named). option_or o (find (has text) (n ∷ []))) none ∙ last
 
--- What a text exports, where a name exports f of its entry.
+-- What a string exports, if a name exports f of its entry.
 module _ (f : ℕ → Option Target) (text : List ℕ) where
   abbrev Exported : Type 0
   Exported = List ℕ × Target
@@ -116,7 +116,7 @@ module _ (f : ℕ → Option Target) (text : List ℕ) where
   passes n rest None is = refl
   passes n rest (Some target) is = rw is refl
 
-  -- names of another text than the one that is sought can be left out
+  -- names other than the one that is searched for can be left out
   left_out : (x : Named) → bytes_eq text x.0 ≡ false → (ns : List Named) → search (filter (differs x) ns) ≡ search ns
   left_out x is [] = refl
   left_out x is (n ∷ ns) = elim (cases_Bool (bytes_eq x.0 n.0)) [
@@ -129,7 +129,7 @@ module _ (f : ℕ → Option Target) (text : List ℕ) where
         ap search more ∙ search-cons n (filter (differs x) ns) ∙ ap (hit (f n.1) (bytes_eq text n.0) n) (left_out x is ns) ∙ sym (search-cons n ns))
   ]
 
-  -- without the names of the text that is sought nothing is found
+  -- without the names equal to the one that is searched for nothing is found
   nothing_left : (x : Named) → bytes_eq text x.0 ≡ true → (ns : List Named) → search (filter (differs x) ns) ≡ None
   nothing_left x is [] = refl
   nothing_left x is (n ∷ ns) = elim (cases_Bool (bytes_eq x.0 n.0)) [
@@ -144,7 +144,7 @@ module _ (f : ℕ → Option Target) (text : List ℕ) where
   hit_first n None is = refl
   hit_first n (Some target) is = rw is refl
 
-  -- the first name of the text says what it exports
+  -- the first name that is this string says what it exports
   pub found_first : (ns : List Named) → option_map (λ p. p.1) (search (first_of_each ns)) ≡ option_and_then (λ n. f n.1) (find (has text) ns)
   found_first [] = refl
   found_first (n ∷ ns) = elim (cases_Bool (bytes_eq text n.0)) [

@@ -62,7 +62,7 @@ pages-span (suc (suc n)) (f ∷ xs) d some le same other =
     ∙ joins f (page_of (get_or xs 0 d)) (take (suc n) xs) (pages_of (drop (suc n) xs)) second
     ∙ ap (λ (page : ℕ). record { page = page; fixups = f ∷ take (suc n) xs } ∷ pages_of (drop (suc n) xs)) second
 
--- fields rise by one at least
+-- fields ascend by at least one
 rises : (xs : List Fixup) (k : ℕ) (d : Fixup) → FieldsAscend xs → k < length xs → (get_or xs 0 d).field + k ≤ (get_or xs k d).field
 rises xs zero d ascend lt = omega arith
 rises xs (suc k) d ascend lt =

@@ -1,4 +1,4 @@
--- How far the tests of a table have been asked.
+-- How far the tests of a table went.
 use Rattle.std.proofs.Common.{◌≡◌, ℕ, Bool, true, false, cond, List, [], ◌∷◌, ◌++◌, None, refl}
 use Rattle.std.specs.Prelude.{◌==◌, ◌||◌, IsTrue}
 use Rattle.pe_view.specs.Faults.{Test, first_standing}
@@ -10,7 +10,7 @@ or_later true b h = refl
 or_later false b h = h
 
 module _ (number : ℕ) where
-  -- behind tests of which none stands
+  -- after tests none of which holds
   pub past-later : (front rest : List Test) → first_standing front ≡ None → IsTrue (goes_past number rest) → IsTrue (goes_past number (front ++ rest))
   past-later [] rest none past = past
   past-later (t ∷ front) rest none past =

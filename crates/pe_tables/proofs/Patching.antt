@@ -1,4 +1,4 @@
--- What writing numbers over bytes leaves.
+-- Bytes after numbers were written over some of them.
 use Rattle.std.proofs.Common.{◌≡◌, ℕ, zero, suc, ◌+◌, ◌-◌, ◌*◌, ◌/◌, ◌%◌, ◌<◌, ◌≤◌, ◌^◌, List, [], ◌∷◌, ◌++◌, append-nil, length, length-drop, take, drop, refl, ap, ◌∙◌, sym, arith}
 use Rattle.std.specs.Prelude.{ℤ, pos, ◌-ℤ◌}
 use Rattle.std.specs.Int.{byte_at, bytes_low_first}
@@ -28,7 +28,7 @@ written_low xs ys place width v narrow e =
     let count : place + width - place ≡ width = omega arith in
     rw (low, len, count) refl
 
--- the number in the bytes from a place on, as `byteorder` reads it
+-- the number in the bytes at an offset, as `byteorder` reads it
 number_read : (xs : List ℕ) (place i w : ℕ) → little_from i w (drop place xs) ≡ num (byte_of xs) (place + i) w
 number_read xs place i zero = refl
 number_read xs place i (suc w) =
@@ -95,7 +95,7 @@ pub shift_in_64 : (v from to : ℕ) → from < 2 ^ 64 → (v + (to + (2 ^ 64 - f
 unfolding shift
 shift_in_64 v from to small = add_mod v (to + (2 ^ 64 - from)) (2 ^ 64) ∙ sum_is_added Bits64 v from to 1 small refl
 
--- a number written over the first bytes of what stands from a place on
+-- a number written over the first bytes from an offset on
 pub written_from : (xs ys : List ℕ) (place w v : ℕ) → place ≤ length xs → ys ≡ bytes w v ++ drop w (take (length xs - place) (drop place xs)) → put_mid place (length xs - place) xs ys ≡ patch xs place (bytes w v)
 unfolding patch
 written_from xs ys place w v le is =
@@ -103,7 +103,7 @@ written_from xs ys place w v le is =
     let len : length (bytes w v) ≡ w = length-bytes_from 0 w v in
     rw (is, take_rest xs place, rest, append-nil (bytes w v ++ drop w (drop place xs)), len) refl
 
--- a field with the number that is to stand there
+-- a field with its new number
 pub field_shifted : (xs : List ℕ) (kind : FixupKind) (place v w n : ℕ) (d : ℤ) → w ≡ width_of kind → v ≡ little_from 0 w (drop place xs) → n ≡ shift kind v d → patch xs place (bytes w n) ≡ shifted_at d kind place xs
 unfolding shifted_at
 field_shifted xs kind place v w n d is_w is_v is_n =

@@ -1,4 +1,4 @@
--- Entries of which nothing has to be asked but their type, and where their field stands.
+-- Entries that can be accepted by their type and by where their field is.
 use Rattle.std.proofs.Common.{◌≡◌, ◌∙◌, ℕ, ◌+◌, ◌≤◌, Bool, false, List, ◌∷◌, None, Some, Option, refl, ap, arith}
 use Rattle.std.specs.Prelude.{map, not}
 use Rattle.std.proofs.lemmas.Bool.{le-leb}
@@ -24,7 +24,7 @@ module _ (e : Entry) (kind : FixupKind) (is : e.kind ≡ type_of kind) where
   pub its_fixup : fixup_of e ≡ Some (record { entry = e.rva; field = e.field; kind = kind })
   its_fixup = ap (λ (t : ℕ). fixup_by e (kind_of t)) is ∙ ap (fixup_by e) (type_kind kind)
 
-  -- no fault stands of it
+  -- it has no fault
   pub none_stands : (i : LaidOut) (slots : List (ℕ × ℕ)) (before : List Fixup) → e.field + width_of kind ≤ i.size
       → meets_any e.field (width_of kind) (map range_of before) ≡ false → meets_any e.field (width_of kind) slots ≡ false
       → first_standing (entry_tests i slots before e) ≡ None

@@ -1,4 +1,4 @@
--- The fixups of a table ascend by where their entries stand.
+-- The fixups of a table ascend by the RVAs of their entries.
 use Rattle.std.proofs.Common.{◌≡◌, ℕ, zero, suc, ◌+◌, ◌-◌, ◌*◌, ◌/◌, ◌<◌, ◌≤◌, List, [], ◌∷◌, ◌++◌, Option, Some, None, refl, sym, subst, arith, inl, inr}
 use Rattle.std.specs.Prelude.{map, All, AllPairs}
 use Rattle.std.specs.List.{flat_map, filter_map, cons_option, range_with_len}
@@ -11,12 +11,12 @@ use Rattle.pe_tables.specs.Fixups.{Block, Entry, block_at, blocks_from, ends_tab
 use Rattle.pe_tables.specs.declared.fixups.Fixup.{Fixup}
 use Rattle.pe_tables.specs.declared.fixups.FixupKind.{FixupKind}
 
--- entries ascend, from a place on
+-- entries ascend, from an RVA on
 abbrev Rising : ℕ → List Fixup → Type 0
 Rising from [] = Unit {0}
 Rising from (f ∷ fs) = (from ≤ f.entry) × Rising (f.entry + 1) fs
 
--- entries ascend, between two places
+-- entries ascend, between two RVAs
 abbrev Between : ℕ → ℕ → List Fixup → Type 0
 Between from to [] = Unit {0}
 Between from to (f ∷ fs) = (from ≤ f.entry) × (f.entry < to) × Between (f.entry + 1) to fs

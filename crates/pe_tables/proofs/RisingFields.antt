@@ -1,4 +1,4 @@
--- Fields that rise are told apart by where they end.
+-- Of ascending fields only the ends have to be compared.
 use Rattle.std.proofs.Common.{◌≡◌, ℕ, ◌+◌, ◌<◌, ◌≤◌, Bool, false, ◌||◌, List, [], ◌∷◌, ◌++◌, length, get_or, take, Option, Some, None, refl, sym, ap, ◌∙◌, arith, length-take}
 use Rattle.std.specs.Prelude.{map, max, MatchOption}
 use Rattle.std.specs.List.{list_any}
@@ -17,14 +17,14 @@ use Rattle.pe_tables.proofs.Beside.{all_beside, fields_long, list_any-map, width
 use Rattle.pe_tables.proofs.Neighbours.{swapped}
 use Rattle.pe_tables.proofs.Pairs.{AllPairs-snoc}
 
--- what begins behind all fields meets none
+-- a range that begins after all fields meets none
 pub behind-apart : (start len : ℕ) (fixups : List Fixup) → EndAt start fixups → meets_any start len (map range_of fixups) ≡ false
 behind-apart start len fixups ends =
     list_any-map (λ range. meets start len range.0 range.1) range_of fixups
     ∙ list_any_none (λ (f : Fixup). meets start len f.field (width_of f.kind)) fixups
     (λ k d lt. let le = ends k d lt in rw (le-ltb start ((get_or fixups k d).field + width_of (get_or fixups k d).kind) le) refl)
 
--- of fields that rise the first ones end where one of the others begins, or before it
+-- of ascending fields the first ones end where one of the others begins, or before it
 pub ends-before : (k : ℕ) (fixups : List Fixup) (d : Fixup) → AreRising fixups → k < length fixups → EndAt (get_or fixups k d).field (take k fixups)
 ends-before k fixups d rising within = λ j e lt.
     let before : j < k = omega (arith, length-take {A = Fixup}) in

@@ -1,4 +1,4 @@
--- Base relocation tables as the definitions read and write them, written out.
+-- Base relocation tables read and written by the definitions, as examples.
 use Rattle.std.proofs.Common.{◌≡◌, ℕ, ◌-◌, false, List, [], ◌∷◌, Some, None, get_or, length, refl}
 use Rattle.std.specs.Prelude.{pos, ◌-ℤ◌}
 use Rattle.pe_view.specs.declared.fault.Place.TheVariants.{Rva}

@@ -1,4 +1,4 @@
--- Of a run of ascending ranges those that start below an RVA stand first, and the last one of them ends last.
+-- In a run of ascending ranges those that start below an RVA come first, and the last one of them ends last.
 use Rattle.std.proofs.Common.{◌≡◌, ℕ, zero, suc, ◌+◌, ◌-◌, ◌<◌, ◌≤◌, Bool, true, false, ◌||◌, List, [], ◌∷◌, ◌++◌, length, take, get_or, refl, sym, ap, subst, ◌∙◌, inl, inr, arith}
 use Rattle.std.specs.Prelude.{nat_lt, filter, All, if◌then◌else◌}
 use Rattle.std.specs.List.{list_any}
@@ -49,7 +49,7 @@ run_meets-last run start len count d ascending these some within =
     meets_any-last start len run (take (count - 1) run) (get_or run (count - 1) d) ascending
     (these ∙ ap (λ (n : ℕ). take n run) (sym whole) ∙ take_more run (count - 1) d (omega arith))
 
--- a run goes on with a range that starts behind all of it
+-- a run is continued by a range that starts after all of it
 pub ascending-push : (run : List (ℕ × ℕ)) (start len : ℕ) → IsAscending run → All (λ range. range.0 < start) run → All (FitsBeside start len) run → IsAscending (run ++ (start, len) ∷ [])
 ascending-push run start len ascending below fits =
     AllPairs-snoc Before run (start, len) ascending (λ k d lt. let less = below k d lt in let fit = fits k d lt in (less, fit.above less))
@@ -90,7 +90,7 @@ meets-run start len run others meets = list_any-append _ run others ∙ ap (λ (
 pub meets-others : (start len : ℕ) (run others : List (ℕ × ℕ)) → meets_any start len run ≡ false → meets_any start len (run ++ others) ≡ meets_any start len others
 meets-others start len run others apart = list_any-append _ run others ∙ ap (λ (b : Bool). b || meets_any start len others) apart
 
--- a run to which a range was pushed, or was not for want of memory
+-- a run to which a range was pushed, or was not, out of memory
 pub ascending-pushed : (pushed : Bool) (old new : List (ℕ × ℕ)) (start len : ℕ) → new ≡ (if pushed then old ++ (start, len) ∷ [] else old) → IsAscending old → All (λ range. range.0 < start) old → All (FitsBeside start len) old → IsAscending new
 ascending-pushed true old new start len is ascending below fits = subst IsAscending (sym is) (ascending-push old start len ascending below fits)
 ascending-pushed false old new start len is ascending below fits = subst IsAscending (sym is) ascending

@@ -29,7 +29,7 @@ module _ {X : Type 0} (n : ℕ) where
       let passes : find is_it (pair ∷ pairs) ≡ find is_it pairs = rw (unequal pair.0 n (none 0 (omega arith))) refl in
       passes ∙ found_nowhere pairs d (λ j lt. none (suc j) (omega arith))
 
-  -- where the pairs ascend, and one at an index is the first that is not below n: another there means that there is none
+  -- if the pairs ascend and the one at an index is the first that is not below n, no pair has n unless that one does
   pub found_in_order : (pairs : List (ℕ × X)) (d : ℕ × X) (index : ℕ) → AllPairs (λ pair later. pair.0 < later.0) pairs → ((k : ℕ) (e : ℕ × X) → k < index → (get_or pairs k e).0 < n)
       → ((k : ℕ) (e : ℕ × X) → index ≤ k → k < length pairs → n ≤ (get_or pairs k e).0) → (index < length pairs → (get_or pairs index d).0 ≡ n → ⊥) → find is_it pairs ≡ None
   found_in_order pairs d index ascend before after other = found_nowhere pairs d (λ j lt is. elim (cases_lt j index) [

@@ -1,4 +1,4 @@
--- Fields that are moved on from one base to another.
+-- Fields that are relocated from one base to another.
 use Rattle.std.proofs.Common.{◌≡◌, ℕ, zero, ◌+◌, ◌-◌, ◌*◌, ◌/◌, ◌%◌, ◌^◌, ◌<◌, ◌≤◌, refl, sym, ap, ◌∙◌, arith}
 use Rattle.std.proofs.Math.Nat.{add-mul, div-add-mod', mod-lt, mul-add-mod_self_right, mul-le-mul_left, one-le-pow}
 use Rattle.std.specs.Prelude.{ℤ, pos, negsuc, ◌+ℤ◌, ◌-ℤ◌, ◌*ℤ◌, ◌≤ℤ◌, ◌≢◌, ◌↔◌, unsigned_abs}
@@ -65,7 +65,7 @@ quotient_sum : (v from to k m r : ℕ) (q : ℤ) → r < 65536 → pos to -ℤ p
     → pos v +ℤ q +ℤ pos (2 ^ 32 * 65536) ≡ pos (v + m / 65536 + k * 2 ^ 48)
 quotient_sum v from to k m r q small parts e = omega (arith, ints)
 
--- the greatest of the whole numbers that are not above d / 65,536
+-- d / 65,536 rounded down is the greatest whole number not above it
 pub floor_greatest : (d n : ℤ) → ((pos 65536 *ℤ n) ≤ℤ d) ↔ (n ≤ℤ int_div_euclid d (pos 65536))
 floor_greatest d n =
     let parts = floor_parts d in

@@ -1,4 +1,4 @@
--- A map by text, as a search among its entries by the text's bytes.
+-- A map by string, as a search among its entries by the string's bytes.
 use Rattle.std.proofs.Common.{◌≡◌, ℕ, Bool, true, false, List, [], ◌∷◌, Option, Some, refl, sym, ap, ◌∙◌}
 use Rattle.std.specs.Borrow.{Bor}
 use Rattle.std.specs.Prelude.{if◌then◌else◌}
@@ -19,7 +19,7 @@ Text = Bor (List ℕ)
 abbrev pub compare : Text → Text → Ordering
 compare a b = slice_cmp nat_cmp a.now b.now
 
--- an entry is found by the comparison exactly where its text is the same
+-- an entry is found by the comparison exactly if its string is equal
 pub by_bytes : {X : Type 0} (text : List ℕ) (entries : List (Text × X)) → lookup (λ key. is_eq (slice_cmp nat_cmp text key.now)) entries ≡ lookup (λ key. bytes_eq text key.now) entries
 by_bytes text entries = ap (λ test. lookup test entries) (λ i key. is_eq-slice_cmp text key.now i)
 
@@ -56,7 +56,7 @@ module _ {X : Type 0} (k : Text) (v : X) (other : List ℕ) where
       true≢false (sym ((bytes_eq-Decides k.now e.0.now).1 same) ∙ sym (is_eq-slice_cmp k.now e.0.now) ∙ ap is_eq is))
       rest
 
-  -- what a map holds for a text after another entry
+  -- what a map has for a string after another entry was added
   pub inserted : (entries : List (Text × X)) → Inserted entries (insert_entry compare entries k v)
   inserted [] = refl
   inserted (e ∷ es) = inserted_by e es (compare k e.0) refl (inserted es)

@@ -1,4 +1,4 @@
--- Texts that ascend: what stands before a text is not the same, and a binary search finds a text if it is there.
+-- Strings that ascend: one that comes before a string is not equal to it, and a binary search finds a string if it is there.
 use Rattle.std.proofs.Common.{◌≡◌, ℕ, zero, suc, ◌-◌, ◌<◌, ◌≤◌, Bool, true, false, List, [], ◌∷◌, ◌++◌, length, get_or, Option, Some, None, refl, sym, ap, subst, ◌∙◌, inl, inr, arith}
 use Rattle.std.specs.Borrow.{Bor}
 use Rattle.std.specs.Prelude.{All, is_some, ◌||◌, if◌then◌else◌}
@@ -17,7 +17,7 @@ use Rattle.pe_tables.specs.TextMap.{IsBefore, TextsAscend, found}
 abbrev compare : List ℕ → List ℕ → Ordering
 compare a b = slice_cmp nat_cmp a b
 
--- how texts compare, said from the other side
+-- the order of two strings, reversed
 pub reversed : (a b : List ℕ) (o : Ordering) → compare a b ≡ o → compare b a ≡ ordering_reverse o
 reversed a b o is = nat_list_cmp_total.antisymm b a ∙ ap ordering_reverse is
 
@@ -45,19 +45,19 @@ abbrev Entry : Type 0 → Type 0
 Entry X = Bor (List ℕ) × X
 
 module _ {X : Type 0} where
-  -- where no entry has the text
+  -- if no entry has the string
   pub found-none : (text : List ℕ) (entries : List (Entry X)) → ((k : ℕ) (d : Entry X) → k < length entries → bytes_eq text (get_or entries k d).0.now ≡ false) → found text entries ≡ None
   found-none text [] none = refl
   found-none text (e ∷ es) none = rw (none 0 e (omega arith)) (found-none text es (λ k d lt. none (suc k) d (omega arith)))
 
-  -- where entry k is the first that has it
+  -- if entry k is the first that has it
   pub found-at : (text : List ℕ) (entries : List (Entry X)) (k : ℕ) (d : Entry X) → k < length entries → bytes_eq text (get_or entries k d).0.now ≡ true
       → ((j : ℕ) → j < k → bytes_eq text (get_or entries j d).0.now ≡ false) → found text entries ≡ Some (get_or entries k d).1
   found-at text [] k d lt is before = absurd (omega arith)
   found-at text (e ∷ es) zero d lt is before = rw is refl
   found-at text (e ∷ es) (suc k) d lt is before = rw (before 0 (omega arith)) (found-at text es k d (omega arith) is (λ j below. before (suc j) (omega arith)))
 
-  -- what entries have for a text, or else others
+  -- what entries have for a string, or else others
   abbrev first_of : Option X → Option X → Option X
   first_of (Some x) o = Some x
   first_of None o = o
@@ -81,7 +81,7 @@ module _ {X : Type 0} where
   either None p = refl
   either (Some x) p = refl
 
-  -- a text is among entries and others where it is among either
+  -- a string is among entries and others if it is among either
   pub found-either : (text : List ℕ) (entries others : List (Entry X)) → is_some (found text (entries ++ others)) ≡ (is_some (found text entries) || is_some (found text others))
   found-either text entries others = ap is_some (found-append text entries others) ∙ either (found text entries) (found text others)
 
@@ -92,7 +92,7 @@ module _ {X : Type 0} where
   pub run_lacks : (text : List ℕ) (entries others : List (Entry X)) → found text (entries ++ others) ≡ None → found text entries ≡ None
   run_lacks text entries others none = lacks_by (found text entries) (found text others) (sym (found-append text entries others) ∙ none)
 
-  -- the last text of a run stands behind all others
+  -- the last string of a run comes after all others
   pub all_stand_before : (run : List (Entry X)) (last : Entry X) (text : List ℕ) → TextsAscend run → 0 < length run → ((d : Entry X) → last ≡ get_or run (length run - 1) d) → IsBefore last.0.now text → All (λ entry. IsBefore entry.0.now text) run
   all_stand_before run last text ascend some is before = λ k d lt.
       let end : IsBefore (get_or run (length run - 1) d).0.now text = rw (is d) at before in
@@ -107,7 +107,7 @@ module _ {X : Type 0} where
       let before : IsBefore (get_or run (length run - 1) last).0.now text = all (length run - 1) last (omega arith) in
       rw (← is last) at before
 
-  -- a text behind a whole run is new to it
+  -- a string after a whole run is new to it
   pub found-new : (run : List (Entry X)) (text : List ℕ) → All (λ entry. IsBefore entry.0.now text) run → found text run ≡ None
   found-new run text all = found-none text run (λ k d lt. differs_before (get_or run k d).0.now text (all k d lt))
 
@@ -130,7 +130,7 @@ module _ {X : Type 0} where
     | inr not_less ↦ (let same : i ≡ j = omega arith in rw same (omega arith))
   ]
 
-  -- what a binary search finds is what the text has
+  -- what a binary search finds is what the string has
   pub searched-at : (run : List (Entry X)) (text : List ℕ) (k : ℕ) (d : Entry X) → TextsAscend run → k < length run → against text (get_or run k d) ≡ Equal → found text run ≡ Some (get_or run k d).1
   searched-at run text k d ascend lt is =
       let same : (get_or run k d).0.now ≡ text = same_texts (get_or run k d).0.now text is in
@@ -150,7 +150,7 @@ module _ {X : Type 0} where
     same_text : bytes_eq other k.now ≡ true → other ≡ k.now
     same_text is = (bytes_eq-Decides other k.now).0 is
 
-    -- a text that is new to a run goes on with it
+    -- a string that is new to a run continues it
     pub gained-push : found k.now run ≡ None → Gained (run ++ others) ((run ++ (k, v) ∷ []) ++ others)
     gained-push new_text = elim (cases_Bool (bytes_eq other k.now)) [
       | inl is ↦
@@ -174,7 +174,7 @@ module _ {X : Type 0} where
             or_none None = refl
             or_none (Some x) = refl
 
-    -- or stands among the others
+    -- or is among the others
     pub gained-others : (new : List (Entry X)) → found k.now run ≡ None → Gained others new → Gained (run ++ others) (run ++ new)
     gained-others new new_text gained = elim (cases_Bool (bytes_eq other k.now)) [
       | inl is ↦

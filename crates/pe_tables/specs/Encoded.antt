@@ -19,7 +19,7 @@ pub record Page : Type 0 where
   pub page : ℕ
   pub fixups : List Fixup
 
--- a fixup before these pages: in the first of them where it is of that page, else in a page of its own
+-- a fixup before these pages: in the first of them if it is of that page, else in a page of its own
 abbrev pub before_pages : Fixup → List Page → List Page
 before_pages f [] = record { page = page_of f; fixups = f ∷ [] } ∷ []
 before_pages f (p ∷ ps) =
@@ -31,11 +31,11 @@ abbrev pub pages_of : List Fixup → List Page
 pages_of [] = []
 pages_of (f ∷ fs) = before_pages f (pages_of fs)
 
--- a page has some fixups, all of them its own
+-- a page has at least one fixup, and all are in that page
 abbrev pub IsPage : Page → Type 0
 IsPage p = (0 < length p.fixups) × All (λ (f : Fixup). page_of f ≡ p.page) p.fixups
 
--- the type that stands for a kind
+-- the type of a kind
 abbrev pub type_of : FixupKind → ℕ
 type_of High = 1
 type_of Low = 2
@@ -55,6 +55,6 @@ block_bytes p =
     little 4 (4096 * p.page) ++ (little 4 (block_size (length p.fixups))
     ++ (flat_map entry_bytes p.fixups ++ replicate (2 * (length p.fixups % 2)) 0))
 
--- the table
+-- the bytes of the table
 abbrev pub encoded : List Fixup → List ℕ
 encoded fixups = flat_map block_bytes (pages_of fixups)

@@ -1,5 +1,5 @@
--- What may be wrong with an export table, in the order in which it is asked: of the directory, of each name, of each entry
--- of the address table.
+-- The faults of an export table, in the order in which they are tested: of the directory, of each name, of each entry of the export
+-- address table.
 use Rattle.std.specs.Prelude.{◌≡◌, ℕ, ◌+◌, ◌*◌, ◌^◌, ◌<◌, ◌≤◌, Bool, not, ◌&&◌, ◌==◌, List, [], ◌∷◌, ◌++◌, Option, Some, None, nat_lt, nat_le, is_none}
 use Rattle.std.specs.List.{flat_map, range_with_len}
 use Rattle.pe_view.specs.Faults.{Test, first_standing}
@@ -29,7 +29,7 @@ name_tests i t k =
     ∷ record { stands = nat_le t.entry_count (name_entry i t k); fault = fault_at 20 i (t.ordinals + 2 * k) }
     ∷ []
 
--- what is asked of a value of the address table, in an entry at an RVA
+-- the tests of a value of the export address table, in an entry at an RVA
 abbrev pub value_tests : LaidOut → Directory → ℕ → ℕ → List Test
 value_tests i d rva value =
     record { stands = not (value == 0) && (not (is_forwarder d value) && not (is_inside i value 1)); fault = fault_at 21 i rva }
@@ -66,7 +66,7 @@ pub record IsInside (i : LaidOut) (t : Table) : Type 0 where
   pub few_entries : t.entry_count ≤ 65536
   pub few_names : t.name_count ≤ 65536
 
--- an export table of which none of faults 16 to 18 stands, and which has a name or an entry
+-- an export table with none of faults 16 to 18, and with a name or an entry
 abbrev pub HasRows : LaidOut → Option Directory → Type 0
 HasRows i None = ⊥
 HasRows i (Some d) = let t = table_at i d.rva in (first_standing (directory_tests i t) ≡ None) × (0 < t.name_count + t.entry_count)

@@ -20,22 +20,22 @@ table_at i rva = record {
   ordinals = number_at 4 i (rva + 36);
 }
 
--- what entry k of the export address table holds
+-- the value of entry k of the export address table
 abbrev pub entry : LaidOut → Table → ℕ → ℕ
 entry i t k = number_at 4 i (t.addresses + 4 * k)
 
--- what such a value exports: nothing where it is 0
+-- what such a value exports: nothing if it is 0
 abbrev pub target_of : LaidOut → Directory → ℕ → Option Target
 target_of i d value = if value == 0 then None else if is_forwarder d value then forwarder_at i value else Some (Rva value)
 
--- the text of name k, where there is one, and the index of the address table's entry that it exports
+-- the bytes of name k, if it is there, and the index of the export address table entry that it exports
 abbrev pub name_text : LaidOut → Table → ℕ → Option (List ℕ)
 name_text i t k = i.text (number_at 4 i (t.names + 4 * k))
 
 abbrev pub name_entry : LaidOut → Table → ℕ → ℕ
 name_entry i t k = number_at 2 i (t.ordinals + 2 * k)
 
--- the exports: by ordinal in the order of the address table; by name, each text where it stands first; and the ordinal of
+-- the exports: by ordinal in the order of the export address table; by name, each once, where it first occurs; and the ordinal of
 -- each of these names
 pub record Exports : Type 0 where
   pub ordinals : List (ℕ × Target)
@@ -45,14 +45,14 @@ pub record Exports : Type 0 where
 abbrev pub by_entry : LaidOut → Directory → Table → ℕ → Option (ℕ × Target)
 by_entry i d t k = option_map (λ target. (t.ordinal_base + k, target)) (target_of i d (entry i t k))
 
--- the names that have a text, each with its entry's index
+-- the names that are there, each with its entry's index
 abbrev pub named : LaidOut → Table → ℕ → Option (List ℕ × ℕ)
 named i t k = option_map (λ text. (text, name_entry i t k)) (name_text i t k)
 
 abbrev pub names_of : LaidOut → Table → List (List ℕ × ℕ)
 names_of i t = filter_map (named i t) (range_with_len 0 t.name_count)
 
--- each text where it stands first
+-- each name once, where it first occurs
 abbrev pub first_of_each : List (List ℕ × ℕ) → List (List ℕ × ℕ)
 first_of_each [] = []
 first_of_each (n ∷ ns) = n ∷ filter (λ m. not (bytes_eq n.0 m.0)) (first_of_each ns)
@@ -78,7 +78,7 @@ exports_at i (Some d) = exports_in i d (table_at i d.rva)
 abbrev pub exports_of : LaidOut → Exports
 exports_of i = exports_at i (i.directory 0)
 
--- what a key exports, where it exports something
+-- what a key exports, if anything
 abbrev pub target_at : Exports → Key → Option Target
 target_at e (Ordinal n) = option_map (λ p. p.1) (find (λ p. p.0 == n) e.ordinals)
 target_at e (Name text) = option_map (λ p. p.1) (find (λ p. bytes_eq text p.0) e.names)

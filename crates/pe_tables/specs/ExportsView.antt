@@ -1,4 +1,4 @@
--- The exports that have been read, with texts as their bytes.
+-- The exports that were read, with strings as their bytes.
 use Rattle.std.specs.Prelude.{ℕ, ◌<◌, List, map}
 use Rattle.pe_layout.specs.Span.{IsTextOf}
 use Rattle.pe_tables.specs.Key.{Target, target_view}
@@ -12,7 +12,7 @@ use Rattle.pe_tables.specs.declared.export_lookup.Exports as code_exports
 abbrev pub name_view : code_name.Name → List ℕ × ℕ
 name_view name = (name.text.bytes.now, name.entry)
 
--- a text of the file, and an entry of those of the table
+-- a string of the file, and the index of an entry of the table
 pub record IsNameOf (file : List ℕ) (entry_count : ℕ) (name : code_name.Name) : Type 0 where
   pub text : IsTextOf file name.text
   pub inside : name.entry < entry_count

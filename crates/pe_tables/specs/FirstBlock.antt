@@ -7,7 +7,7 @@ use Rattle.pe_tables.specs.FixupFaults.{is_bad_size}
 use Rattle.pe_view.specs.declared.refusal.Refusal.{Refusal}
 use Rattle.pe_view.specs.declared.refusal.Refusal.TheVariants.{Fault}
 
--- its start ends it; or its first block has a BlockSize that may be, or one that may not, which is fault 33
+-- the table ends at its start; or its first block has a valid BlockSize, or fault 33
 abbrev pub FirstBlock : LaidOut → Directory → Result Bool Refusal → Type 0
 FirstBlock i d (Ok false) = ends_table i (d.rva + d.size) d.rva ≡ true
 FirstBlock i d (Ok true) = (ends_table i (d.rva + d.size) d.rva ≡ false) × (is_bad_size (d.rva + d.size) d.rva (block_at i d.rva).size ≡ false)

@@ -1,5 +1,4 @@
--- What may be wrong with a base relocation table, in the order in which it is asked: of the directory, of each block, of
--- its entries.
+-- The faults of a base relocation table, in the order in which they are tested: of the directory, of each block, of its entries.
 use Rattle.std.specs.Prelude.{ℕ, ◌+◌, ◌%◌, Bool, not, ◌||◌, ◌==◌, List, [], ◌∷◌, ◌++◌, Option, Some, None, nat_lt, map}
 use Rattle.std.specs.Prelude.{option_to_list}
 use Rattle.pe_view.specs.Faults.{Test}
@@ -9,7 +8,7 @@ use Rattle.pe_tables.specs.Ranges.{meets_any}
 use Rattle.pe_tables.specs.Fixups.{Block, Entry, blocks_of, entries_of, fixup_of, fixups_in, is_known, width_of, range_of, slot_range}
 use Rattle.pe_tables.specs.declared.fixups.Fixup.{Fixup}
 
--- what is asked of a field, behind the fixups `before` and beside the bytes of the image's slots
+-- the tests of a field, after the fixups `before`, with the bytes of the image's slots
 abbrev pub field_tests : LaidOut → List (ℕ × ℕ) → List Fixup → Option Fixup → List Test
 field_tests i slots before None = []
 field_tests i slots before (Some f) =

@@ -1,4 +1,4 @@
--- What a base relocation table names, by the places in it ("PE Format", The .reloc Section).
+-- What a base relocation table names, by RVA ("PE Format", The .reloc Section).
 use Rattle.std.specs.Prelude.{◌≡◌, ◌≢◌, ℕ, ◌+◌, ◌*◌, ◌/◌, ◌%◌, ◌≤◌}
 use Rattle.pe_head.specs.declared.directory.Directory.{Directory}
 use Rattle.pe_layout.specs.Image.{LaidOut, number_at}
@@ -16,12 +16,12 @@ block_size_at i rva = number_at 4 i (rva + 4)
 abbrev pub HasBlock : LaidOut → ℕ → ℕ → Type 0
 HasBlock i end rva = (rva + 8 ≤ end) × (block_size_at i rva ≢ 0)
 
--- from one place of a table to another, a block at a time
+-- from one RVA of a table to another, a block at a time
 pub data LeadsTo (i : LaidOut) (end : ℕ) : ℕ → ℕ → Type 0 where
   here : (rva : ℕ) → LeadsTo i end rva rva
   past : (rva to : ℕ) → HasBlock i end rva → LeadsTo i end (rva + block_size_at i rva) to → LeadsTo i end rva to
 
--- a block begins at a place to which the start of the table leads
+-- a block begins at an RVA to which the start of the table leads
 abbrev pub IsBlock : LaidOut → Directory → ℕ → Type 0
 IsBlock i d rva = LeadsTo i (d.rva + d.size) d.rva rva × HasBlock i (d.rva + d.size) rva
 

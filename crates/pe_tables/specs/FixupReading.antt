@@ -1,4 +1,4 @@
--- What has been read of a base relocation table. No contract of a public function cites it.
+-- The fixups of a base relocation table read so far. No contract of a public function cites it.
 use Rattle.std.specs.Prelude.{◌≡◌, ℕ, ◌+◌, ◌<◌, ◌≤◌, false, List, ◌++◌, Option, None, Some, map, drop, All, AllPairs, MatchOption, ⊤}
 use Rattle.std.specs.List.{filter_map}
 use Rattle.pe_view.specs.Faults.{first_standing}
@@ -13,32 +13,32 @@ use Rattle.pe_tables.specs.declared.fixups.Fixup.{Fixup}
 use Rattle.pe_tables.specs.declared.ranges.Ranges.{Ranges}
 use Rattle.pe_tables.specs.declared.found_fixups.FoundFixups.{FoundFixups}
 
--- no field ends behind this RVA
+-- no field ends after this RVA
 abbrev pub EndAt : ℕ → List Fixup → Type 0
 EndAt end fixups = All (λ (f : Fixup). range_end (range_of f) ≤ end) fixups
 
--- each field begins behind those before it
+-- each field begins after those before it
 abbrev pub AreRising : List Fixup → Type 0
 AreRising fixups = AllPairs (λ (f later : Fixup). range_end (range_of f) ≤ later.field) fixups
 
--- a range fits beside those that are there
+-- a range can be added to those that are there
 abbrev pub FitsBesideAny : {A : Type 0} → ℕ → ℕ → Option (Ranges A) → Type 0
 FitsBesideAny start len fields = MatchOption fields ⊤ (λ ranges. All (FitsBeside start len) (ranges_in ranges))
 
--- the ranges that were there are there with one more
+-- the ranges that were there, with one more
 abbrev pub GainsAny : {A : Type 0} → Option (Ranges A) → Option (Ranges A) → ℕ × ℕ → Type 0
 GainsAny {A} old new range = MatchOption old (new ≡ None) (λ ranges. (more : Ranges A) × (new ≡ Some more) × Gains (ranges_in ranges) (ranges_in more) range)
 
--- the fixups' fields rise, or their ranges are there
+-- the fixups' fields ascend, or their ranges have been collected
 pub record IsIndexed {A : Type 0} (found : FoundFixups A) : Type 0 where
   pub ends : EndAt found.end found.fixups.items
   pub fields : MatchOption found.fields (AreRising found.fixups.items) (λ fields. SameRanges (ranges_in fields) (map range_of found.fixups.items))
 
--- a field that begins here can be told from the others
+-- a field that begins at this RVA can be compared with the others
 abbrev pub Tells : {A : Type 0} → FoundFixups A → ℕ → Type 0
 Tells found field = found.fields ≡ None → found.end ≤ field
 
--- some more fixups have been read
+-- some more fixups were read
 pub record Reads {A : Type 0} (old new : FoundFixups A) (more : List Fixup) : Type 0 where
   pub fixups : new.fixups.items ≡ old.fixups.items ++ more
   pub indexed : IsIndexed new
@@ -49,7 +49,7 @@ pub record IsRunOf (i : LaidOut) (run : Run) : Type 0 where
   pub width : run.width ≡ width_of run.kind
   pub size : run.size ≡ i.size
 
--- of some entries those before an index have been read, and no fault of theirs stands
+-- of some entries those before an index were read, and have no fault
 pub record ReadsUpTo {A : Type 0} (i : LaidOut) (slots : List (ℕ × ℕ)) (entries : List Entry) (old new : FoundFixups A) (index : ℕ) : Type 0 where
   pub tests : first_standing (entries_tests i slots new.fixups.items (drop index entries)) ≡ first_standing (entries_tests i slots old.fixups.items entries)
   pub fixups : new.fixups.items ++ filter_map fixup_of (drop index entries) ≡ old.fixups.items ++ filter_map fixup_of entries

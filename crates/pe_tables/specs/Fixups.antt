@@ -1,5 +1,4 @@
--- The base relocation table ("PE Format", The .reloc Section): blocks of entries, each of which names a field to be
--- relocated.
+-- The base relocation table ("PE Format", The .reloc Section): blocks of entries, each of which names a field to be relocated.
 use Rattle.std.specs.Prelude.{◌≡◌, true, false, ℕ, zero, suc, ◌+◌, ◌-◌, ◌*◌, ◌/◌, ◌%◌, Bool, ◌||◌, ◌==◌, List, [], ◌∷◌, Option, Some, None, nat_lt, if◌then◌else◌, is_some, map}
 use Rattle.std.specs.List.{filter_map, flat_map, range_with_len}
 use Rattle.pe_head.specs.declared.directory.Directory.{Directory}
@@ -8,7 +7,7 @@ use Rattle.pe_tables.specs.declared.fixups.Fixup.{Fixup}
 use Rattle.pe_tables.specs.declared.fixups.FixupKind.{FixupKind}
 use Rattle.pe_tables.specs.declared.fixups.FixupKind.TheVariants.{Bits32, Bits64, High, Low}
 
--- a block: where it stands, its PageRVA and its BlockSize, which counts the whole block
+-- a block: its RVA, its PageRVA and its BlockSize, which counts the whole block
 pub record Block : Type 0 where
   pub rva : ℕ
   pub page : ℕ
@@ -17,11 +16,11 @@ pub record Block : Type 0 where
 abbrev pub block_at : LaidOut → ℕ → Block
 block_at i rva = record { rva = rva; page = number_at 4 i rva; size = number_at 4 i (rva + 4) }
 
--- no block stands where fewer than 8 bytes of the table remain, or at a BlockSize of 0
+-- the table ends where fewer than 8 bytes of it remain, or at a BlockSize of 0
 abbrev pub ends_table : LaidOut → ℕ → ℕ → Bool
 ends_table i end rva = nat_lt end (rva + 8) || (number_at 4 i (rva + 4) == 0)
 
--- BlockSize where a block stands
+-- BlockSize, if a block is there
 abbrev pub IsBlockSize : LaidOut → ℕ → ℕ → Option ℕ → Type 0
 IsBlockSize i end rva None = ends_table i end rva ≡ true
 IsBlockSize i end rva (Some size) = (ends_table i end rva ≡ false) × (size ≡ (block_at i rva).size)
@@ -34,7 +33,7 @@ blocks_from (suc n) i end rva = if ends_table i end rva then [] else block_at i 
 abbrev pub blocks_of : LaidOut → Directory → List Block
 blocks_of i d = blocks_from d.size i (d.rva + d.size) d.rva
 
--- an entry: where it stands, its type in the high four bits, and the RVA of the field that it names
+-- an entry: its RVA, its type in the high four bits, and the RVA of the field that it names
 pub record Entry : Type 0 where
   pub rva : ℕ
   pub kind : ℕ
@@ -54,7 +53,7 @@ entries_at i page rva count = map (λ k. entry_of i page (rva + 2 * k)) (range_w
 abbrev pub entries_of : LaidOut → Block → List Entry
 entries_of i b = map (entry_at i b) (range_with_len 0 ((b.size - 8) / 2))
 
--- the kind of field that a type stands for: 1 is HIGH, 2 is LOW, 3 is HIGHLOW, 10 is DIR64; 0, ABSOLUTE, names no field
+-- the kind of field of a type: 1 is HIGH, 2 is LOW, 3 is HIGHLOW, 10 is DIR64; 0, ABSOLUTE, names no field
 abbrev pub kind_of : ℕ → Option FixupKind
 kind_of t =
     if t == 1 then Some High
@@ -66,7 +65,7 @@ kind_of t =
 abbrev pub is_known : ℕ → Bool
 is_known t = (t == 0) || is_some (kind_of t)
 
--- how many bytes a field has
+-- the size of a field in bytes
 abbrev pub width_of : FixupKind → ℕ
 width_of High = 2
 width_of Low = 2

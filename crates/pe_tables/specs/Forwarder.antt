@@ -5,14 +5,14 @@ use Rattle.pe_head.specs.declared.directory.Directory.{Directory}
 use Rattle.pe_layout.specs.Image.{LaidOut}
 use Rattle.pe_tables.specs.Key.{Key, Ordinal, Name, Target, Forward}
 
--- an address inside the export directory itself is that of a forwarder's text
+-- an address inside the export directory itself is that of a forwarder string
 abbrev pub is_forwarder : Directory → ℕ → Bool
 is_forwarder d rva = nat_le d.rva rva && nat_lt rva (d.rva + d.size)
 
 abbrev pub is_digit : ℕ → Bool
 is_digit byte = nat_le 48 byte && nat_le byte 57
 
--- the number that decimal digits write, behind those of another number
+-- the number that decimal digits write, after those of another number
 abbrev pub decimal_value : ℕ → List ℕ → ℕ
 decimal_value n [] = n
 decimal_value n (digit ∷ digits) = decimal_value (n * 10 + (digit - 48)) digits
@@ -28,7 +28,7 @@ abbrev pub key_of : List ℕ → Option Key
 key_of [] = None
 key_of (byte ∷ bytes) = if byte == 35 then ordinal_key bytes else Some (Name (byte ∷ bytes))
 
--- a text before its last dot and behind it
+-- a string before its last dot and after it
 abbrev pub at_dot : ℕ → List ℕ → Option (List ℕ × List ℕ) → Option (List ℕ × List ℕ)
 at_dot byte bytes (Some sides) = Some (byte ∷ sides.0, sides.1)
 at_dot byte bytes None = if byte == 46 then Some ([], bytes) else None
@@ -44,16 +44,16 @@ forward_to sides = if nat_lt 0 (length sides.0) then option_map (Forward sides.0
 abbrev pub forwarder_of : List ℕ → Option Target
 forwarder_of text = option_and_then forward_to (at_last_dot text)
 
--- the forwarder whose text stands at an RVA
+-- the forwarder whose string is at an RVA
 abbrev pub forwarder_at : LaidOut → ℕ → Option Target
 forwarder_at i rva = option_and_then forwarder_of (i.text rva)
 
--- the text is that of a key: a name, or `#` and decimal digits that write an ordinal
+-- the string is that of a key: a name, or `#` and decimal digits that write an ordinal
 abbrev pub IsKeyText : List ℕ → Key → Type 0
 IsKeyText text (Name name) = text ≡ name
 IsKeyText text (Ordinal ordinal) = (digits : List ℕ) × (text ≡ 35 ∷ digits) × (list_all is_digit digits ≡ true) × (decimal_value 0 digits ≡ ordinal)
 
--- the text is a module's name, a dot, and the text of a key, which has no dot
+-- the string is a module's name, a dot, and the string of a key, which has no dot
 pub record IsForwarderText (text module_name : List ℕ) (key : Key) : Type 0 where
   pub key_text : List ℕ
   pub parts : text ≡ module_name ++ 46 ∷ key_text

@@ -1,4 +1,4 @@
--- What may be wrong with an import table, in the order in which it is asked: of each descriptor, of its lookup entries.
+-- The faults of an import table, in the order in which they are tested: of each descriptor, of its lookup entries.
 use Rattle.std.specs.Prelude.{ℕ, ◌+◌, ◌/◌, ◌^◌, not, ◌&&◌, ◌==◌, List, [], ◌∷◌, ◌++◌, length, Option, Some, None, map, is_none, option_to_list, if◌then◌else◌}
 use Rattle.pe_view.specs.Faults.{Test}
 use Rattle.pe_head.specs.declared.directory.Directory.{Directory}
@@ -7,7 +7,7 @@ use Rattle.pe_tables.specs.Ranges.{meets_any}
 use Rattle.pe_tables.specs.Imports.{Import, Lookup, is_null, descriptors_of, lookups_of, is_ordinal, name_of, import_of, module_of, imports_in}
 use Rattle.pe_tables.specs.declared.imports.Descriptor.{Descriptor}
 
--- what is asked of the value of the entry at an RVA
+-- the tests of the value of the entry at an RVA
 abbrev pub key_tests : LaidOut → ℕ → ℕ → List Test
 key_tests i rva value =
     record { stands = not (is_ordinal i value) && is_none (name_of i value); fault = fault_at 27 i rva }
@@ -18,7 +18,7 @@ key_tests i rva value =
 abbrev pub range_of : ℕ → Import → ℕ × ℕ
 range_of width import = (import.slot, width)
 
--- what is asked of the slot beside the entry at an RVA, behind the imports `before`
+-- the tests of the slot of the entry at an RVA, after the imports `before`
 abbrev pub slot_tests : LaidOut → List Import → ℕ → ℕ → List Test
 slot_tests i before rva slot =
     record { stands = not (is_inside i slot i.slot_width); fault = fault_at 29 i rva }

@@ -1,4 +1,4 @@
--- Where the names stand by which an image imports ("PE Format", Hint/Name Table).
+-- Where the names are by which an image imports ("PE Format", Hint/Name Table).
 use Rattle.std.specs.Prelude.{◌≡◌, ℕ, ◌+◌, ◌%◌, ◌^◌, List, [], Option, Some, None, slice_get, if◌then◌else◌, unwrap_or}
 use Rattle.std.specs.List.{filter_map, flat_map}
 use Rattle.pe_head.specs.declared.directory.Directory.{Directory}
@@ -7,7 +7,7 @@ use Rattle.pe_tables.specs.Key.{Name}
 use Rattle.pe_tables.specs.Imports.{Import, Lookup, is_ordinal, ends_table, ends_list, lookups_of, descriptors_of}
 use Rattle.pe_tables.specs.declared.imports.Descriptor.{Descriptor}
 
--- the RVA of the name behind its hint, which has two bytes, or 0 where there is an ordinal
+-- the RVA of the name after its hint of two bytes, or 0 for an ordinal
 abbrev pub name_rva_of : LaidOut → ℕ → ℕ
 name_rva_of i value = if is_ordinal i value then 0 else value % 2 ^ 31 + 2
 
@@ -25,14 +25,14 @@ abbrev pub import_names_in : LaidOut → Option Directory → List ℕ
 import_names_in i None = []
 import_names_in i (Some d) = import_names_at i d.rva
 
--- where the names of an image's imports stand, in table order
+-- the RVAs of the names of an image's imports, in table order
 abbrev pub import_names_of : LaidOut → List ℕ
 import_names_of i = import_names_in i (i.directory 1)
 
--- an import by name has the text at an RVA
+-- an import by name has the string at an RVA
 abbrev pub IsNamedAt : LaidOut → ℕ → Import → Type 0
 IsNamedAt i rva import = (name : List ℕ) → import.key ≡ Name name → name ≡ unwrap_or (i.text rva) []
 
--- each of these imports for which there is an RVA has the text there
+-- each of these imports that has an RVA has the string there
 abbrev pub AreNamedAt : LaidOut → List ℕ → List Import → Type 0
 AreNamedAt i rvas imports = (k : ℕ) (rva : ℕ) (import : Import) → slice_get rvas k ≡ Some rva → slice_get imports k ≡ Some import → IsNamedAt i rva import

@@ -1,4 +1,4 @@
--- Imports that have been read, with texts as their bytes.
+-- Imports that were read, with strings as their bytes.
 use Rattle.pe_tables.specs.Key.{key_view}
 use Rattle.pe_tables.specs.Imports as table
 use Rattle.pe_tables.specs.declared.import.Import.{Import}

@@ -1,5 +1,5 @@
--- The import table ("PE Format", The .idata Section): descriptors, each of which names a module, a lookup table, and beside
--- it an address table of slots.
+-- The import table ("PE Format", The .idata Section): descriptors, each of which names a module, a lookup table, and an address
+-- table of as many slots.
 use Rattle.std.specs.Prelude.{ℕ, zero, suc, ◌+◌, ◌-◌, ◌*◌, ◌/◌, ◌%◌, ◌^◌, Bool, not, ◌||◌, ◌==◌, List, [], ◌∷◌, Option, Some, None, if◌then◌else◌, unwrap_or}
 use Rattle.std.specs.List.{filter_map, flat_map}
 use Rattle.pe_head.specs.declared.directory.Directory.{Directory}
@@ -7,7 +7,7 @@ use Rattle.pe_layout.specs.Image.{LaidOut, number_at, is_inside}
 use Rattle.pe_tables.specs.Key.{Key, Ordinal, Name}
 use Rattle.pe_tables.specs.declared.imports.Descriptor.{Descriptor}
 
--- by what of which module, and the slot for its address
+-- the module, the key, and the slot for the export's address
 pub record Import : Type 0 where
   pub module_name : List ℕ
   pub key : Key
@@ -26,7 +26,7 @@ descriptor_at i rva = record {
 abbrev pub is_null : Descriptor → Bool
 is_null d = (d.name == 0) || (d.addresses == 0)
 
--- no descriptor follows such a one, or one that is not in the image
+-- the list ends with such a one, or one that is not in the image
 abbrev pub ends_list : LaidOut → Descriptor → Bool
 ends_list i d = not (is_inside i d.rva 20) || is_null d
 
@@ -41,11 +41,11 @@ descriptors_from (suc n) i rva =
 abbrev pub descriptors_of : LaidOut → ℕ → List Descriptor
 descriptors_of i rva = descriptors_from i.size i rva
 
--- where the lookup table is: the address table serves where there is none
+-- the lookup table: the address table if there is none
 abbrev pub lookup_table : Descriptor → ℕ
 lookup_table d = if d.lookup == 0 then d.addresses else d.lookup
 
--- an entry of a lookup table, and the slot beside it
+-- an entry of a lookup table, and its slot
 pub record Lookup : Type 0 where
   pub rva : ℕ
   pub value : ℕ
@@ -54,7 +54,7 @@ pub record Lookup : Type 0 where
 abbrev pub lookup_at : LaidOut → ℕ → ℕ → Lookup
 lookup_at i rva slot = record { rva = rva; value = number_at i.slot_width i rva; slot = slot }
 
--- no entry follows one that is 0, or is not in the image
+-- the table ends with an entry that is 0, or is not in the image
 abbrev pub ends_table : LaidOut → Lookup → Bool
 ends_table i l = not (is_inside i l.rva i.slot_width) || (l.value == 0)
 
@@ -72,7 +72,7 @@ lookups_of i d = lookups_from i.size i (lookup_table d) d.addresses
 abbrev pub is_ordinal : LaidOut → ℕ → Bool
 is_ordinal i value = value / 2 ^ (8 * i.slot_width - 1) == 1
 
--- the name behind its hint, which has two bytes
+-- the name after its hint of two bytes
 abbrev pub name_of : LaidOut → ℕ → Option (List ℕ)
 name_of i value = i.text (value % 2 ^ 31 + 2)
 

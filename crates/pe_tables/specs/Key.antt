@@ -1,4 +1,4 @@
--- By what an export is looked up, and what a module exports by it, with texts as their bytes.
+-- What an export is looked up by, and what a module exports by it, with strings as their bytes.
 use Rattle.std.specs.Prelude.{ℕ, List}
 use Rattle.pe_tables.specs.declared.key.Key as code_key
 use Rattle.pe_tables.specs.declared.key.Key.TheVariants as code_keys
@@ -9,7 +9,7 @@ pub data Key : Type 0 where
   Ordinal : (ordinal : ℕ) → Key
   Name : (text : List ℕ) → Key
 
--- an RVA, or a key of another module, named as in the forwarder's text
+-- an RVA, or a key of another module, named as in the forwarder string
 pub data Target : Type 0 where
   Rva : (rva : ℕ) → Target
   Forward : (module_name : List ℕ) (key : Key) → Target

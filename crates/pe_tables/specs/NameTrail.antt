@@ -6,12 +6,12 @@ use Rattle.pe_tables.specs.declared.export_lookup.Exports.{Exports}
 use Rattle.pe_tables.specs.declared.long_texts.Node.{Node}
 use Rattle.pe_tables.specs.declared.name_trail.NameTrail.{NameTrail}
 
--- the node after so many blocks: the first is that of no block
+-- the node after so many blocks: the first is the root
 abbrev pub node_after : List (Option ℕ) → ℕ → Option ℕ
 node_after trail k = slice_index_or (Some 0 ∷ trail) k None
 
 module _ {A : Type 0} where
-  -- the last blocks of a text lead to the nodes of a trail, as far as both go
+  -- the last blocks of a string lead to the nodes of a trail, as far as both go
   abbrev pub Follows : List (Node A) → List ℕ → List (Option ℕ) → Type 0
   Follows nodes text trail = (k : ℕ) → k ≤ length trail → 256 * k ≤ length text → node_of nodes text k ≡ node_after trail k
 

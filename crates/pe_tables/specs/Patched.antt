@@ -1,4 +1,4 @@
--- The places of bytes over which others were written: what proofs of all layers say of them.
+-- The bytes of a list after others were written over some, for proofs of all layers.
 use Rattle.std.proofs.Common.{◌≡◌, ℕ, zero, suc, ◌+◌, ◌-◌, ◌%◌, ◌<◌, ◌≤◌, ◌⊎◌, List, length, get_or, sym, ap, ◌∙◌, refl, inl, inr, arith, rules, length-append, length-drop}
 use Rattle.std.proofs.lemmas.List.{places, length-take-le}
 use Rattle.std.proofs.Math.Nat.{div-one}
@@ -38,7 +38,7 @@ bytes_from-get j (suc w) v (suc k) h =
     let e : j + suc k ≡ suc j + k = omega arith in
     rw e (bytes_from-get (suc j) w v k (omega arith))
 
--- a place of a list with a number's bytes written over it
+-- a byte of the list where a number was written
 pub written_in : (xs : List ℕ) (at w v r : ℕ) → at + w ≤ length xs → at ≤ r → r < at + w → get_or (patch xs at (bytes w v)) r 0 ≡ digit v (r - at)
 written_in xs at w v r fits low high =
     let len : length (bytes w v) ≡ w = length-bytes_from 0 w v in

@@ -1,4 +1,4 @@
--- The ranges that are held. No contract of a public function cites it.
+-- The ranges that are stored. No contract of a public function cites it.
 use Rattle.std.specs.Prelude.{ℕ, List, ◌++◌}
 use Rattle.pe_tables.specs.declared.ranges.Ranges.{Ranges}
 

@@ -1,5 +1,5 @@
--- An image that stands at a base: the number in each fixup's field is moved on by as much as the base lies above ImageBase
--- ("PE Format", Base Relocation Types).
+-- An image at a base: the number in each fixup's field is relocated by the difference of the base and ImageBase ("PE Format", Base
+-- Relocation Types).
 use Rattle.std.specs.Prelude.{ℕ, ◌-◌, ◌^◌, Bool, find, Option, None, Some, ℤ, pos, ◌+ℤ◌, ◌-ℤ◌, unsigned_abs}
 use Rattle.std.specs.Int.{int_div_euclid, int_rem_euclid}
 use Rattle.pe_view.specs.Number.{digit, is_in}
@@ -9,8 +9,8 @@ use Rattle.pe_tables.specs.declared.fixups.Fixup.{Fixup}
 use Rattle.pe_tables.specs.declared.fixups.FixupKind.{FixupKind}
 use Rattle.pe_tables.specs.declared.fixups.FixupKind.TheVariants.{Bits32, Bits64, High, Low}
 
--- what is added to a field whose image stands d above ImageBase, of a d that may be below zero: d itself, or of HIGH the greatest
--- whole number that is not above d / 65,536
+-- what is added to a field if the image is d above ImageBase, where d may be below zero: d itself, or for HIGH d / 65,536 rounded
+-- down
 abbrev pub amount : FixupKind → ℤ → ℤ
 amount High d = int_div_euclid d (pos 65536)
 amount Low d = d
@@ -33,6 +33,6 @@ abbrev pub relocated_by : LaidOut → ℕ → ℕ → Option Fixup → ℕ
 relocated_by i base r None = i.byte r
 relocated_by i base r (Some f) = digit (shifted i base f) (r - f.field)
 
--- the byte at an RVA of the image at a base: that of the field in which it is, else the laid-out one
+-- the byte at an RVA of the image at a base: that of the field that has it, else the laid-out one
 abbrev pub relocated : LaidOut → ℕ → ℕ → ℕ
 relocated i base r = relocated_by i base r (find (in_field r) (fixups_of i))

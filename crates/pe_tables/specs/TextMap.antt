@@ -1,4 +1,4 @@
--- Texts in the order of their bytes, each with something. No contract of a public function cites it.
+-- Strings in the order of their bytes, each with a value. No contract of a public function cites it.
 use Rattle.std.specs.Prelude.{◌≡◌, ℕ, List, Option, AllPairs}
 use Rattle.std.specs.Borrow.{Bor}
 use Rattle.std.specs.Ordering.{nat_cmp}
@@ -7,13 +7,13 @@ use Rattle.std.specs.Cmp.Lexicographic.{slice_cmp}
 use Rattle.std.specs.Map.{lookup}
 use Rattle.std.specs.Str.{bytes_eq}
 
--- a text stands before another in the order of their bytes
+-- a string comes before another in the order of their bytes
 abbrev pub IsBefore : List ℕ → List ℕ → Type 0
 IsBefore a b = slice_cmp nat_cmp a b ≡ Less
 
 abbrev pub TextsAscend : {X : Type 0} → List (Bor (List ℕ) × X) → Type 0
 TextsAscend entries = AllPairs (λ entry later. IsBefore entry.0.now later.0.now) entries
 
--- what the first of the entries with a text has
+-- the value of the first entry with a string
 abbrev pub found : {X : Type 0} → List ℕ → List (Bor (List ℕ) × X) → Option X
 found text entries = lookup (λ key. bytes_eq text key.now) entries

@@ -1,4 +1,4 @@
--- The texts that are held. No contract of a public function cites it.
+-- The strings that are stored. No contract of a public function cites it.
 use Rattle.std.specs.Prelude.{ℕ, List, Option, ◌++◌}
 use Rattle.std.specs.Borrow.{Bor}
 use Rattle.pe_tables.specs.declared.key.Target.{Target}

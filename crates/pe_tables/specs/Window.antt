@@ -3,7 +3,7 @@ use Rattle.std.specs.Prelude.{◌≡◌, ℕ, ◌+◌, ◌≤◌, take}
 use Rattle.pe_layout.specs.Image.{LaidOut, bytes_at}
 use Rattle.pe_tables.specs.declared.window.Window.{Window}
 
--- a window has bytes of this image
+-- the bytes in a window are those of this image
 pub record IsWindowOf (i : LaidOut) (w : Window) : Type 0 where
   pub few : w.len ≤ 512
   pub inside : w.start + w.len ≤ i.size

@@ -1,4 +1,5 @@
-//! `shift_field` and the like: numbers relocated from one base to another; and `write_low`, which writes their bytes.
+//! `shift_field` and others: the numbers in fields relocated from one base to another; and `write_low`, which stores a number's
+//! bytes.
 
 ghost use Rattle.std.specs.Prelude.{◌≡◌, ◌+◌, ◌≤◌, length, pos, ◌-ℤ◌};
 ghost use Rattle.pe_tables.specs.Fixups.{width_of};
@@ -9,7 +10,7 @@ ghost use Rattle.pe_tables.specs.declared.fixups.FixupKind.TheVariants.{Bits32, 
 use crate::fixups::FixupKind;
 use byteorder::{ByteOrder, LittleEndian};
 
-/// Writes the lowest `width` bytes of a number at a place.
+/// Writes the lowest `width` bytes of a number at an offset, little-endian.
 pub fn write_low(memory: &mut [u8], place: usize, value: u64, width: usize)
     requires narrow { width ≤ 8 }
     requires inside { place + width ≤ length memory.old }
@@ -18,36 +19,36 @@ pub fn write_low(memory: &mut [u8], place: usize, value: u64, width: usize)
     memory[place..place + width].copy_from_slice(&value.to_le_bytes()[..width]);
 }
 
-/// The number of a HIGH field, moved on from one base to another: by the greatest whole number that is not above their
-/// difference divided by 65,536. The sum wraps.
+/// The number of a HIGH field, relocated from one base to another: the difference of the bases divided by 65,536, rounded down, is
+/// added, and the sum wraps.
 pub fn shift_high(number: u16, from: u64, to: u64) -> u16
     ensures { result ≡ shift High number (pos to -ℤ pos from) }
 {
     number.wrapping_add((to.wrapping_sub(from) / 65536 % (1 << 16)) as u16)
 }
 
-/// The number of a LOW field, moved on from one base to another. The sum wraps.
+/// The number of a LOW field, relocated from one base to another. The sum wraps.
 pub fn shift_low(number: u16, from: u64, to: u64) -> u16
     ensures { result ≡ shift Low number (pos to -ℤ pos from) }
 {
     number.wrapping_add((to.wrapping_sub(from) % (1 << 16)) as u16)
 }
 
-/// The number of a field of 4 bytes, moved on from one base to another. The sum wraps.
+/// The number of a field of 4 bytes, relocated from one base to another. The sum wraps.
 pub fn shift_32(number: u32, from: u64, to: u64) -> u32
     ensures { result ≡ shift Bits32 number (pos to -ℤ pos from) }
 {
     number.wrapping_add((to.wrapping_sub(from) % (1 << 32)) as u32)
 }
 
-/// The number of a field of 8 bytes, moved on from one base to another. The sum wraps.
+/// The number of a field of 8 bytes, relocated from one base to another. The sum wraps.
 pub fn shift_64(number: u64, from: u64, to: u64) -> u64
     ensures { result ≡ shift Bits64 number (pos to -ℤ pos from) }
 {
     number.wrapping_add(to.wrapping_sub(from))
 }
 
-/// Moves the field at a place on from one base to another ("PE Format", Base Relocation Types).
+/// Relocates the field at an offset from one base to another ("PE Format", Base Relocation Types).
 pub fn shift_field(memory: &mut [u8], place: usize, kind: FixupKind, from: u64, to: u64)
     requires { place + width_of kind ≤ length memory.old }
     ensures { memory.new ≡ shifted_at (pos to -ℤ pos from) kind place memory.old }

@@ -1,4 +1,4 @@
-//! `encode_fixups`: the base relocation table that has given fixups, whose fields ascend.
+//! `encode_fixups`: the bytes of the base relocation table with given fixups, whose fields ascend.
 
 ghost use Rattle.std.specs.Prelude.{◌≡◌, ◌≢◌, ℕ, ◌+◌, ◌*◌, ◌<◌, ◌≤◌, ◌^◌, ◌↔◌, ◌++◌, [], IsTrue, IsOk, IfOk, OnOk, length, slice_index_or};
 ghost use Rattle.std.specs.List.{flat_map};
@@ -23,7 +23,7 @@ fn push_entry<A: Allocator>(bytes: &mut Vec<u8, A>, fixup: &Fixup) -> Result<(),
     bytes.extend_from_slice(&entry.to_le_bytes())
 }
 
-/// How many of the fixups, from the first on, are of the first one's page.
+/// How many of the first fixups are in the page of the first.
 fn page_len(fixups: &[Fixup]) -> usize
     requires { 0 < length fixups.now }
     ensures some { 0 < result }
@@ -49,7 +49,7 @@ fn push_entries<A: Allocator>(bytes: &mut Vec<u8, A>, fixups: &[Fixup]) -> Resul
     Ok(())
 }
 
-/// Adds the block of a page: its fixups, of which there are some.
+/// Adds the block of a page. `fixups` are all those of the page, and at least one.
 fn push_block<A: Allocator>(
     bytes: &mut Vec<u8, A>,
     page: u32,
@@ -67,11 +67,11 @@ fn push_block<A: Allocator>(
     bytes.extend_from_slice(&[0, 0][..2 * padding])
 }
 
-/// The bytes of the base relocation table that has these fixups: one block for each page of 4,096 bytes that has a field,
-/// pages ascending, entries ascending, and one ABSOLUTE entry of value 0 where their number is odd.
+/// The bytes of the base relocation table with these fixups: one block for each page of 4,096 bytes that has a field, pages
+/// ascending, entries ascending, and an ABSOLUTE entry of value 0 if their number is odd: a block starts on a 32-bit boundary.
 ///
-/// The fields strictly ascend, which [`ascending`] tests; the entries' RVAs are not used. Fails only where memory is
-/// refused, and takes none for no fixups. ("PE Format", The .reloc Section.)
+/// The fields strictly ascend, which [`ascending`] tests; the entries' RVAs are not used. The only error is out of memory; nothing
+/// is allocated for no fixups. ("PE Format", The .reloc Section.)
 pub fn encode_fixups<A: Allocator>(alloc: A, fixups: &[Fixup]) -> Result<Vec<u8, A>, AllocError>
     requires { FieldsAscend fixups.now }
     ensures bytes { IfOk result (λ bytes. bytes.items ≡ encoded fixups.now) }

@@ -1,4 +1,4 @@
-//! The entries at the beginning of a piece of a block that are alike: of one type, and with fields that ascend.
+//! The entries at the start of a part of a block that have one type and ascending fields.
 
 ghost use Rattle.std.specs.Prelude.{◌≡◌, ◌+◌, ◌*◌, ◌/◌, ◌<◌, ◌^◌, None, IsTrue, IfOk, option_to_list, false};
 ghost use Rattle.pe_layout.specs.Layout.{image_of};
@@ -17,7 +17,7 @@ use pe_layout::Layout;
 use pe_view::View;
 use std::alloc::{AllocError, Allocator};
 
-/// The kind of the first of these entries, which most of the others then have too, or HIGHLOW where it names no field.
+/// The kind of the first entry, which most others then have too, or HIGHLOW if it names no field.
 fn first_kind(bytes: View) -> FixupKind {
     match bytes.u16_at(0) {
         Some(entry) => FixupKind::of_type(entry / 4096).unwrap_or(FixupKind::Bits32),
@@ -29,11 +29,11 @@ fn first_kind(bytes: View) -> FixupKind {
 #[derive(Drop)]
 struct Run {
     kind: FixupKind,
-    /// The type that stands for the kind in an entry.
+    /// The type of an entry of the kind.
     entry_type: u16,
-    /// How many bytes a field has.
+    /// The size of a field in bytes.
     width: u64,
-    /// How many bytes the image has.
+    /// The size of the image in bytes.
     size: u32,
 }
 
@@ -49,8 +49,8 @@ fn run_of(layout: &Layout, kind: FixupKind) -> Run
     }
 }
 
-/// Reads an entry as `read_entry` does where its field is one of this run, lies in the image and begins behind all others, and
-/// tells whether it was read. No field of the block has a byte of a slot.
+/// Reads an entry as `read_entry` does if its field is of this run's kind, lies in the image and begins after all others, and
+/// returns whether it did. No field of the block shares a byte with a slot.
 fn read_rising<A: Allocator + Copy>(
     _layout: &Layout,
     _slots: &Ranges<A>,
@@ -87,8 +87,8 @@ fn read_rising<A: Allocator + Copy>(
     Ok(true)
 }
 
-/// Reads the entries that stand in these bytes, as `read_entries` does, up to the first that [`read_rising`] leaves, and tells how
-/// many they are. It stands apart, so that it is a short loop.
+/// Reads the entries in these bytes, as `read_entries` does, up to the first that [`read_rising`] does not read, and returns their
+/// number. It is a function of its own so that the loop stays short.
 #[inline(never)]
 fn read_run<A: Allocator + Copy>(
     layout: &Layout,
@@ -116,8 +116,8 @@ fn read_run<A: Allocator + Copy>(
     Ok(count)
 }
 
-/// Reads the first of these entries as [`read_run`] does, where no field of their block has a byte of a slot and the fields before
-/// them rise, and tells how many.
+/// Reads the first of these entries as [`read_run`] does, if no field of their block shares a byte with a slot and the fields
+/// before them ascend, and returns their number.
 pub(crate) fn read_first<A: Allocator + Copy>(
     layout: &Layout,
     slots: &Ranges<A>,

@@ -1,4 +1,4 @@
-//! `TableError`: why a table is not read.
+//! `TableError`: why a table was not read.
 
 ghost use Rattle.std.specs.Prelude.{◌≡◌};
 ghost use Rattle.pe_view.specs.declared.refusal.Refusal.{Refusal};
@@ -8,7 +8,7 @@ ghost use Rattle.pe_layout.specs.Image.{fault_at};
 use pe_layout::Layout;
 use pe_view::{Fault, Place, Refusal};
 
-/// Why a table is not read: the first rule of the format that it breaks, or want of memory.
+/// Why a table was not read: the first rule of the format that it breaks, or out of memory.
 pub type TableError = Refusal;
 
 /// A fault of the image at an RVA.

@@ -19,14 +19,14 @@ use std::alloc::{AllocError, Allocator};
 pub struct Exports<'a, A: Allocator> {
     pub(crate) ordinals: Vec<(u64, Target<'a>), A>,
     pub(crate) names: NameIndex<'a, A>,
-    /// Guesses of where among the names one stands, once they were asked for.
+    /// Guesses of each name's index, after [`Exports::guess_names`].
     pub(crate) guesses: Guesses<A>,
     ghost ascending: { AllPairs (λ export later. export.0 < later.0) ordinals.items },
     ghost searchable: { IsSearchable names },
     ghost held: { AreHeld names },
 }
 
-/// Where the export of an ordinal stands if none before it lacks one: as far behind the first as the ordinals are apart.
+/// The index of the export with an ordinal if no ordinal before it is missing: its distance from the first ordinal.
 fn guess_of(exports: &[(u64, Target)], ordinal: u64) -> usize {
     match exports.first() {
         Some(first) => ordinal.saturating_sub(first.0) as usize,
@@ -42,8 +42,8 @@ fn has_ordinal(exports: &[(u64, Target)], index: usize, ordinal: u64) -> bool
     index < exports.len() && exports[index].0 == ordinal
 }
 
-/// The index of the first export of this ordinal or a greater one, or the number of exports. Most tables have no gap, so it is looked
-/// for first where it then stands, and else by a binary search.
+/// The index of the first export with this ordinal or a greater one, or the number of exports. Most tables have no gap, so the
+/// index without gaps is tried before a binary search.
 fn first_from(exports: &[(u64, Target)], ordinal: u64) -> usize
     requires { AllPairs (λ export later. export.0 < later.0) exports.now }
     ensures bound { result ≤ length exports.now }
@@ -76,8 +76,8 @@ pub(crate) fn target_by_ordinal<'a>(
     Some(target)
 }
 
-/// Whether two texts are the same. They are compared from their ends on, since long names of one file may end alike and differ before,
-/// and by parts of which each has twice as many bytes as the one before, so that the first difference ends it soon.
+/// Whether two strings are equal. They are compared from the end, since long names of one file may end alike and differ before, and
+/// in parts that double in size, so that a difference near the end is found soon.
 fn is_same(text: &[u8], other: &[u8]) -> bool
     ensures { result ≡ bytes_eq text.now other.now }
 {
@@ -118,22 +118,22 @@ impl<'a, A: Allocator + Copy> Exports<'a, A> {
         }
     }
 
-    /// What an ordinal exports. No memory is taken.
+    /// What an ordinal exports. Allocates nothing.
     pub fn by_ordinal(&self, ordinal: u32) -> Option<Target<'a>>
         ensures { option_map target_view result ≡ target_at (exports_view self.now) (Ordinal ordinal) }
     {
         target_by_ordinal(self.ordinals.as_slice(), u64::from(ordinal))
     }
 
-    /// Has [`Exports::by_name`] find the names of most exports without a search, which pays where many are looked up. It takes 8 to 16
-    /// bytes of memory for each name, and changes nothing where these are refused.
+    /// Makes [`Exports::by_name`] find most names without a search, which pays if many are looked up. It takes 8 to 16 bytes of
+    /// memory for each name; out of memory, it changes nothing.
     pub fn guess_names(&mut self, alloc: A)
         ensures { exports_view self.new ≡ exports_view self.old }
     {
         self.guesses = Guesses::of(alloc, self.names.exports.as_slice());
     }
 
-    /// What the export at an index exports, where it has this name.
+    /// What the export at an index exports, if it has this name.
     fn export_at(&self, index: usize, name: &[u8]) -> Option<Target<'a>>
         ensures { IfSome result (λ target. held self.now.names name.now ≡ Some (Some target)) }
     {
@@ -148,7 +148,7 @@ impl<'a, A: Allocator + Copy> Exports<'a, A> {
         Some(target)
     }
 
-    /// The first guess of where a name stands at which a text of its length does.
+    /// The first guess of a name's index at which a name of the same length is.
     fn likely_index(&self, name: &[u8]) -> Option<usize> {
         let exports = self.names.exports.as_slice();
         for guess in self.guesses.get(name) {
@@ -160,8 +160,8 @@ impl<'a, A: Allocator + Copy> Exports<'a, A> {
         None
     }
 
-    /// What a name exports, where it is that of the first guess of its length. No other guess is compared: names that a file chose may
-    /// have as many wrong ones as there can be.
+    /// What a name exports, if it is the one at the first guess of its length. No other guess is compared: a file may choose its
+    /// names so that each guess is wrong.
     fn guessed(&self, name: &[u8]) -> Option<Target<'a>>
         ensures { IfSome result (λ target. held self.now.names name.now ≡ Some (Some target)) }
     {
@@ -175,7 +175,8 @@ impl<'a, A: Allocator + Copy> Exports<'a, A> {
         self.names.get(name)?
     }
 
-    /// What a name exports, by a guess where it is right. It stands apart, so that a search alone has the registers.
+    /// What a name exports, by a guess if that is right. It is a function of its own so that a search without guesses keeps its
+    /// registers.
     #[inline(never)]
     fn by_guess(&self, name: &[u8]) -> Option<Target<'a>>
         ensures { option_map target_view result ≡ target_at (exports_view self.now) (Name name.now) }
@@ -186,7 +187,7 @@ impl<'a, A: Allocator + Copy> Exports<'a, A> {
         }
     }
 
-    /// What a name exports: what the first of the names with this text does. No memory is taken.
+    /// What a name exports: what the first name with these bytes does. Allocates nothing.
     pub fn by_name(&self, name: &[u8]) -> Option<Target<'a>>
         ensures { option_map target_view result ≡ target_at (exports_view self.now) (Name name.now) }
     {
@@ -197,7 +198,7 @@ impl<'a, A: Allocator + Copy> Exports<'a, A> {
         }
     }
 
-    /// A trail of no name, for [`Exports::by_name_along`]. No memory is taken.
+    /// An empty trail, for [`Exports::by_name_along`]. Allocates nothing.
     pub fn name_trail(&self, alloc: A) -> NameTrail<A>
         ensures { (file : List ℕ) (end : ℕ) → IsTrailOf self.now file end result }
     {
@@ -206,11 +207,11 @@ impl<'a, A: Allocator + Copy> Exports<'a, A> {
         }
     }
 
-    /// What a name exports, as [`Exports::by_name`] tells it, where names of another image's file are looked up that may be ends of one
-    /// string: the trail of those that end where this one does is handed in, and goes on to this name.
+    /// What a name exports, as [`Exports::by_name`] returns it, for looking up names of another image's file that may be ends of
+    /// one string. `trail` is that of the names with the same end, and is extended to this name.
     ///
-    /// So of all names with one end each block of 256 bytes is looked up once, and then each name costs two look-ups of less than a
-    /// block: no name is compared as a whole. Where memory for the trail is refused, it is of no use any more.
+    /// So each block of 256 bytes is looked up once for all names with one end, and then each name costs two look-ups of less than
+    /// a block: no name is compared as a whole. Out of memory, the trail can be used no further.
     pub fn by_name_along(
         &self,
         name: Text,
@@ -233,7 +234,7 @@ impl<'a, A: Allocator + Copy> Exports<'a, A> {
         self.ordinals.as_slice()
     }
 
-    /// The exports by name, in the order of the name pointer table: each text once, where it stands first.
+    /// The exports by name, in the order of the name pointer table: each name once, where it first occurs.
     pub fn names(&self) -> &[(&'a [u8], Target<'a>)]
         ensures { map export_view result.now ≡ (exports_view self.now).names }
     {

@@ -10,10 +10,10 @@ ghost use Rattle.pe_view.specs.declared.refusal.Refusal.{Refusal};
 use crate::error::{TableError, fault_at};
 use pe_layout::Layout;
 
-/// The most entries of an export address table, and the most names.
+/// The most entries of an export address table, and of a name pointer table.
 const ENTRY_LIMIT: u32 = 65_536;
 
-/// The export directory table, without what is not read of it ("PE Format", Export Directory Table).
+/// The fields that are read of the export directory table ("PE Format", Export Directory Table).
 #[derive(Clone, Copy)]
 pub(crate) struct Table {
     /// Its own RVA.
@@ -50,14 +50,14 @@ fn table_at(layout: &Layout, rva: u32) -> Table
     }
 }
 
-/// Whether `count` entries of `width` bytes at an RVA, if there are any, are not all in the image.
+/// Whether `count` entries of `width` bytes at an RVA are not all in the image; never for no entries.
 fn is_outside(layout: &Layout, rva: u32, width: u32, count: u32) -> bool
     ensures { result ≡ is_outside (image_of layout.now) rva width count }
 {
     count != 0 && !layout.contains(rva, u64::from(width) * u64::from(count))
 }
 
-/// Reads the table at an RVA, whose own tables lie in the image, unless one of faults 16 to 18 stands.
+/// Reads the table at an RVA, whose own tables lie in the image, or returns the first of faults 16 to 18.
 pub(crate) fn read_table(layout: &Layout, rva: u32) -> Result<Table, TableError>
     ensures exact { AnswersOrWants (directory_tests (image_of layout.now) (table_at (image_of layout.now) rva))
         (λ table. (table ≡ table_at (image_of layout.now) rva) × IsInside (image_of layout.now) table) result }

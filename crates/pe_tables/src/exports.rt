@@ -31,13 +31,13 @@ use std::alloc::Allocator;
 /// A name of the name pointer table.
 #[derive(Clone, Copy)]
 pub(crate) struct Name<'a> {
-    /// Its text.
+    /// Its bytes, and where they are in the file.
     pub text: Text<'a>,
-    /// The index of the address table's entry that it exports, without the ordinal base.
+    /// The index of the entry in the export address table, without the ordinal base.
     pub entry: u32,
 }
 
-/// Reads name `index`, unless fault 19 or 20 stands of it.
+/// Reads name `index`, or returns fault 19 or 20.
 fn read_name<'a, A: Allocator + Copy>(
     ends: &mut TextEnds<A>,
     pointers: &mut Window,
@@ -69,7 +69,7 @@ fn read_name<'a, A: Allocator + Copy>(
     Ok(Name { text, entry })
 }
 
-/// Reads the names, in the order of the name pointer table, unless fault 19 or 20 stands of one.
+/// Reads the names, in the order of the name pointer table, or returns the first fault 19 or 20.
 fn read_names<'a, A: Allocator + Copy>(
     alloc: A,
     layout: &Layout<'a>,
@@ -97,8 +97,8 @@ fn read_names<'a, A: Allocator + Copy>(
     Ok(names)
 }
 
-/// What a value of the address table exports: nothing where it is 0, or where it is that of a forwarder which has no
-/// text or not a forwarder's form.
+/// What a value of the export address table exports: nothing if it is 0, or if it points to a forwarder string that is missing or
+/// malformed.
 fn target_of<'a, A: Allocator + Copy>(
     forwarders: &mut Forwarders<'a, A>,
     layout: &Layout<'a>,
@@ -118,7 +118,7 @@ fn target_of<'a, A: Allocator + Copy>(
     }
 }
 
-/// Reads entry `index` of the address table, unless fault 21 or 22 stands of it.
+/// Reads entry `index` of the export address table, or returns fault 21 or 22.
 fn read_entry<'a, A: Allocator + Copy>(
     forwarders: &mut Forwarders<'a, A>,
     addresses: &mut Window,
@@ -150,7 +150,7 @@ fn read_entry<'a, A: Allocator + Copy>(
     }
 }
 
-/// Reads the exports by ordinal, in the order of the address table, unless fault 21 or 22 stands of an entry.
+/// Reads the exports by ordinal, in the order of the export address table, or returns the first fault 21 or 22.
 fn read_ordinals<'a, A: Allocator + Copy>(
     alloc: A,
     layout: &Layout<'a>,
@@ -182,7 +182,7 @@ fn read_ordinals<'a, A: Allocator + Copy>(
     Ok(ordinals)
 }
 
-/// Reads what the entries export, and says by it what these names do, unless fault 21 or 22 stands of an entry.
+/// Reads what the entries export, and by it what these names do, or returns the first fault 21 or 22.
 fn read_entries<'a, A: Allocator + Copy>(
     alloc: A,
     layout: &Layout<'a>,
@@ -212,8 +212,8 @@ fn read_entries<'a, A: Allocator + Copy>(
 
 /// The exports of an image, or the first of faults 16 to 22.
 ///
-/// An image without the table, or whose table has no name and no entry, has no exports, and then no memory is taken; nor is
-/// any where one of faults 16 to 18 stands. ("PE Format", The .edata Section.)
+/// An image without the table, or whose table has no name and no entry, has no exports. Nothing is allocated then, nor with one of
+/// faults 16 to 18. ("PE Format", The .edata Section.)
 pub fn read_exports<'a, A: Allocator + Copy>(
     alloc: A,
     layout: &Layout<'a>,

@@ -30,14 +30,14 @@ use std::alloc::{AllocError, Allocator};
 /// How many entries of a block are read at once.
 const ENTRIES_AT_ONCE: u32 = 256;
 
-/// From how many bytes the fields of a block are: they begin in a page of 4,096 bytes, and the last has 8 at most.
+/// How many bytes the fields of a block span at most: they begin in a page of 4,096 bytes, and the last has up to 8.
 const BLOCK_REACH: u32 = 4096 + 8;
 
-/// The most entries of a block that are asked for slots one by one. Where there are more, one question about the page may spare theirs,
-/// and where it doesn't, it is one among many.
+/// The most entries of a block that are compared with the slots one by one. With more, one test of the page may spare all of
+/// theirs, and if it does not, it adds little.
 const FEW_ENTRIES: u32 = 16;
 
-/// What a fixup's field is, and how it is relocated ("PE Format", Base Relocation Types).
+/// The size of a fixup's field, and how it is relocated ("PE Format", Base Relocation Types).
 #[derive(Clone, Copy, Debug, PartialEq, Eq)]
 pub enum FixupKind {
     /// HIGHLOW: the difference of the bases is added to a field of 4 bytes.
@@ -51,7 +51,7 @@ pub enum FixupKind {
 }
 
 impl FixupKind {
-    /// How many bytes the field has.
+    /// The size of the field in bytes.
     pub fn width(self) -> u32
         ensures { result ≡ width_of self }
     {
@@ -63,7 +63,7 @@ impl FixupKind {
         }
     }
 
-    /// The type that stands for it in an entry's high four bits.
+    /// The type in the high four bits of an entry.
     pub(crate) fn entry_type(self) -> u16
         ensures { result ≡ type_of self }
     {
@@ -75,7 +75,7 @@ impl FixupKind {
         }
     }
 
-    /// What a type stands for, where it names a field that is relocated.
+    /// The kind of a type, if it names a field that is relocated.
     pub(crate) fn of_type(entry_type: u16) -> Option<FixupKind>
         ensures { result ≡ kind_of entry_type }
     {
@@ -100,7 +100,7 @@ pub struct Fixup {
     pub kind: FixupKind,
 }
 
-/// The bytes of the imports' slots, of `width` bytes each.
+/// The bytes of the imports' slots, of `width` bytes each, as ranges.
 fn slot_ranges<A: Allocator + Copy>(
     alloc: A,
     imports: &[Import],
@@ -115,7 +115,7 @@ fn slot_ranges<A: Allocator + Copy>(
     Ok(ranges)
 }
 
-/// Whether no field of a block with this PageRVA and so many entries has a byte of a slot. False tells nothing.
+/// Whether it is known that no field of a block with this PageRVA and so many entries shares a byte with a slot.
 fn is_clear<A: Allocator + Copy>(slots: &Ranges<A>, page: u32, count: u32) -> bool
     ensures { IsTrue result → IsClear page (ranges_in slots.now) }
 {
@@ -125,7 +125,7 @@ fn is_clear<A: Allocator + Copy>(slots: &Ranges<A>, page: u32, count: u32) -> bo
     !slots.meets(page, BLOCK_REACH)
 }
 
-/// Whether a field has a byte of a slot, which none in a clear page has.
+/// Whether a field shares a byte with a slot; in a clear page none does.
 fn meets_slot<A: Allocator + Copy>(slots: &Ranges<A>, clear: bool, field: u32, width: u32) -> bool
     requires small { field + width < 2 ^ 32 }
     requires clear { IsTrue clear → meets_any field width (ranges_in slots.now) ≡ false }
@@ -137,8 +137,8 @@ fn meets_slot<A: Allocator + Copy>(slots: &Ranges<A>, clear: bool, field: u32, w
     slots.meets(field, width)
 }
 
-/// Reads an entry of a block with this PageRVA, which holds this number and stands at an RVA, unless one of faults 35 to 38
-/// stands. `clear` tells that no field of the block has a byte of a slot.
+/// Reads the entry at an RVA, which has this value, of a block with this PageRVA, or returns the first of faults 35 to 38. `clear`
+/// says that no field of the block shares a byte with a slot.
 fn read_entry<A: Allocator + Copy>(
     layout: &Layout,
     slots: &Ranges<A>,
@@ -180,8 +180,8 @@ fn read_entry<A: Allocator + Copy>(
     Ok(())
 }
 
-/// Reads the entries of a block with this PageRVA that stand in these bytes of the image, from an RVA on, unless one of
-/// faults 35 to 38 stands of one.
+/// Reads the entries in these bytes of the image, from an RVA on, of a block with this PageRVA, or returns the first of faults 35
+/// to 38.
 fn read_entries<A: Allocator + Copy>(
     layout: &Layout,
     slots: &Ranges<A>,
@@ -206,8 +206,8 @@ fn read_entries<A: Allocator + Copy>(
     Ok(())
 }
 
-/// Reads some entries of a block with this PageRVA, from the one at an RVA of the image on, unless one of faults 35 to 38
-/// stands of one.
+/// Reads some entries, from the one at an RVA of the image on, of a block with this PageRVA, or returns the first of faults 35 to
+/// 38.
 fn read_some_entries<A: Allocator + Copy>(
     layout: &Layout,
     slots: &Ranges<A>,
@@ -231,7 +231,7 @@ fn read_some_entries<A: Allocator + Copy>(
     read_entries(layout, slots, clear, found, page, rva, View::new(bytes))
 }
 
-/// Reads the entries of the block at an RVA of the image, of `size` bytes, unless one of faults 35 to 38 stands of one.
+/// Reads the entries of the block at an RVA of the image, of `size` bytes, or returns the first of faults 35 to 38.
 fn read_block<A: Allocator + Copy>(
     layout: &Layout,
     slots: &Ranges<A>,
@@ -259,7 +259,7 @@ fn read_block<A: Allocator + Copy>(
     Ok(())
 }
 
-/// BlockSize of the block at an RVA, or `None` where a table that ends at `end` has no block there.
+/// BlockSize of the block at an RVA, or `None` if a table that ends at `end` has no block there.
 fn block_size(layout: &Layout, rva: u32, end: u32) -> Option<u32>
     requires begins { rva ≤ end }
     requires inside { end ≤ (image_of layout.now).size }
@@ -274,7 +274,7 @@ fn block_size(layout: &Layout, rva: u32, end: u32) -> Option<u32>
     }
 }
 
-/// Whether no block at an RVA of a table that ends at `end` can have this size.
+/// Whether a block at an RVA of a table that ends at `end` can't have this size.
 fn is_bad_size(size: u32, rva: u32, end: u32) -> bool
     requires { rva ≤ end }
     ensures { result ≡ is_bad_size end rva size }
@@ -282,7 +282,7 @@ fn is_bad_size(size: u32, rva: u32, end: u32) -> bool
     size % 2 == 1 || size < 8 || size > end - rva
 }
 
-/// Whether a table that lies in the image has a block, unless fault 33 stands of its first.
+/// Whether a table that lies in the image has a block, or fault 33 of its first.
 fn has_block(layout: &Layout, directory: Directory) -> Result<bool, TableError>
     requires inside { directory.rva + directory.size ≤ (image_of layout.now).size }
     requires small { directory.rva + directory.size < 2 ^ 32 }
@@ -298,7 +298,7 @@ fn has_block(layout: &Layout, directory: Directory) -> Result<bool, TableError>
     }
 }
 
-/// Reads the blocks of a table that lies in the image, unless one of faults 33 and 35 to 38 stands of one.
+/// Reads the blocks of a table that lies in the image, or returns the first of faults 33 and 35 to 38.
 fn read_blocks<A: Allocator + Copy>(
     layout: &Layout,
     slots: &Ranges<A>,
@@ -326,9 +326,8 @@ fn read_blocks<A: Allocator + Copy>(
 
 /// The fixups of an image, in the order of its base relocation table, or the first of faults 33 to 38.
 ///
-/// `imports` are the image's imports: a field may share no byte with one of their slots. An image without the table has
-/// no fixups, and then no memory is taken; nor is any where fault 34 stands, or fault 33 of the first block. ("PE Format",
-/// The .reloc Section.)
+/// `imports` are the image's imports: no field may share a byte with one of their slots. An image without the table has no
+/// fixups. Nothing is allocated then, nor with fault 34, nor with fault 33 of the first block. ("PE Format", The .reloc Section.)
 pub fn read_fixups<A: Allocator + Copy>(
     alloc: A,
     layout: &Layout,

@@ -1,4 +1,4 @@
-//! The forwarder that a string names: a module and a key, on the two sides of the last dot.
+//! The forwarder that a string names: a module and a key, separated by the last dot.
 
 ghost use Rattle.std.specs.Prelude.{◌≡◌, option_map};
 ghost use Rattle.pe_tables.specs.Key.{Ordinal, key_view, target_view};
@@ -8,14 +8,14 @@ use crate::key::{Key, Target};
 use bstr::ByteSlice;
 use pe_head::Directory;
 
-/// Whether an address is that of a forwarder's text: it lies in the export directory itself.
+/// Whether an address is that of a forwarder string: it lies in the export directory itself.
 pub(crate) fn is_forwarder(directory: Directory, rva: u32) -> bool
     ensures { result ≡ is_forwarder directory rva }
 {
     rva >= directory.rva && rva - directory.rva < directory.size
 }
 
-/// The ordinal that decimal digits write.
+/// The ordinal that decimal digits write, if 16 bits hold it.
 fn ordinal_of(digits: &[u8]) -> Option<u16>
     ensures { option_map Ordinal result ≡ ordinal_key digits.now }
 {
@@ -35,7 +35,7 @@ fn ordinal_of(digits: &[u8]) -> Option<u16>
     Some(ordinal as u16)
 }
 
-/// The key that a text names: `#` and decimal digits are an ordinal, any other text that is not empty is a name.
+/// The key that a string names: `#` and decimal digits are an ordinal, any other string that is not empty is a name.
 fn key_of<'a>(text: &'a [u8]) -> Option<Key<'a>>
     ensures { option_map key_view result ≡ key_of text.now }
 {
@@ -46,7 +46,7 @@ fn key_of<'a>(text: &'a [u8]) -> Option<Key<'a>>
     }
 }
 
-/// A text before its last dot and behind it.
+/// A string before its last dot and after it.
 fn at_last_dot<'a>(text: &'a [u8]) -> Option<(&'a [u8], &'a [u8])>
     ensures { option_map (λ sides. (sides.0.now, sides.1.now)) result ≡ at_last_dot text.now }
 {
@@ -56,7 +56,7 @@ fn at_last_dot<'a>(text: &'a [u8]) -> Option<(&'a [u8], &'a [u8])>
     }
 }
 
-/// The forwarder that a text names: a module and a key, on the two sides of the last dot.
+/// The forwarder that a string names: a module and a key, separated by the last dot.
 pub(crate) fn forwarder_of<'a>(text: &'a [u8]) -> Option<Target<'a>>
     ensures { option_map target_view result ≡ forwarder_of text.now }
 {

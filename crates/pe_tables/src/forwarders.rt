@@ -14,10 +14,10 @@ use pe_view::TextEnds;
 use std::alloc::Allocator;
 use std::collections::BTreeMap;
 
-/// A forwarder's text of fewer bytes is read anew each time.
+/// A forwarder string of fewer bytes is parsed anew each time.
 const SHORT: usize = 256;
 
-/// How the texts of forwarders end that one zero byte ends: they have one last dot, and one key behind it.
+/// The end that forwarder strings with one terminator share: the last dot and the key after it.
 #[derive(Clone, Copy)]
 pub(crate) struct Ending<'a> {
     /// How many bytes the dot and the key have.
@@ -26,7 +26,7 @@ pub(crate) struct Ending<'a> {
     pub key: Key<'a>,
 }
 
-/// The forwarder whose text has an ending.
+/// The forwarder whose string has an ending.
 fn with_ending<'a>(text: &'a [u8], ending: Ending<'a>) -> Option<Target<'a>>
     ensures { (file : List ℕ) (end : ℕ) → IsEndingOf file end ending.entry → length text.entry.now ≤ end → text.entry.now ≡ part_before file end (length text.entry.now) → option_map target_view result ≡ forwarder_of text.entry.now }
 {
@@ -39,18 +39,18 @@ fn with_ending<'a>(text: &'a [u8], ending: Ending<'a>) -> Option<Target<'a>>
     })
 }
 
-/// The forwarders of an image that were asked for, of which many may share one long text: none of its bytes is searched again
-/// for a zero byte, for the last dot, or for an ordinal.
+/// The forwarders of an image that were read. Many may share one long string: none of its bytes is searched again for a terminator,
+/// for the last dot, or for an ordinal.
 #[derive(Drop)]
 pub(crate) struct Forwarders<'a, A: Allocator> {
-    /// Where texts end.
+    /// Where strings end.
     pub ends: TextEnds<A>,
-    /// How texts end that are those of forwarders, by the file offset of their end.
+    /// The endings of forwarder strings, by the file offset of their end.
     pub endings: BTreeMap<u64, Ending<'a>, A>,
 }
 
 impl<'a, A: Allocator + Copy> Forwarders<'a, A> {
-    /// None was asked for. No memory is taken.
+    /// Nothing is known yet. Allocates nothing.
     pub fn new(alloc: A) -> Forwarders<'a, A>
         ensures { (file : List ℕ) → AreForwardersOf file result }
     {
@@ -60,7 +60,7 @@ impl<'a, A: Allocator + Copy> Forwarders<'a, A> {
         }
     }
 
-    /// Remembers how the text of a forwarder ends, unless memory is refused.
+    /// Remembers the ending of a forwarder string; out of memory, it does not.
     fn keep(&mut self, text: Text<'a>, target: Target<'a>)
         requires { forwarder_of text.bytes.now ≡ Some (target_view target) }
         ensures { (file : List ℕ) → AreForwardersOf file self.old → IsTextOf file text.entry → AreForwardersOf file self.new }
@@ -74,7 +74,7 @@ impl<'a, A: Allocator + Copy> Forwarders<'a, A> {
         };
     }
 
-    /// The forwarder that a long text names, by its end where that is known.
+    /// The forwarder that a long string names, by its end if that is known.
     fn of_text(&mut self, text: Text<'a>) -> Option<Target<'a>>
         ensures target { (file : List ℕ) → AreForwardersOf file self.old → IsTextOf file text.entry → option_map target_view result ≡ forwarder_of text.entry.bytes.now }
         ensures known { (file : List ℕ) → AreForwardersOf file self.old → IsTextOf file text.entry → AreForwardersOf file self.new }
@@ -87,7 +87,7 @@ impl<'a, A: Allocator + Copy> Forwarders<'a, A> {
         Some(target)
     }
 
-    /// The forwarder whose text stands at an RVA.
+    /// The forwarder whose string is at an RVA.
     pub fn get(&mut self, layout: &Layout<'a>, rva: u32) -> Option<Target<'a>>
         requires { AreForwardersOf (file_of layout.now) self.old }
         ensures target { option_map target_view result ≡ forwarder_at (image_of layout.now) rva }

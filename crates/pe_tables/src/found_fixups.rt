@@ -10,21 +10,21 @@ use crate::fixups::Fixup;
 use crate::ranges::Ranges;
 use std::alloc::{AllocError, Allocator};
 
-/// The fixups that have been read, none of whose fields has a byte of another's.
+/// The fixups read so far, whose fields share no byte.
 ///
-/// The fields of most tables ascend: then each is told from those before it by where they end, and their ranges are made
-/// only where one doesn't.
+/// The fields of most tables ascend: then a field is compared only with where those before it end, and their ranges are collected
+/// only once one doesn't.
 #[derive(Drop)]
 pub(crate) struct FoundFixups<A: Allocator> {
     alloc: A,
     pub fixups: Vec<Fixup, A>,
-    /// No field has a byte from this RVA on.
+    /// No field has a byte at this RVA or after it.
     pub end: u64,
-    /// The bytes of all fields, once one was asked for that begins before their end.
+    /// The bytes of all fields, once a field began before their end.
     pub fields: Option<Ranges<A>>,
 }
 
-/// The bytes of the fields of these fixups, each of which begins behind those before it.
+/// The bytes of the fields of these fixups, each of which begins after those before it.
 fn field_ranges<A: Allocator + Copy>(alloc: A, fixups: &[Fixup]) -> Result<Ranges<A>, AllocError>
     requires { AreRising fixups.now }
     ensures { IfOk result (λ ranges. SameRanges (ranges_in ranges) (map range_of fixups.now)) }
@@ -36,7 +36,7 @@ fn field_ranges<A: Allocator + Copy>(alloc: A, fixups: &[Fixup]) -> Result<Range
     Ok(ranges)
 }
 
-/// Adds a field's bytes to the ranges, where there are any.
+/// Adds a field's bytes to the ranges, if there are any.
 fn add_field<A: Allocator + Copy>(
     fields: &mut Option<Ranges<A>>,
     field: u32,
@@ -52,7 +52,7 @@ fn add_field<A: Allocator + Copy>(
 }
 
 impl<A: Allocator + Copy> FoundFixups<A> {
-    /// None.
+    /// No fixups. Allocates nothing.
     pub fn new(alloc: A) -> FoundFixups<A>
         ensures none { result.fixups.items ≡ [] }
         ensures indexed { IsIndexed result }
@@ -65,14 +65,14 @@ impl<A: Allocator + Copy> FoundFixups<A> {
         }
     }
 
-    /// Whether a field begins behind all others.
+    /// Whether a field begins after all others.
     fn is_behind(&self, field: u32) -> bool
         ensures { result ≡ nat_le self.now.end field }
     {
         u64::from(field) >= self.end
     }
 
-    /// Whether a field has a byte of another's.
+    /// Whether a field shares a byte with another.
     pub fn meets(&mut self, field: u32, width: u32) -> Result<bool, AllocError>
         requires small { field + width < 2 ^ 32 }
         requires indexed { IsIndexed self.old }
@@ -87,7 +87,7 @@ impl<A: Allocator + Copy> FoundFixups<A> {
         self.meets_range(field, width)
     }
 
-    /// Whether a field has a byte of another's, by their ranges. Few tables need them, so that it stands apart.
+    /// Whether a field shares a byte with another, by their ranges. It is a function of its own because few tables need it.
     #[cold]
     #[inline(never)]
     fn meets_range(&mut self, field: u32, width: u32) -> Result<bool, AllocError>
@@ -107,7 +107,7 @@ impl<A: Allocator + Copy> FoundFixups<A> {
         Ok(met)
     }
 
-    /// Adds a fixup whose field was asked for last, and meets no other.
+    /// Adds a fixup whose field was the last tested, and meets no other.
     pub fn add(&mut self, fixup: Fixup) -> Result<(), AllocError>
         requires indexed { IsIndexed self.old }
         requires tells { Tells self.old fixup.field }
@@ -121,7 +121,7 @@ impl<A: Allocator + Copy> FoundFixups<A> {
         Ok(())
     }
 
-    /// Adds a fixup whose field begins behind all others, and ends at this RVA, while fields are told apart by where they end.
+    /// Adds a fixup whose field begins after all others and ends at this RVA, while no ranges have been collected.
     pub fn add_behind(&mut self, fixup: Fixup, end: u64) -> Result<(), AllocError>
         requires indexed { IsIndexed self.old }
         requires rising { self.old.fields ≡ None }

@@ -1,27 +1,27 @@
-//! Guesses of where a text stands in a list of exports.
+//! Guesses of a name's index in a list of exports.
 
 use crate::key::Target;
 use std::alloc::Allocator;
 
-/// How many guesses a text has at most.
+/// The most guesses of a string.
 const PLACES: usize = 4;
 
-/// A place at which no name is noted.
+/// An empty place.
 const NONE: u32 = u32::MAX;
 
-/// Guesses of where names stand among exports, by some of their bytes. Who takes one looks whether the name stands there, so that
-/// nothing rests on them but how long a look-up takes.
+/// Guesses of names' indexes among exports, by some of their bytes. The caller compares the name at the index, so that a wrong
+/// guess costs only time.
 ///
 /// There are two to four places for each name, of 4 bytes.
 #[derive(Drop)]
 pub(crate) struct Guesses<A: Allocator> {
     /// The indexes of up to [`PLACES`] names whose marks have the same upper bits, by these bits.
     buckets: Vec<[u32; PLACES], A>,
-    /// How many bits of a mark tell no bucket.
+    /// How many low bits of a mark are not part of the bucket's number.
     shift: u32,
 }
 
-/// The 8 bytes of a text from an index on as a number, or 0 where there are fewer.
+/// The 8 bytes of a string from an index on as a number, or 0 if there are fewer.
 fn word_at(text: &[u8], index: usize) -> u64 {
     match text.get(index..).and_then(|rest| rest.first_chunk::<8>()) {
         Some(bytes) => u64::from_le_bytes(*bytes),
@@ -29,13 +29,13 @@ fn word_at(text: &[u8], index: usize) -> u64 {
     }
 }
 
-/// All bytes of a short text as a number.
+/// All bytes of a short string as a number.
 fn short_word(text: &[u8]) -> u64 {
     text.iter()
         .fold(0, |word, byte| word << 8 | u64::from(*byte))
 }
 
-/// A number that two texts seldom share: of the length and the first, the middle and the last bytes, spread by a product with the
+/// A number that two strings seldom share: of the length and the first, the middle and the last bytes, spread by a product with the
 /// golden ratio (Fibonacci hashing).
 fn mark(text: &[u8]) -> u64 {
     let len = text.len();
@@ -50,7 +50,7 @@ fn mark(text: &[u8]) -> u64 {
 }
 
 impl<A: Allocator + Copy> Guesses<A> {
-    /// No guesses. No memory is taken.
+    /// No guesses. Allocates nothing.
     pub(crate) fn none(alloc: A) -> Guesses<A> {
         Guesses {
             buckets: Vec::new(alloc),
@@ -63,12 +63,12 @@ impl<A: Allocator + Copy> Guesses<A> {
         self.buckets.is_empty()
     }
 
-    /// The bucket of a text.
+    /// The bucket of a string.
     fn bucket_of(&self, text: &[u8]) -> usize {
         mark(text).checked_shr(self.shift).unwrap_or(0) as usize
     }
 
-    /// Notes where a name stands, where its bucket has a place left.
+    /// Notes a name's index, if its bucket has a place left.
     fn note(&mut self, name: &[u8], index: u32) {
         let bucket = self.bucket_of(name);
         let Some(places) = self.buckets.get_mut(bucket) else {
@@ -79,7 +79,7 @@ impl<A: Allocator + Copy> Guesses<A> {
         }
     }
 
-    /// Guesses for the names of these exports. Where memory is refused there are none.
+    /// Guesses for the names of these exports; none if out of memory.
     pub(crate) fn of(alloc: A, exports: &[(&[u8], Target)]) -> Guesses<A> {
         let mut guesses = Guesses::none(alloc);
         let Some(bits) = exports.len().checked_ilog2() else {
@@ -96,7 +96,7 @@ impl<A: Allocator + Copy> Guesses<A> {
         guesses
     }
 
-    /// The guesses of where a name stands.
+    /// The guesses of a name's index.
     pub(crate) fn get(&self, name: &[u8]) -> [u32; PLACES] {
         match self.buckets.get(self.bucket_of(name)) {
             Some(places) => *places,

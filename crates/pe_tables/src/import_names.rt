@@ -1,4 +1,4 @@
-//! `import_name_rvas`: where the names stand by which an image imports.
+//! `import_name_rvas`: where the names are by which an image imports.
 
 ghost use Rattle.std.specs.Prelude.{◌≡◌, ◌++◌, None, IsOk, IfOk, OnOk, not, option_to_list};
 ghost use Rattle.std.specs.List.{filter_map};
@@ -11,7 +11,7 @@ use pe_head::directory_index;
 use pe_layout::Layout;
 use std::alloc::{AllocError, Allocator};
 
-/// The RVA of the name, behind its hint, that a lookup entry's value tells, or 0 where it holds an ordinal.
+/// The RVA of the name, after its hint, to which a lookup entry with this value points, or 0 if it holds an ordinal.
 fn name_rva(layout: &Layout, value: u64) -> u32
     ensures { result ≡ name_rva_of (image_of layout.now) value }
 {
@@ -22,8 +22,8 @@ fn name_rva(layout: &Layout, value: u64) -> u32
     }
 }
 
-/// Adds where the name stands that the lookup entry at an RVA tells, unless it ends its table, and tells whether the table goes on
-/// behind it.
+/// Adds the RVA of the name of the lookup entry at an RVA, unless the entry ends its table, and returns whether the table continues
+/// after it.
 fn push_name<A: Allocator>(
     layout: &Layout,
     rva: u32,
@@ -43,7 +43,7 @@ fn push_name<A: Allocator>(
     Ok(true)
 }
 
-/// Adds where the names stand that a descriptor's lookup table tells.
+/// Adds the RVAs of the names of a descriptor's lookup table.
 fn push_names<A: Allocator>(
     layout: &Layout,
     descriptor: Descriptor,
@@ -59,7 +59,7 @@ fn push_names<A: Allocator>(
     Ok(())
 }
 
-/// Adds where the names stand that the descriptor at an RVA has, unless it ends the list, and tells whether the list goes on behind
+/// Adds the RVAs of the names of the descriptor at an RVA, unless it ends the list, and returns whether the list continues after
 /// it.
 fn push_descriptor<A: Allocator>(
     layout: &Layout,
@@ -80,7 +80,7 @@ fn push_descriptor<A: Allocator>(
     Ok(true)
 }
 
-/// Adds where the names stand that the list of descriptors at an RVA has.
+/// Adds the RVAs of the names of the list of descriptors at an RVA.
 fn push_list<A: Allocator>(
     layout: &Layout,
     start: u32,
@@ -95,10 +95,10 @@ fn push_list<A: Allocator>(
     Ok(())
 }
 
-/// Where the names of an image's imports stand: the RVA of each, in table order, or 0 of an import by ordinal. Two with the same RVA
-/// have the same name, which nobody has to compare then.
+/// The RVA of the name of each import of an image, in table order, or 0 for an import by ordinal. Imports with one RVA have one
+/// name, so that it need not be compared.
 ///
-/// It reads as `read_imports` does, and asks for no fault. ("PE Format", Hint/Name Table.)
+/// It reads the table as `read_imports` does, but tests no fault. ("PE Format", Hint/Name Table.)
 pub fn import_name_rvas<A: Allocator>(alloc: A, layout: &Layout) -> Result<Vec<u32, A>, AllocError>
     ensures exact { IfOk result (λ names. names.items ≡ import_names_of (image_of layout.now)) }
     ensures absent { (image_of layout.now).directory 1 ≡ None → IsOk result }

@@ -23,13 +23,13 @@ use pe_layout::Layout;
 use pe_view::TextEnds;
 use std::alloc::{AllocError, Allocator};
 
-/// How many imports an image may have.
+/// The most imports of an image.
 const IMPORT_LIMIT: usize = 1_048_576;
 
 /// An import descriptor ("PE Format", Import Directory Table).
 #[derive(Clone, Copy)]
 pub(crate) struct Descriptor {
-    /// Where it stands.
+    /// Its RVA.
     pub rva: u32,
     /// The RVA of the lookup table, or 0.
     pub lookup: u32,
@@ -41,14 +41,14 @@ pub(crate) struct Descriptor {
 }
 
 impl Descriptor {
-    /// Whether it ends the list: it has no name, or no slots.
+    /// Whether it ends the list: it has no name, or no import address table.
     pub fn is_null(self) -> bool
         ensures { result ≡ is_null self }
     {
         self.name == 0 || self.addresses == 0
     }
 
-    /// The RVA of the lookup table: the address table serves where there is none.
+    /// The RVA of the lookup table: that of the address table if there is none.
     pub fn lookup_table(self) -> u32
         ensures { result ≡ lookup_table self }
     {
@@ -60,7 +60,7 @@ impl Descriptor {
     }
 }
 
-/// The imports that have been read, and the bytes of their slots.
+/// The imports read so far, and the bytes of their slots: the entries of the import address table.
 #[derive(Drop)]
 pub(crate) struct FoundImports<'a, A: Allocator> {
     pub imports: Vec<Import<'a>, A>,
@@ -68,7 +68,7 @@ pub(crate) struct FoundImports<'a, A: Allocator> {
 }
 
 impl<'a, A: Allocator + Copy> FoundImports<'a, A> {
-    /// Adds an import, whose slot has `width` bytes as those of the others have.
+    /// Adds an import, whose slot has `width` bytes as all others have.
     fn add(&mut self, import: Import<'a>, width: u32) -> Result<(), AllocError>
         requires { IsIndexed width self.old }
         ensures { OnOk result (Reads width self.old self.new (import_view import.entry ∷ [])) }
@@ -79,7 +79,7 @@ impl<'a, A: Allocator + Copy> FoundImports<'a, A> {
     }
 }
 
-/// The value of the lookup entry at an RVA of the image, which has as many bytes as a slot.
+/// The value of the lookup entry at an RVA of the image, which has the width of a slot.
 #[inline]
 pub(crate) fn lookup_value(layout: &Layout, rva: u32) -> u64
     requires { rva + (image_of layout.now).slot_width ≤ (image_of layout.now).size }
@@ -100,8 +100,7 @@ pub(crate) fn is_ordinal(layout: &Layout, value: u64) -> bool
     value >> (8 * layout.slot_width() - 1) == 1
 }
 
-/// By what the lookup entry at an RVA with this value names an export, unless fault 27 or 28 stands. The hint before a name
-/// is not read.
+/// The ordinal or name in the lookup entry at an RVA with this value, or fault 27 or 28. The hint before a name is not read.
 fn read_key<'a, A: Allocator + Copy>(
     ends: &mut TextEnds<A>,
     layout: &Layout<'a>,
@@ -125,7 +124,7 @@ fn read_key<'a, A: Allocator + Copy>(
     Ok(Key::Name(name.bytes))
 }
 
-/// Asks faults 29 to 31 of the slot of the lookup entry at an RVA.
+/// Tests faults 29 to 31 of the slot of the lookup entry at an RVA.
 fn check_slot<A: Allocator + Copy>(
     layout: &Layout,
     found: &FoundImports<A>,
@@ -149,8 +148,8 @@ fn check_slot<A: Allocator + Copy>(
     Ok(())
 }
 
-/// Reads the lookup entry at an RVA, with the slot beside it, unless one of faults 26 to 31 stands, and tells whether the
-/// table goes on behind it.
+/// Reads the lookup entry at an RVA, with its slot, or returns the first of faults 26 to 31; says whether the table continues after
+/// it.
 fn read_lookup<'a, A: Allocator + Copy>(
     ends: &mut TextEnds<A>,
     layout: &Layout<'a>,
@@ -181,7 +180,7 @@ fn read_lookup<'a, A: Allocator + Copy>(
     Ok(true)
 }
 
-/// Reads the lookup entries of a descriptor that names this module, unless one of faults 26 to 31 stands of one.
+/// Reads the lookup entries of a descriptor that names this module, or returns the first of faults 26 to 31.
 fn read_lookups<'a, A: Allocator + Copy>(
     ends: &mut TextEnds<A>,
     layout: &Layout<'a>,
@@ -221,7 +220,7 @@ pub(crate) fn descriptor_at(layout: &Layout, rva: u32) -> Descriptor
     }
 }
 
-/// The name of the module that a descriptor names, unless fault 25 or 32 stands.
+/// The name of the module of a descriptor, or fault 25 or 32.
 fn module_name<'a, A: Allocator + Copy>(
     ends: &mut TextEnds<A>,
     layout: &Layout<'a>,
@@ -242,8 +241,8 @@ fn module_name<'a, A: Allocator + Copy>(
     Ok(name.bytes)
 }
 
-/// Reads the descriptor at an RVA and its lookup entries, unless one of faults 24 to 32 stands, and tells whether the list
-/// goes on behind it.
+/// Reads the descriptor at an RVA and its lookup entries, or returns the first of faults 24 to 32; says whether the list continues
+/// after it.
 fn read_descriptor<'a, A: Allocator + Copy>(
     ends: &mut TextEnds<A>,
     layout: &Layout<'a>,
@@ -270,7 +269,7 @@ fn read_descriptor<'a, A: Allocator + Copy>(
     Ok(true)
 }
 
-/// Reads the descriptors from an RVA on, unless one of faults 24 to 32 stands of one.
+/// Reads the descriptors from an RVA on, or returns the first of faults 24 to 32.
 fn read_descriptors<'a, A: Allocator + Copy>(
     ends: &mut TextEnds<A>,
     layout: &Layout<'a>,
@@ -294,10 +293,9 @@ fn read_descriptors<'a, A: Allocator + Copy>(
 
 /// The imports of an image, in the order of its import table, or the first of faults 24 to 32.
 ///
-/// Each borrows its texts from the file. An image without the table has no imports, and then no memory is taken; nor is any
-/// before a lookup entry, with its slot, was found to be an import without a fault, but to remember where long texts end. The
-/// directory's Size is not used.
-/// ("PE Format", The .idata Section.)
+/// Each borrows its strings from the file. An image without the table has no imports, and nothing is allocated for it. Before the
+/// first lookup entry without a fault, memory is allocated only to remember where long strings end. The directory's Size is not
+/// used. ("PE Format", The .idata Section.)
 pub fn read_imports<'a, A: Allocator + Copy>(
     alloc: A,
     layout: &Layout<'a>,

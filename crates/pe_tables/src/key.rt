@@ -1,6 +1,6 @@
 //! `Key`: an ordinal or a name; and `Target`, an RVA or a forwarder.
 
-/// By what an export is looked up.
+/// What an export is looked up by.
 #[derive(Clone, Copy, Debug, PartialEq, Eq)]
 pub enum Key<'a> {
     /// Its ordinal.
@@ -9,16 +9,16 @@ pub enum Key<'a> {
     Name(&'a [u8]),
 }
 
-/// What an export stands for.
+/// What an ordinal or a name exports.
 #[derive(Clone, Copy, Debug, PartialEq, Eq)]
 pub enum Target<'a> {
-    /// What stands at this RVA of the image.
+    /// The RVA of code or data in the image.
     Rva(u32),
-    /// An export of another module: a forwarder.
+    /// A forwarder: an export of another module.
     Forward {
-        /// The module's name as it stands in the image, mostly without its ending.
+        /// The module's name as stored in the image, usually without its extension.
         module: &'a [u8],
-        /// By what the module's export is looked up.
+        /// The ordinal or name of the module's export.
         key: Key<'a>,
     },
 }

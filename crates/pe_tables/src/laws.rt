@@ -52,7 +52,7 @@ pub fn encoded_is_read_back()
         → map view (fixups_at i (Some d)) ≡ map view fixups }
 {}
 
-/// A name exports what the entry of the first name with its text does, and nothing if no name has its text.
+/// A name exports what the entry of the first name equal to it does, and nothing if there is none.
 pub fn first_names_export()
     ensures first { (i : LaidOut) (d : Directory) (text : List ℕ) (k : ℕ) → let t = table_at i d.rva in
         IsFirstName i t text k → target_at (exports_at i (Some d)) (Name text) ≡ exported_at i d t (name_entry i t k) }
@@ -83,7 +83,7 @@ pub fn imports_are_named()
     ensures { (i : LaidOut) (d : Directory) (import : Import) → 0 < i.slot_width → Contains (imports_at i (Some d)) import ↔ IsImported i d import }
 {}
 
-/// Each import by name has the text that stands where `import_name_rvas` tells of it.
+/// Each import by name has the string at the RVA that `import_name_rvas` gives for it.
 pub fn imports_have_their_names()
     ensures { (i : LaidOut) → AreNamedAt i (import_names_of i) (imports_of i) }
 {}
@@ -135,19 +135,19 @@ pub fn shifts_compose()
     ensures others { (kind : FixupKind) (v : ℕ) (d e : ℤ) → kind ≢ High → shift kind (shift kind v d) e ≡ shift kind v (d +ℤ e) }
 {}
 
-/// What is added to a HIGH field is the greatest whole number that is not above the difference of the bases divided by 65,536.
+/// What is added to a HIGH field is the difference of the bases divided by 65,536, rounded down.
 pub fn high_amounts_are_greatest()
     ensures { (d n : ℤ) → ((pos 65536 *ℤ n) ≤ℤ d) ↔ (n ≤ℤ amount High d) }
 {}
 
-/// If none of them is empty, a range meets some others exactly if one of them has an RVA in common with it. So fault 30 holds for
-/// a slot, and 37 and 38 for a field, exactly if an earlier slot, an earlier field or a slot has a byte of it.
+/// If none of them is empty, a range meets some others exactly if one of them has an RVA in common with it. So fault 30 holds for a
+/// slot, and 37 and 38 for a field, exactly if an earlier slot, an earlier field or a slot has a byte of it.
 pub fn meeting_ranges_have_an_rva_in_common()
     ensures { (start len : ℕ) (ranges : List (ℕ × ℕ)) → 0 < len → All (λ (range : ℕ × ℕ). 0 < range.1) ranges
         → (meets_any start len ranges ≡ true) ↔ HasCommon (start, len) ranges }
 {}
 
-/// The text of a forwarder is its module, a dot, and the text of its key, which has no dot: a name, or `#` and digits.
+/// A forwarder string is its module, a dot, and its key's string, which has no dot: a name, or `#` and digits.
 pub fn forwarders_are_texts()
     ensures { (text module_name : List ℕ) (key : Key) → forwarder_of text ≡ Some (Forward module_name key)
         → IsForwarderText text module_name key }
@@ -161,7 +161,7 @@ pub fn imports_keep_their_order()
         → imports_at i (Some d) ≡ imports_in_order i d.rva count counts }
 {}
 
-/// The exports by name keep the order of the name pointer table: each text is where it first occurs there.
+/// The exports by name keep the order of the name pointer table: each name is where it first occurs there.
 pub fn names_keep_their_order()
     ensures { (i : LaidOut) (d : Directory) → let t = table_at i d.rva in
         AllPairs (λ (export later : List ℕ × Target). StandsBefore i t export.0 later.0) (exports_at i (Some d)).names }

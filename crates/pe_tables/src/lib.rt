@@ -1,7 +1,7 @@
 //! The tables of a laid-out image: exports, imports, base relocations.
 //!
-//! Every table is read through a [`pe_layout::Layout`], from the laid-out bytes, and either is what the format makes of
-//! them or is refused by the first fault of its phase:
+//! Every table is read through a [`pe_layout::Layout`], from the laid-out bytes. The result is the contents that "PE Format" gives
+//! it, or the first fault of its phase:
 //!
 //! ```text
 //! let exports = read_exports(alloc, &layout)?;
@@ -10,10 +10,10 @@
 //! let fixups = read_fixups(alloc, &layout, &imports)?;
 //! ```
 //!
-//! What reading costs, of a file with N bytes of texts and n entries: each byte is searched for the end of a text at most once,
-//! and 256 for each entry besides; names are told apart in N / 256 look-ups of a block of 256 bytes and n of fewer bytes; no entry
-//! costs the length of its text. Names that ascend, and fields and slots that ascend or descend, are told apart in one step, others
-//! in log n. The worst file that was found, 65,536 names that are ends of one text of 1 MB, takes 0.2 seconds and 21 MB of memory.
+//! The cost of a file with N bytes of strings and n entries: each byte is searched for a terminator at most once, and 256 more for
+//! each entry; names are compared in N / 256 look-ups of a block of 256 bytes and n of fewer bytes; no entry costs the length of
+//! its string. Names that ascend, and fields and slots that ascend or descend, take one step each, others log n. The worst file
+//! that was found, 65,536 names that are ends of one string of 1 MB, takes 0.2 seconds and 21 MB of memory.
 #![tactic(auto)]
 
 mod bytes;

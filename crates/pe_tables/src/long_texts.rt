@@ -1,4 +1,4 @@
-//! `LongTexts`: what each name of 256 bytes or more exports, by its blocks of 256 bytes from its end.
+//! `LongTexts`: what each name of 256 bytes or more exports, in a trie of its blocks of 256 bytes, from its end.
 
 ghost use Rattle.std.specs.Prelude.{◌≡◌, ◌+◌, ◌-◌, ◌*◌, ◌/◌, ◌≤◌, ◌<◌, ℕ, List, Option, None, Some, length, OnOk, IfOk, slice_index_or, max, is_none, option_and_then, ◌∷◌, ◌++◌, ◌==◌, ◌&&◌, [], if◌then◌else◌};
 ghost use Rattle.std.specs.Str.{bytes_eq};
@@ -16,36 +16,36 @@ use std::collections::BTreeMap;
 /// How many bytes a block has.
 pub(crate) const BLOCK: usize = 256;
 
-/// Texts whose last blocks are the same.
+/// A node of the trie: the strings with the same last blocks.
 #[derive(Drop)]
 pub(crate) struct Node<'a, A: Allocator> {
-    /// The nodes of one block more, by this block.
+    /// The nodes with one more block, by this block.
     pub longer: BTreeMap<&'a [u8], usize, A>,
-    /// What the texts export that have less than a block before these blocks, by these bytes.
+    /// What the strings export that have less than a block before these blocks, by these bytes.
     pub targets: BTreeMap<&'a [u8], Option<Target<'a>>, A>,
 }
 
-/// What each of some texts exports, or that it exports nothing, by the text; for long texts, of which many may end alike.
+/// What each of some strings exports, if anything, by the string; for long strings, of which many may end alike.
 ///
-/// A text is told by its blocks of 256 bytes, counted from its end, and by the bytes before them.
+/// A string is stored as its blocks of 256 bytes, counted from its end, and the bytes before them.
 #[derive(Drop)]
 pub(crate) struct LongTexts<'a, A: Allocator> {
     alloc: A,
-    /// The first is that of no block.
+    /// The first is the root, which has no block.
     pub nodes: Vec<Node<'a, A>, A>,
-    /// The nodes to which the last blocks lead of the longest text that was entered of those with one end, one block after the
-    /// other, by the file offset of the end.
+    /// By the file offset of an end: the nodes of the last blocks, in order from the end, of the longest string added that ends
+    /// there.
     pub paths: BTreeMap<u64, Vec<usize, A>, A>,
 }
 
-/// The bytes before the blocks of a text.
+/// The bytes before the blocks of a string.
 fn front(text: &[u8]) -> &[u8]
     ensures { result.now ≡ front text.now }
 {
     &text[..text.len() % BLOCK]
 }
 
-/// Block `index` of a text, counted from its end.
+/// Block `index` of a string, counted from its end.
 fn block(text: &[u8], index: usize) -> &[u8]
     requires { 256 * (index + 1) ≤ length text.now }
     ensures { result.now ≡ block text.now index }
@@ -65,21 +65,21 @@ fn last_node(path: &[usize]) -> usize
 }
 
 impl<'a, A: Allocator + Copy> LongTexts<'a, A> {
-    /// The node of one block more than a node has, where there is one.
+    /// The child of a node for a block, if there is one.
     fn longer(&self, node: usize, block: &[u8]) -> Option<usize>
         ensures { result ≡ longer self.now.nodes.items node block.now }
     {
         self.nodes.get(node)?.longer.get(block).copied()
     }
 
-    /// What a text exports whose blocks lead to a node and which begins with these bytes, if it is there.
+    /// What the string exports that has the blocks of a node and begins with these bytes, if it is stored.
     fn held_at(&self, node: usize, front: &[u8]) -> Option<Option<Target<'a>>>
         ensures { result ≡ held_at self.now.nodes.items node front.now }
     {
         self.nodes.get(node)?.targets.get(front).copied()
     }
 
-    /// The node to which the blocks of a text lead.
+    /// The node of the blocks of a string.
     fn node_of(&self, text: &[u8]) -> Option<usize>
         ensures { result ≡ node_of self.now.nodes.items text.now (length text.now / 256) }
     {
@@ -90,14 +90,14 @@ impl<'a, A: Allocator + Copy> LongTexts<'a, A> {
         Some(node)
     }
 
-    /// What a text exports, if it is there.
+    /// What a string exports, if it is stored.
     pub fn get(&self, text: &[u8]) -> Option<Option<Target<'a>>>
         ensures { result ≡ long_held self.now.nodes.items text.now }
     {
         self.held_at(self.node_of(text)?, front(text))
     }
 
-    /// The node after one block more of a text than a trail has, where there is one.
+    /// The node after one more block of a string than a trail has, if there is one.
     fn next_node(&self, text: &[u8], trail: &[Option<usize>]) -> Option<usize>
         requires { 256 * (length trail.now + 1) ≤ length text.now }
         ensures { result ≡ option_and_then (λ node. longer self.now.nodes.items node (block text.now (length trail.now))) (node_after trail.now (length trail.now)) }
@@ -105,7 +105,7 @@ impl<'a, A: Allocator + Copy> LongTexts<'a, A> {
         self.longer(name_trail::last_node(trail)?, block(text, trail.len()))
     }
 
-    /// Goes on with a trail to the last block of a text.
+    /// Extends a trail to the last block of a string.
     fn extend(&self, text: &[u8], trail: &mut Vec<Option<usize>, A>) -> Result<(), AllocError>
         ensures follows { Follows self.now.nodes.items text.now trail.old.items → OnOk result (Follows self.now.nodes.items text.now trail.new.items) }
         ensures whole { OnOk result (length text.now / 256 ≤ length trail.new.items) }
@@ -119,7 +119,7 @@ impl<'a, A: Allocator + Copy> LongTexts<'a, A> {
         Ok(())
     }
 
-    /// What a text exports, if it is there, by the trail of its end in the file that it is of.
+    /// What a string exports, if it is stored, by the trail of its end in its file.
     pub fn get_along(
         &self,
         text: Text,
@@ -137,7 +137,7 @@ impl<'a, A: Allocator + Copy> LongTexts<'a, A> {
         }
     }
 
-    /// No texts. No memory is taken.
+    /// No strings. Allocates nothing.
     pub fn new(alloc: A) -> LongTexts<'a, A>
         ensures nodes { result.nodes.items ≡ [] }
         ensures known { (file : List ℕ) → AreLongTextsOf file result }
@@ -149,7 +149,7 @@ impl<'a, A: Allocator + Copy> LongTexts<'a, A> {
         }
     }
 
-    /// Adds a node to which nothing leads.
+    /// Adds a node, to which no other leads yet.
     fn add_node(&mut self) -> Result<(), AllocError>
         ensures same { OnOk result ((n : ℕ) (bytes : List ℕ) → (longer self.new.nodes.items n bytes ≡ longer self.old.nodes.items n bytes) × (held_at self.new.nodes.items n bytes ≡ held_at self.old.nodes.items n bytes)) }
         ensures count { OnOk result (length self.new.nodes.items ≡ length self.old.nodes.items + 1) }
@@ -163,7 +163,7 @@ impl<'a, A: Allocator + Copy> LongTexts<'a, A> {
         Ok(())
     }
 
-    /// Makes a node the one of one block more than another one has, in place of the one before.
+    /// Makes a node the child of another for a block, in place of the one before.
     fn link(&mut self, node: usize, block: &'a [u8], next: usize) -> Result<(), AllocError>
         requires { node < length self.old.nodes.items }
         ensures links { OnOk result ((n : ℕ) (bytes : List ℕ) → longer self.new.nodes.items n bytes ≡ (if n == node && bytes_eq bytes block.now then Some next else longer self.old.nodes.items n bytes)) }
@@ -175,7 +175,7 @@ impl<'a, A: Allocator + Copy> LongTexts<'a, A> {
         Ok(())
     }
 
-    /// The node of one block more than a node has, which is made where there is none.
+    /// The child of a node for a block, which is added if there is none.
     fn reach(&mut self, node: usize, block: &'a [u8]) -> Result<usize, AllocError>
         requires trie { IsTrie self.old.nodes.items }
         requires inside { node < length self.old.nodes.items }
@@ -193,7 +193,7 @@ impl<'a, A: Allocator + Copy> LongTexts<'a, A> {
         Ok(next)
     }
 
-    /// Says what the text exports whose blocks lead to a node and which begins with these bytes.
+    /// Sets what the string exports that has the blocks of a node and begins with these bytes.
     fn set_target(
         &mut self,
         node: usize,
@@ -210,7 +210,7 @@ impl<'a, A: Allocator + Copy> LongTexts<'a, A> {
         Ok(())
     }
 
-    /// Goes on with the path of a text's blocks to its last one, from where it is known.
+    /// Extends the path of a string's blocks to its last one.
     fn follow(&mut self, text: &'a [u8], path: &mut Vec<usize, A>) -> Result<(), AllocError>
         requires trie { IsTrie self.old.nodes.items }
         requires root { 0 < length self.old.nodes.items }
@@ -230,7 +230,7 @@ impl<'a, A: Allocator + Copy> LongTexts<'a, A> {
         Ok(())
     }
 
-    /// Sees to it that the node of no block is there.
+    /// Adds the root if it is missing.
     fn make_root(&mut self) -> Result<(), AllocError>
         ensures root { OnOk result (0 < length self.new.nodes.items) }
         ensures grows { OnOk result (Grows self.old.nodes.items self.new.nodes.items) }
@@ -243,7 +243,7 @@ impl<'a, A: Allocator + Copy> LongTexts<'a, A> {
         Ok(())
     }
 
-    /// The path of the longest text with this end that was entered, which is taken out.
+    /// Takes out the path of the longest string added with this end.
     fn take_path(&mut self, end: u64) -> Vec<usize, A>
         ensures nodes { self.new.nodes ≡ self.old.nodes }
         ensures path { (file : List ℕ) → AreLongTextsOf file self.old → IsPath self.old.nodes.items file end result.items }
@@ -255,7 +255,7 @@ impl<'a, A: Allocator + Copy> LongTexts<'a, A> {
         }
     }
 
-    /// Enters the blocks of a text of this layout's file, and tells to which node they lead.
+    /// Adds the blocks of a string of this layout's file, and returns their node.
     fn enter(&mut self, _layout: &Layout<'a>, text: Text<'a>) -> Result<usize, AllocError>
         requires known { AreLongTextsOf (file_of _layout.now) self.old }
         requires text { IsTextOf (file_of _layout.now) text }
@@ -272,7 +272,7 @@ impl<'a, A: Allocator + Copy> LongTexts<'a, A> {
         Ok(node)
     }
 
-    /// Adds a text of this layout's file, unless it is there, and tells whether it is new.
+    /// Adds a string of this layout's file, unless it is stored, and returns whether it is new.
     pub fn add(
         &mut self,
         layout: &Layout<'a>,

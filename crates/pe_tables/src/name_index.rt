@@ -1,4 +1,4 @@
-//! `NameIndex`: the exports by name, where each name counts the first time it occurs.
+//! `NameIndex`: the exports by name, where only the first of equal names counts.
 
 ghost use Rattle.std.specs.Prelude.{◌≡◌, ◌<◌, ◌&&◌, ℕ, List, length, [], None, Some, OnOk, IfOk, is_none, if◌then◌else◌};
 ghost use Rattle.std.specs.Str.{bytes_eq};
@@ -17,18 +17,18 @@ use std::alloc::{AllocError, Allocator};
 /// The exports of an image by name.
 #[derive(Drop)]
 pub(crate) struct NameIndex<'a, A: Allocator> {
-    /// Each text that exports something, where it stands first.
+    /// Each name that exports something, once, where it first occurs.
     pub exports: Vec<(&'a [u8], Target<'a>), A>,
     /// The ordinal of each of these.
     pub ordinals: Vec<u64, A>,
-    /// What each text of less than a block exports, also where that is nothing.
+    /// What each name of less than a block exports, if anything.
     pub short: TextMap<'a, A>,
-    /// The same of each other text.
+    /// The same for each longer name.
     pub long: LongTexts<'a, A>,
 }
 
 impl<'a, A: Allocator + Copy> NameIndex<'a, A> {
-    /// No names. No memory is taken.
+    /// No names. Allocates nothing.
     pub fn new(alloc: A) -> NameIndex<'a, A>
         ensures exports { result.exports.items ≡ [] }
         ensures ordinals { result.ordinals.items ≡ [] }
@@ -43,7 +43,7 @@ impl<'a, A: Allocator + Copy> NameIndex<'a, A> {
         }
     }
 
-    /// No names, with room for so many.
+    /// No names, with capacity for so many.
     pub fn with_capacity(alloc: A, names: usize) -> Result<NameIndex<'a, A>, AllocError>
         ensures exports { IfOk result (λ index. index.exports.items ≡ []) }
         ensures ordinals { IfOk result (λ index. index.ordinals.items ≡ []) }
@@ -58,7 +58,7 @@ impl<'a, A: Allocator + Copy> NameIndex<'a, A> {
         })
     }
 
-    /// What a text exports, if it is there.
+    /// What a name exports, if it is stored.
     pub fn get(&self, text: &[u8]) -> Option<Option<Target<'a>>>
         ensures { result ≡ held self.now text.now }
     {
@@ -69,7 +69,7 @@ impl<'a, A: Allocator + Copy> NameIndex<'a, A> {
         }
     }
 
-    /// What a text exports, if it is there, by the trail of its end in the file that it is of.
+    /// What a name exports, if it is stored, by the trail of its end in its file.
     pub fn get_along(
         &self,
         text: Text,
@@ -86,7 +86,7 @@ impl<'a, A: Allocator + Copy> NameIndex<'a, A> {
         self.long.get_along(text, trail)
     }
 
-    /// Holds what a text of less than a block exports, unless it is there, and tells whether it is new.
+    /// Stores what a name of less than a block exports, unless it is stored, and returns whether it is new.
     fn hold_short(&mut self, text: &'a [u8], target: Option<Target<'a>>) -> Result<bool, AllocError>
         requires { length text.now < 256 }
         ensures held { IfOk result (λ is_new. (is_new ≡ is_none (held self.old text.entry.now))
@@ -98,7 +98,7 @@ impl<'a, A: Allocator + Copy> NameIndex<'a, A> {
         self.short.add(text, target)
     }
 
-    /// Holds what a text of this layout's file exports, unless it is there, and tells whether it is new.
+    /// Stores what a name of this layout's file exports, unless it is stored, and returns whether it is new.
     fn hold(
         &mut self,
         layout: &Layout<'a>,
@@ -119,7 +119,7 @@ impl<'a, A: Allocator + Copy> NameIndex<'a, A> {
         self.long.add(layout, text, target)
     }
 
-    /// Adds a name of this layout's file, with its ordinal and what this exports, unless the text stands there already.
+    /// Adds a name of this layout's file, with its ordinal and what this exports, unless an equal name came before.
     pub fn add(
         &mut self,
         layout: &Layout<'a>,

@@ -8,18 +8,18 @@ use std::collections::BTreeMap;
 
 /// Ranges of RVAs by their starts, of which no later one ends first.
 ///
-/// Those of most tables ascend, and then they are all one run, whose end tells where the next one stands.
+/// The ranges of most tables ascend; then they are all in one run, and only its end is compared with the next one.
 #[derive(Drop)]
 pub(crate) struct Ranges<A: Allocator> {
-    /// The ranges that start behind all those of the run before them.
+    /// The ranges that start after all those of the run before them.
     run: Vec<(u32, u32), A>,
-    /// How long the other ranges are, by their starts.
+    /// The lengths of the other ranges, by their starts.
     others: BTreeMap<u32, u32, A>,
     ghost run_ascending: { IsAscending run.items },
     ghost others_ascending: { IsAscending others.entries },
 }
 
-/// Whether all ranges of a run start below an RVA, which the last one tells.
+/// Whether all ranges of a run start below an RVA: the last one is compared.
 fn all_below(run: &[(u32, u32)], rva: u32) -> bool
     requires { IsAscending run.now }
     ensures { IsTrue result ↔ All (λ range. range.0 < rva) run.now }
@@ -30,7 +30,7 @@ fn all_below(run: &[(u32, u32)], rva: u32) -> bool
     }
 }
 
-/// Whether no range of a run starts below an RVA, which the first one tells.
+/// Whether no range of a run starts below an RVA: the first one is compared.
 fn none_below(run: &[(u32, u32)], rva: u32) -> bool
     requires { IsAscending run.now }
     ensures { IsTrue result → All (λ range. rva ≤ range.0) run.now }
@@ -41,7 +41,7 @@ fn none_below(run: &[(u32, u32)], rva: u32) -> bool
     }
 }
 
-/// How many ranges of a run start below an RVA: most RVAs are asked for in front of all ranges, or behind them.
+/// How many ranges of a run start below an RVA. Most RVAs come before all ranges or after them, which is tested first.
 fn count_below(run: &[(u32, u32)], rva: u32) -> usize
     requires { IsAscending run.now }
     ensures within { result ≤ length run.now }
@@ -56,7 +56,7 @@ fn count_below(run: &[(u32, u32)], rva: u32) -> usize
     }
 }
 
-/// Whether a range goes on behind an RVA.
+/// Whether a range ends after an RVA.
 fn ends_behind(start: u32, len: u32, rva: u32) -> bool
     ensures { result ≡ nat_lt rva (range_end (start, len)) }
 {
@@ -65,7 +65,7 @@ fn ends_behind(start: u32, len: u32, rva: u32) -> bool
 
 /// Whether some range of a run has an RVA in common with the `len` bytes at `start`.
 ///
-/// Of the ranges that start before these bytes end, the last one ends last, so it alone is asked.
+/// Of the ranges that start before these bytes end, the last one ends last, so only that one is compared.
 fn run_meets(run: &[(u32, u32)], start: u32, len: u32) -> bool
     requires ascending { IsAscending run.now }
     requires small { start + len < 2 ^ 32 }
@@ -79,7 +79,7 @@ fn run_meets(run: &[(u32, u32)], start: u32, len: u32) -> bool
     ends_behind(last, last_len, start)
 }
 
-/// Whether one of these ranges has an RVA in common with the `len` bytes at `start`, as [`run_meets`] tells it.
+/// Whether one of these ranges has an RVA in common with the `len` bytes at `start`, found as by [`run_meets`].
 fn others_meet<A: Allocator>(others: &BTreeMap<u32, u32, A>, start: u32, len: u32) -> bool
     requires ascending { IsAscending others.now.entries }
     requires small { start + len < 2 ^ 32 }
@@ -99,7 +99,7 @@ impl<A: Allocator + Copy> Ranges<A> {
     ghost use Rattle.pe_tables.specs.Ranges.{FitsBeside, Gains};
     ghost use Rattle.pe_tables.specs.RangesView.{ranges_in};
 
-    /// No ranges.
+    /// No ranges. Allocates nothing.
     pub fn new(alloc: A) -> Ranges<A>
         ensures { ranges_in result ≡ [] }
     {
@@ -117,7 +117,8 @@ impl<A: Allocator + Copy> Ranges<A> {
         run_meets(self.run.as_slice(), start, len) || others_meet(&self.others, start, len)
     }
 
-    /// Adds a range, which fits among the others.
+    /// Adds a range, which ends no sooner than those that start before it, no later than those that start after it, and where those
+    /// end that start with it.
     pub fn add(&mut self, start: u32, len: u32) -> Result<(), AllocError>
         requires { All (FitsBeside start len) (ranges_in self.old) }
         ensures { OnOk result (Gains (ranges_in self.old) (ranges_in self.new) (start, len)) }

@@ -8,19 +8,19 @@ use crate::key::Target;
 use std::alloc::{AllocError, Allocator};
 use std::collections::BTreeMap;
 
-/// What each of some texts exports, or that it exports nothing, by the text.
+/// What each of some strings exports, if anything, by the string.
 ///
-/// The texts of most tables ascend, and then they are all one run, whose end tells that the next one is new.
+/// The strings of most tables ascend; then they are all in one run, and only its end is compared with the next one.
 #[derive(Drop)]
 pub(crate) struct TextMap<'a, A: Allocator> {
-    /// The texts that stand behind all those of the run before them, by their bytes.
+    /// The strings that come after all those of the run before them, in the order of their bytes.
     run: Vec<(&'a [u8], Option<Target<'a>>), A>,
-    /// The other texts.
+    /// The other strings.
     others: BTreeMap<&'a [u8], Option<Target<'a>>, A>,
     ghost ascending: { TextsAscend run.items },
 }
 
-/// Whether all texts of a run stand before a text, which the last one tells.
+/// Whether all strings of a run come before a string: the last one is compared.
 fn all_before(run: &[(&[u8], Option<Target>)], text: &[u8]) -> bool
     requires { TextsAscend run.now }
     ensures { IsTrue result ↔ All (λ entry. IsBefore entry.0.now text.now) run.now }
@@ -31,7 +31,7 @@ fn all_before(run: &[(&[u8], Option<Target>)], text: &[u8]) -> bool
     }
 }
 
-/// What a text of a run exports, if it is there. A text behind all others isn't, which the last one tells.
+/// What a string of a run exports, if it is there. One after the last of the run is not, which is tested first.
 fn find<'a>(run: &[(&[u8], Option<Target<'a>>)], text: &[u8]) -> Option<Option<Target<'a>>>
     requires { TextsAscend run.now }
     ensures { result ≡ found text.now run.now }
@@ -42,7 +42,7 @@ fn find<'a>(run: &[(&[u8], Option<Target<'a>>)], text: &[u8]) -> Option<Option<T
     search(run, text)
 }
 
-/// What a text of a run exports, if it is there, by a binary search.
+/// What a string of a run exports, if it is there, by a binary search.
 fn search<'a>(run: &[(&[u8], Option<Target<'a>>)], text: &[u8]) -> Option<Option<Target<'a>>>
     requires { TextsAscend run.now }
     ensures { result ≡ found text.now run.now }
@@ -53,7 +53,7 @@ fn search<'a>(run: &[(&[u8], Option<Target<'a>>)], text: &[u8]) -> Option<Option
     Some(run[index].1)
 }
 
-/// Whether a text is one of a run; `behind` tells that it stands behind all of them.
+/// Whether a string is in a run; `behind` says that it comes after all of them.
 fn is_in(run: &[(&[u8], Option<Target>)], text: &[u8], behind: bool) -> bool
     requires ascending { TextsAscend run.now }
     requires tells { IsTrue behind → All (λ entry. IsBefore entry.0.now text.now) run.now }
@@ -68,7 +68,7 @@ fn is_in(run: &[(&[u8], Option<Target>)], text: &[u8], behind: bool) -> bool
 impl<'a, A: Allocator + Copy> TextMap<'a, A> {
     ghost use Rattle.pe_tables.specs.TextMapView.{entries_in};
 
-    /// No texts.
+    /// No strings. Allocates nothing.
     pub fn new(alloc: A) -> TextMap<'a, A>
         ensures { entries_in result ≡ [] }
     {
@@ -78,7 +78,7 @@ impl<'a, A: Allocator + Copy> TextMap<'a, A> {
         }
     }
 
-    /// No texts, with room for so many that ascend.
+    /// No strings, with capacity for so many that ascend.
     pub fn with_capacity(alloc: A, texts: usize) -> Result<TextMap<'a, A>, AllocError>
         ensures { IfOk result (λ map. entries_in map ≡ []) }
     {
@@ -88,7 +88,7 @@ impl<'a, A: Allocator + Copy> TextMap<'a, A> {
         })
     }
 
-    /// What a text exports, if it is there.
+    /// What a string exports, if it is stored.
     pub fn get(&self, text: &[u8]) -> Option<Option<Target<'a>>>
         ensures { result ≡ found text.now (entries_in self.now) }
     {
@@ -98,7 +98,7 @@ impl<'a, A: Allocator + Copy> TextMap<'a, A> {
         }
     }
 
-    /// Whether a text is there; `is_behind` tells that it stands behind the whole run.
+    /// Whether a string is stored; `is_behind` says that it comes after the whole run.
     fn holds(&self, text: &[u8], is_behind: bool) -> bool
         requires { IsTrue is_behind → All (λ entry. IsBefore entry.0.now text.now) self.now.run.items }
         ensures { result ≡ is_some (found text.now (entries_in self.now)) }
@@ -109,7 +109,7 @@ impl<'a, A: Allocator + Copy> TextMap<'a, A> {
         self.others.get(text).copied().is_some()
     }
 
-    /// Adds a text, which isn't there yet; `is_behind` tells that it stands behind the whole run.
+    /// Adds a string that isn't stored yet; `is_behind` says that it comes after the whole run.
     fn insert(
         &mut self,
         text: &'a [u8],
@@ -128,8 +128,8 @@ impl<'a, A: Allocator + Copy> TextMap<'a, A> {
         Ok(())
     }
 
-    /// Adds a text unless it is there, and tells whether it is new. It is compared with the last text of the run once: one behind it, as
-    /// those of most tables are, with no other of the run.
+    /// Adds a string unless it is stored, and returns whether it is new. It is compared with the last string of the run once: one
+    /// after it, as those of most tables are, with no other of the run.
     pub fn add(&mut self, text: &'a [u8], target: Option<Target<'a>>) -> Result<bool, AllocError>
         ensures { IfOk result (λ is_new. (is_new ≡ is_none (found text.entry.now (entries_in self.old)))
             × ((other : List ℕ) → found other (entries_in self.new) ≡ (if is_new && bytes_eq other text.entry.now then Some target.entry else found other (entries_in self.old)))) }

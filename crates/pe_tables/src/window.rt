@@ -1,4 +1,4 @@
-//! `Window`: up to 512 bytes of an image, read at once for numbers that follow each other.
+//! `Window`: up to 512 bytes of an image, read at once for numbers that follow one another.
 
 ghost use Rattle.std.specs.Prelude.{◌≡◌, ◌+◌, ◌-◌, ◌≤◌, IsTrue, min};
 ghost use Rattle.pe_view.specs.View.{bytes_of, size_of};
@@ -12,8 +12,8 @@ use pe_view::View;
 /// The most bytes that are read at once.
 const LEN: u32 = 512;
 
-/// Bytes of an image that were read at once: of numbers that stand one behind the other each is taken from them, and only
-/// one that lies outside has the image searched for its piece.
+/// Bytes of an image that were read at once. Numbers that follow one another are taken from them; only for one outside is the image
+/// searched for the piece that has it.
 #[derive(Drop)]
 pub(crate) struct Window {
     /// The RVA of the first byte.
@@ -36,7 +36,7 @@ impl Window {
         }
     }
 
-    /// Reads the bytes from an RVA on.
+    /// Reads the bytes at an RVA.
     #[cold]
     #[inline(never)]
     fn read(&mut self, layout: &Layout, rva: u32)
@@ -58,7 +58,7 @@ impl Window {
         self.start <= rva && u64::from(rva) + u64::from(width) <= end
     }
 
-    /// Makes it hold these bytes of the image.
+    /// Reads these bytes of the image, unless it holds them.
     #[inline(always)]
     fn hold(&mut self, layout: &Layout, rva: u32, width: u32)
         requires window { IsWindowOf (image_of layout.now) self.old }

@@ -1,4 +1,4 @@
--- One page after the other.
+-- Page by page.
 use Rattle.std.proofs.Common.{◌≡◌, ◌∙◌, ◌-◌, ◌++◌, ℕ, List, length, drop, get_or, sym, ap, append_assoc, arith}
 use Rattle.pe_tables.specs.Encoded.{page_of, block_bytes, encoded}
 use Rattle.std.specs.List.{flat_map}

@@ -1,4 +1,4 @@
--- The field begins behind all others, and the block is clear of slots.
+-- The field begins after all others, and the block is clear of slots.
 use Rattle.std.proofs.Common.{◌≡◌, ◌∙◌, ℕ, ◌+◌, ◌≤◌, ◌/◌, List, [], ◌∷◌, subst, arith, sym, ap}
 use Rattle.std.specs.Prelude.{option_to_list}
 use Rattle.pe_layout.specs.Layout.{image_of}

@@ -1,4 +1,4 @@
--- The exports of lesser ordinals stand before all others.
+-- The exports of lesser ordinals come before all others.
 use Rattle.std.proofs.Common.{◌≡◌, ℕ, refl, arith, rules, inl, inr}
 use Rattle.std.specs.Prelude.{nat_lt}
 use Rattle.std.specs.List.Sorted.{IsPartitionedBy}

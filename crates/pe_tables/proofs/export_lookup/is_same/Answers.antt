@@ -1,4 +1,4 @@
--- The texts are the same from their ends on as far as they were compared.
+-- The strings are equal from their ends on as far as they were compared.
 use Rattle.std.proofs.Common.{◌≡◌, ◌∙◌, ℕ, ◌+◌, ◌-◌, ◌≤◌, List, ◌++◌, true, take, drop, sym, ap, arith, rules}
 use Rattle.std.specs.Prelude.{slice_range}
 use Rattle.std.specs.Str.{bytes_eq}
@@ -7,7 +7,7 @@ use Rattle.std.proofs.lemmas.List.{drop-drop, take-append-drop}
 use Rattle.std.proofs.lemmas.Slice.Eq.{bytes_eq-Decides}
 use Rattle.pe_tables.proofs.export_lookup.is_same.Goals as goal
 
--- a part of a text and the bytes behind it
+-- a part of a string and the bytes after it
 parts : (text : List ℕ) (start end : ℕ) → start ≤ end → drop start text ≡ slice_range text start end ++ drop end text
 parts text start end le =
     let there : start + (end - start) ≡ end = omega (arith, le) in

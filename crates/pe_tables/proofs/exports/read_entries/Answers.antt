@@ -1,4 +1,4 @@
--- One name after the other.
+-- Name by name.
 use Rattle.std.proofs.Common.{◌≡◌, ◌∙◌, ◌+◌, ◌<◌, ℕ, List, [], Option, take, get_or, ap, subst, arith}
 use Rattle.std.proofs.lemmas.List.{take_all}
 use Rattle.std.specs.Prelude.{◌==◌, map, option_map}
@@ -24,7 +24,7 @@ use Rattle.pe_tables.proofs.exports.read_entries.Goals as goal
 abbrev no_name : Name
 no_name = record { text = record { bytes = record { ref_ptr = (0, 0); now = [] }; end = 0 }; entry = 0 }
 
--- what is found under the ordinal of an entry is what the entry exports
+-- what is found by the ordinal of an entry is what the entry exports
 exported_by : (i : LaidOut) (d : Directory) (t : Table) (ordinals : List (ℕ × Target)) (k : ℕ) (result : Option Target) → k < t.entry_count
     → map ordinal_view ordinals ≡ filter_map (by_entry i d t) (range_with_len 0 t.entry_count)
     → result ≡ option_map (λ (e : ℕ × Target). e.1) (find (λ (e : ℕ × Target). e.0 == t.ordinal_base + k) ordinals) → option_map target_view result ≡ target_of i d (entry i t k)

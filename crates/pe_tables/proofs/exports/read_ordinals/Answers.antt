@@ -1,4 +1,4 @@
--- One entry after the other.
+-- Entry by entry.
 use Rattle.std.proofs.Common.{◌≡◌, ◌∙◌, ◌+◌, ◌<◌, ◌++◌, ℕ, List, [], ◌∷◌, Option, None, Some, length, sym, ap, append-nil, arith}
 use Rattle.std.specs.Prelude.{map, option_map, option_to_list}
 use Rattle.std.specs.List.{filter_map, range_with_len}

@@ -1,4 +1,4 @@
--- The text has the dot, or it begins behind it or at it.
+-- The string has the dot, or it begins at the dot or after it.
 use Rattle.std.proofs.Common.{sym}
 use Rattle.pe_tables.specs.Key.{key_view}
 use Rattle.pe_tables.proofs.ForwarderEndings.{longer, not_longer}

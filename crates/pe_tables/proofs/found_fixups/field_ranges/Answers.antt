@@ -1,4 +1,4 @@
--- Each field fits beside those before it.
+-- Each field can be added to those before it.
 use Rattle.std.proofs.Common.{◌∙◌, ℕ, List, get_or, take, sym, ap, arith}
 use Rattle.std.specs.Prelude.{map}
 use Rattle.std.specs.List.{list_any}

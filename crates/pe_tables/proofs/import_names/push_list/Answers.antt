@@ -1,4 +1,4 @@
--- One descriptor after the other.
+-- Descriptor by descriptor.
 use Rattle.std.proofs.Common.{◌≡◌, ◌∙◌, ◌+◌, ◌-◌, ◌≤◌, ◌++◌, ◌∷◌, ℕ, List, true, false, [], sym, ap, append_assoc, append-nil, arith}
 use Rattle.std.specs.List.{flat_map}
 use Rattle.pe_layout.specs.Layout.{image_of, size_small}

@@ -1,4 +1,4 @@
--- One entry after the other.
+-- Entry by entry.
 use Rattle.std.proofs.Common.{◌≡◌, ◌∙◌, ◌+◌, ◌≤◌, ◌⊎◌, inl, inr, ◌++◌, ℕ, List, true, false, sym, ap, append_assoc, arith}
 use Rattle.pe_layout.specs.Layout.{image_of, size_small}
 use Rattle.pe_tables.specs.Imports.{lookup_at, ends_table}

@@ -1,4 +1,4 @@
--- One entry after the other.
+-- Entry by entry.
 use Rattle.std.proofs.Common.{◌≡◌, ◌∙◌, ◌+◌, ◌-◌, ◌≤◌, ◌⊎◌, inl, inr, ◌++◌, ◌∷◌, ℕ, List, true, false, [], sym, ap, subst, append-nil, arith}
 use Rattle.std.specs.Prelude.{option_to_list, IsTrue}
 use Rattle.std.specs.List.{filter_map}

@@ -1,4 +1,4 @@
--- The ranges of a run that start below an RVA stand first.
+-- The ranges of a run that start below an RVA come first.
 use Rattle.std.proofs.Common.{◌≡◌, ℕ, arith, rules, inl, inr}
 use Rattle.std.specs.Prelude.{nat_lt}
 use Rattle.std.specs.List.Sorted.{IsPartitionedBy}

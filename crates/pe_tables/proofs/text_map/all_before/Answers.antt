@@ -1,4 +1,4 @@
--- The last text of a run stands behind all others.
+-- The last string of a run comes after all others.
 use Rattle.std.proofs.Common.{◌≡◌, ◌∙◌, ap}
 use Rattle.std.specs.Ordering.{nat_cmp, is_lt}
 use Rattle.std.specs.Cmp.Lexicographic.{slice_cmp}

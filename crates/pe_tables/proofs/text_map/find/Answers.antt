@@ -1,4 +1,4 @@
--- A text behind the whole run is new.
+-- A string after the whole run is new.
 use Rattle.std.proofs.Common.{sym}
 use Rattle.pe_tables.proofs.TextRun.{found-new}
 use Rattle.pe_tables.proofs.text_map.find.Goals as goal

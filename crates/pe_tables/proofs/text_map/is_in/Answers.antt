@@ -1,4 +1,4 @@
--- A text behind the whole run is none of it.
+-- A string after the whole run is not in it.
 use Rattle.std.proofs.Common.{ap, sym}
 use Rattle.std.specs.Prelude.{is_some}
 use Rattle.pe_tables.proofs.TextRun.{found-new}

@@ -1,4 +1,4 @@
--- A search finds a text, or tells where it would stand.
+-- A search finds a string, or returns where it would be inserted.
 use Rattle.std.proofs.Common.{◌≡◌, ℕ, List, Option, get_or, sym, arith, rules}
 use Rattle.std.specs.Borrow.{Bor}
 use Rattle.std.specs.Ordering.{nat_cmp, ordering_index}

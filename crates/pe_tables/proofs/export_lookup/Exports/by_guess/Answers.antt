@@ -1,4 +1,4 @@
--- A guess that is right has what the search would find.
+-- A correct guess gives what the search would find.
 use Rattle.std.proofs.Common.{◌∙◌, ap, sym}
 use Rattle.std.specs.Prelude.{option_map, option_and_then}
 use Rattle.pe_tables.specs.Key.{target_view}

@@ -1,4 +1,4 @@
--- What the index holds for the name is what the first export of that name is.
+-- What the index stores for the name is what the first export of that name is.
 use Rattle.std.proofs.Common.{◌∙◌, ap, sym}
 use Rattle.std.specs.Prelude.{option_map, option_and_then}
 use Rattle.pe_tables.specs.Key.{target_view}

@@ -1,4 +1,4 @@
--- The export that is guessed has the name, and is held for it.
+-- The export at the guessed index has the name, and is stored for it.
 use Rattle.std.proofs.Common.{◌≡◌, ℕ, List, [], true, get_or, sym, subst, Some, rules}
 use Rattle.std.specs.Borrow.{Bor}
 use Rattle.std.specs.Prelude.{All}

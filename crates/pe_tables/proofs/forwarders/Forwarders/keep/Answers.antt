@@ -1,4 +1,4 @@
--- The ending is all behind the module's name.
+-- The ending is the part after the module's name.
 use Rattle.std.proofs.Common.{◌≡◌, ◌∙◌, Some, ap, refl, arith}
 use Rattle.pe_tables.specs.Key.{key_view, target_view}
 use Rattle.pe_tables.specs.Forwarder.{forwarder_of}

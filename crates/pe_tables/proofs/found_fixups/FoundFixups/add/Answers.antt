@@ -1,4 +1,4 @@
--- The field fits beside the others, and is then one of them.
+-- The field can be added to the others, and is then one of them.
 use Rattle.std.proofs.Common.{ℕ, subst}
 use Rattle.pe_tables.specs.FixupReading.{GainsAny}
 use Rattle.pe_tables.proofs.RisingFields.{fits-any, reads-more}

@@ -1,4 +1,4 @@
--- Before the first field that begins before the end of another the fields rise.
+-- The fields ascend up to the first that begins before the end of another.
 use Rattle.std.proofs.Common.{sym, subst, ◌∙◌}
 use Rattle.pe_tables.specs.FixupReading.{AreRising}
 use Rattle.pe_tables.proofs.found_fixups.FoundFixups.meets_range.Goals as goal

@@ -1,4 +1,4 @@
--- What is held at the text's node for the bytes before its blocks.
+-- What is stored at the string's node for the bytes before its blocks.
 use Rattle.std.proofs.Common.{◌≡◌, ◌∙◌, ℕ, List, true, false, Option, None, Some, refl, ap, sym}
 use Rattle.std.specs.Prelude.{◌==◌, ◌&&◌, is_some, is_none, option_and_then, if◌then◌else◌}
 use Rattle.std.specs.Str.{bytes_eq}

@@ -1,4 +1,4 @@
--- The path of the text's end goes on to its last block.
+-- The path of the string's end is extended to its last block.
 use Rattle.std.proofs.Common.{◌≡◌, ◌∙◌, ◌/◌, ◌≤◌, ◌++◌, ◌∷◌, ℕ, List, Some, length, take, drop, ap, sym, subst, arith, refl}
 use Rattle.std.specs.Prelude.{slice_index_or, max}
 use Rattle.std.proofs.Math.Nat.{div-add-mod}

@@ -1,4 +1,4 @@
--- One block after the other, from the last node on.
+-- Block by block, from the last node on.
 use Rattle.std.proofs.Common.{◌≡◌, ◌∙◌, ◌<◌, ◌++◌, ◌∷◌, [], Some, length, ap, sym, subst, arith, append_assoc}
 use Rattle.std.specs.Prelude.{slice_index_or}
 use Rattle.std.proofs.Math.Nat.{div-add-mod}

@@ -1,4 +1,4 @@
--- The trail goes on to the last block of the text, whose node has what is before its blocks.
+-- The trail is extended to the last block of the string, whose node has the bytes before its blocks.
 use Rattle.std.proofs.Common.{◌∙◌, ℕ, ◌/◌, List, Option, length, take, sym, ap}
 use Rattle.std.specs.Prelude.{option_and_then}
 use Rattle.pe_tables.specs.LongTexts.{front, held_at}

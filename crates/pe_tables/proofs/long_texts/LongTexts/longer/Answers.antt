@@ -1,4 +1,4 @@
--- The node is there, and its map is asked.
+-- The node is there, and its map is read.
 use Rattle.std.proofs.Common.{◌≡◌, ◌∙◌, Some, sym, ap}
 use Rattle.std.specs.Prelude.{slice_get}
 use Rattle.pe_tables.proofs.TextMap.{by_bytes}

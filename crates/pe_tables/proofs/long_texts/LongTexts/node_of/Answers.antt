@@ -1,4 +1,4 @@
--- One block after the other.
+-- Block by block.
 use Rattle.std.proofs.Common.{◌≡◌, ◌∙◌, ℕ, ◌+◌, ◌-◌, ◌/◌, None, length, sym, ap, arith}
 use Rattle.std.specs.Prelude.{option_and_then}
 use Rattle.pe_tables.specs.LongTexts.{block, longer, node_of}

@@ -1,4 +1,4 @@
--- The path that is taken out was known, and the others stay.
+-- The path that is taken out was that of a string, and the others remain.
 use Rattle.std.proofs.Common.{refl, sym}
 use Rattle.pe_tables.proofs.LongPaths.{one_less}
 use Rattle.pe_tables.proofs.long_texts.LongTexts.take_path.Goals as goal

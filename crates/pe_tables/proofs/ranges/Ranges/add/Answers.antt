@@ -1,4 +1,4 @@
--- The range goes on with the run, or takes its place among the others.
+-- The range continues the run, or is inserted among the others.
 use Rattle.std.proofs.Common.{◌≡◌, ◌<◌, List, ℕ, Ok, Err, Result, subst, sym}
 use Rattle.std.specs.Prelude.{All, OnOk, OnErr}
 use Rattle.std.specs.Ordering.{nat_cmp}

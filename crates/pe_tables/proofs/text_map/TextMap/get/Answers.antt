@@ -1,4 +1,4 @@
--- The run has the text, or the others do, or it is nowhere.
+-- The string is in the run, or among the others, or in neither.
 use Rattle.std.proofs.Common.{◌∙◌, sym, ap}
 use Rattle.pe_tables.specs.TextMap.{found}
 use Rattle.pe_tables.specs.TextMapView.{entries_in}

@@ -1,4 +1,4 @@
--- A text is in the run, or among the others.
+-- A string is in the run, or among the others.
 use Rattle.std.proofs.Common.{◌≡◌, ◌∙◌, ap, sym, true, false}
 use Rattle.std.specs.Prelude.{is_some, ◌||◌}
 use Rattle.pe_tables.specs.TextMap.{found}

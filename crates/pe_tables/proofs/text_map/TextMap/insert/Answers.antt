@@ -1,4 +1,4 @@
--- The text goes on with the run, or takes its place among the others.
+-- The string continues the run, or is inserted among the others.
 use Rattle.pe_tables.specs.TextMapView.{entries_in}
 use Rattle.pe_tables.proofs.TextMap.{inserted}
 use Rattle.pe_tables.proofs.TextRun.{gained-push, gained-others, run_lacks}

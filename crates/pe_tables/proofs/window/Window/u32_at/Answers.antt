@@ -1,4 +1,4 @@
--- The number stands among the bytes that were read.
+-- The number is among the bytes that were read.
 use Rattle.std.proofs.Common.{◌≡◌, ◌∙◌, ℕ, ◌+◌, ◌-◌, List, ap, arith}
 use Rattle.pe_view.specs.Number.{num, byte_of}
 use Rattle.pe_view.specs.View.{bytes_of}
