@@ -1,4 +1,4 @@
--- Symbols stand one behind the auxiliary records of the other.
+-- Each symbol comes after the auxiliary records of the one before.
 use Rattle.std.proofs.Common.{◌≡◌, ◌∙◌, ℕ, zero, suc, ◌+◌, ◌-◌, ◌<◌, ◌≤◌, List, [], ◌∷◌, Option, Some, None, refl, sym, ap, subst, arith, inl, inr}
 use Rattle.std.specs.Prelude.{slice_get, nat_le}
 use Rattle.std.proofs.lemmas.Bool.{cases_Bool, leb-true, leb-false}
@@ -18,7 +18,7 @@ some_left : (file : List ℕ) (k left : ℕ) → 0 < left → slice_get (symbols
 some_left file k zero lt = absurd (omega arith)
 some_left file k (suc left) lt = refl
 
--- the symbols behind the first one
+-- the symbols after the first one
 behind_first : (file : List ℕ) (k left : ℕ) → k + 1 + aux_count file k ≤ k + left → symbols_from file k left 0 ≡ k ∷ symbols_from file (k + 1 + aux_count file k) (left - (1 + aux_count file k)) 0
 behind_first file k left le =
     let sum : left ≡ 1 + aux_count file k + (left - (1 + aux_count file k)) = omega arith in
@@ -28,7 +28,7 @@ alone : (file : List ℕ) (k left : ℕ) → 0 < left → left ≤ 1 + aux_count
 alone file k zero some le = absurd (omega arith)
 alone file k (suc left) some le = ap (λ (ks : List ℕ). k ∷ ks) (all_skipped file (k + 1) left (aux_count file k) (omega arith))
 
--- what stands behind the symbol of record m, in a table that ends at a record
+-- what follows the symbol of record m, in a table that ends at a record
 record Follows (file : List ℕ) (end m : ℕ) (o : Option ℕ) : Type 0 where
   next : m + 1 + aux_count file m < end → o ≡ Some (m + 1 + aux_count file m)
   last : end ≤ m + 1 + aux_count file m → o ≡ None

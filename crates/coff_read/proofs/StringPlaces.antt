@@ -1,4 +1,4 @@
--- A text of a string table stands at its offset, with a zero byte behind it.
+-- A string of a string table is at its offset, with a zero byte after it.
 use Rattle.std.proofs.Common.{◌≡◌, ◌∙◌, ℕ, zero, suc, ◌+◌, ◌-◌, Bool, false, cond, List, [], ◌∷◌, ◌++◌, length, take, drop, Option, Some, None, refl, sym, ap, length-append, append_assoc, arith, inl, inr}
 use Rattle.std.specs.Prelude.{◌↔◌, nat_lt, nat_le, option_map, slice_range, ◌==◌}
 use Rattle.std.specs.List.{list_any}
@@ -9,11 +9,11 @@ use Rattle.pe_view.specs.Text.{zero_ended, text_between}
 use Rattle.coff_read.specs.StringPlaces.{IsString}
 use Rattle.coff_read.specs.Strings.{string_at, strings_start, strings_size}
 
--- a zero byte stands in a text
+-- a string has a zero byte
 abbrev has_zero : List ℕ → Bool
 has_zero text = list_any (λ byte. byte == 0) text
 
--- a text without a zero byte ends at the zero byte behind it
+-- a string without a zero byte ends at the zero byte after it
 pub zero_ended-behind : (text rest : List ℕ) → has_zero text ≡ false → zero_ended (text ++ 0 ∷ rest) ≡ Some text
 zero_ended-behind [] rest none = refl
 zero_ended-behind (zero ∷ text) rest none = absurd cc
@@ -41,7 +41,7 @@ ended (zero ∷ bytes) text is =
     record { rest = bytes; is = ap (λ (t : List ℕ). t ++ 0 ∷ bytes) empty; none = sym (ap has_zero empty) }
 ended (suc b ∷ bytes) text is = ended_more b bytes text (zero_ended bytes) (λ t e. ended bytes t e) is
 
--- bytes that begin with others, also where they are cut behind them
+-- bytes that begin with others, also if they are cut after them
 begins : (front back bytes : List ℕ) (m : ℕ) → take m bytes ≡ front ++ back → take (length front) bytes ≡ front
 begins front back bytes m is =
     let whole : bytes ≡ front ++ (back ++ drop m bytes) = sym (take-append-drop m bytes) ∙ ap (λ (bs : List ℕ). bs ++ drop m bytes) is ∙ append_assoc front back (drop m bytes) in
@@ -91,6 +91,6 @@ stands_string file offset text s =
     split ∙ ap (λ (bs : List ℕ). bs ++ take (end - at - len) (drop len d)) s.bytes ∙ append_assoc text (0 ∷ []) (take (end - at - len) (drop len d)) in
     rw (four, fits, whole) (zero_ended-behind text (take (end - at - len) (drop len d)) s.no_zero)
 
--- the texts of a string table are those that stand in it
+-- the strings of a string table are those at its offsets
 pub string_is : (file : List ℕ) (offset : ℕ) (text : List ℕ) → (string_at file offset ≡ Some text) ↔ IsString file offset text
 string_is file offset text = (string_stands file offset text, stands_string file offset text)

@@ -1,4 +1,4 @@
--- A walk over the symbols of a table in which none has a fault, one symbol more.
+-- The symbols of a table in which none has a fault, one symbol more.
 use Rattle.std.proofs.Common.{◌≡◌, ℕ, ◌+◌, ◌-◌, ◌*◌, ◌/◌, ◌<◌, ◌≤◌, List, ◌∷◌, length, None, refl, ap, arith}
 use Rattle.std.specs.List.{flat_map}
 use Rattle.std.proofs.lemmas.Bool.{ltb-false}
@@ -30,7 +30,7 @@ module _ (file : List ℕ) (t : Tables) (stand : AreTables file t) (k : ℕ) (lt
   pub record_inside : t.symbols + 18 * k + 18 + 18 * field file (t.symbols + 18 * k) 17 1 ≤ length file
   record_inside = let under = within in let aux = aux_is in let inside = stand.symbols_inside in omega (arith, under, aux, inside)
 
-  -- what holds behind the auxiliary records, which have so many bytes
+  -- what holds after the auxiliary records, which have so many bytes
   pub record IsStep (next : ℕ) : Type 0 where
     pub within : next ≤ t.records
     pub further : k < next

@@ -1,4 +1,4 @@
--- A walk over the records of a table: what is left of its tests, and of the list that it reads.
+-- The records of a table in order: what is left of its tests, and of the list that is read.
 use Rattle.std.proofs.Common.{◌≡◌, ◌∙◌, refl, true, false, length, ℕ, zero, suc, ◌+◌, ◌-◌, ◌<◌, ◌≤◌, List, [], ◌∷◌, ◌++◌, Option, Some, None, sym, ap, append_assoc, zero-add, arith}
 use Rattle.std.specs.Prelude.{map, not, nat_lt, slice_get, ◌==◌}
 use Rattle.std.proofs.lemmas.Bool.{ne_eqb, ltb-false}
@@ -17,12 +17,12 @@ use Rattle.coff_read.specs.Reading.{aux_count, symbols_from, relocation_start}
 pub range_left : (i n : ℕ) → i < n → range_with_len i (n - i) ≡ i ∷ range_with_len (i + 1) (n - (i + 1))
 range_left i n lt = ap (range_with_len i) (let left : n - i ≡ suc (n - (i + 1)) = omega arith in left)
 
--- the record at hand has no fault
+-- the current record has no fault
 pub pass : (tests : ℕ → List Test) (h : ℕ) (left more : List ℕ) (whole : List Test) → left ≡ h ∷ more → first_standing (tests h) ≡ None
     → first_standing (flat_map tests left) ≡ first_standing whole → first_standing (flat_map tests more) ≡ first_standing whole
 pass tests h left more whole is none inv = sym (first-past (tests h) (flat_map tests more) none) ∙ ap (λ (hs : List ℕ). first_standing (flat_map tests hs)) (sym is) ∙ inv
 
--- the record at hand has one
+-- the current record has one
 pub stop : (tests : ℕ → List Test) (h : ℕ) (left more : List ℕ) (whole : List Test) (y : view.Fault) → left ≡ h ∷ more → first_standing (tests h) ≡ Some y
     → first_standing (flat_map tests left) ≡ first_standing whole → first_standing whole ≡ Some y
 stop tests h left more whole y is some inv = sym inv ∙ ap (λ (hs : List ℕ). first_standing (flat_map tests hs)) is ∙ first-in (tests h) (flat_map tests more) y some
@@ -50,7 +50,7 @@ symbols-step file k left =
     let a : 1 + aux_count file k + left ≡ suc (aux_count file k + left) = omega arith in
     ap (λ (n : ℕ). symbols_from file k n 0) a ∙ ap (λ (ks : List ℕ). k ∷ ks) (symbols-skip file (k + 1) left (aux_count file k))
 
--- the records behind a symbol's auxiliary ones
+-- the records after a symbol's auxiliary ones
 pub symbols_next : (file : List ℕ) (k next records : ℕ) → next ≡ k + 1 + aux_count file k → next ≤ records → symbols_from file k (records - k) 0 ≡ k ∷ symbols_from file next (records - next) 0
 symbols_next file k next records is within =
     let left : records - k ≡ 1 + aux_count file k + (records - next) = omega arith in
@@ -60,7 +60,7 @@ symbols_next file k next records is within =
 pub symbols_some : (file : List ℕ) (k records : ℕ) → k < records → symbols_from file k (records - k) 0 ≡ k ∷ symbols_from file (k + 1) (records - (k + 1)) (aux_count file k)
 symbols_some file k records lt = ap (λ (n : ℕ). symbols_from file k n 0) (let left : records - k ≡ suc (records - (k + 1)) = omega arith in left)
 
--- the record at hand passes its one test
+-- the current record passes its one test
 pub pass_test : (test : ℕ → Test) (k n : ℕ) (whole : Option view.Fault) → k < n → (test k).stands ≡ false → first_standing (map test (range_with_len k (n - k))) ≡ whole
     → first_standing (map test (range_with_len (k + 1) (n - (k + 1)))) ≡ whole
 pass_test test k n whole lt none inv =
@@ -81,7 +81,7 @@ relocations_fit file h none some =
     let past : nat_lt (length file) (relocation_start file h (field file h 32 2)) ≡ false = rw count at test in
     ltb-false (length file) (relocation_start file h (field file h 32 2)) past
 
--- of records without a fault the one at hand has none
+-- of records without a fault the current one has none
 pub first_none : (tests : ℕ → List Test) (h : ℕ) (left more : List ℕ) → left ≡ h ∷ more → first_standing (flat_map tests left) ≡ None → (first_standing (tests h) ≡ None) × (first_standing (flat_map tests more) ≡ None)
 first_none tests h left more is none = none-append (tests h) (flat_map tests more) (sym (ap (λ (hs : List ℕ). first_standing (flat_map tests hs)) is) ∙ none)
 
@@ -96,7 +96,7 @@ none_among tests start from (suc n) (suc i) none lt =
     ap (λ (k : ℕ). first_standing (tests (start k))) (sym next)
     ∙ none_among tests start (from + 1) n i (none-append (tests (start from)) (flat_map tests (map start (range_with_len (from + 1) n))) none).1 (omega (arith, lt))
 
--- an item of a list that is made by places
+-- an item of a list that is made by index
 pub made_at : {Y : Type 0} (item : ℕ → Y) (n i : ℕ) → i < n → slice_get (map item (range_with_len 0 n)) i ≡ Some (item i)
 made_at item n i lt =
     let len = length-map-range_with_len item 0 n in

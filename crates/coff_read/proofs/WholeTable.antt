@@ -19,7 +19,7 @@ aux_inside file k inside within =
     let len : length (take (18 * aux_count file k) (drop start file)) ≡ 18 * aux_count file k = length-take-le (18 * aux_count file k) (drop start file) (omega arith) in
     omega arith
 
--- of the records from one on, of which the first are auxiliary
+-- among the records from one on, of which the first are auxiliary
 counted : (file : List ℕ) (k left skip : ℕ) → skip ≤ left → k + left ≡ record_count file → strings_start file ≤ length file
     → first_standing (flat_map (symbol_tests file) (symbols_from file k left skip)) ≡ None
     → records_of (map (λ k. symbol_at file (record_start file k)) (symbols_from file k left skip)) + skip ≡ left
@@ -47,7 +47,7 @@ table_inside file none = elim (cases_Bool (symbol_pointer file == 0)) [
       ltb-false (length file) (strings_start file) inside)
 ]
 
--- the symbol table lies in the file, and no fault of the sections or of the symbols stands
+-- the symbol table lies in the file, and no section or symbol has a fault
 pub record TableStands (file : List ℕ) : Type 0 where
   pub inside : strings_start file ≤ length file
   pub sections : first_standing (flat_map (section_tests file) (section_starts file)) ≡ None

@@ -1,4 +1,4 @@
--- Auxiliary records ("PE Format", Auxiliary Symbol Records): the symbol that they follow tells their shape.
+-- Auxiliary records ("PE Format", Auxiliary Symbol Records): the symbol that they follow decides their shape.
 use Rattle.std.specs.Prelude.{ℕ, ◌*◌, ◌==◌, ◌&&◌, Bool, true, false, List, Option, Some, None, nat_lt, slice_get, if◌then◌else◌}
 use Rattle.pe_view.specs.Number.{part}
 use Rattle.coff_read.specs.Field.{field}
@@ -31,7 +31,7 @@ function_of r = Function (field r 0 0 4) (field r 0 4 4) (field r 0 8 4) (field 
 abbrev pub section_of : List ℕ → AuxRecord
 section_of r = Section (field r 0 0 4) (field r 0 4 2) (field r 0 6 2) (field r 0 8 4) (field r 0 12 2) (field r 0 14 1)
 
--- the record of these bytes, behind a symbol: by its class 103 FILE, 105 WEAK_EXTERNAL, 3 STATIC, 101 FUNCTION, 2 EXTERNAL
+-- the record in these bytes, after a symbol: by its class 103 FILE, 105 WEAK_EXTERNAL, 3 STATIC, 101 FUNCTION, 2 EXTERNAL
 abbrev pub aux_of : Symbol → List ℕ → AuxRecord
 aux_of s r =
     if s.class == 103 then File (up_to_zero r)

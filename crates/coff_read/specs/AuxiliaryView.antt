@@ -1,4 +1,4 @@
--- An auxiliary record of the code, with texts and bytes as lists.
+-- An auxiliary record of the code, with strings and bytes as lists.
 use Rattle.coff_read.specs.Auxiliary as format
 use Rattle.coff_read.specs.declared.auxiliary.Aux.{Aux}
 use Rattle.coff_read.specs.declared.auxiliary.Aux.TheVariants as code

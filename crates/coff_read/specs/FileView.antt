@@ -1,4 +1,4 @@
--- What the reader without memory hands out, as the records of the format.
+-- What the reader that does not allocate returns, as the records of the format.
 use Rattle.std.specs.Prelude.{◌+◌, ◌*◌, List, map}
 use Rattle.std.specs.List.{range_with_len}
 use Rattle.pe_view.specs.View.{bytes_of}

@@ -1,4 +1,4 @@
--- Parts of an object that have no form: what they hold doesn't fit the fields, or wouldn't be read as it is.
+-- Parts of an object that do not fit the format: their values don't fit the fields, or would be read back differently.
 use Rattle.std.specs.Prelude.{ℕ, ◌%◌, ◌==◌, ◌||◌, Bool, false, not, nat_lt, nat_le, length, bit_and}
 use Rattle.std.specs.List.{list_any}
 use Rattle.coff_read.specs.Records.{Raw, Bytes, Absent, Section, Symbol}
@@ -6,7 +6,7 @@ use Rattle.coff_read.specs.declared.relocation.Relocation.{Relocation}
 use Rattle.coff_read.specs.declared.symbol.SymbolSection.{SymbolSection}
 use Rattle.coff_read.specs.declared.symbol.SymbolSection.TheVariants as belongs
 
--- bytes that are to stand in the file, and don't
+-- bytes that can't be stored as they are
 abbrev pub is_bad_raw : Raw → ℕ → Bool
 is_bad_raw (Bytes bytes) flags = length bytes == 0 || not (bit_and flags 0x80 == 0)
 is_bad_raw (Absent size) flags = false

@@ -18,7 +18,7 @@ file_header file = record {
   characteristics = field file 0 18 2;
 }
 
--- the section header that stands at a place
+-- the section header at a file offset
 abbrev pub section_header : List ℕ → ℕ → SectionHeader
 section_header file h = record {
   name = part file h 8;

@@ -1,4 +1,4 @@
--- A name field of the code, as the name that it gives. No contract of a public function cites it.
+-- A name field of the code, as the name in it. No contract of a public function cites it.
 use Rattle.std.specs.Prelude.{ℕ, List, Option, Some}
 use Rattle.coff_read.specs.Strings.{string_at}
 use Rattle.coff_read.specs.declared.names.NameField.{NameField}

@@ -19,18 +19,18 @@ decimal_digits n = map (λ digit. 48 + digit) (digits_of 10 n)
 abbrev pub is_digit : ℕ → Bool
 is_digit byte = nat_le 48 byte && nat_le byte 57
 
--- the number that decimal digits write, behind those of another number
+-- the number that decimal digits write, after those of another number
 abbrev pub decimal_value : ℕ → List ℕ → ℕ
 decimal_value n [] = n
 decimal_value n (digit ∷ digits) = decimal_value (n * 10 + (digit - 48)) digits
 
--- one or more decimal digits, filled up with zero bytes
+-- one or more decimal digits, padded with zero bytes
 abbrev pub is_number_field : List ℕ → Bool
 is_number_field bytes =
     nat_lt 0 (length (up_to_zero bytes))
     && (list_all is_digit (up_to_zero bytes) && list_all (λ byte. byte == 0) (drop (length (up_to_zero bytes)) bytes))
 
--- the offset that a section's name field holds, where it holds one: `/` and decimal digits
+-- the offset in a section's name field, if it has one: `/` and decimal digits
 abbrev pub name_offset : List ℕ → Option ℕ
 name_offset [] = None
 name_offset (byte ∷ bytes) = if byte == 47 && is_number_field bytes then Some (decimal_value 0 (up_to_zero bytes)) else None
@@ -39,22 +39,22 @@ abbrev pub section_text : List ℕ → List ℕ → Option ℕ → Option (List 
 section_text file field None = Some (up_to_zero field)
 section_text file field (Some offset) = string_at file offset
 
--- the name of the section whose header stands at a place
+-- the name of the section whose header is at a file offset
 abbrev pub section_name : List ℕ → ℕ → Option (List ℕ)
 section_name file h = section_text file (part file h 8) (name_offset (part file h 8))
 
--- the name of the symbol whose record stands at a place
+-- the name of the symbol whose record is at a file offset
 abbrev pub symbol_name : List ℕ → ℕ → Option (List ℕ)
 symbol_name file at =
     if field file at 0 4 == 0
     then (if field file at 4 4 == 0 then Some [] else string_at file (field file at 4 4))
     else Some (up_to_zero (part file at 8))
 
--- filled up with zero bytes to eight
+-- padded with zero bytes to eight
 abbrev pub padded : List ℕ → List ℕ
 padded bytes = bytes ++ replicate (8 - length bytes) 0
 
--- whether a name stands in the string table
+-- whether a name is stored in the string table
 abbrev pub is_long : List ℕ → Bool
 is_long name = nat_lt 8 (length name)
 

@@ -1,5 +1,4 @@
--- What may be wrong with an object file, in the order in which it counts: its header, the symbol table, each section, each
--- symbol, each relocation.
+-- The faults of an object file, in order: its header, the symbol table, each section, each symbol, each relocation.
 use Rattle.std.specs.Prelude.{◌≡◌, ℕ, ◌+◌, ◌^◌, ◌==◌, ◌&&◌, ◌||◌, Bool, not, nat_lt, nat_le, List, [], ◌∷◌, ◌++◌, length, map, bit_and, is_none, None}
 use Rattle.std.specs.List.{flat_map, range_with_len}
 use Rattle.pe_view.specs.declared.fault.Place.TheVariants.{File}
@@ -14,8 +13,8 @@ use Rattle.coff_read.specs.Strings.{symbol_pointer, record_count, strings_start,
 abbrev pub at_offset : ℕ → ℕ → Bool → Test
 at_offset number offset stands = test number 0 (File offset) stands
 
--- the first bytes are those of a file of another kind: `MZ` of an image, `!<arch>` and a line end of an archive, or Machine 0
--- and 0xffff sections, which begin a header of another form
+-- the first bytes are those of a file of another kind: `MZ` of an image, `!<arch>` and a line end of an archive, or Machine 0 and
+-- 0xffff sections, which begin a header of another form
 abbrev pub is_other_header : ℕ → ℕ → ℕ → Bool
 is_other_header machine sections time_stamp =
     machine == 0x5a4d
@@ -44,7 +43,7 @@ symbol_table_tests file =
     ∷ at_offset 68 (strings_start file) (not (symbol_pointer file == 0) && is_cut_table (length file) (strings_start file) (strings_size file))
     ∷ []
 
--- of the section whose header stands at h
+-- of the section whose header is at h
 abbrev pub section_tests : List ℕ → ℕ → List Test
 section_tests file h =
     at_offset 64 h (not (is_absent (field file h 20 4) (field file h 16 4) (field file h 36 4)) && nat_lt (length file) (field file h 20 4 + field file h 16 4))
@@ -61,11 +60,11 @@ symbol_tests file k =
     ∷ at_offset 71 (record_start file k) (nat_lt (field file 0 2 2) (field file (record_start file k) 12 2) && nat_lt (field file (record_start file k) 12 2) 0xfffe)
     ∷ []
 
--- of the relocation that stands at a place
+-- of the relocation at a file offset
 abbrev pub relocation_test : List ℕ → ℕ → Test
 relocation_test file at = at_offset 72 at (nat_le (record_count file) (field file at 4 4))
 
--- of the relocations of the section whose header stands at h
+-- of the relocations of the section whose header is at h
 abbrev pub relocation_tests : List ℕ → ℕ → List Test
 relocation_tests file h = map (λ k. relocation_test file (relocation_start file h k)) (range_with_len 0 (field file h 32 2))
 
@@ -79,7 +78,7 @@ record_tests file =
 unfoldable pub object_tests : List ℕ → List Test
 object_tests file = header_tests file ++ (symbol_table_tests file ++ record_tests file)
 
--- a file is an object's: it has none of the faults, and holds the object
+-- a file is an object's: it has none of the faults, and its contents are the object
 pub record IsObjectOf (file : List ℕ) (o : Object) : Type 0 where
   pub accepted : first_standing (object_tests file) ≡ None
   pub holds : object_of file ≡ o

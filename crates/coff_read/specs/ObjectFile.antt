@@ -1,4 +1,4 @@
--- The file of which the reader without memory tells.
+-- The file that the reader that does not allocate has checked.
 use Rattle.std.specs.Prelude.{ℕ, List}
 use Rattle.pe_view.specs.View.{bytes_of}
 use Rattle.coff_read.specs.declared.file.ObjectFile.{ObjectFile}

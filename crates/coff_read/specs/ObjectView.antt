@@ -1,4 +1,4 @@
--- An object of the code, with texts and bytes as lists.
+-- An object of the code, with strings and bytes as lists.
 use Rattle.std.specs.Prelude.{map}
 use Rattle.coff_read.specs.Records as format
 use Rattle.coff_read.specs.declared.section.RawData.{RawData}

@@ -1,15 +1,16 @@
--- What an object file holds ("PE Format": COFF File Header, Section Table, COFF Symbol Table), with texts and bytes as lists.
+-- The contents of an object file ("PE Format": COFF File Header, Section Table, COFF Symbol Table), with strings and bytes as
+-- lists.
 use Rattle.std.specs.Prelude.{ℕ, ◌+◌, ◌/◌, ◌<◌, ◌^◌, List, [], ◌∷◌, length, ⊤}
 use Rattle.std.specs.List.{AllByRecursion}
 use Rattle.coff_read.specs.declared.relocation.Relocation.{Relocation}
 use Rattle.coff_read.specs.declared.symbol.SymbolSection.{SymbolSection}
 
--- the bytes of a section, or SizeOfRawData where none stand in the file
+-- the raw data of a section, or SizeOfRawData if none is in the file
 pub data Raw : Type 0 where
   Bytes : (bytes : List ℕ) → Raw
   Absent : (size : ℕ) → Raw
 
--- how many bytes a section has: its SizeOfRawData
+-- the size of a section in bytes: its SizeOfRawData
 abbrev pub raw_size : Raw → ℕ
 raw_size (Bytes bytes) = length bytes
 raw_size (Absent size) = size

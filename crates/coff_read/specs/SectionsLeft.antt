@@ -1,4 +1,4 @@
--- The sections that are left of a walk over an object's file.
+-- The sections that an iterator over an object file has yet to return.
 use Rattle.std.specs.Prelude.{◌-◌, List, map}
 use Rattle.std.specs.List.{range_with_len}
 use Rattle.pe_view.specs.View.{bytes_of}

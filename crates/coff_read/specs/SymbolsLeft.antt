@@ -1,4 +1,4 @@
--- The symbols that are left of a walk over an object's file, each with the index of its record.
+-- The symbols that an iterator over an object file has yet to return, each with the index of its record.
 use Rattle.std.specs.Prelude.{ℕ, ◌-◌, List, map}
 use Rattle.pe_view.specs.View.{bytes_of}
 use Rattle.coff_read.specs.ObjectView.{symbol_view}

@@ -1,4 +1,4 @@
--- Where the tables of an object's file stand, as the reader holds it. No contract of a public function cites it.
+-- Where the tables of an object file are, as the reader stores it. No contract of a public function cites it.
 use Rattle.std.specs.Prelude.{◌≡◌, ◌||◌, ℕ, ◌+◌, ◌*◌, ◌≤◌, ◌^◌, length, List, is_none, nat_le, nat_lt}
 use Rattle.coff_read.specs.Field.{field}
 use Rattle.coff_read.specs.Strings.{strings_start, strings_size, string_at, symbol_pointer, record_count}

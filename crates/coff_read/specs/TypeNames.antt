@@ -2,7 +2,7 @@
 use Rattle.std.specs.Prelude.{ℕ, [], ◌∷◌, codes, ◌==◌, if◌then◌else◌}
 use Rattle.pe_head.specs.Names.{Names}
 
--- The tables of "PE Format". The code has them once more, and is proved to have these.
+-- The tables of "PE Format". The code has the names a second time, and is proved equal to these.
 
 unfoldable pub storage_class_names : Names
 storage_class_names =

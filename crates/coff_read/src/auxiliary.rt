@@ -14,48 +14,48 @@ use crate::symbol::{Symbol, SymbolSection};
 use pe_view::View;
 use std::alloc::Allocator;
 
-/// How many bytes an auxiliary record has.
+/// The size of an auxiliary record in bytes.
 const AUX_LEN: usize = 18;
 
-/// The type of a function.
+/// The type of a function symbol.
 const FUNCTION_TYPE: u16 = 0x20;
 
 /// An auxiliary record ("PE Format", Auxiliary Symbol Records), in the shape of its symbol's class.
 #[derive(Clone, Copy, Debug, PartialEq, Eq)]
 pub enum Aux<'a> {
-    /// Behind a function's definition: class 2 EXTERNAL, type 0x20, a section's number.
+    /// After a function's definition: class 2 EXTERNAL, type 0x20, a section's number.
     Function {
         /// The index of the record of the function's `.bf`.
         tag_index: u32,
-        /// How many bytes the function has.
+        /// The size of the function in bytes.
         total_size: u32,
-        /// Where in the file its line numbers begin.
+        /// The file offset of its line numbers.
         pointer_to_linenumber: u32,
         /// The index of the record of the next function.
         pointer_to_next_function: u32,
     },
-    /// Behind `.bf` and `.ef`: class 101 FUNCTION.
+    /// After `.bf` and `.ef`: class 101 FUNCTION.
     Lines {
         /// The line in the source.
         line: u16,
         /// The index of the record of the next function's `.bf`.
         next: u32,
     },
-    /// Behind a weak external: class 105 WEAK_EXTERNAL.
+    /// After a weak external: class 105 WEAK_EXTERNAL.
     Weak {
-        /// The index of the record of the symbol that stands in.
+        /// The index of the record of the symbol that replaces it if it is not defined.
         tag_index: u32,
-        /// When it does: 1 no search of libraries, 2 a search, 3 an alias.
+        /// 1 no library is searched for it, 2 libraries are searched, 3 it is an alias.
         search: u32,
     },
-    /// Behind `.file`: class 103 FILE.
+    /// After `.file`: class 103 FILE.
     File {
         /// The record's bytes up to its first zero byte.
         name: &'a [u8],
     },
-    /// Behind a section's symbol: class 3 STATIC.
+    /// After a section's symbol: class 3 STATIC.
     Section {
-        /// How many bytes the section has.
+        /// The size of the section in bytes.
         length: u32,
         /// How many relocations it has.
         relocations: u16,
@@ -63,12 +63,12 @@ pub enum Aux<'a> {
         line_numbers: u16,
         /// The checksum of its bytes, for COMDAT sections.
         checksum: u32,
-        /// The number of the section that it goes with, for COMDAT sections.
+        /// The number of the associated section, for COMDAT sections.
         number: u16,
-        /// How a COMDAT section is selected.
+        /// The COMDAT selection number.
         selection: u8,
     },
-    /// Behind every other symbol.
+    /// After every other symbol.
     Raw {
         /// The record's 18 bytes.
         bytes: &'a [u8],
@@ -112,7 +112,7 @@ fn section_of<'a>(fields: View<'a>) -> Aux<'a>
     }
 }
 
-/// The record of these bytes, behind a symbol.
+/// The record in these bytes, after a symbol.
 fn aux_of<'a>(symbol: &Symbol, bytes: &'a [u8]) -> Aux<'a>
     requires { length bytes.now ≡ 18 }
     ensures { aux_view result ≡ aux_of (symbol_view symbol.now) bytes.now }
@@ -144,8 +144,8 @@ impl<'a> Symbol<'a> {
         self.aux.len() / AUX_LEN
     }
 
-    /// Auxiliary record `k` of the symbol, counted from 0; `None` exactly where there is no such record. Takes no memory.
-    /// ("PE Format", Auxiliary Symbol Records.)
+    /// Auxiliary record `k` of the symbol, counted from 0; `None` exactly if there is no such record. Allocates nothing. ("PE
+    /// Format", Auxiliary Symbol Records.)
     pub fn aux_record(&self, k: usize) -> Option<Aux<'a>>
         ensures { option_map aux_view result ≡ aux_record (symbol_view self.now) k }
     {
@@ -159,8 +159,8 @@ impl<'a> Symbol<'a> {
 }
 
 impl<'a, A: Allocator> Object<'a, A> {
-    /// Auxiliary record `k` of a symbol, the symbol counted among [`Object::symbols`] and the record among the symbol's own,
-    /// both from 0; `None` exactly where there is no such record. Takes no memory. ("PE Format", Auxiliary Symbol Records.)
+    /// Auxiliary record `k` of a symbol, the symbol counted among [`Object::symbols`] and the record among the symbol's own, both
+    /// from 0; `None` exactly if there is no such record. Allocates nothing. ("PE Format", Auxiliary Symbol Records.)
     pub fn aux_view(&self, symbol: usize, k: usize) -> Option<Aux<'a>>
         ensures { option_map aux_view result ≡ aux_in (object_view self.now) symbol k }
     {

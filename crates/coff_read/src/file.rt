@@ -22,10 +22,10 @@ use pe_head::SectionHeader;
 use pe_view::{Fault, TextEnds, View};
 use std::alloc::{AllocError, Allocator};
 
-/// An object's file of which none of faults 61 to 72 stands. It keeps nothing but where the tables stand: sections, relocations
-/// and symbols are decoded where they are asked, and their texts and bytes are parts of the file.
+/// An object file without faults 61 to 72. It stores only where the tables are: sections, relocations and symbols are decoded on
+/// demand, and their names and raw data borrow from the file.
 ///
-/// Only [`ObjectFile::read`] takes memory, and, to remember where texts end, [`ObjectFile::each_section`] and
+/// Only [`ObjectFile::read`] allocates, and, to remember where strings end, [`ObjectFile::each_section`] and
 /// [`ObjectFile::each_symbol`].
 #[derive(Clone, Copy)]
 pub struct ObjectFile<'a> {
@@ -37,7 +37,7 @@ pub struct ObjectFile<'a> {
     ghost accepted: { first_standing (object_tests (bytes_of view)) ≡ None },
 }
 
-/// That fault 72 stands of no relocation, where none of faults 64 to 69 stands of a section.
+/// Tests fault 72 of all relocations, if no section has one of faults 64 to 69.
 fn check_all_relocations(view: View, tables: Tables) -> Result<(), Fault>
     requires tables { AreTables (bytes_of view) tables }
     requires sections { first_standing (flat_map (section_tests (bytes_of view)) (section_starts (bytes_of view))) ≡ None }
@@ -59,12 +59,12 @@ impl<'a> ObjectFile<'a> {
     ghost use Rattle.coff_read.specs.SectionsLeft.{each_section_left};
     ghost use Rattle.coff_read.specs.SymbolsLeft.{indexed, each_symbol_left, symbols_left};
 
-    /// The object's file with these bytes, which are all of it, or the first fault that stands.
+    /// Checks a complete object file, or returns its first fault.
     ///
-    /// Faults are asked in this order: of the header 61, 62, 63; of the symbol table 67, 68; of each section in table order 64,
-    /// 65, 66, 69; of each symbol 69, 70, 71; of each relocation, section by section, 72. No memory is taken. The time is that
-    /// of the tables, in which relocations that several sections share count for each of them; no text is searched for its end.
-    /// ("PE Format": COFF File Header, Section Table, COFF Relocations, COFF Symbol Table, COFF String Table.)
+    /// Faults are tested in this order: of the header 61, 62, 63; of the symbol table 67, 68; of each section in table order 64,
+    /// 65, 66, 69; of each symbol 69, 70, 71; of each relocation, section by section, 72. Nothing is allocated. The time is linear
+    /// in the tables, in which relocations that several sections share count for each of them; no string is searched for its
+    /// terminator. ("PE Format": COFF File Header, Section Table, COFF Relocations, COFF Symbol Table, COFF String Table.)
     pub fn new(file: &'a [u8]) -> Result<ObjectFile<'a>, Fault>
         ensures { Answers (object_tests file.entry.now) (λ object. file_of object ≡ file.entry.now) result }
     {
@@ -88,7 +88,7 @@ impl<'a> ObjectFile<'a> {
         u16_in(self.view, 0, 0)
     }
 
-    /// When the object was made, as its maker wrote it.
+    /// When the object was created, as stored in the file.
     pub fn time_stamp(&self) -> u32
         ensures { result ≡ (object_of (file_of self.now)).time_stamp }
     {
@@ -109,7 +109,7 @@ impl<'a> ObjectFile<'a> {
         file_header(self.view)
     }
 
-    /// The bytes of the optional header, which objects mostly lack.
+    /// The bytes of the optional header, which most objects lack.
     pub fn optional(&self) -> &'a [u8]
         ensures { result.now ≡ (object_of (file_of self.now)).optional }
     {
@@ -117,15 +117,15 @@ impl<'a> ObjectFile<'a> {
         self.view.slice(HEADER_LEN, optional).unwrap()
     }
 
-    /// How many sections the object has.
+    /// The number of sections.
     pub fn section_count(&self) -> usize
         ensures { result ≡ length (object_of (file_of self.now)).sections }
     {
         self.tables.sections as usize
     }
 
-    /// Section `index` in table order, counted from 0; `None` exactly where there is no such one. A name in the string table is
-    /// searched for its end.
+    /// Section `index` in table order, counted from 0; `None` exactly if there is no such one. A name in the string table is
+    /// searched for its terminator.
     pub fn section(&self, index: usize) -> Option<FileSection<'a>>
         ensures { option_map file_section_view result ≡ slice_get (object_of (file_of self.now)).sections index }
     {
@@ -137,7 +137,7 @@ impl<'a> ObjectFile<'a> {
         Some(section_at(self.view, h, name))
     }
 
-    /// The header of section `index` in table order, counted from 0, field by field; `None` exactly where there is no such one.
+    /// The header of section `index` in table order, counted from 0, field by field; `None` exactly if there is no such one.
     pub fn section_header(&self, index: usize) -> Option<SectionHeader>
         ensures { result ≡ slice_get (section_headers (file_of self.now)) index }
     {
@@ -148,8 +148,8 @@ impl<'a> ObjectFile<'a> {
         Some(section_header(self.view, h))
     }
 
-    /// The sections in table order, in the time of the section table and of the string table, of which each byte is searched at
-    /// most once, and 256 bytes for each name besides.
+    /// The sections in table order, in time linear in the section table and the string table: each byte of the latter is searched
+    /// at most once, and 256 more for each name.
     pub fn each_section<A: Allocator + Copy>(&self, alloc: A) -> EachSection<'a, A>
         ensures { each_section_left result ≡ (object_of (file_of self.now)).sections }
     {
@@ -161,7 +161,7 @@ impl<'a> ObjectFile<'a> {
         }
     }
 
-    /// How many symbols the object has.
+    /// The number of symbols, without auxiliary records.
     pub fn symbol_count(&self) -> usize
         ensures { result ≡ length (object_of (file_of self.now)).symbols }
     {
@@ -179,8 +179,8 @@ impl<'a> ObjectFile<'a> {
         }
     }
 
-    /// The symbols as [`ObjectFile::symbols`] gives them, in the time of the symbol table and of the string table, of which each
-    /// byte is searched at most once, and 256 bytes for each name besides.
+    /// The symbols as [`ObjectFile::symbols`] returns them, in time linear in the symbol table and the string table: each byte of
+    /// the latter is searched at most once, and 256 more for each name.
     pub fn each_symbol<A: Allocator + Copy>(&self, alloc: A) -> EachSymbol<'a, A>
         ensures { each_symbol_left result ≡ indexed (file_of self.now) (symbol_indexes (file_of self.now)) }
     {
@@ -192,10 +192,10 @@ impl<'a> ObjectFile<'a> {
         }
     }
 
-    /// The object, with lists of its sections, relocations and symbols, or want of memory, which leaves nothing.
+    /// The object, with lists of its sections, relocations and symbols, or out of memory; then all memory is freed.
     ///
-    /// Each list has its room from the start. The time is that of the tables and of the string table, of which each byte is
-    /// searched at most once, and 256 bytes for each name besides.
+    /// Each list is allocated once. The time is linear in the tables and the string table: each byte of the latter is searched at
+    /// most once, and 256 more for each name.
     pub fn read<A: Allocator + Copy>(&self, alloc: A) -> Result<Object<'a, A>, AllocError>
         ensures { IfOk result (λ object. object_view object ≡ object_of (file_of self.now)) }
     {

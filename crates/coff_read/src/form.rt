@@ -1,4 +1,4 @@
-//! `has_bad_part`: whether a section or a symbol of an object does not fit the format, which is fault 85.
+//! `has_bad_part`: whether a section or a symbol of an object does not fit the format, which is part of fault 85.
 
 ghost use Rattle.std.specs.Prelude.{◌≡◌, ◌||◌, length, map, nat_le};
 ghost use Rattle.std.specs.List.{list_any};
@@ -18,7 +18,7 @@ fn is_bad_relocation(relocation: &Relocation, records: u64) -> bool
     u64::from(relocation.symbol) >= records
 }
 
-/// Whether a section's bytes are to stand in the file, and don't.
+/// Whether a section's bytes can't be stored as they are: none at all, or those of uninitialized data.
 fn is_bad_raw(raw: RawData, flags: u32) -> bool
     ensures { result ≡ is_bad_raw (raw_view raw.entry) flags }
 {
@@ -28,7 +28,7 @@ fn is_bad_raw(raw: RawData, flags: u32) -> bool
     }
 }
 
-/// Whether a section has no form, where the symbol table has so many records.
+/// Whether a section does not fit the format, if the symbol table has so many records.
 fn is_bad_section<A: Allocator>(section: &ObjSection<A>, records: u64) -> bool
     ensures { result ≡ is_bad_section records (section_view section.now) }
 {
@@ -39,7 +39,7 @@ fn is_bad_section<A: Allocator>(section: &ObjSection<A>, records: u64) -> bool
             .any(|relocation| is_bad_relocation(relocation, records))
 }
 
-/// Whether a symbol's section has no number, where there are so many sections.
+/// Whether a symbol's section number is no section's, if there are so many sections; 0xfffe and 0xffff are reserved.
 fn is_bad_number(section: SymbolSection, count: usize) -> bool
     ensures { result ≡ is_bad_number count section }
 {
@@ -51,14 +51,14 @@ fn is_bad_number(section: SymbolSection, count: usize) -> bool
     }
 }
 
-/// Whether a symbol has no form, where there are so many sections.
+/// Whether a symbol does not fit the format, if there are so many sections.
 fn is_bad_symbol(symbol: &Symbol, count: usize) -> bool
     ensures { result ≡ is_bad_symbol count (symbol_view symbol.now) }
 {
     is_bad_number(symbol.section, count) || symbol.aux.len() % 18 != 0 || symbol.aux.len() > 4590
 }
 
-/// Whether one of the sections has no form.
+/// Whether one of the sections does not fit the format.
 fn any_bad_section<A: Allocator>(sections: &[ObjSection<A>], records: u64) -> bool
     ensures { result ≡ list_any (is_bad_section records) (map section_view sections.now) }
 {
@@ -67,14 +67,14 @@ fn any_bad_section<A: Allocator>(sections: &[ObjSection<A>], records: u64) -> bo
         .any(|section| is_bad_section(section, records))
 }
 
-/// Whether one of the symbols has no form.
+/// Whether one of the symbols does not fit the format.
 fn any_bad_symbol(symbols: &[Symbol], count: usize) -> bool
     ensures { result ≡ list_any (is_bad_symbol count) (map symbol_view symbols.now) }
 {
     symbols.iter().any(|symbol| is_bad_symbol(symbol, count))
 }
 
-/// Whether a section or a symbol of an object has no form, where its symbols have so many records: what fault 85 asks of them.
+/// Whether a section or a symbol of an object does not fit the format, if its symbols have so many records: a part of fault 85.
 pub fn has_bad_part<A: Allocator>(object: &Object<A>, records: u64) -> bool
     ensures { result ≡ (list_any (is_bad_section records) (object_view object.now).sections || list_any (is_bad_symbol (length (object_view object.now).sections)) (object_view object.now).symbols) }
 {

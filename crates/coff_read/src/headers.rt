@@ -1,4 +1,4 @@
-//! `FileHeader`: the COFF file header of an object; and its section headers. Each field is as the file has it.
+//! `FileHeader`: the COFF file header of an object; and its section headers. Each field is as stored in the file.
 
 ghost use Rattle.std.specs.Prelude.{◌≡◌, ◌+◌, ◌≤◌};
 ghost use Rattle.pe_view.specs.View.{bytes_of, size_of};
@@ -13,15 +13,15 @@ use pe_view::View;
 pub struct FileHeader {
     /// The processor that the object is for.
     pub machine: u16,
-    /// How many section headers there are.
+    /// The number of section headers.
     pub number_of_sections: u16,
-    /// When the object was made, as its maker wrote it.
+    /// When the object was created, as stored in the file.
     pub time_date_stamp: u32,
-    /// The file offset of the symbol table; 0 where there is none.
+    /// The file offset of the symbol table; 0 if there is none.
     pub pointer_to_symbol_table: u32,
-    /// How many records the symbol table has.
+    /// The number of records in the symbol table, auxiliary records counted.
     pub number_of_symbols: u32,
-    /// How many bytes the optional header has.
+    /// The size of the optional header in bytes.
     pub size_of_optional_header: u16,
     /// Flags of the object.
     pub characteristics: u16,

@@ -14,8 +14,8 @@ pub fn symbols_stand_behind_auxiliary_records()
     ensures { (file : List ℕ) → SymbolsBegin file }
 {}
 
-/// A string of the string table is at its offset, after the size field, has no zero byte in it, and a zero byte follows it inside
-/// the table.
+/// A string of the string table is at its offset, after the size field, has no zero byte, and a zero byte follows it inside the
+/// table.
 pub fn strings_stand_at_their_offsets()
     ensures { (file : List ℕ) (offset : ℕ) (text : List ℕ) → (string_at file offset ≡ Some text) ↔ IsString file offset text }
 {}

@@ -1,16 +1,16 @@
-//! COFF object files, judged and read, with and without allocating.
+//! COFF object files, checked and read, with and without allocating.
 //!
-//! [`ObjectFile::new`] judges an object's file, or answers the first of faults 61 to 72 that stands, and then decodes sections,
-//! relocations and symbols where they are asked. It takes no memory, but for two walks, [`ObjectFile::each_section`] and
-//! [`ObjectFile::each_symbol`], which remember where texts end. [`read_object`] makes lists of all:
+//! [`ObjectFile::new`] checks an object file, or returns the first of faults 61 to 72, and then decodes sections, relocations and
+//! symbols on demand. It allocates nothing, but for two iterators, [`ObjectFile::each_section`] and [`ObjectFile::each_symbol`],
+//! which remember where strings end. [`read_object`] reads all into lists:
 //!
 //! ```text
 //! for (index, symbol) in ObjectFile::new(file)?.symbols() { .. }
 //! let object = read_object(alloc, file)?;
 //! ```
 //!
-//! `coff_object`, which writes objects, hands this crate's names on. What its writer asks of an object's parts stands here too:
-//! [`has_bad_part`], [`is_other_header`], [`is_long`] and [`is_long_section_name`].
+//! `coff_object`, which writes objects, re-exports this crate. The tests of its writer that only read an object's parts are here
+//! too: [`has_bad_part`], [`is_other_header`], [`is_long`] and [`is_long_section_name`].
 #![tactic(auto)]
 
 mod auxiliary;

@@ -15,10 +15,10 @@ use crate::tables::Tables;
 use pe_view::{TextEnds, View};
 use std::alloc::Allocator;
 
-/// How many bytes a name field has.
+/// The size of a name field in bytes.
 pub const NAME_LEN: usize = 8;
 
-/// What the name field of a section or of a symbol holds.
+/// The contents of the name field of a section or of a symbol.
 #[derive(Clone, Copy)]
 pub(crate) enum NameField<'a> {
     /// The name.
@@ -27,14 +27,14 @@ pub(crate) enum NameField<'a> {
     Offset(u32),
 }
 
-/// Whether a symbol's name stands in the string table.
+/// Whether a symbol's name is stored in the string table.
 pub fn is_long(name: &[u8]) -> bool
     ensures { result ≡ is_long name.now }
 {
     name.len() > NAME_LEN
 }
 
-/// Whether a section's name stands in the string table.
+/// Whether a section's name is stored in the string table.
 pub fn is_long_section_name(name: &[u8]) -> bool
     ensures { result ≡ is_long_section_name name.now }
 {
@@ -80,7 +80,7 @@ fn all_zero(bytes: &[u8]) -> bool
     bytes.iter().all(|byte| *byte == 0)
 }
 
-/// The number in the bytes of a name field behind its `/`: decimal digits, filled up with zero bytes.
+/// The number in a name field after its `/`: decimal digits, padded with zero bytes.
 fn number_in(bytes: &[u8]) -> Option<u32>
     requires { length bytes.now ≤ 7 }
     ensures { result ≡ (if is_number_field bytes.now then Some (decimal_value 0 (up_to_zero bytes.now)) else None) }
@@ -98,7 +98,7 @@ fn number_in(bytes: &[u8]) -> Option<u32>
     Some(decimal_value(digits))
 }
 
-/// The offset into the string table that a section's name field holds, if it holds one.
+/// The offset into the string table in a section's name field, if it has one.
 fn name_offset(field: &[u8]) -> Option<u32>
     requires { length field.now ≤ 8 }
     ensures { result ≡ name_offset field.now }
@@ -109,7 +109,7 @@ fn name_offset(field: &[u8]) -> Option<u32>
     }
 }
 
-/// The text at an offset of the string table.
+/// The string at an offset of the string table.
 fn string_at<'a>(view: View<'a>, tables: Tables, offset: u32) -> Option<&'a [u8]>
     requires { AreTables (bytes_of view) tables }
     ensures { option_map (λ text. text.now) result ≡ string_at (bytes_of view.entry) offset }
@@ -121,7 +121,7 @@ fn string_at<'a>(view: View<'a>, tables: Tables, offset: u32) -> Option<&'a [u8]
     view.until_zero(start, tables.strings + tables.strings_size)
 }
 
-/// Whether a name's offset leads to no text of the string table.
+/// Whether a name's offset leads to no string of the string table.
 pub(crate) fn has_no_text(tables: Tables, field: NameField) -> bool
     ensures { (file : List ℕ) → AreTables file tables → result ≡ is_none (name_in file field.entry) }
 {
@@ -131,7 +131,7 @@ pub(crate) fn has_no_text(tables: Tables, field: NameField) -> bool
     }
 }
 
-/// The name that a field gives, which is empty where it leads to no text. A text of the string table is searched for its end.
+/// The name of a field, which is empty if it leads to no string. A string of the string table is searched for its terminator.
 pub(crate) fn name_of<'a>(view: View<'a>, tables: Tables, field: NameField<'a>) -> &'a [u8]
     requires { AreTables (bytes_of view) tables }
     ensures { result.now ≡ unwrap_or (name_in (bytes_of view.entry) field.entry) [] }
@@ -142,7 +142,7 @@ pub(crate) fn name_of<'a>(view: View<'a>, tables: Tables, field: NameField<'a>) 
     }
 }
 
-/// The name that a field gives, as [`name_of`] answers it. Where texts of the string table end is remembered.
+/// The name of a field, as [`name_of`] returns it. Where strings of the string table end is remembered.
 pub(crate) fn name_kept<'a, A: Allocator + Copy>(
     ends: &mut TextEnds<A>,
     view: View<'a>,
@@ -165,7 +165,7 @@ pub(crate) fn name_kept<'a, A: Allocator + Copy>(
     }
 }
 
-/// What the name field of the section holds whose header stands at an offset of the file.
+/// The contents of the name field of the section whose header is at a file offset.
 pub(crate) fn section_name_field<'a>(view: View<'a>, h: u64) -> NameField<'a>
     requires { h + 40 ≤ size_of view }
     ensures { name_in (bytes_of view.entry) result ≡ section_name (bytes_of view.entry) h }
@@ -177,7 +177,7 @@ pub(crate) fn section_name_field<'a>(view: View<'a>, h: u64) -> NameField<'a>
     }
 }
 
-/// What the name field of the symbol holds whose record stands at an offset of the file.
+/// The contents of the name field of the symbol whose record is at a file offset.
 pub(crate) fn symbol_name_field<'a>(view: View<'a>, at: u64) -> NameField<'a>
     requires { at + 18 ≤ size_of view }
     ensures { name_in (bytes_of view.entry) result ≡ symbol_name (bytes_of view.entry) at }

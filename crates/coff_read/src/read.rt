@@ -12,13 +12,12 @@ use crate::file::ObjectFile;
 use crate::object::Object;
 use std::alloc::Allocator;
 
-/// The object that a file holds: `file` is all of its bytes.
+/// Reads an object; `file` is its complete file.
 ///
-/// Faults are asked as [`ObjectFile::new`] asks them, before any memory is taken. The answer is [`ObjectError::Fault`] with the
-/// first one that stands, or [`ObjectError::Memory`] where a growth was refused, which never comes where one stands. An error
-/// leaves nothing: all memory that was taken is given back.
+/// Faults are tested as by [`ObjectFile::new`], before anything is allocated. The error is [`ObjectError::Fault`] with the first
+/// fault, or, only if there is none, [`ObjectError::Memory`] if an allocation failed. On an error all memory is freed.
 ///
-/// Texts and bytes of the object are parts of the file. ("PE Format": COFF File Header, Section Table, COFF Relocations, COFF
+/// Names and raw data of the object borrow from the file. ("PE Format": COFF File Header, Section Table, COFF Relocations, COFF
 /// Symbol Table, COFF String Table.)
 pub fn read_object<A: Allocator + Copy>(alloc: A, file: &[u8]) -> Result<Object<'_, A>, ObjectError>
     ensures exact { AnswersOrWants (object_tests file.now) (λ object. object_view object ≡ object_of file.now) result }

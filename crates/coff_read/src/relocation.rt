@@ -12,21 +12,21 @@ use crate::error::file_fault;
 use crate::fields::{u16_in, u32_in};
 use pe_view::{Fault, View};
 
-/// How many bytes a relocation has.
+/// The size of a relocation in bytes.
 pub const RELOCATION_LEN: u64 = 10;
 
 /// A relocation of a section ("PE Format", COFF Relocations).
 #[derive(Clone, Copy, Debug, PartialEq, Eq)]
 pub struct Relocation {
-    /// Where the reference stands: its offset in the section's bytes, as VirtualAddress of the section is mostly 0.
+    /// Where the reference is: its offset in the section's bytes, as VirtualAddress of the section is usually 0.
     pub address: u32,
     /// The index of the symbol's record in the symbol table, auxiliary records counted.
     pub symbol: u32,
-    /// How the reference is computed, by the machine's own table of types.
+    /// How the reference is computed, by the machine's list of types.
     pub kind: u16,
 }
 
-/// The relocation whose record stands at an offset of the file.
+/// The relocation whose record is at a file offset.
 pub(crate) fn relocation_at(view: View, at: u64) -> Relocation
     requires { at + 10 ≤ size_of view }
     ensures { result ≡ relocation_at (bytes_of view.entry) at }
@@ -38,8 +38,7 @@ pub(crate) fn relocation_at(view: View, at: u64) -> Relocation
     }
 }
 
-/// That fault 72 stands of no relocation of the section whose header stands at an offset of the file, where the symbol table
-/// has so many records.
+/// Tests fault 72 of the relocations of the section whose header is at a file offset, if the symbol table has so many records.
 pub(crate) fn check_relocations(view: View, h: u64, records: u64) -> Result<(), Fault>
     requires inside { h + 40 ≤ size_of view }
     requires records { records ≡ record_count (bytes_of view) }

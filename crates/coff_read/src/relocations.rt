@@ -8,7 +8,7 @@ use crate::relocation::{RELOCATION_LEN, Relocation, relocation_at};
 use pe_view::View;
 use std::alloc::{AllocError, Allocator};
 
-/// The relocations of a section, each decoded where it is asked ("PE Format", COFF Relocations). No call takes memory.
+/// The relocations of a section, each decoded on demand ("PE Format", COFF Relocations). No call allocates.
 #[derive(Clone, Copy)]
 pub struct Relocations<'a> {
     pub(crate) view: View<'a>,
@@ -27,7 +27,7 @@ impl<'a> Relocations<'a> {
     ghost use Rattle.coff_read.specs.FileView.{relocations_view};
     ghost use Rattle.coff_read.specs.Reading.{relocation_at, relocation_start};
 
-    /// The relocations of the section whose header stands at an offset of the file.
+    /// The relocations of the section whose header is at a file offset.
     pub(crate) fn of_section(view: View<'a>, h: u64) -> Relocations<'a>
         requires inside { h + 40 ≤ size_of view }
         requires fits { 0 < field (bytes_of view) h 32 2 → relocation_start (bytes_of view) h (field (bytes_of view) h 32 2) ≤ size_of view }
@@ -40,7 +40,7 @@ impl<'a> Relocations<'a> {
         }
     }
 
-    /// How many there are: under 2^16.
+    /// The number of relocations: under 2^16.
     pub fn len(&self) -> usize
         ensures value { result ≡ length (relocations_view self.now) }
         ensures few { result < 2 ^ 16 }
@@ -55,7 +55,7 @@ impl<'a> Relocations<'a> {
         self.count == 0
     }
 
-    /// Relocation `index` in table order, counted from 0; `None` exactly where there is no such one.
+    /// Relocation `index` in table order, counted from 0; `None` exactly if there is no such one.
     pub fn get(&self, index: usize) -> Option<Relocation>
         ensures { result ≡ slice_get (relocations_view self.now) index }
     {

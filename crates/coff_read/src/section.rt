@@ -22,31 +22,31 @@ use crate::tables::{SECTION_LEN, Tables};
 use pe_view::{Fault, TextEnds, View};
 use std::alloc::{AllocError, Allocator};
 
-/// The flag of a section whose bytes do not stand in the file.
+/// The flag of a section whose bytes are not stored in the file.
 pub(crate) const UNINITIALIZED_DATA: u32 = 0x80;
 
-/// The flag LNK_NRELOC_OVFL, of a section with more relocations than its header's field counts.
+/// The flag LNK_NRELOC_OVFL, of a section with more relocations than its header can count.
 const EXTENDED_RELOCATIONS: u32 = 0x0100_0000;
 
-/// The bytes of a section.
+/// The raw data of a section.
 #[derive(Clone, Copy, Debug, PartialEq, Eq)]
 pub enum RawData<'a> {
-    /// They stand in the file; there is at least one.
+    /// Stored in the file; at least one byte.
     Bytes(&'a [u8]),
-    /// None stand in the file; SizeOfRawData as it is written.
+    /// Not stored in the file; SizeOfRawData as stored.
     Absent(u32),
 }
 
 /// A section of an object ("PE Format", Section Table).
 #[derive(Drop)]
 pub struct ObjSection<'a, A: Allocator> {
-    /// The section's name, also where it stands in the string table.
+    /// The section's name, taken from the string table if it is there.
     pub name: &'a [u8],
-    /// VirtualSize, as it is written.
+    /// VirtualSize, as stored.
     pub virtual_size: u32,
-    /// VirtualAddress, as it is written.
+    /// VirtualAddress, as stored.
     pub virtual_address: u32,
-    /// The bytes.
+    /// The raw data.
     pub raw: RawData<'a>,
     /// The section's flags.
     pub flags: u32,
@@ -54,16 +54,16 @@ pub struct ObjSection<'a, A: Allocator> {
     pub relocations: Vec<Relocation, A>,
 }
 
-/// A section of an object as it stands in the file ("PE Format", Section Table).
+/// A section of an object that was not copied into lists ("PE Format", Section Table).
 #[derive(Clone, Copy)]
 pub struct FileSection<'a> {
-    /// The section's name, also where it stands in the string table.
+    /// The section's name, taken from the string table if it is there.
     pub name: &'a [u8],
-    /// VirtualSize, as it is written.
+    /// VirtualSize, as stored.
     pub virtual_size: u32,
-    /// VirtualAddress, as it is written.
+    /// VirtualAddress, as stored.
     pub virtual_address: u32,
-    /// The bytes.
+    /// The raw data.
     pub raw: RawData<'a>,
     /// The section's flags.
     pub flags: u32,
@@ -71,7 +71,7 @@ pub struct FileSection<'a> {
     pub relocations: Relocations<'a>,
 }
 
-/// The bytes of a section at an offset of the file, so many; `None` where they pass its end.
+/// The raw data of a section at a file offset, of this size; `None` if it passes the end of the file.
 fn raw_at<'a>(view: View<'a>, pointer: u32, size: u32, flags: u32) -> Option<RawData<'a>>
     ensures none { is_none result ≡ (not (is_absent pointer size flags) && nat_lt (size_of view.entry) (pointer + size)) }
     ensures value { IfSome result (λ raw. raw_view raw ≡ raw_at (bytes_of view.entry) pointer size flags) }
@@ -85,7 +85,7 @@ fn raw_at<'a>(view: View<'a>, pointer: u32, size: u32, flags: u32) -> Option<Raw
     }
 }
 
-/// That none of faults 64, 65, 66 and 69 stands of the section whose header stands at an offset of the file.
+/// Tests faults 64, 65, 66 and 69 of the section whose header is at a file offset.
 fn check_section(view: View, tables: Tables, h: u64) -> Result<(), Fault>
     requires tables { AreTables (bytes_of view) tables }
     requires inside { h + 40 ≤ size_of view }
@@ -113,7 +113,7 @@ fn check_section(view: View, tables: Tables, h: u64) -> Result<(), Fault>
     Ok(())
 }
 
-/// That none of faults 64, 65, 66 and 69 stands of a section.
+/// Tests faults 64, 65, 66 and 69 of all sections.
 pub(crate) fn check_sections(view: View, tables: Tables) -> Result<(), Fault>
     requires { AreTables (bytes_of view) tables }
     ensures { Answers (flat_map (section_tests (bytes_of view.entry)) (section_starts (bytes_of view.entry))) (λ _. ⊤) result }
@@ -124,7 +124,7 @@ pub(crate) fn check_sections(view: View, tables: Tables) -> Result<(), Fault>
     Ok(())
 }
 
-/// The section of a name whose header stands at an offset of the file.
+/// The section with a name, whose header is at a file offset.
 pub(crate) fn section_at<'a>(view: View<'a>, h: u64, name: &'a [u8]) -> FileSection<'a>
     requires inside { h + 40 ≤ size_of view }
     requires none { first_standing (section_tests (bytes_of view) h) ≡ None }
@@ -163,7 +163,7 @@ fn read_section<'a, A: Allocator>(
     })
 }
 
-/// A list of the sections, in table order, where none of faults 64, 65, 66 and 69 stands of one.
+/// A list of the sections, in table order, if none has one of faults 64, 65, 66 and 69.
 pub(crate) fn read_sections<'a, A: Allocator + Copy>(
     alloc: A,
     ends: &mut TextEnds<A>,

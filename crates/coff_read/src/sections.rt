@@ -15,9 +15,9 @@ use crate::tables::{SECTION_LEN, Tables};
 use pe_view::{TextEnds, View};
 use std::alloc::Allocator;
 
-/// The sections of an object's file, in table order. Where texts of the string table end is remembered, so each byte of it is
-/// searched at most once, and 256 bytes for each name besides, however many sections share a name. Where memory for that is
-/// refused, a text is searched again.
+/// The sections of an object file, in table order. Where strings of the string table end is remembered, so each byte of it is
+/// searched at most once, and 256 more for each name, however many sections share a name. Out of memory for that, a string is
+/// searched again.
 #[derive(Drop)]
 pub struct EachSection<'a, A: Allocator> {
     pub(crate) view: View<'a>,

@@ -20,27 +20,27 @@ use crate::tables::{SYMBOL_LEN, Tables};
 use pe_view::{Fault, TextEnds, View};
 use std::alloc::{AllocError, Allocator};
 
-/// To which section a symbol belongs.
+/// The section of a symbol.
 #[derive(Clone, Copy, Debug, PartialEq, Eq)]
 pub enum SymbolSection {
-    /// To none here: another object defines it.
+    /// None in this object: another object defines it.
     Undefined,
-    /// To none: its value is a number and no address.
+    /// None: its value is a number and no address.
     Absolute,
-    /// To none: it tells about the source.
+    /// None: it describes the source.
     Debug,
-    /// To the section of this number, counted from 1.
+    /// The section with this number, counted from 1.
     Section(u16),
 }
 
 /// A symbol with its auxiliary records ("PE Format", COFF Symbol Table).
 #[derive(Clone, Copy, Debug, PartialEq, Eq)]
 pub struct Symbol<'a> {
-    /// The symbol's name, also where it stands in the string table.
+    /// The symbol's name, taken from the string table if it is there.
     pub name: &'a [u8],
-    /// The value, by the section and the class.
+    /// The value, whose meaning depends on the section and the class.
     pub value: u32,
-    /// To which section it belongs.
+    /// The section that it belongs to.
     pub section: SymbolSection,
     /// The type.
     pub kind: u16,
@@ -50,7 +50,7 @@ pub struct Symbol<'a> {
     pub aux: &'a [u8],
 }
 
-/// To which section a SectionNumber assigns a symbol.
+/// The section of a SectionNumber.
 fn section_of_number(number: u16) -> SymbolSection
     ensures { result ≡ section_of_number number }
 {
@@ -62,7 +62,7 @@ fn section_of_number(number: u16) -> SymbolSection
     }
 }
 
-/// The index of the record behind the symbol of a record, unless one of faults 69 to 71 stands of it.
+/// The index of the record after the symbol of a record and its auxiliary records, or the first of faults 69 to 71.
 fn check_symbol(view: View, tables: Tables, k: u64) -> Result<u64, Fault>
     requires tables { AreTables (bytes_of view) tables }
     requires inside { k < tables.records }
@@ -84,8 +84,7 @@ fn check_symbol(view: View, tables: Tables, k: u64) -> Result<u64, Fault>
     Ok(next)
 }
 
-/// How many symbols there are, unless one of faults 69 to 71 stands of one. Each stands behind the auxiliary records of the one
-/// before.
+/// The number of symbols, or the first of faults 69 to 71. Each comes after the auxiliary records of the one before.
 pub(crate) fn check_symbols(view: View, tables: Tables) -> Result<u64, Fault>
     requires { AreTables (bytes_of view) tables }
     ensures { Answers (flat_map (symbol_tests (bytes_of view.entry)) (symbol_indexes (bytes_of view.entry))) (λ count. count ≡ length (symbol_indexes (bytes_of view.entry))) result }
@@ -99,7 +98,7 @@ pub(crate) fn check_symbols(view: View, tables: Tables) -> Result<u64, Fault>
     Ok(count)
 }
 
-/// The symbol of a name whose record stands at an offset of the file.
+/// The symbol with a name, whose record is at a file offset.
 pub(crate) fn symbol_at<'a>(view: View<'a>, at: u64, name: &'a [u8]) -> Symbol<'a>
     requires inside { at + 18 + 18 * field (bytes_of view) at 17 1 ≤ size_of view }
     requires small { size_of view ≤ 2 ^ 32 }
@@ -118,7 +117,7 @@ pub(crate) fn symbol_at<'a>(view: View<'a>, at: u64, name: &'a [u8]) -> Symbol<'
     }
 }
 
-/// A list of the symbols, so many, in table order, where none of faults 69 to 71 stands of one.
+/// A list of the symbols, so many, in table order, if none has one of faults 69 to 71.
 pub(crate) fn read_symbols<'a, A: Allocator + Copy>(
     alloc: A,
     ends: &mut TextEnds<A>,

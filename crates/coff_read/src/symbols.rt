@@ -15,8 +15,8 @@ use crate::tables::{SYMBOL_LEN, Tables};
 use pe_view::{TextEnds, View};
 use std::alloc::Allocator;
 
-/// The symbols of an object's file, in table order, each with the index of its record, by which relocations name it. A name in
-/// the string table is searched for its end where its symbol is asked. No memory is taken.
+/// The symbols of an object file, in table order, each with the index of its record, which relocations refer to. A name in the
+/// string table is searched for its terminator when its symbol is returned. Nothing is allocated.
 #[derive(Drop)]
 pub struct Symbols<'a> {
     pub(crate) view: View<'a>,
@@ -50,9 +50,9 @@ impl<'a> Iterator for Symbols<'a> {
     }
 }
 
-/// The symbols of an object's file, as [`Symbols`] gives them. Where texts of the string table end is remembered, so each byte
-/// of it is searched at most once, and 256 bytes for each name besides, however many symbols share a name. Where memory for that
-/// is refused, a text is searched again.
+/// The symbols of an object file, as [`Symbols`] returns them. Where strings of the string table end is remembered, so each byte of
+/// it is searched at most once, and 256 more for each name, however many symbols share a name. Out of memory for that, a string is
+/// searched again.
 #[derive(Drop)]
 pub struct EachSymbol<'a, A: Allocator> {
     pub(crate) view: View<'a>,

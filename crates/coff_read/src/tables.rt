@@ -15,38 +15,38 @@ use crate::fields::{u16_in, u32_in};
 use bstr::ByteSlice;
 use pe_view::{Fault, View};
 
-/// The most bytes that a file may have: 2^32.
+/// The most bytes of a file: 2^32.
 const FILE_LIMIT: u64 = 0x1_0000_0000;
 
-/// How many bytes the COFF header has.
+/// The size of the COFF header in bytes.
 pub(crate) const HEADER_LEN: u64 = 20;
 
-/// How many bytes a section's header has.
+/// The size of a section header in bytes.
 pub(crate) const SECTION_LEN: u64 = 40;
 
-/// How many bytes a record of the symbol table has.
+/// The size of a symbol table record in bytes.
 pub(crate) const SYMBOL_LEN: u64 = 18;
 
-/// Where the tables of an object's file stand, and how long they are.
+/// Where the tables of an object file are, and how long they are.
 #[derive(Clone, Copy)]
 pub(crate) struct Tables {
     /// The offset of the first section header.
     pub headers: u64,
-    /// How many section headers there are.
+    /// The number of section headers.
     pub sections: u64,
     /// The offset of the symbol table's first record.
     pub symbols: u64,
-    /// How many records the symbol table has.
+    /// The number of records in the symbol table.
     pub records: u64,
-    /// The offset of the string table's size field, behind the symbols.
+    /// The offset of the string table's size field, after the symbols.
     pub strings: u64,
-    /// How many bytes the string table has, its size field counted.
+    /// The size of the string table in bytes, its size field counted.
     pub strings_size: u64,
-    /// How many bytes the string table has up to its last zero byte, that one counted: each offset under it leads to a text.
+    /// The size of the string table up to its last zero byte, that one counted: a string begins at each offset below it.
     pub texts: u64,
 }
 
-/// Whether a header of these fields begins a file of another kind, for which fault 62 stands.
+/// Whether a header with these fields begins a file of another kind, which is fault 62.
 pub fn is_other_header(machine: u16, sections: u16, time_stamp: u32) -> bool
     ensures { result ≡ is_other_header machine sections time_stamp }
 {
@@ -55,7 +55,7 @@ pub fn is_other_header(machine: u16, sections: u16, time_stamp: u32) -> bool
         || (machine == 0 && sections == 0xffff)
 }
 
-/// That none of faults 61 to 63 stands.
+/// Tests faults 61 to 63.
 pub(crate) fn check_header(view: View) -> Result<(), Fault>
     ensures exact { Answers (header_tests (bytes_of view.entry)) (λ _. ⊤) result }
     ensures fits { OnOk result (section_start (bytes_of view.entry) (field (bytes_of view.entry) 0 2 2) ≤ size_of view.entry) }
@@ -76,7 +76,7 @@ pub(crate) fn check_header(view: View) -> Result<(), Fault>
     Ok(())
 }
 
-/// How many bytes the string table has that begins at an offset of the file, unless fault 68 stands.
+/// The size in bytes of the string table at a file offset, or fault 68.
 fn strings_size(view: View, start: u64) -> Result<u64, Fault>
     requires { start ≤ size_of view }
     ensures { Answers (string_table_tests (bytes_of view.entry) start) (λ size. size ≡ size_field (bytes_of view.entry) start) result }
@@ -95,8 +95,8 @@ fn strings_size(view: View, start: u64) -> Result<u64, Fault>
     Ok(size)
 }
 
-/// How many of the bytes at a place of the file, so many, stand before the end of the last zero byte among them: a text that
-/// a zero byte ends begins at each offset under it. The search goes from the end.
+/// The length of the `size` bytes at a file offset up to their last zero byte, that one counted: a terminated string begins at each
+/// offset below it. The search goes backwards from the end.
 fn texts_len(view: View, start: u64, size: u64) -> u64
     requires { start + size ≤ size_of view }
     ensures { (offset : ℕ) → is_none (text_between (bytes_of view.entry) (start + offset) (start + size)) ≡ nat_le result offset }
@@ -108,7 +108,7 @@ fn texts_len(view: View, start: u64, size: u64) -> u64
     }
 }
 
-/// Where the tables stand, unless one of faults 67 and 68 does.
+/// Where the tables are, or fault 67 or 68.
 pub(crate) fn read_tables(view: View) -> Result<Tables, Fault>
     requires fits { section_start (bytes_of view) (field (bytes_of view) 0 2 2) ≤ size_of view }
     requires small { size_of view ≤ 2 ^ 32 }

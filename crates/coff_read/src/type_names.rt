@@ -1,4 +1,4 @@
-//! The names of the storage classes of symbols and of the types of relocations, in the words of "PE Format".
+//! The names of the storage classes of symbols and of the types of relocations, as "PE Format" spells them.
 
 ghost use Rattle.std.specs.Prelude.{◌≡◌, option_map};
 ghost use Rattle.pe_head.specs.Names.{name_in};
@@ -6,7 +6,7 @@ ghost use Rattle.coff_read.specs.TypeNames.{storage_class_names, amd64_type_name
 
 use pe_head::machine;
 
-/// The name of a storage class, as `EXTERNAL` for IMAGE_SYM_CLASS_EXTERNAL, and `None` of a class that "PE Format" does not name
+/// The name of a storage class, such as `EXTERNAL` for IMAGE_SYM_CLASS_EXTERNAL, or `None` if "PE Format" has no name for it
 /// (Storage Class).
 #[tactic(auto, unfolding(crate::specs::TypeNames::storage_class_names))]
 pub fn storage_class_name(class: u8) -> Option<&'static str>
@@ -120,7 +120,7 @@ fn arm64_type_name(kind: u16) -> Option<&'static str>
     }
 }
 
-/// The name of a type of relocations for the other processors of ARM, without IMAGE_REL_ARM_ ("PE Format", Type Indicators).
+/// The name of a type of relocations for the other ARM processors, without IMAGE_REL_ARM_ ("PE Format", Type Indicators).
 #[tactic(auto, unfolding(crate::specs::TypeNames::arm_type_names))]
 fn arm_type_name(kind: u16) -> Option<&'static str>
     ensures { option_map (λ name. name.now) result ≡ name_in arm_type_names kind }
@@ -144,7 +144,7 @@ fn arm_type_name(kind: u16) -> Option<&'static str>
     }
 }
 
-/// The name of a type of a machine's relocations, as `REL32`, and `None` where "PE Format" names none. The format has one list for
+/// The name of a type of a machine's relocations, such as `REL32`, or `None` if "PE Format" has none. The format has one list for
 /// ARM and ARMNT.
 pub fn relocation_type_name(machine: u16, kind: u16) -> Option<&'static str>
     ensures { option_map (λ name. name.now) result ≡ name_in (relocation_type_names machine) kind }

@@ -1,4 +1,4 @@
--- The sections are asked first, then the symbols.
+-- The sections are tested first, then the symbols.
 use Rattle.std.proofs.Common.{◌∙◌, ℕ, Bool, length, sym, ap}
 use Rattle.std.specs.Prelude.{map, ◌||◌}
 use Rattle.std.specs.List.{list_any}

@@ -1,4 +1,4 @@
--- An offset behind the size field leads to a text up to the last zero byte.
+-- An offset after the size field leads to a string up to the last zero byte.
 use Rattle.std.proofs.Common.{◌∙◌, Bool, sym, ap}
 use Rattle.std.specs.Prelude.{is_none, nat_le, ◌||◌}
 use Rattle.std.proofs.lemmas.Bool.{le-ltb}

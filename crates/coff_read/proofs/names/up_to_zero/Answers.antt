@@ -1,4 +1,4 @@
--- The text is no longer than the bytes in which it ends.
+-- The string is no longer than the bytes in which it ends.
 use Rattle.coff_read.proofs.Digits.{found_le}
 use Rattle.coff_read.proofs.names.up_to_zero.Goals as goal
 

@@ -1,4 +1,4 @@
--- A file of which no fault stands has none in its header.
+-- A file without a fault has none in its header.
 use Rattle.std.proofs.Common.{◌++◌}
 use Rattle.pe_view.specs.FirstStanding.{none-append}
 use Rattle.coff_read.specs.ObjectFaults.{header_tests, symbol_table_tests, record_tests, object_tests}

@@ -1,4 +1,4 @@
--- One section after the other.
+-- Section by section.
 use Rattle.std.proofs.Common.{◌≡◌, ◌∙◌, ◌+◌, ◌*◌, ℕ, None, ap, subst, arith}
 use Rattle.std.specs.Prelude.{map}
 use Rattle.pe_view.specs.Faults.{first_standing}

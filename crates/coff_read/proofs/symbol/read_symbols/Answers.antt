@@ -1,4 +1,4 @@
--- One symbol after the other.
+-- Symbol by symbol.
 use Rattle.std.proofs.Common.{◌∙◌, ℕ, ◌+◌, ◌/◌, length, ap, arith}
 use Rattle.pe_view.specs.View.{bytes_of}
 use Rattle.coff_read.specs.ObjectView.{symbol_view}

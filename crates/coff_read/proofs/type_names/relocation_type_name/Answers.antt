@@ -1,4 +1,4 @@
--- The machines are told apart by their numbers.
+-- The machines are distinguished by their numbers.
 use Rattle.std.proofs.Common.{◌≡◌, ◌∙◌, ◌⊎◌, ℕ, ap, inl, inr, refl}
 use Rattle.pe_head.specs.Names.{Names, name_in}
 use Rattle.coff_read.specs.TypeNames.{arm_type_names, relocation_type_names}

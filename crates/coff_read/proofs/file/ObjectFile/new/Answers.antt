@@ -1,4 +1,4 @@
--- The header is asked first, then where the tables stand, then what is in them: sections, symbols, relocations.
+-- The header is tested first, then where the tables are, then their contents: sections, symbols, relocations.
 use Rattle.std.proofs.Common.{◌≡◌, ◌∙◌, List, ◌++◌, ℕ, Some, subst}
 use Rattle.std.specs.List.{flat_map}
 use Rattle.std.proofs.lemmas.Result.{err_from_is_err_and}

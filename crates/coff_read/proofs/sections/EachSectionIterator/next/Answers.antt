@@ -1,4 +1,4 @@
--- The section of the header at hand, and the next header.
+-- The section of the current header, and the next header.
 use Rattle.std.proofs.Common.{◌≡◌, ◌∙◌, ℕ, ◌+◌, ◌-◌, ◌*◌, List, ◌∷◌, None, length, ap, sym, subst, arith}
 use Rattle.std.specs.Prelude.{map}
 use Rattle.std.specs.List.{range_with_len}

@@ -1,4 +1,4 @@
--- The symbol of the record at hand, and the next record.
+-- The symbol of the current record, and the next record.
 use Rattle.std.proofs.Common.{◌∙◌, ℕ, ◌+◌, ◌-◌, ◌/◌, List, ◌∷◌, length, ap, sym, arith}
 use Rattle.pe_view.specs.View.{bytes_of}
 use Rattle.coff_read.specs.Reading.{symbol_at, symbols_from}
