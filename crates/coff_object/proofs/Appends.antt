@@ -6,7 +6,7 @@ use Rattle.coff_read.specs.Names.{decimal_digits, padded}
 pub and_then : {X : Type 0} (a b c x y : List X) → b ≡ a ++ x → c ≡ b ++ y → c ≡ a ++ (x ++ y)
 and_then a b c x y first second = second ∙ ap (λ (l : List _). l ++ y) first ∙ append_assoc a x y
 
--- `/`, the digits and the zero bytes behind them are the name field of an offset
+-- `/`, the digits and the zero bytes after them are the name field of an offset
 pub offset_field : (n : ℕ) (old slash text new digits : List ℕ) → digits ≡ decimal_digits n → slash ≡ old ++ 47 ∷ [] → text ≡ slash ++ digits → new ≡ text ++ replicate (7 - length digits) 0
     → new ≡ old ++ padded (47 ∷ decimal_digits n)
 offset_field n old slash text new digits is first second third =

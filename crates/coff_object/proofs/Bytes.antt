@@ -1,4 +1,4 @@
--- The fields of bytes that stand at a place of a file.
+-- The fields of bytes at an offset of a file.
 use Rattle.std.proofs.Common.{◌≡◌, ℕ, ◌+◌, ◌≤◌, List, length, Some, ap, ◌∙◌, arith}
 use Rattle.std.specs.List.{AllByRecursion}
 use Rattle.pe_view.specs.Number.{num, byte_of}
@@ -19,7 +19,7 @@ pub field_in : (file : List ℕ) (place : ℕ) (bytes : List ℕ) (offset width 
 unfolding field
 field_in file place bytes offset width there inside = stands_num file place bytes offset width there inside
 
--- a number that was written behind the eight bytes of a record's name
+-- a number that was written after the eight bytes of a record's name
 pub field_read-behind : (file : List ℕ) (place : ℕ) (ns : List Number) (offset : ℕ) (x : Number) → AllByRecursion NumberFits ns → StandsAt file (place + 8) (numbers_bytes ns) → beginning_at ns offset ≡ Some x
     → field file place (8 + offset) (width_of x) ≡ value_of x
 unfolding field

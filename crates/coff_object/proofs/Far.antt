@@ -1,4 +1,4 @@
--- A name is too far for seven digits exactly where its place is.
+-- A name is too far for seven digits exactly if its offset is.
 use Rattle.std.proofs.Common.{◌≡◌, ◌∙◌, ℕ, ◌≤◌, false, cond, List, [], ◌∷◌, Some, None, length, refl, ap, arith, inl, inr}
 use Rattle.std.specs.Prelude.{position, not, nat_lt}
 use Rattle.std.specs.List.{prefix_len}
@@ -29,7 +29,7 @@ far-position strings sections =
     ap (λ (n : ℕ). cond (nat_lt n (length (section_places strings sections))) (Some n) None) (near-places strings sections)
     ∙ ap (λ (n : ℕ). cond (nat_lt (prefix_len (λ s. not (is_far strings s)) sections) n) (Some (prefix_len (λ s. not (is_far strings s)) sections)) None) (length-map sections (λ (s : Section). place_of is_long_section_name strings s.name))
 
--- the place of a name that is not too far
+-- the offset of a name that is not too far
 pub near_place : (strings : List (List ℕ)) (s : Section) (place : ℕ) → place ≡ place_of is_long_section_name strings s.name → is_far strings s ≡ false → place ≤ 9999999
 near_place strings s place is near =
     let le = ltb-false 9999999 (place_of is_long_section_name strings s.name) (far-place strings s ∙ near) in

@@ -1,4 +1,4 @@
--- An object that no test refuses has a written form.
+-- An object without a fault has a written form.
 use Rattle.std.proofs.Common.{◌≡◌, ℕ, ◌+◌, ◌%◌, ◌^◌, ◌<◌, false, List, [], ◌∷◌, ◌++◌, length, None, refl, ap, ◌∙◌, arith, append_assoc, inl, inr}
 use Rattle.std.specs.Prelude.{not, nat_lt, ◌==◌, ◌||◌}
 use Rattle.std.specs.List.{flat_map, AllByRecursion}
@@ -57,7 +57,7 @@ six_parts a b c d e f =
     ∙ append_assoc (a ++ b) c (d ++ (e ++ f))
     ∙ append_assoc a b (c ++ (d ++ (e ++ f)))
 
--- the parts, one behind the other
+-- the parts, in order
 pub parts_are : (o : Object) (strings : List (List ℕ)) (start head all : List ℕ) → strings ≡ strings_of o → start ≡ []
     → head ≡ start ++ coff_header o ++ o.optional ++ section_table strings (bodies_start o) o.sections
     → all ≡ head ++ flat_map section_body o.sections ++ flat_map (symbol_bytes strings) o.symbols ++ string_table o → all ≡ canon o

@@ -1,4 +1,4 @@
--- The first item of which a test stands, by its place.
+-- The first item for which a test holds, by its index.
 use Rattle.std.proofs.Common.{◌≡◌, ℕ, suc, ◌+◌, ◌-◌, ◌^◌, Bool, true, false, cond, List, [], ◌∷◌, length, Option, Some, None, refl, sym, ap, ◌∙◌, arith, inl, inr}
 use Rattle.std.specs.Prelude.{position, nat_lt, not, option_map, min}
 use Rattle.std.specs.List.{prefix_len}
@@ -54,7 +54,7 @@ pub no_item : {X : Type 0} (number : ℕ) (p : X → Bool) (k : ℕ) (xs ys : Li
 no_item number p k xs ys same is =
     ap (λ (zs : List _). first_standing (each_item number p k zs)) (sym same) ∙ each_first number p k xs ∙ ap (option_map (λ i. item_fault number (k + i))) (sym is)
 
--- a place that stops at the greatest of 64 bits is still past the greatest that is told
+-- an index capped at the greatest of 64 bits is still past the greatest that a place can hold
 pub same_item : (number k i n : ℕ) → n ≡ min (k + i) (2 ^ 64 - 1) → item_fault number n ≡ item_fault number (k + i)
 same_item number k i n is = let e : min n (2 ^ 32 - 1) ≡ min (k + i) (2 ^ 32 - 1) = omega arith in ap (λ (m : ℕ). record { number = number; image = 0; place = Item m }) e
 

@@ -1,4 +1,4 @@
--- Where the parts of a written object stand.
+-- Where the parts of a written object are.
 use Rattle.std.proofs.Common.{◌≡◌, ℕ, ◌+◌, ◌*◌, false, List, [], ◌∷◌, ◌++◌, length, refl, length-append, arith}
 use Rattle.std.specs.List.{flat_map, AllByRecursion}
 use Rattle.pe_numbers.specs.Numbers.{number_bytes}

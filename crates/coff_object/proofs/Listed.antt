@@ -18,7 +18,7 @@ all_left P left more y is all = subst (AllByRecursion P) is all
 pub all_front : {Y : Type 0} (P : Y → Type 0) (left more : List Y) (y : Y) → left ≡ y ∷ more → P y → AllByRecursion P more → AllByRecursion P left
 all_front P left more y is here later = subst (AllByRecursion P) (sym is) (here, later)
 
--- an item of a list is the same, whatever would stand for a missing one
+-- an item of a list is the same, whatever the default for a missing one
 pub get_or_any : {X : Type 0} (xs : List X) (i : ℕ) (d : X) → i < length xs → get_or xs i d ≡ get_or xs i (get_or xs i d)
 get_or_any xs i d lt = get_or_default xs i d (get_or xs i d) lt
 

@@ -1,4 +1,4 @@
--- Entries with one more behind them.
+-- Entries with one more after them.
 use Rattle.std.proofs.Common.{◌≡◌, ℕ, zero, suc, ◌+◌, true, List, [], ◌∷◌, ◌++◌, length, ◌⊎◌, Option, Some, None, refl, sym, ap, subst, ◌∙◌, inl, inr}
 use Rattle.std.specs.Prelude.{slice_get, option_and_then, if◌then◌else◌}
 use Rattle.std.specs.Str.{bytes_eq}
@@ -28,13 +28,13 @@ get_more [] y (suc i) e at = absurd cc
 get_more (x ∷ entries) y zero e at = inl at
 get_more (x ∷ entries) y (suc i) e at = get_more entries y i e at
 
--- the text of an entry is among the texts
+-- the string of an entry is among the strings
 pub among_at : (entries : List Entry) (i : ℕ) (e : Entry) → slice_get entries i ≡ Some e → is_among e.0.now (texts_of entries) ≡ true
 among_at [] i e at = absurd cc
 among_at (x ∷ entries) zero e at = or_left _ _ (subst (λ (y : Entry). bytes_eq e.0.now y.0.now ≡ true) (sym (same_Some x e at)) (equal_bytes e.0.now))
 among_at (x ∷ entries) (suc i) e at = or_right _ _ (among_at entries i e at)
 
--- what a slot tells is so
+-- the offset that is found by a slot is the string's
 pub hit : (entries : List Entry) (text : List ℕ) (slot offset : ℕ) → ((i : ℕ) (e : Entry) → slice_get entries i ≡ Some e → e.1 ≡ counted (offset_of (texts_of entries) e.0.now)) → offset_at entries text slot ≡ Some offset
     → (is_among text (texts_of entries) ≡ true) × (offset ≡ counted (offset_of (texts_of entries) text))
 hit entries text zero offset right is = absurd cc
@@ -50,7 +50,7 @@ hit entries text (suc i) offset right is = by (slice_get entries i) refl is
           sym parts.1 ∙ right i e at ∙ ap (λ (t : List ℕ). counted (offset_of (texts_of entries) t)) (sym same),
         )
 
--- and it tells it still
+-- and it is still found
 pub told_kept : (entries more : List Entry) (text : List ℕ) (slot offset : ℕ) → offset_at entries text slot ≡ Some offset → offset_at (entries ++ more) text slot ≡ Some offset
 told_kept entries more text zero offset is = absurd cc
 told_kept entries more text (suc i) offset is = by (slice_get entries i) refl is

@@ -12,7 +12,7 @@ use Rattle.coff_object.specs.WriteFaults.{has_zero}
 use Rattle.coff_read.proofs.StringPlaces.{zero_ended-behind}
 use Rattle.coff_object.proofs.StringTable.{zero_ended-open}
 
--- a text without a zero byte, before any number of them
+-- a string without a zero byte, before any number of them
 pub up_to_zero-filled : (text : List ℕ) (n : ℕ) → has_zero text ≡ false → up_to_zero (text ++ replicate n 0) ≡ text
 up_to_zero-filled text zero none =
     let e : text ++ [] ≡ text = append-nil text in

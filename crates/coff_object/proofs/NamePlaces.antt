@@ -1,4 +1,4 @@
--- A name keeps its place while more names are added.
+-- A name keeps its offset while more names are added.
 use Rattle.std.proofs.Common.{◌≡◌, ℕ, ◌+◌, ◌^◌, ◌<◌, ◌≤◌, Bool, true, List, [], ◌∷◌, ◌++◌, length, drop, get_or, refl, sym, ap, ◌∙◌, append_assoc, append-nil, arith, inl, inr}
 use Rattle.std.specs.Prelude.{map, filter, ◌||◌}
 use Rattle.std.specs.Str.{bytes_eq}
@@ -44,14 +44,14 @@ strings_front test name table names = elim (cases_Bool (test name)) [
   | inr short ↦ rw short refl
 ]
 
--- the place of a name that was added
+-- the offset of a name that was added
 pub place-stays : (test : List ℕ → Bool) (table texts : List (List ℕ)) (name : List ℕ) → place_of test (with_strings (with_strings table (filter test (name ∷ []))) texts) name ≡ place_of test (with_strings table (filter test (name ∷ []))) name
 place-stays test table texts name = elim (cases_Bool (test name)) [
   | inl long ↦ rw long (ap counted (offset-stays (with_string table name) texts name (in-new table name)))
   | inr short ↦ rw short refl
 ]
 
--- the places of names that stand in a table
+-- the offsets of names in a table
 pub places-stay : {X : Type 0} (test : List ℕ → Bool) (name : X → List ℕ) (table more : List (List ℕ)) (xs : List X)
     → ((text : List ℕ) → is_among text (filter test (map name xs)) ≡ true → is_among text table ≡ true)
     → map (λ (x : X). place_of test (with_strings table more) (name x)) xs ≡ map (λ (x : X). place_of test table (name x)) xs
@@ -67,7 +67,7 @@ places-stay test name table more (x ∷ xs) each = elim (cases_Bool (test (name 
       rw short (ap (λ (ns : List ℕ). 0 ∷ ns) (places-stay test name table more xs all)))
 ]
 
--- one name more is placed
+-- one more name is placed
 pub next_place : {X : Type 0} (test : List ℕ → Bool) (name : X → List ℕ) (first before after : List (List ℕ)) (xs : List X) (i : ℕ) (x : X) (places new : List ℕ) (place : ℕ)
     → i < length xs → x ≡ get_or xs i x
     → with_strings before (filter test (map name (drop i xs))) ≡ with_strings first (filter test (map name xs))
@@ -89,7 +89,7 @@ next_place test name first before after xs i x places new place lt is texts adde
 pub all_placed : {X : Type 0} (f : X → ℕ) (xs : List X) (i : ℕ) (places : List ℕ) → length xs ≤ i → places ++ map f (drop i xs) ≡ map f xs → places ≡ map f xs
 all_placed f xs i places le told = sym (append-nil places) ∙ ap (λ (ys : List _). places ++ map f ys) (sym (drop_all i xs le)) ∙ told
 
--- one name more is added
+-- one more name is added
 pub next_texts : {X : Type 0} (test : List ℕ → Bool) (name : X → List ℕ) (before after whole : List (List ℕ)) (xs : List X) (i : ℕ) (x : X)
     → i < length xs → x ≡ get_or xs i x → with_strings before (filter test (map name (drop i xs))) ≡ whole
     → after ≡ with_strings before (filter test (name x ∷ [])) → with_strings after (filter test (map name (drop (i + 1) xs))) ≡ whole
@@ -98,12 +98,12 @@ next_texts test name before after whole xs i x lt is texts added =
     ap (λ (ts : List (List ℕ)). with_strings ts (filter test rest)) added ∙ sym (strings_front test (name x) before rest)
     ∙ ap (λ (ns : List (List ℕ)). with_strings before (filter test ns)) (sym (items_left name xs i x lt is)) ∙ texts
 
--- the places of names, as the written form has them
+-- the offsets of names, as the written form has them
 pub as_viewed : {X Y : Type 0} (view : X → Y) (f : X → ℕ) (g : Y → ℕ) (xs : List X) → ((x : X) → f x ≡ g (view x)) → map f xs ≡ map g (map view xs)
 as_viewed view f g [] each = refl
 as_viewed view f g (x ∷ xs) each = ap (λ (n : ℕ). n ∷ map f xs) (each x) ∙ ap (λ (ns : List ℕ). g (view x) ∷ ns) (as_viewed view f g xs each)
 
--- the places of an object's names
+-- the offsets of an object's names
 pub record Placed (o : Object) (two : List (List ℕ)) (ss ys : List ℕ) : Type 0 where
   pub texts : two ≡ strings_of o
   pub sections : ss ≡ section_places (strings_of o) o.sections
@@ -122,11 +122,11 @@ placed o one two sections symbols first second of_sections of_symbols =
       symbols = of_symbols ∙ ap (λ (ts : List (List ℕ)). symbol_places ts o.symbols) texts;
     }
 
--- a symbol of nothing
+-- an empty symbol
 abbrev pub no_symbol : Symbol
 no_symbol = record { name = record { ref_ptr = (0, 0); now = [] }; value = 0; section = Undefined; kind = 0; class = 0; aux = record { ref_ptr = (0, 0); now = [] } }
 
--- the place of the item that stands at an index
+-- the offset of the name of the item at an index
 pub place_at : {X Y : Type 0} (test : List ℕ → Bool) (view : X → Y) (name : Y → List ℕ) (strings : List (List ℕ)) (xs : List X) (places : List ℕ) (i : ℕ) (x : X) (place : ℕ)
     → i < length xs → x ≡ get_or xs i x → places ≡ map (λ (y : Y). place_of test strings (name y)) (map view xs) → place ≡ get_or places i place → place ≡ place_of test strings (name (view x))
 place_at test view name strings xs places i x place lt is are at =
@@ -134,7 +134,7 @@ place_at test view name strings xs places i x place lt is are at =
     let within : i < length (map view xs) = (let len = length-map xs view in omega arith) in
     at ∙ ap (λ (ns : List ℕ). get_or ns i place) are ∙ get_or_map f (map view xs) i place (view x) within ∙ ap f (get_or_map view xs i (view x) x lt) ∙ ap (λ (y : _). f (view y)) (sym is)
 
--- a place is no greater than the table's size
+-- an offset is no greater than the table's size
 pub place-small : (test : List ℕ → Bool) (strings : List (List ℕ)) (name : List ℕ) → place_of test strings name ≤ 4 + length (string_bytes strings)
 place-small test strings name =
     let most = offset-le 4 strings name in
@@ -143,11 +143,11 @@ place-small test strings name =
       | inr short ↦ rw short (omega arith)
     ]
 
--- and no less than the first text's, where the name stands in the table
+-- and no less than the first string's, if the name is in the table
 pub place-some : (test : List ℕ → Bool) (strings : List (List ℕ)) (name : List ℕ) → test name ≡ true → 4 ≤ place_of test strings name
 place-some test strings name long = let least = offset-ge 4 strings name in rw long (omega arith)
 
--- a symbol's name field by its place
+-- a symbol's name field by its offset
 pub symbol_field : (strings : List (List ℕ)) (name : List ℕ) (place : ℕ) → place ≡ place_of is_long strings name → place < 2 ^ 32 → symbol_name_at place name ≡ symbol_name_at (offset_of strings name) name
 symbol_field strings name place is small = elim (cases_Bool (is_long name)) [
   | inl long ↦
@@ -157,7 +157,7 @@ symbol_field strings name place is small = elim (cases_Bool (is_long name)) [
   | inr short ↦ rw short refl
 ]
 
--- a section's name field by its place
+-- a section's name field by its offset
 pub section_field : (strings : List (List ℕ)) (name : List ℕ) (place : ℕ) → place ≡ place_of is_long_section_name strings name → place ≤ 9999999 → section_name_at place name ≡ section_name_at (offset_of strings name) name
 section_field strings name place is small = elim (cases_Bool (is_long_section_name name)) [
   | inl long ↦

@@ -1,4 +1,4 @@
--- The offsets of a string table's texts.
+-- The offsets of a string table's strings.
 use Rattle.std.proofs.Common.{◌≡◌, ℕ, ◌+◌, ◌≤◌, true, false, List, [], ◌∷◌, ◌++◌, length, refl, ap, ◌∙◌, length-append, arith, inl, inr}
 use Rattle.std.specs.Str.{bytes_eq}
 use Rattle.std.proofs.lemmas.Bool.{cases_Bool, or_parts}
@@ -6,7 +6,7 @@ use Rattle.std.proofs.lemmas.List.Concat.{flat_map-append}
 use Rattle.coff_read.specs.Strings.{is_among, offset_from, string_bytes}
 use Rattle.coff_object.proofs.StringTable.{equal_bytes}
 
--- a text of the table keeps its offset as texts follow
+-- a string of the table keeps its offset when strings are added
 pub offset-kept : (at : ℕ) (texts more : List (List ℕ)) (text : List ℕ) → is_among text texts ≡ true → offset_from at (texts ++ more) text ≡ offset_from at texts text
 offset-kept at [] more text there = absurd cc
 offset-kept at (t ∷ texts) more text there = elim (cases_Bool (bytes_eq text t)) [
@@ -16,7 +16,7 @@ offset-kept at (t ∷ texts) more text there = elim (cases_Bool (bytes_eq text t
       rw apart (offset-kept (at + length t + 1) texts more text later))
 ]
 
--- a new text has the offset of the table's end
+-- a new string has the offset of the table's end
 pub offset-new : (at : ℕ) (texts : List (List ℕ)) (text : List ℕ) → is_among text texts ≡ false → offset_from at (texts ++ text ∷ []) text ≡ at + length (string_bytes texts)
 offset-new at [] text none = rw (equal_bytes text) (omega arith)
 offset-new at (t ∷ texts) text none =
@@ -26,7 +26,7 @@ offset-new at (t ∷ texts) text none =
     let later = offset-new (at + length t + 1) texts text parts.1 in
     rw parts.0 (omega arith)
 
--- how many bytes a table has with one text more
+-- the size of a table with one more string
 pub bytes-more : (texts : List (List ℕ)) (text : List ℕ) → length (string_bytes (texts ++ text ∷ [])) ≡ length (string_bytes texts) + length text + 1
 bytes-more texts text =
     let bytes : string_bytes (texts ++ text ∷ []) ≡ string_bytes texts ++ ((text ++ 0 ∷ []) ++ []) = flat_map-append (λ (t : List ℕ). t ++ 0 ∷ []) texts (text ∷ []) in
@@ -35,7 +35,7 @@ bytes-more texts text =
     let two : length (text ++ 0 ∷ []) ≡ length text + 1 = length-append text (0 ∷ []) in
     omega arith
 
--- no offset lies before the first text
+-- no offset is before the first string
 pub offset-ge : (at : ℕ) (texts : List (List ℕ)) (text : List ℕ) → at ≤ offset_from at texts text
 offset-ge at [] text = omega arith
 offset-ge at (t ∷ texts) text =

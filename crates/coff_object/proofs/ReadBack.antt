@@ -1,4 +1,4 @@
--- A written object, read back whole.
+-- A whole written object, read back.
 use Rattle.std.proofs.Common.{◌≡◌, ℕ, suc, ◌+◌, ◌*◌, ◌^◌, ◌<◌, ◌≤◌, Bool, true, false, cond, List, [], ◌∷◌, ◌++◌, length, Some, None, refl, sym, ap, subst, ◌∙◌, length-append, arith, inl, inr}
 use Rattle.std.specs.Prelude.{map, nat_lt, nat_le, not, ◌==◌, ◌&&◌, ◌||◌}
 use Rattle.std.specs.List.{flat_map, range_with_len, AllByRecursion}
@@ -134,7 +134,7 @@ any_strings o text is =
     some_in text [] is = absurd cc
     some_in text (t ∷ table) is = omega arith
 
--- all symbols, where there are any
+-- all symbols, if there are any
 symbols_all : (file : List ℕ) (o : Object) (ss : List Symbol) → o.symbols ≡ ss → AllByRecursion (SymbolWritable (strings_of o) (length o.sections)) o.symbols → Laid file o → HeaderIs file o → TablesAre file o
     → AreSymbolsFrom file 0 o.symbols
 symbols_all file o [] e w l h t = subst (AreSymbolsFrom file 0) (sym e) (record { are = refl; accepted = refl })

@@ -93,7 +93,7 @@ symbol_5 : first_standing (object_tests (slice_set o1_file 70 5)) ≡ at 72 66
 unfolding object_tests record_tests field
 symbol_5 = refl
 
--- 20 zero bytes hold an object of nothing
+-- 20 zero bytes are an empty object
 abbrev nothing : Object
 nothing = record { machine = 0; time_stamp = 0; characteristics = 0; optional = []; sections = []; symbols = [] }
 
@@ -117,7 +117,7 @@ other_header : first_standing (object_tests (0 ∷ 0 ∷ 0xff ∷ 0xff ∷ repli
 unfolding object_tests record_tests field
 other_header = refl
 
--- the name `/4` of a section stands in the string table
+-- the name `/4` of a section is in the string table
 abbrev slash : Object
 slash = record o1 { sections = map (λ (s : Section). record s { name = 0x2f ∷ 0x34 ∷ [] }) o1.sections }
 

@@ -25,7 +25,7 @@ use Rattle.coff_object.proofs.NameFields.{up_to_zero-filled, length-padded, inli
 use Rattle.coff_object.proofs.RelocationsBack.{relocations_read, relocations_accepted}
 use Rattle.coff_object.proofs.StringTable.{HasStrings, is_stored, string_read}
 
--- what a section must be to be written and read back, where the symbol table has `count` records
+-- what a section must be to be written and read back, if the symbol table has `count` records
 pub record SectionWritable (strings : List (List ℕ)) (count : ℕ) (s : Section) : Type 0 where
   pub fits : SectionFits s
   pub relocations : RelocationsFit s
@@ -114,7 +114,7 @@ raw_small : (at : ℕ) (raw : Raw) → RawFits raw → at + length (raw_bytes ra
 raw_small at (Bytes bytes) fits lt = omega arith
 raw_small at (Absent size) fits lt = fits
 
--- the numbers of a section's header fit, where its body begins at a place
+-- the numbers of a section header fit, if its body is at a file offset
 section_fits : (at : ℕ) (s : Section) → SectionFits s → has_many_relocations s ≡ false → at + length (section_body s) < 2 ^ 32 → AllByRecursion NumberFits (section_numbers at s)
 section_fits at s fits few small =
     let body : length (section_body s) ≡ length (raw_bytes s.raw) + length (flat_map relocation_bytes s.relocations) = length-append (raw_bytes s.raw) (flat_map relocation_bytes s.relocations) in

@@ -1,4 +1,4 @@
--- Each text of a string table stands at its offset.
+-- Each string of a string table is at its offset.
 use Rattle.std.proofs.Common.{◌≡◌, ℕ, zero, suc, ◌+◌, ◌-◌, ◌≤◌, true, false, List, [], ◌∷◌, ◌++◌, length, Some, None, refl, sym, ap, subst, ◌∙◌, append_assoc, length-append, arith, inl, inr}
 use Rattle.std.specs.Prelude.{slice_range, ◌||◌, ◌==◌}
 use Rattle.std.specs.Str.{bytes_eq}
@@ -36,7 +36,7 @@ in-new table t = elim (cases_Bool (is_among t table)) [
   | inr new ↦ rw new (in-append t table (t ∷ []) (or_right _ _ (or_left _ _ (equal_bytes t))))
 ]
 
--- each of the texts is in the table
+-- each of the strings is in the table
 pub in-all : (text : List ℕ) (table texts : List (List ℕ)) → is_among text texts ≡ true → is_among text (with_strings table texts) ≡ true
 in-all text table [] is = absurd cc
 in-all text table (t ∷ texts) is = elim (or_cases (bytes_eq text t) (is_among text texts) is) [
@@ -48,7 +48,7 @@ in-all text table (t ∷ texts) is = elim (or_cases (bytes_eq text t) (is_among 
 pub in-first : (text : List ℕ) (table texts : List (List ℕ)) → is_among text table ≡ true → is_among text (with_strings table texts) ≡ true
 in-first = in-with_strings
 
--- where a text of a table stands in its bytes
+-- where a string of a table is in its bytes
 pub record IsStored (at : ℕ) (table : List (List ℕ)) (text : List ℕ) : Type 0 where
   pub front : List ℕ
   pub back : List ℕ
@@ -81,7 +81,7 @@ is_stored at (t ∷ table) text is = elim (cases_Bool (bytes_eq text t)) [
       })
 ]
 
--- a text without a zero byte has no end
+-- a string without a zero byte has no end
 pub zero_ended-open : (text : List ℕ) → has_zero text ≡ false → zero_ended text ≡ None
 zero_ended-open [] none = refl
 zero_ended-open (zero ∷ text) none = absurd cc
@@ -89,7 +89,7 @@ zero_ended-open (suc b ∷ text) none =
     let later : has_zero text ≡ false = (or_parts (suc b == 0) (has_zero text) none).1 in
     rw (zero_ended-open text later) refl
 
--- a file has a string table of these texts
+-- a file has a string table of these strings
 pub record HasStrings (file : List ℕ) (table : List (List ℕ)) : Type 0 where
   pub size : strings_size file ≡ 4 + length (string_bytes table)
   pub bytes : StandsAt file (strings_start file + 4) (string_bytes table)

@@ -26,7 +26,7 @@ use Rattle.coff_object.proofs.Bytes.{field_read, field_read-behind, field_in}
 use Rattle.coff_object.proofs.NameFields.{up_to_zero-filled, length-padded}
 use Rattle.coff_object.proofs.StringTable.{HasStrings, is_stored, string_read}
 
--- what a symbol must be to be written and read back, where there are `count` sections
+-- what a symbol must be to be written and read back, if there are `count` sections
 pub record SymbolWritable (strings : List (List ℕ)) (count : ℕ) (s : Symbol) : Type 0 where
   pub fits : SymbolFits s
   pub stored : is_long s.name ≡ true → is_among s.name strings ≡ true

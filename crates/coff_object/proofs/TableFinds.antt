@@ -1,4 +1,4 @@
--- The string table finds its texts, and with one more each of them still.
+-- The string table finds its strings, and still does with one more.
 use Rattle.std.proofs.Common.{◌≡◌, ◌≢◌, ℕ, suc, ◌+◌, ◌-◌, ◌<◌, ◌≤◌, true, false, List, [], ◌∷◌, ◌++◌, length, get_or, ◌⊎◌, Option, Some, None, refl, sym, ap, subst, ◌∙◌, arith, length-append, inl, inr}
 use Rattle.std.specs.Prelude.{slice_get, slice_set, IsSome, if◌then◌else◌, ◌||◌}
 use Rattle.std.specs.Borrow.{Bor}
@@ -18,7 +18,7 @@ use Rattle.coff_object.proofs.Offsets.{offset-kept, offset-new, bytes-more}
 use Rattle.coff_object.proofs.MoreTexts.{texts_more, get_new, get_more, among_at, hit, told_kept}
 use Rattle.coff_object.proofs.Telling.{told}
 
--- the first slot of a text depends on how many slots there are alone
+-- the first slot of a string depends only on how many slots there are
 pub base_same : (slots other : List ℕ) (text : List ℕ) → length other ≡ length slots → base other text ≡ base slots text
 unfolding base
 base_same slots other text len = rw len refl
@@ -33,13 +33,13 @@ module _ (entries : List Entry) (slots : List ℕ) (others : BTreeMap Key ℕ) (
   abbrev Answer : List ℕ → Option ℕ
   Answer text = if is_among text texts then Some (counted (offset_of texts text)) else None
 
-  -- a slot that tells an offset tells the text's
+  -- an offset found by a slot is the string's
   pub slot_answers : (text : List ℕ) (slot offset : ℕ) → offset_at entries text slot ≡ Some offset → Some offset ≡ Answer text
   slot_answers text slot offset is =
       let h = hit entries text slot offset table.offsets_are is in
       rw h.0 (ap (λ (n : ℕ). Some n) h.1)
 
-  -- the others have every text that no slot tells
+  -- the others have every string that no slot names
   pub others_answer : (text : List ℕ) → IsUntold entries slots text → held others text ≡ Answer text
   others_answer text untold = by (held others text) refl
     where
@@ -54,7 +54,7 @@ module _ (entries : List Entry) (slots : List ℕ) (others : BTreeMap Key ℕ) (
         | inr missing ↦ rw missing refl
       ]
 
-  -- ---- one text more
+  -- ---- one more string
   module _ (slots' : List ℕ) (others' : BTreeMap Key ℕ) (size' : ℕ) (t : Bor (List ℕ)) (new : is_among t.now texts ≡ false) (sum : size' ≡ counted (counted (size + length t.now) + 1))
       (len : length slots' ≡ length slots) (kept : (j : ℕ) → (get_or slots' j 0 ≡ get_or slots j 0) ⊎ (get_or slots j 0 ≡ 0)) (closes : (j : ℕ) → slice_get slots' j ≡ Some 0 → slice_get slots j ≡ Some 0)
       (others_kept : (text : List ℕ) (offset : ℕ) → held others text ≡ Some offset → is_among text texts ≡ true → held others' text ≡ Some offset)

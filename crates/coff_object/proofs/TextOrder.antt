@@ -1,4 +1,4 @@
--- The order of the texts that have no slot: by length, and then by bytes.
+-- The order of the strings that have no slot: by length, and then by bytes.
 use Rattle.std.proofs.Common.{◌≡◌, ℕ, Bool, false, List, length, Some, refl, sym, ap, ◌∙◌, arith, inl, inr, eq-eqb}
 use Rattle.std.specs.Prelude.{if◌then◌else◌, cond}
 use Rattle.std.specs.Borrow.{Bor}
@@ -27,7 +27,7 @@ then_apart Greater y apart = refl
 cmp_itself : (n : ℕ) → nat_cmp n n ≡ Equal
 cmp_itself n = rw (le-ltb n n (omega arith), eq-eqb n n refl) refl
 
--- texts of the same place in the order are the same
+-- strings that compare as equal in the order are equal
 pub same_key : (a b : List ℕ) → is_eq (ordering_then (nat_cmp (length a) (length b)) (slice_cmp nat_cmp a b)) ≡ bytes_eq a b
 same_key a b = elim (cases_Bool (bytes_eq a b)) [
   | inl same ↦
@@ -37,7 +37,7 @@ same_key a b = elim (cases_Bool (bytes_eq a b)) [
       (then_apart (nat_cmp (length a) (length b)) (slice_cmp nat_cmp a b) (is_eq-slice_cmp a b ∙ apart) ∙ sym apart)
 ]
 
--- what is held for a text after another one was entered
+-- what is stored for a string after another one was added
 pub held_after : (t : Bor (List ℕ)) (offset : ℕ) (old new : BTreeMap Key ℕ) → Updates compare old new (length t.now, t) (Some offset) → (text : List ℕ) → held new text ≡ (if bytes_eq t.now text then Some offset else held old text)
 held_after t offset old new updates text =
     let q : Bor (List ℕ) = record { ref_ptr = (0, 0); now = text } in

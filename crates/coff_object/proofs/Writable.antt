@@ -1,4 +1,4 @@
--- What holds of an object that none of the tests of the writer refuses.
+-- What holds for an object without a fault of the writer.
 use Rattle.std.proofs.Common.{◌≡◌, ℕ, ◌+◌, ◌-◌, ◌^◌, ◌<◌, ◌≤◌, Bool, true, false, cond, List, [], ◌∷◌, ◌++◌, length, Option, Some, None, refl, ap, ◌∙◌, length-append, arith, inl, inr}
 use Rattle.std.specs.Prelude.{nat_lt}
 use Rattle.std.specs.List.{list_any, AllByRecursion}
@@ -31,7 +31,7 @@ none_any : {X : Type 0} (p : X → Bool) (xs : List X) → list_any p xs ≡ fal
 none_any p [] none = tt
 none_any p (x ∷ xs) none = let parts = or_parts (p x) (list_any p xs) none in (parts.0, none_any p xs parts.1)
 
--- an object that none of the tests refuses
+-- an object without a fault
 pub record Accepted (o : Object) : Type 0 where
   pub section_names : AllByRecursion (λ (s : Section). has_zero s.name ≡ false) o.sections
   pub symbol_names : AllByRecursion (λ (s : Symbol). has_zero s.name ≡ false) o.symbols

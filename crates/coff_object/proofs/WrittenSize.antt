@@ -1,4 +1,4 @@
--- How many bytes a written object has, and what its first bytes are.
+-- The size of a written object, and its first bytes.
 use Rattle.std.proofs.Common.{◌≡◌, ℕ, ◌+◌, ◌*◌, ◌^◌, ◌<◌, ◌≤◌, Bool, true, false, List, [], ◌∷◌, ◌++◌, length, Some, refl, sym, ap, ◌∙◌, length-append, arith}
 use Rattle.std.specs.Prelude.{nat_lt, ◌||◌}
 use Rattle.std.specs.List.{flat_map, list_any, AllByRecursion}
@@ -88,7 +88,7 @@ other_is o machine time_stamp few =
     ∙ ap (λ (n : ℕ). is_other_header o.machine n (field (canon o) 0 4 4)) (read 2 (U16 (length o.sections)) refl)
     ∙ ap (is_other_header o.machine (length o.sections)) (read 4 (U32 o.time_stamp) refl)
 
--- what is left to ask, once the counts of bytes and sections fit
+-- what is left to test, once the counts of bytes and sections fit
 pub bad_object : (o : Object) (n : ℕ) (r : Bool) → length o.optional ≤ 65535 → n ≡ length o.sections → n ≤ 65535 → o.machine < 2 ^ 16 → o.time_stamp < 2 ^ 32 → r ≡ is_other_header o.machine n o.time_stamp
     → is_bad_object o ≡ (r || (list_any (is_bad_section (records_of o.symbols)) o.sections || list_any (is_bad_symbol (length o.sections)) o.symbols))
 bad_object o n r optional same few machine time_stamp is =

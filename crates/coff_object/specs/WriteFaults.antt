@@ -1,4 +1,4 @@
--- What may be wrong with an object that is to be written, by number.
+-- The faults of an object that is to be written, by number.
 use Rattle.std.specs.Prelude.{ℕ, ◌+◌, ◌^◌, ◌-◌, ◌==◌, ◌&&◌, ◌||◌, Bool, nat_lt, min, List, [], ◌∷◌, ◌++◌, length}
 use Rattle.std.specs.List.{list_any}
 use Rattle.pe_view.specs.declared.fault.Place.TheVariants.{Item}
@@ -22,14 +22,14 @@ each_item number stands k (x ∷ xs) = of_item number k (stands x) ∷ each_item
 abbrev pub has_zero : List ℕ → Bool
 has_zero name = list_any (λ byte. byte == 0) name
 
--- the section's name stands in the string table, too far for seven digits
+-- the section's name is in the string table, at an offset of more than seven digits
 abbrev pub is_far : List (List ℕ) → Section → Bool
 is_far strings s = is_long_section_name s.name && nat_lt 9999999 (offset_of strings s.name)
 
 abbrev pub has_many_relocations : Section → Bool
 has_many_relocations s = nat_lt 65534 (length s.relocations)
 
--- the object has no form: what it holds doesn't fit the fields, or wouldn't be read as it is
+-- the object does not fit the format: its values don't fit the fields, or would be read back differently
 abbrev pub is_bad_object : Object → Bool
 is_bad_object o =
     nat_lt 65535 (length o.optional)

@@ -1,5 +1,5 @@
--- The one written form of an object: header, optional bytes, section table, each section's bytes and relocations, symbols,
--- string table, with nothing between.
+-- The one written form of an object: header, optional header, section table, each section's raw data and relocations, symbols,
+-- string table, without a gap.
 use Rattle.std.specs.Prelude.{ℕ, ◌+◌, ◌*◌, ◌==◌, Bool, List, [], ◌∷◌, ◌++◌, length, map, nat_lt, if◌then◌else◌, filter}
 use Rattle.std.specs.List.{flat_map}
 use Rattle.pe_numbers.specs.declared.number.Number.{Number}
@@ -13,7 +13,7 @@ use Rattle.coff_read.specs.declared.relocation.Relocation.{Relocation}
 use Rattle.coff_read.specs.declared.symbol.SymbolSection.{SymbolSection}
 use Rattle.coff_read.specs.declared.symbol.SymbolSection.TheVariants as belongs
 
--- the texts that stand in the string table, in order of first use: of sections, then of symbols
+-- the names that go into the string table, in order of first use: of sections, then of symbols
 abbrev pub long_section_names : List Section → List (List ℕ)
 long_section_names sections = filter is_long_section_name (map (λ s. s.name) sections)
 
@@ -33,22 +33,22 @@ abbrev pub raw_bytes : Raw → List ℕ
 raw_bytes (Bytes bytes) = bytes
 raw_bytes (Absent size) = []
 
--- a pointer to a part of so many entries: 0 where it has none
+-- a pointer to a part of so many entries: 0 if it has none
 abbrev pub pointer_to : ℕ → ℕ → ℕ
 pointer_to at count = if count == 0 then 0 else at
 
--- a section's bytes and its relocations
+-- a section's raw data and its relocations
 abbrev pub section_body : Section → List ℕ
 section_body s = raw_bytes s.raw ++ flat_map relocation_bytes s.relocations
 
--- the name field of a section, whose name stands at an offset of the string table where it is too long
+-- the name field of a section; a name that is too long is at an offset of the string table
 abbrev pub section_name_at : ℕ → List ℕ → List ℕ
 section_name_at offset name = if is_long_section_name name then padded (47 ∷ decimal_digits offset) else padded name
 
 abbrev pub section_name_field : List (List ℕ) → List ℕ → List ℕ
 section_name_field strings name = section_name_at (offset_of strings name) name
 
--- the fields of a section's header behind its name, where its body begins at a place
+-- the fields of a section header after its name, if its body is at a file offset
 abbrev pub section_numbers : ℕ → Section → List Number
 section_numbers at s =
     U32 s.virtual_size ∷ U32 s.virtual_address ∷ U32 (raw_size s.raw)
@@ -61,12 +61,12 @@ section_fields at s = numbers_bytes (section_numbers at s)
 abbrev pub section_header : List (List ℕ) → ℕ → Section → List ℕ
 section_header strings at s = section_name_field strings s.name ++ section_fields at s
 
--- the section table, where the first body begins at a place
+-- the section table, if the first body is at a file offset
 abbrev pub section_table : List (List ℕ) → ℕ → List Section → List ℕ
 section_table strings at [] = []
 section_table strings at (s ∷ ss) = section_header strings at s ++ section_table strings (at + length (section_body s)) ss
 
--- the name field of a symbol, whose name stands at an offset of the string table where it is too long
+-- the name field of a symbol; a name that is too long is at an offset of the string table
 abbrev pub symbol_name_at : ℕ → List ℕ → List ℕ
 symbol_name_at offset name = if is_long name then numbers_bytes (U32 0 ∷ U32 offset ∷ []) else padded name
 
@@ -79,7 +79,7 @@ section_number belongs.Absolute = 0xffff
 section_number belongs.Debug = 0xfffe
 section_number (belongs.Section k) = k
 
--- the fields of a symbol's record behind its name
+-- the fields of a symbol's record after its name
 abbrev pub symbol_numbers : Symbol → List Number
 symbol_numbers s = U32 s.value ∷ U16 (section_number s.section) ∷ U16 s.kind ∷ U8 s.class ∷ U8 (aux_records s) ∷ []
 

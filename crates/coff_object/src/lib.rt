@@ -1,9 +1,9 @@
 //! COFF object files, read and written.
 //!
-//! [`ObjectFile::new`] judges an object's file, or answers the first of faults 61 to 72 that stands, and then decodes sections,
-//! relocations and symbols where they are asked. It takes no memory, but for two walks, [`ObjectFile::each_section`] and
-//! [`ObjectFile::each_symbol`], which remember where texts end. [`read_object`] makes lists of all. [`write_object`] lays an
-//! object out in its one form or answers the least of faults 81 to 85, and what it wrote reads back equal:
+//! [`ObjectFile::new`] checks an object file, or returns the first of faults 61 to 72, and then decodes sections, relocations and
+//! symbols on demand. It allocates nothing, but for two iterators, [`ObjectFile::each_section`] and [`ObjectFile::each_symbol`],
+//! which remember where strings end. [`read_object`] reads all into lists. [`write_object`] writes an object in its one form, or
+//! returns the least of faults 81 to 85; what it wrote is read back equal:
 //!
 //! ```text
 //! for (index, symbol) in ObjectFile::new(file)?.symbols() { .. }
@@ -11,7 +11,7 @@
 //! let file = write_object(alloc, &object)?;
 //! ```
 //!
-//! All but the writer is handed on from `coff_read`.
+//! All but the writer is re-exported from `coff_read`.
 #![tactic(auto)]
 
 pub mod laws;

@@ -24,7 +24,7 @@ fn push_zeros<A: Allocator>(bytes: &mut Vec<u8, A>, count: usize) -> Result<(), 
     bytes.extend_from_slice(&[0; NAME_LEN][..count])
 }
 
-/// Adds a text, filled up with zero bytes to eight.
+/// Adds a name of up to eight bytes, padded with zero bytes to eight.
 fn push_padded<A: Allocator>(bytes: &mut Vec<u8, A>, text: &[u8]) -> Result<(), AllocError>
     requires { length text.now ≤ 8 }
     ensures { OnOk result (bytes.new.items ≡ bytes.old.items ++ padded text.now) }
@@ -33,7 +33,7 @@ fn push_padded<A: Allocator>(bytes: &mut Vec<u8, A>, text: &[u8]) -> Result<(), 
     push_zeros(bytes, NAME_LEN - text.len())
 }
 
-/// Writes the bytes of relocations into room for as many.
+/// Writes the bytes of relocations into a buffer of their size.
 fn write_relocations(room: &mut [u8], relocations: &[Relocation])
     requires { room.old ≡ replicate (10 * length relocations.now) 0 }
     ensures fits { AllByRecursion RelocationFits relocations.now }
@@ -52,7 +52,7 @@ fn write_relocations(room: &mut [u8], relocations: &[Relocation])
     }
 }
 
-/// Adds the bytes of relocations, for which room is made once.
+/// Adds the bytes of relocations, with one allocation at most.
 fn push_relocations<A: Allocator>(
     bytes: &mut Vec<u8, A>,
     relocations: &[Relocation],
@@ -66,7 +66,7 @@ fn push_relocations<A: Allocator>(
     Ok(())
 }
 
-/// The bytes of a section that stand in the file.
+/// The raw data of a section that is stored in the file.
 pub(crate) fn raw_bytes<'a>(raw: RawData<'a>) -> &'a [u8]
     ensures { result.now ≡ raw_bytes (raw_view raw.entry) }
 {
@@ -76,7 +76,7 @@ pub(crate) fn raw_bytes<'a>(raw: RawData<'a>) -> &'a [u8]
     }
 }
 
-/// SizeOfRawData of a section's header.
+/// SizeOfRawData of a section header.
 fn raw_size(raw: RawData) -> u32
     requires { length (raw_bytes (raw_view raw)) < 2 ^ 32 }
     ensures fits { RawFits (raw_view raw.entry) }
@@ -100,7 +100,7 @@ pub(crate) fn push_body<A: Allocator>(
     push_relocations(bytes, section.relocations.as_slice())
 }
 
-/// A pointer to a part that begins at a place: 0 where it is empty.
+/// A pointer to a part at a file offset: 0 if it is empty.
 fn pointer_to(at: u32, count: usize) -> u32
     ensures { result ≡ pointer_to at count }
 {
@@ -120,7 +120,7 @@ fn push_offset<A: Allocator>(bytes: &mut Vec<u8, A>, offset: u64) -> Result<(), 
     push_zeros(bytes, NAME_LEN - 1 - digits.len())
 }
 
-/// Adds the name field of a section's header, where the name stands at an offset of the string table if it is too long.
+/// Adds the name field of a section header; a name that is too long is at an offset of the string table.
 fn push_section_name<A: Allocator>(
     bytes: &mut Vec<u8, A>,
     place: u64,
@@ -137,7 +137,7 @@ fn push_section_name<A: Allocator>(
     }
 }
 
-/// Adds the fields of a section's header behind its name, where its body begins at a place.
+/// Adds the fields of a section header after its name, if its body is at a file offset.
 fn push_section_fields<A: Allocator>(
     bytes: &mut Vec<u8, A>,
     at: u32,
@@ -178,7 +178,7 @@ fn section_number(section: SymbolSection) -> u16
     }
 }
 
-/// Adds the name field of a symbol's record, where the name stands at an offset of the string table if it is too long.
+/// Adds the name field of a symbol's record; a name that is too long is at an offset of the string table.
 fn push_symbol_name<A: Allocator>(
     bytes: &mut Vec<u8, A>,
     place: u64,
@@ -194,7 +194,7 @@ fn push_symbol_name<A: Allocator>(
     }
 }
 
-/// Adds the fields of a symbol's record behind its name.
+/// Adds the fields of a symbol's record after its name.
 fn push_symbol_fields<A: Allocator>(
     bytes: &mut Vec<u8, A>,
     symbol: &Symbol,
@@ -215,8 +215,7 @@ fn push_symbol_fields<A: Allocator>(
     )
 }
 
-/// Adds the header of a section whose body begins at a file offset, and whose name at an offset of the string table if it is too
-/// long.
+/// Adds the header of a section whose body is at a file offset; a name that is too long is at an offset of the string table.
 pub(crate) fn push_section_header<A: Allocator>(
     bytes: &mut Vec<u8, A>,
     place: u64,
@@ -234,7 +233,7 @@ pub(crate) fn push_section_header<A: Allocator>(
     push_section_fields(bytes, at, section)
 }
 
-/// Adds a symbol's record and its auxiliary records, where its name stands at an offset of the string table if it is too long.
+/// Adds a symbol's record and its auxiliary records; a name that is too long is at an offset of the string table.
 pub(crate) fn push_symbol<A: Allocator>(
     bytes: &mut Vec<u8, A>,
     place: u64,

@@ -1,4 +1,4 @@
-//! What faults 81 to 83 look for in an object to be written: zero bytes in names, far names and too many relocations.
+//! The tests of faults 81 to 83 of an object to be written: zero bytes in names, far names and too many relocations.
 
 ghost use Rattle.std.specs.Prelude.{◌≡◌, map, nat_lt, position};
 ghost use Rattle.coff_read.specs.ObjectView.{section_view, symbol_view};
@@ -8,7 +8,7 @@ ghost use Rattle.coff_object.specs.WriteFaults.{has_zero, has_many_relocations};
 use coff_read::{ObjSection, Symbol};
 use std::alloc::Allocator;
 
-/// Whether a zero byte stands in a name.
+/// Whether a name has a zero byte.
 fn has_zero(name: &[u8]) -> bool
     ensures { result ≡ has_zero name.now }
 {
@@ -22,7 +22,7 @@ pub(crate) fn zero_in_sections<A: Allocator>(sections: &[ObjSection<A>]) -> Opti
     sections.iter().position(|section| has_zero(section.name))
 }
 
-/// The greatest offset of seven digits.
+/// The greatest offset of seven digits: a name field of eight bytes holds `/` and seven more.
 const LAST_OFFSET: u64 = 9_999_999;
 
 /// The first section whose name's offset has more than seven digits.
@@ -32,7 +32,7 @@ pub(crate) fn far_section(places: &[u64]) -> Option<usize>
     places.iter().position(|place| *place > LAST_OFFSET)
 }
 
-/// The first section with more relocations than a file that is read may have.
+/// The first section with more relocations than can be read back.
 pub(crate) fn crowded_section<A: Allocator>(sections: &[ObjSection<A>]) -> Option<usize>
     ensures { result ≡ position has_many_relocations (map section_view sections.now) }
 {

@@ -1,14 +1,14 @@
-//! Where a text is looked for first: at up to four slots, which its last bytes and its length choose.
+//! Where a string is looked up first: in up to four slots, which its last bytes and its length choose.
 
 ghost use Rattle.std.specs.Prelude.{◌≡◌, ◌↔◌, ℕ, ◌+◌, ◌-◌, ◌≤◌, ◌<◌, ◌^◌, None, Some, IsTrue, IfSome, length, take, drop, slice_get, slice_index};
 ghost use Rattle.coff_object.specs.Slots.{mark, base, offset_at, IsOpen};
 
 use std::hash::{FoldHasher, Hasher};
 
-/// How many of its last bytes choose a text's slots.
+/// How many of its last bytes choose a string's slots.
 const LAST: usize = 256;
 
-/// A number that two texts seldom share, of the length and the last 256 bytes.
+/// A number that two strings seldom share, of the length and the last 256 bytes.
 fn mark(text: &[u8]) -> u64
     ensures { result ≡ mark text.now }
 {
@@ -18,7 +18,7 @@ fn mark(text: &[u8]) -> u64
     hasher.finish().wrapping_add(spread)
 }
 
-/// The first of a text's slots.
+/// The index of a string's first slot.
 pub(crate) fn base(slots: &[u32], text: &[u8]) -> usize
     ensures first { result ≡ base slots.now text.now }
     ensures near { result ≤ length slots.now - 4 }
@@ -26,7 +26,7 @@ pub(crate) fn base(slots: &[u32], text: &[u8]) -> usize
     mark(text) as usize & slots.len().saturating_sub(4)
 }
 
-/// The slots from one on, of which there are four at most.
+/// The slots from an index on, four at most.
 fn window(slots: &[u32], first: usize) -> &[u32]
     ensures { result.now ≡ take 4 (drop first slots.now) }
 {
@@ -34,7 +34,7 @@ fn window(slots: &[u32], first: usize) -> &[u32]
     &rest[..rest.len().min(4)]
 }
 
-/// The offset that a slot tells, if the entry that it names has the text.
+/// The offset of the entry that a slot names, if it has the string.
 fn offset_at(entries: &[(&[u8], u64)], text: &[u8], slot: u32) -> Option<u64>
     ensures { result ≡ offset_at entries.now text.now slot }
 {
@@ -43,7 +43,7 @@ fn offset_at(entries: &[(&[u8], u64)], text: &[u8], slot: u32) -> Option<u64>
     if text == entry.0 { Some(entry.1) } else { None }
 }
 
-/// The offset that one of a text's slots tells.
+/// The offset of a string by one of its slots.
 pub(crate) fn seek(
     entries: &[(&[u8], u64)],
     text: &[u8],
@@ -61,7 +61,7 @@ pub(crate) fn seek(
     None
 }
 
-/// Whether a text's last slot is free, and has room for the number of one more than so many texts.
+/// Whether a string's last slot is free, and can store the number of one more than so many strings.
 pub(crate) fn is_open(slots: &[u32], first: usize, texts: usize) -> bool
     requires { first + 4 ≤ 2 ^ 64 }
     ensures { IsTrue result ↔ IsOpen slots.now first texts }
@@ -69,7 +69,7 @@ pub(crate) fn is_open(slots: &[u32], first: usize, texts: usize) -> bool
     texts < u32::MAX as usize && matches!(slots.get(first + 3), Some(0))
 }
 
-/// The first of a text's slots that is free.
+/// The index of a string's first free slot.
 pub(crate) fn free_slot(slots: &[u32], first: usize) -> usize
     requires near { first + 4 ≤ 2 ^ 64 }
     requires open { slice_get slots.now (first + 3) ≡ Some 0 }

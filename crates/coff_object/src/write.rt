@@ -27,7 +27,7 @@ use pe_numbers::push_numbers;
 use pe_view::{Fault, Place};
 use std::alloc::{AllocError, Allocator};
 
-/// A fault of an item, whose index stops at the greatest that a place tells.
+/// A fault of an item, whose index is capped at the greatest that a place can hold.
 fn item_fault(number: u16, index: u64) -> Fault
     ensures { result ≡ record { number = number; image = 0; place = Place.Item (min index (2 ^ 32 - 1)) } }
 {
@@ -38,7 +38,7 @@ fn item_fault(number: u16, index: u64) -> Fault
     }
 }
 
-/// That fault 81 does not stand.
+/// Tests fault 81.
 fn check_names<A: Allocator>(object: &Object<A>) -> Result<(), Fault>
     ensures { Answers (name_tests (object_view object.now)) (λ _. ⊤) result }
 {
@@ -52,7 +52,7 @@ fn check_names<A: Allocator>(object: &Object<A>) -> Result<(), Fault>
     Ok(())
 }
 
-/// That neither of faults 82 and 83 stands.
+/// Tests faults 82 and 83.
 fn check_sections<A: Allocator + Copy>(
     object: &Object<A>,
     places: &NamePlaces<A>,
@@ -69,7 +69,7 @@ fn check_sections<A: Allocator + Copy>(
     Ok(())
 }
 
-/// Adds the section table, where the first body begins at a place.
+/// Adds the section table, if the first body is at a file offset.
 fn push_table<A: Allocator + Copy>(
     bytes: &mut Vec<u8, A>,
     places: &NamePlaces<A>,
@@ -131,7 +131,7 @@ fn has_strings<A: Allocator + Copy>(object: &Object<A>, strings: &StringTable<A>
     !object.symbols.as_slice().is_empty() || !strings.is_empty()
 }
 
-/// How many bytes the string table takes, with its size field.
+/// The size of the string table in bytes, with its size field; 0 if there is none.
 fn table_size<A: Allocator + Copy>(object: &Object<A>, strings: &StringTable<A>) -> u64
     requires { texts_in strings.now ≡ strings_of (object_view object.now) }
     ensures { result ≡ counted (length (string_table (object_view object.now))) }
@@ -143,7 +143,7 @@ fn table_size<A: Allocator + Copy>(object: &Object<A>, strings: &StringTable<A>)
     }
 }
 
-/// How many bytes the written object has.
+/// The size of the written object in bytes.
 fn written_size<A: Allocator + Copy>(object: &Object<A>, strings: &StringTable<A>) -> u64
     requires texts { texts_in strings.now ≡ strings_of (object_view object.now) }
     requires near { AllByRecursion (λ (s : format.Section). is_far (strings_of (object_view object.now)) s ≡ false) (object_view object.now).sections }
@@ -158,7 +158,7 @@ fn written_size<A: Allocator + Copy>(object: &Object<A>, strings: &StringTable<A
         .saturating_add(table_size(object, strings))
 }
 
-/// Whether the object has no form.
+/// Whether the object does not fit the format: fault 85.
 fn is_bad_object<A: Allocator + Copy>(object: &Object<A>) -> bool
     requires { length (canon (object_view object.now)) < 2 ^ 32 }
     ensures { result ≡ is_bad_object (object_view object.now) }
@@ -174,7 +174,7 @@ fn is_bad_object<A: Allocator + Copy>(object: &Object<A>) -> bool
     has_bad_part(object, record_count(object.symbols.as_slice()))
 }
 
-/// Adds the COFF header, with the symbol table at a place.
+/// Adds the COFF header, with the symbol table at a file offset.
 fn push_coff_header<A: Allocator + Copy>(
     bytes: &mut Vec<u8, A>,
     object: &Object<A>,
@@ -216,7 +216,7 @@ fn push_strings<A: Allocator + Copy>(
     strings.push_bytes(bytes)
 }
 
-/// Where the bodies of an object's sections begin in its written form: behind the section table.
+/// Where the bodies of an object's sections begin in its written form: after the section table.
 fn bodies_start<A: Allocator + Copy>(object: &Object<A>) -> u32
     requires { IsWritable (object_view object.now) }
     ensures { result ≡ bodies_start (object_view object.now) }
@@ -237,7 +237,7 @@ fn symbols_pointer<A: Allocator + Copy>(object: &Object<A>, strings: &StringTabl
     }
 }
 
-/// How many bytes the written object has, unless one of faults 84 and 85 stands.
+/// The size of the written object in bytes, or fault 84 or 85.
 fn check_form<A: Allocator + Copy>(
     object: &Object<A>,
     strings: &StringTable<A>,
@@ -256,7 +256,7 @@ fn check_form<A: Allocator + Copy>(
     Ok(size as usize)
 }
 
-/// Adds the COFF header, the optional bytes and the section table of an object that no fault refuses.
+/// Adds the COFF header, the optional header and the section table of an object without a fault.
 fn push_headers<A: Allocator + Copy>(
     bytes: &mut Vec<u8, A>,
     object: &Object<A>,
@@ -278,7 +278,7 @@ fn push_headers<A: Allocator + Copy>(
     )
 }
 
-/// Adds the bodies of sections, the symbols and the string table of an object that no fault refuses.
+/// Adds the bodies of sections, the symbols and the string table of an object without a fault.
 fn push_contents<A: Allocator + Copy>(
     bytes: &mut Vec<u8, A>,
     object: &Object<A>,
@@ -296,7 +296,7 @@ fn push_contents<A: Allocator + Copy>(
     Ok(())
 }
 
-/// The bytes of an object that no fault refuses, with room for so many from the start.
+/// The file of an object without a fault, of `size` bytes, which are allocated at once.
 fn write_parts<A: Allocator + Copy>(
     alloc: A,
     object: &Object<A>,
@@ -314,11 +314,11 @@ fn write_parts<A: Allocator + Copy>(
     Ok(bytes)
 }
 
-/// The bytes of an object file that holds the object, or the least of faults 81 to 85.
+/// The file of an object, or the least of faults 81 to 85, or out of memory.
 ///
-/// The COFF header, the optional bytes, the section table, each section's bytes and its relocations, the symbols and the
-/// string table stand one behind the other, with nothing between. Takes no memory where fault 81 stands. ("PE Format":
-/// COFF File Header, Section Table, COFF Relocations, COFF Symbol Table, COFF String Table.)
+/// The COFF header, the optional header, the section table, each section's raw data and its relocations, the symbols and the string
+/// table follow one another without a gap. Nothing is allocated with fault 81. ("PE Format": COFF File Header, Section Table, COFF
+/// Relocations, COFF Symbol Table, COFF String Table.)
 pub fn write_object<A: Allocator + Copy>(
     alloc: A,
     object: &Object<A>,

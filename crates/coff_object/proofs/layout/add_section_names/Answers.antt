@@ -1,4 +1,4 @@
--- All names are added, and each keeps its place.
+-- All names are added, and each keeps its offset.
 use Rattle.std.proofs.Common.{◌≡◌, ◌∙◌, List, ℕ, refl, sym, ap}
 use Rattle.std.specs.Prelude.{filter, map}
 use Rattle.coff_read.specs.Names.{is_long_section_name}

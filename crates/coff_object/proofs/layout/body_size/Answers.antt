@@ -1,4 +1,4 @@
--- A section's bytes and its relocations.
+-- A section's raw data and its relocations.
 use Rattle.std.proofs.Common.{◌∙◌, ◌+◌, ℕ, List, length, ap}
 use Rattle.std.specs.List.{flat_map}
 use Rattle.coff_read.specs.ObjectView.{raw_view}

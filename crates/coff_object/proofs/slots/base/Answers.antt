@@ -1,4 +1,4 @@
--- The number's bits that lie below the count of slots.
+-- The number's bits that are below the count of slots.
 use Rattle.std.proofs.Common.{refl}
 use Rattle.coff_object.specs.Slots.{base}
 use Rattle.coff_object.proofs.slots.base.Goals as goal

@@ -1,4 +1,4 @@
--- No slot of the window tells an offset, and there is none behind it.
+-- No offset is found by a slot of the window, and there is no slot after it.
 use Rattle.std.proofs.Common.{◌≡◌, ◌∙◌, ◌+◌, length, get_or, sym, ap, inl, inr, arith}
 use Rattle.std.proofs.lemmas.Bool.{cases_lt}
 use Rattle.coff_object.specs.Slots.{offset_at}

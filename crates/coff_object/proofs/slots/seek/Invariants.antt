@@ -1,4 +1,4 @@
--- No slot before tells an offset.
+-- No offset is found by a slot before.
 use Rattle.std.proofs.Common.{◌≡◌, ℕ, ◌<◌, None}
 use Rattle.std.specs.Prelude.{slice_index}
 use Rattle.coff_object.specs.Slots.{offset_at}

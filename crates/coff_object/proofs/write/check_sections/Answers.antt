@@ -1,4 +1,4 @@
--- The first section whose name lies too far, or that has too many relocations.
+-- The first section whose name is too far, or that has too many relocations.
 use Rattle.std.proofs.Common.{◌∙◌, refl, ap}
 use Rattle.std.specs.Prelude.{map, nat_lt, position}
 use Rattle.pe_view.specs.FirstStanding.{first-in, first-past}

@@ -1,4 +1,4 @@
--- Each part of fault 85, asked in turn.
+-- Each part of fault 85, in order.
 use Rattle.std.proofs.Common.{◌∙◌, ℕ, Bool, length, sym, ap, arith}
 use Rattle.std.specs.Prelude.{map, ◌||◌}
 use Rattle.std.specs.List.{list_any}

@@ -1,4 +1,4 @@
--- The string table stands behind the symbols, and these behind the bodies.
+-- The string table comes after the symbols, and these after the bodies.
 use Rattle.coff_object.proofs.write.push_contents.Goals as goal
 
 pub returns-clause-bytes : goal.returns-clause-bytes

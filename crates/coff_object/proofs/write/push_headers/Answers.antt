@@ -1,4 +1,4 @@
--- The section table stands behind the optional bytes, and these behind the header.
+-- The section table comes after the optional header, and this after the COFF header.
 use Rattle.coff_object.proofs.write.push_headers.Goals as goal
 
 pub returns-clause-bytes : goal.returns-clause-bytes

@@ -1,4 +1,4 @@
--- The symbols stand behind the bodies.
+-- The symbols come after the bodies.
 use Rattle.std.proofs.Common.{◌≡◌, ◌∙◌, ◌+◌, length, ap, arith}
 use Rattle.std.specs.Prelude.{map}
 use Rattle.std.specs.List.{flat_map}

@@ -1,4 +1,4 @@
--- The parts, one behind the other.
+-- The parts, in order.
 use Rattle.coff_read.specs.ObjectView.{object_view}
 use Rattle.coff_object.specs.StringTableWords.{texts_in}
 use Rattle.coff_object.proofs.Form.{parts_are}

@@ -1,4 +1,4 @@
--- A slot tells the text's offset, or the text is among the others, or nowhere.
+-- The string's offset is found by a slot, or among the others, or the string is in neither.
 use Rattle.std.proofs.Common.{◌∙◌, ◌+◌, ℕ, List, refl, sym, ap}
 use Rattle.std.specs.Prelude.{slice_index}
 use Rattle.coff_object.specs.Slots.{Entry, base, offset_at, IsUntold}
