@@ -1,4 +1,4 @@
--- Tests that are asked of the items of a list, one after the other.
+-- The tests of the items of a list, item by item.
 use Rattle.std.proofs.Common.{◌≡◌, ℕ, ◌+◌, ◌<◌, ◌≤◌, List, ◌∷◌, ◌++◌, drop, get_or, length, map, Option, Some, None, refl, sym, ap, ◌∙◌, append_assoc}
 use Rattle.std.specs.List.{filter_map, cons_option}
 use Rattle.std.specs.Prelude.{option_to_list}
@@ -14,7 +14,7 @@ use Rattle.pe_view.specs.Faults.{Refuses as TableRefuses}
 use Rattle.pe_view.specs.declared.refusal.Refusal.{Refusal}
 use Rattle.pe_view.specs.declared.refusal.Refusal.TheVariants as refusals
 
--- the items from i on are item i and those behind it
+-- the items from i on are item i and those after it
 pub next_item : {X : Type 0} (xs : List X) (i : ℕ) (d : X) → i < length xs → drop i xs ≡ get_or xs i d ∷ drop (i + 1) xs
 next_item xs i d lt = at_drop_more (λ ys. ys) xs i d lt
 
@@ -36,15 +36,15 @@ module _ {X Y : Type 0} (view : X → Y) (f : ℕ → Y → List Test) (xs : Lis
   from_here : first_standing (numbered f 0 (map view xs)) ≡ first_standing (f i (view x) ++ numbered f (i + 1) (map view (drop (i + 1) xs)))
   from_here = sym rest ∙ ap (λ (ys : List X). first_standing (numbered f i (map view ys))) next
 
-  -- no test of item i stands
+  -- no test of item i holds
   pub asked_past : first_standing (f i (view x)) ≡ None → first_standing (numbered f (i + 1) (map view (drop (i + 1) xs))) ≡ first_standing (numbered f 0 (map view xs))
   asked_past none = sym (from_here ∙ first-past (f i (view x)) (numbered f (i + 1) (map view (drop (i + 1) xs))) none)
 
-  -- one stands: it is the first of all
+  -- one holds: it is the first of all
   pub asked_in : (y : Fault) → first_standing (f i (view x)) ≡ Some y → first_standing (numbered f 0 (map view xs)) ≡ Some y
   asked_in y some = from_here ∙ first-in (f i (view x)) (numbered f (i + 1) (map view (drop (i + 1) xs))) y some
 
--- the tests of all items have been asked
+-- the tests of all items were made
 pub asked_all : {X Y : Type 0} (view : X → Y) (f : ℕ → Y → List Test) (xs : List X) (i : ℕ) → length xs ≤ i
     → first_standing (numbered f i (map view (drop i xs))) ≡ first_standing (numbered f 0 (map view xs)) → first_standing (numbered f 0 (map view xs)) ≡ None
 asked_all view f xs i le rest = sym rest ∙ ap (λ ys. first_standing (numbered f i (map view ys))) (drop_all i xs le)
@@ -56,7 +56,7 @@ cons_option-list (Some y) ys = refl
 filter_map-cons : {X Y : Type 0} (f : X → Option Y) (x : X) (xs : List X) → filter_map f (x ∷ xs) ≡ option_to_list (f x) ++ filter_map f xs
 filter_map-cons f x xs = cons_option-list (f x) (filter_map f xs)
 
--- what item i gives goes from what is left to what has been gathered
+-- what item i gives is moved from what is left to what was collected
 module _ {X Y Z : Type 0} (view : X → Y) (xs : List X) (i : ℕ) (x : X) (next : drop i xs ≡ x ∷ drop (i + 1) xs) (old whole : List Z) where
   pub gathered : (f : ℕ → Y → List Z) → old ++ numbered f i (map view (drop i xs)) ≡ whole → (new : List Z) → new ≡ old ++ f i (view x)
       → new ++ numbered f (i + 1) (map view (drop (i + 1) xs)) ≡ whole

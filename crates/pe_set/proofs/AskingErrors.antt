@@ -1,4 +1,4 @@
--- Errors that are asked of the items of a list, one after the other.
+-- The errors of the items of a list, item by item.
 use Rattle.std.proofs.Common.{◌≡◌, ◌∙◌, ℕ, ◌+◌, ◌≤◌, List, [], ◌∷◌, ◌++◌, drop, length, map, Option, Some, None, refl, sym, ap}
 use Rattle.std.specs.List.{flat_map}
 use Rattle.std.proofs.lemmas.List.{drop_all}
@@ -34,7 +34,7 @@ module _ {X Y : Type 0} (view : X → Y) (f : ℕ → Y → List MapError) (xs :
   pub errors_in : (error : MapError) → first_error (f i (view x)) ≡ Some error → first_error (numbered f 0 (map view xs)) ≡ Some error
   errors_in error some = from_here ∙ error_in (f i (view x)) (numbered f (i + 1) (map view (drop (i + 1) xs))) error some
 
--- all items have been asked
+-- all items were tested
 pub errors_all : {X Y : Type 0} (view : X → Y) (f : ℕ → Y → List MapError) (xs : List X) (i : ℕ) → length xs ≤ i
     → first_error (numbered f i (map view (drop i xs))) ≡ first_error (numbered f 0 (map view xs)) → first_error (numbered f 0 (map view xs)) ≡ None
 errors_all view f xs i le rest = sym rest ∙ ap (λ ys. first_error (numbered f i (map view ys))) (drop_all i xs le)

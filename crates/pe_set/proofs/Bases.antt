@@ -1,4 +1,4 @@
--- What slots are bound to depends on names, exports and imports alone; other bases change where images stand and nothing else.
+-- What slots are bound to depends only on names, exports and imports; other bases change where images are and nothing else.
 use Rattle.std.proofs.Common.{◌≡◌, ◌∙◌, ◌+◌, ℕ, zero, suc, Bool, List, [], ◌∷◌, ◌++◌, cond, length, Option, None, Some, refl, ap}
 use Rattle.std.specs.Prelude.{nat_lt, not, option_map, option_and_then}
 use Rattle.std.specs.List.{cons_option, filter_map, prefix_len}
@@ -62,7 +62,7 @@ pairs_alike (m ∷ s) (n ∷ t) alike =
     ap (λ (exports : Exports). length exports.ordinals + length exports.names + pairs_of s) alike.1
     ∙ ap (λ k. length n.exports.ordinals + length n.exports.names + k) (pairs_alike s t alike.3)
 
--- two searches that go on alike
+-- two searches that continue alike
 module _ (next next' : List ℕ → Key → Option Resolution) (same : (name : List ℕ) (key : Key) → next' name key ≡ next name key) where
   target_same : (i : ℕ) (t : Option Target) → from_target next' i t ≡ from_target next i t
   target_same i None = refl
@@ -81,7 +81,7 @@ module _ (s t : List Module) (alike : AreAlike s t) where
       ap (from_image s (resolve_in n s) key) (named_alike name s t alike)
       ∙ image_same (resolve_in n t) (resolve_in n s) (resolve_in_alike n) t s key (λ i. target_alike key s t i alike) (named t name)
 
-  -- ---- where it stands, and when it stands there again
+  -- ---- where it is, and when it is there again
   stand_alike : (name : List ℕ) (key : Key) → stand_at s name key ≡ stand_at t name key
   stand_alike name key = ap (option_map (λ i. (i, key))) (named_alike name s t alike)
 

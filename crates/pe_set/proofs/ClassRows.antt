@@ -1,4 +1,4 @@
--- Whole sets as the definitions judge them, written out.
+-- Whole sets by the definitions, as examples.
 use Rattle.std.proofs.Common.{◌≡◌, ℕ, List, [], ◌∷◌, Some, None, refl, codes}
 use Rattle.pe_view.specs.declared.fault.Place.TheVariants.{File, Rva, Address, Item}
 use Rattle.pe_head.specs.HeaderFaults.{head_tests}
@@ -17,7 +17,7 @@ use Rattle.pe_set.specs.declared.entry.Policy.TheVariants.{Strict, Known}
 abbrev entry : List ℕ → List ℕ → ℕ → Entry
 entry name file base = record { name = name; file = file; base = base }
 
--- a file that imports number 5 of `b.dll`: its import directory, tables and text stand among its headers
+-- a file that imports ordinal 5 of `b.dll`: its import directory, tables and string are in its headers
 abbrev importing : List ℕ
 importing =
     put 0xc0 (0x80 ∷ 0x01 ∷ 0 ∷ 0 ∷ 0x28 ∷ [])
@@ -42,18 +42,19 @@ one_file_twice : set_error Strict (entry (codes "a.dll") v1 0x10000000 ∷ entry
 unfolding set_errors names_tests files_tests places_tests imports_errors modules_of image_tests table_tests head_tests sections_tests
 one_file_twice = refl
 
--- ---- the classes of faults, each asked behind the ones before
+-- ---- the classes of faults, each tested after the ones before
 -- 42 of the second entry before 2 of the first: names count before files
 names_before_files : set_error Strict (entry (codes "a.dll") [] 0 ∷ entry (codes "A.DLL") [] 0 ∷ []) ≡ Some (errors.Fault (record { number = 42; image = 1; place = Item 1 }))
 unfolding set_errors names_tests
 names_before_files = refl
 
--- the first of two files with a fault decides
+-- the first of two files with a fault counts
 first_file : set_error Strict (entry (codes "a.dll") [] 0 ∷ entry (codes "b.dll") [] 0 ∷ []) ≡ Some (errors.Fault (record { number = 2; image = 0; place = File 0 }))
 unfolding set_errors names_tests files_tests image_tests head_tests
 first_file = refl
 
--- a file's fault bears the number of its entry, and 2 of the second entry comes before 44 of the first: files count before places
+-- the fault of a file has the number of its entry, and 2 of the second entry comes before 44 of the first: files count before
+-- places
 files_before_places : set_error Strict (entry (codes "a.dll") v1 0x10008000 ∷ entry (codes "b.dll") [] 0 ∷ []) ≡ Some (errors.Fault (record { number = 2; image = 1; place = File 0 }))
 unfolding set_errors names_tests files_tests places_tests imports_errors modules_of image_tests table_tests head_tests sections_tests
 files_before_places = refl
@@ -73,7 +74,7 @@ stripped : set_error Strict (entry (codes "a.dll") (put 0x56 (3 ∷ []) v1) 0x10
 unfolding set_errors names_tests files_tests places_tests imports_errors modules_of image_tests table_tests head_tests sections_tests
 stripped = refl
 
--- it may stand at its ImageBase
+-- it may be at its ImageBase
 stripped_at_its_image_base : set_error Strict (entry (codes "a.dll") (put 0x56 (3 ∷ []) v1) 0x10000000 ∷ []) ≡ None
 unfolding set_errors names_tests files_tests places_tests imports_errors modules_of image_tests table_tests head_tests sections_tests
 stripped_at_its_image_base = refl

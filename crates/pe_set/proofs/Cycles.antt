@@ -1,4 +1,4 @@
--- Searches that end do so soon, and others come to where they were.
+-- Searches that end do so soon, and others come back to where they were.
 use Rattle.std.proofs.Common.{◌≡◌, ◌∙◌, ◌<◌, ◌+◌, ◌-◌, ◌≤◌, ℕ, zero, suc, List, Bool, true, false, cond, length, Option, None, Some, refl, sym, ap, subst, arith, inl, inr}
 use Rattle.std.specs.Prelude.{option_map, option_and_then, ◌==◌}
 use Rattle.std.proofs.lemmas.Bool.{cases_lt, eqb-true, eq-eqb, and_parts, and_from}
@@ -29,7 +29,7 @@ pub steps_none : (s : List Module) (n : ℕ) → steps s n None ≡ None
 steps_none s zero = refl
 steps_none s (suc n) = steps_none s n
 
--- a forwarder is where it stands
+-- it is at a forwarder
 pub record AtForward (s : List Module) (o : Option Stand) : Type 0 where
   pub p : Stand
   pub is : o ≡ Some p
@@ -37,7 +37,7 @@ pub record AtForward (s : List Module) (o : Option Stand) : Type 0 where
   pub key : Key
   pub forwards : target_in s p.1 p.0 ≡ Some (Forward name key)
 
--- ---- a search that has not ended when it has looked in n + 1 modules stands at a forwarder after n hops
+-- ---- a search that has not ended after looking in n + 1 modules is at a forwarder after n hops
 module _ (s : List Module) where
   start_target : (i : ℕ) (key : Key) (t : Option Target) → target_in s key i ≡ t → from_target (resolve_in zero s) i t ≡ None → AtForward s (Some (i, key))
   start_target i key None is none = absurd cc
@@ -62,7 +62,7 @@ module _ (s : List Module) where
   forward_at zero name key none = start_image key (named s name) none
   forward_at (suc n) name key none = next_image n (forward_at n) key (named s name) none
 
--- ---- and where it stands somewhere after n hops, it has not ended when it has looked in n
+-- ---- and if it is somewhere after n hops, it has not ended after looking in n
 module _ (s : List Module) (n : ℕ) (later : (name : List ℕ) (key : Key) (p : Stand) → stands s name key n ≡ Some p → resolve_in n s name key ≡ None) where
   on_target : (i : ℕ) (key : Key) (p : Stand) (t : Option Target) → target_in s key i ≡ t → steps s n (onward s t) ≡ Some p → from_target (resolve_in n s) i t ≡ None
   on_target i key p None is at = let none = steps_none s n in absurd cc
@@ -93,7 +93,7 @@ not_before s zero b name key le none = refl
 not_before s (suc a) zero name key le none = absurd (omega (arith, le))
 not_before s (suc a) (suc b) name key le none = less_image s a b (λ name key none. not_before s a b name key (omega (arith, le)) none) key (named s name) none
 
--- ---- and where it has ended, it ends at the same
+-- ---- and if it has ended, it ends at the same
 module _ (s : List Module) (a b : ℕ) (end end' : Resolution) (same : (name : List ℕ) (key : Key) → resolve_in a s name key ≡ Some end → resolve_in b s name key ≡ Some end' → end ≡ end') where
   one_target : (i : ℕ) (t : Option Target) → from_target (resolve_in a s) i t ≡ Some end → from_target (resolve_in b s) i t ≡ Some end' → end ≡ end'
   one_target i None is is' = sym (same_Some _ end is) ∙ same_Some _ end' is'
@@ -109,7 +109,7 @@ one_end s zero b name key end end' is is' = absurd cc
 one_end s (suc a) zero name key end end' is is' = absurd cc
 one_end s (suc a) (suc b) name key end end' is is' = one_image s a b end end' (λ name key is is'. one_end s a b name key end end' is is') key (named s name) is is'
 
--- ---- among as many hops as there are pairs, and one, it stands somewhere twice
+-- ---- after one hop more than there are pairs, it was somewhere twice
 abbrev pub number_of : List Module → Option Stand → ℕ
 number_of s None = 0
 number_of s (Some p) = pair_number s p.0 p.1
@@ -160,7 +160,7 @@ module _ (s : List Module) (name : List ℕ) (key : Key) (none : resolve_in (suc
       }
 
 module _ (s : List Module) (name : List ℕ) (key : Key) (loop : Loop s name key) where
-  -- from where it stood twice on, each is as it was
+  -- from where it was twice on, each place is as it was
   period : (n : ℕ) → stands s name key (loop.from + loop.length + n) ≡ stands s name key (loop.from + n)
   period n =
       steps_add s (loop.from + loop.length) n (stand_at s name key) ∙ ap (steps s n) loop.again ∙ sym (steps_add s loop.from n (stand_at s name key))
@@ -190,11 +190,11 @@ soon : (s : List Module) (name : List ℕ) (key : Key) (n : ℕ) (end : Resoluti
 soon s name key n end None none is = let never = endless s name key (looped s name key none) n in absurd cc
 soon s name key n end (Some other) there is = there ∙ ap (λ r. Some r) (one_end s (suc (pairs_of s)) n name key other end there is)
 
--- a search that has not ended when it has looked in one module more than there are pairs never does
+-- a search that has not ended after looking in one module more than there are pairs never does
 pub never : (s : List Module) (name : List ℕ) (key : Key) → resolve_in (suc (pairs_of s)) s name key ≡ None → NeverEnds s name key
 never s name key none = endless s name key (looped s name key none)
 
--- ---- how long it takes to come to where it was
+-- ---- how many hops it takes to come back
 same_key_is : (a b : Key) → same_key a b ≡ true → a ≡ b
 same_key_is (Ordinal a) (Ordinal b) is = ap (λ n. Ordinal n) (eqb-true a b is)
 same_key_is (Ordinal a) (Name b) is = absurd cc
@@ -311,7 +311,7 @@ pub resolve_ended : (s : List Module) (name : List ℕ) (key : Key) (n : ℕ) (e
 unfolding resolve
 resolve_ended s name key n end is = ap (ended (cycle_length s name key)) (soon s name key n end (resolve_in (suc (pairs_of s)) s name key) refl is)
 
--- one that is resolved to an end that it comes to has ended soon
+-- one that is resolved to an end ended soon
 ended_is_by : (length : ℕ) (end : Resolution) (o : Option Resolution) → end ≡ ended length o → ((n : ℕ) → end ≡ Endless n → ⊥) → o ≡ Some end
 ended_is_by length end None is not = absurd (not length is)
 ended_is_by length end (Some other) is not = ap (λ r. Some r) (sym is)

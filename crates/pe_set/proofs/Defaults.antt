@@ -1,4 +1,4 @@
--- What stands past the end of a list.
+-- The default past the end of a list.
 use Rattle.std.proofs.Common.{[]}
 use Rattle.pe_tables.specs.declared.import.Import.{Import}
 use Rattle.pe_tables.specs.declared.key.Key.TheVariants.{Ordinal}

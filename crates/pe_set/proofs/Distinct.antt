@@ -1,4 +1,4 @@
--- A set without a fault of its names has few images, and no two of one name.
+-- A set without a fault of its names has few images, and no two with one name.
 use Rattle.std.proofs.Common.{◌≡◌, ◌∙◌, ◌+◌, ◌≤◌, ℕ, zero, suc, List, [], ◌∷◌, length, take, get_or, Option, None, Some, refl, sym, ap, arith, inl, inr}
 use Rattle.std.specs.Prelude.{slice_get, option_map, ◌||◌}
 use Rattle.std.specs.List.{list_any}
@@ -11,7 +11,7 @@ use Rattle.pe_set.specs.NamesView.{AreDistinct}
 use Rattle.pe_set.specs.Set.{Entry, Module, module_of, modules_from, modules_of, same_name}
 use Rattle.pe_set.specs.SetFaults.{name_tests, names_tests}
 
--- where no test stands, none of item i does
+-- if no test holds, none of item i does
 pub numbered_none : {X : Type 0} (f : ℕ → X → List Test) (n : ℕ) (xs : List X) (i : ℕ) (x : X) → first_standing (numbered f n xs) ≡ None → slice_get xs i ≡ Some x → first_standing (f (n + i) x) ≡ None
 numbered_none f n [] i x none at = absurd cc
 numbered_none f n (y ∷ xs) zero x none at =

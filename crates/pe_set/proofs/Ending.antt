@@ -1,4 +1,4 @@
--- Each search ends in exactly one way: it is followed hop by hop, from its start and from where it stands.
+-- Each search ends in exactly one way: it is followed hop by hop, from its start and from where it is.
 use Rattle.std.proofs.Common.{◌≡◌, ◌∙◌, ◌+◌, ◌≤◌, ◌⊎◌, ℕ, zero, suc, List, Option, None, Some, refl, sym, ap, subst, arith, inl, inr}
 use Rattle.std.specs.Option.{option_map, option_and_then}
 use Rattle.std.proofs.lemmas.Bool.{cases_lt}
@@ -27,12 +27,12 @@ after_first (suc n) s at = ap (option_and_then (hop s)) (after_first n s at) ∙
 after_next : (n : ℕ) (s : List Module) (at next : List ℕ × Key) → hop s at ≡ Some next → after (suc n) s at ≡ after n s next
 after_next n s at next on = after_first n s at ∙ ap (option_and_then (after n s)) on
 
--- a search that stands somewhere after a hop and n more has a first hop
+-- a search that is somewhere after a hop and n more has a first hop
 first_hop : (n : ℕ) (s : List Module) (start at : List ℕ × Key) → after (suc n) s start ≡ Some at
     → (next : List ℕ × Key) × (hop s start ≡ Some next) × (after n s next ≡ Some at)
 first_hop n s start at stands = option_and_then_some (after n s) (hop s start) at (sym (after_first n s start) ∙ stands) (λ next on there. (next, on, there))
 
--- ---- where it stands, a search ends or hops
+-- ---- where it is, a search ends or hops
 abbrev EndsSo : List Module → List ℕ × Key → Resolution → Type 0
 EndsSo s at (Bound i rva) = IsBoundAt s i rva at
 EndsSo s at Missing = IsMissingAt s at
@@ -52,7 +52,7 @@ module _ (s : List Module) (at : List ℕ × Key) where
   ends_or_hops : ((end : Resolution) × EndsSo s at end) ⊎ ((next : List ℕ × Key) × (hop s at ≡ Some next))
   ends_or_hops = by_name (named s at.0) refl
 
-  -- where it ends, it ends so however far it may still go
+  -- if it ends, it ends so however many more modules it may look in
   resolve_ends : (n : ℕ) (end : Resolution) → EndsSo s at end → resolve_in (suc n) s at.0 at.1 ≡ Some end
   resolve_ends n (Bound i rva) so = ap (from_image s (resolve_in n s) at.1) so.0 ∙ ap (from_target (resolve_in n s) i) so.1
   resolve_ends n Missing so = ap (from_image s (resolve_in n s) at.1) so
@@ -69,11 +69,11 @@ module _ (s : List Module) (at : List ℕ × Key) where
     hop_from None on = absurd cc
     hop_from (Some i) on = hop_of i (target_in s at.1 i) on
 
-    -- where it hops, it goes on with one module less to look in
+    -- if it hops, it continues with one module less to look in
     resolve_hops : hop s at ≡ Some next → resolve_in (suc n) s at.0 at.1 ≡ resolve_in n s next.0 next.1
     resolve_hops on = hop_from (named s at.0) on
 
--- ---- a search that has ended when it has looked in n + 1 modules ends after at most n hops
+-- ---- a search that has ended after looking in n + 1 modules ends after at most n hops
 abbrev Runs : List Module → ℕ → List ℕ × Key → Option Resolution → Type 0
 Runs s n start None = Unit {0}
 Runs s n start (Some end) = (hops : ℕ) × (at : List ℕ × Key) × (hops ≤ n) × (after hops s start ≡ Some at) × EndsSo s at end
@@ -118,7 +118,7 @@ ends_within (suc hops) (suc n) few s start at stands end so =
     let first = first_hop hops s start at stands in
     resolve_hops s start (suc n) first.0 first.1 ∙ ends_within hops n (omega (arith, few)) s first.0 at first.2 end so
 
--- one that ends after so many hops has ended when it has looked in one module more
+-- one that ends after so many hops has ended after looking in one module more
 has_ended : (s : List Module) (start : List ℕ × Key) (hops : ℕ) (end : Resolution) → EndsAfter s start hops end → resolve_in (suc hops) s start.0 start.1 ≡ Some end
 has_ended s start hops (Bound i rva) so = ends_within hops hops (omega arith) s start so.0 so.1 (Bound i rva) so.2
 has_ended s start hops Missing so = ends_within hops hops (omega arith) s start so.0 so.1 Missing so.2
@@ -133,7 +133,7 @@ not_by : (s : List Module) (start : List ℕ × Key) (n : ℕ) → IsEndless s s
 not_by s start n endless None is = is
 not_by s start n endless (Some end) is = let ends = ends_in s n start end is in absurd (endless ends.0 end ends.2)
 
--- the image and the key at which a search stands
+-- the image and the key at which a search is
 module _ (s : List Module) where
   abbrev place : List ℕ × Key → Option (ℕ × Key)
   place at = stand_at s at.0 at.1
@@ -159,7 +159,7 @@ module _ (s : List Module) where
   stands_is : (start : List ℕ × Key) (n : ℕ) → stands s start.0 start.1 n ≡ image_after s start n
   stands_is start n = places n (Some start)
 
--- two walks that stand alike
+-- two searches that are at the same places
 same_repeats : (f g : ℕ → Option (ℕ × Key)) → ((n : ℕ) → f n ≡ g n) → (length : ℕ) → Repeats f length → Repeats g length
 same_repeats f g same length repeats = (
   repeats.0,
@@ -184,7 +184,7 @@ one_cycle f a b of_a of_b =
 cycles : (s : List Module) (start : List ℕ × Key) → resolve_in (suc (pairs_of s)) s start.0 start.1 ≡ None → IsCycle (image_after s start) (cycle_length s start.0 start.1)
 cycles s start none = same_cycle (stands s start.0 start.1) (image_after s start) (stands_is s start) (cycle_length s start.0 start.1) (cycle_is s start.0 start.1 none)
 
--- ---- a search ends as it is said, and in no other way
+-- ---- a search ends as it was resolved, and in no other way
 ended_as : (s : List Module) (n : ℕ) (start : List ℕ × Key) (end : Resolution) → EndsWithin s n start end → EndsAs s start end
 ended_as s n start (Bound i rva) ends = (ends.0, ends.2)
 ended_as s n start Missing ends = (ends.0, ends.2)

@@ -1,4 +1,4 @@
--- What is known of how searches end: what is found, and what is put in.
+-- The remembered ends of searches: what is found, and what is added.
 use Rattle.std.proofs.Common.{◌≡◌, ◌∙◌, ℕ, List, Option, None, Some, sym, subst, inl, inr}
 use Rattle.std.specs.Prelude.{slice_get, IfSome}
 use Rattle.std.specs.Map.{lookup}

@@ -19,12 +19,12 @@ class_step : (stands : Bool) (fault : Fault) (own later : List MapError) (first 
 class_step true fault own later first rest = refl
 class_step false fault own later first rest = rest
 
--- the first error of a class and of those behind it
+-- the first error of a class and of those after it
 pub class_first : (tests : List Test) (later : List MapError) → first_error (faults_in tests ++ later) ≡ error_or (first_standing tests) (first_error later)
 class_first [] later = refl
 class_first (t ∷ tests) later = class_step t.stands t.fault (faults_in tests) later (first_standing tests) (class_first tests later)
 
--- ---- the faults of a class, and the errors behind it
+-- ---- the faults of a class, and the errors after it
 pub in_class : (tests : List Test) (later : List MapError) (error : MapError) → RefusesClass tests error → ErrorIs (first_error (faults_in tests ++ later)) error
 in_class tests later errors.Memory refused = tt
 in_class tests later (errors.Fault fault) refused = class_first tests later ∙ ap (λ o. error_or o (first_error later)) refused
@@ -41,7 +41,7 @@ none_by : (o : Option Fault) (later : Option MapError) → error_or o later ≡ 
 none_by None later none = (refl, none)
 none_by (Some fault) later none = absurd cc
 
--- no error: the class has no fault, and there is none behind it
+-- no error: the class has no fault, and there is none after it
 pub none_of_class : (tests : List Test) (later : List MapError) → first_error (faults_in tests ++ later) ≡ None → (first_standing tests ≡ None) × (first_error later ≡ None)
 none_of_class tests later none = none_by (first_standing tests) (first_error later) (sym (class_first tests later) ∙ none)
 

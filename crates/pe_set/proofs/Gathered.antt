@@ -1,4 +1,4 @@
--- What holds of each element, and of each two, of lists that are gathered from the elements of others.
+-- What holds for each element, and for each two, of lists collected from the elements of others.
 use Rattle.std.proofs.Common.{◌≡◌, ◌+◌, ◌*◌, ◌<◌, ◌≤◌, ℕ, zero, suc, List, [], ◌∷◌, ◌++◌, length, get_or, Option, None, Some, refl, subst, arith, length-append}
 use Rattle.std.specs.Prelude.{slice_get, All, AllPairs}
 use Rattle.std.specs.List.{cons_option, filter_map}

@@ -1,4 +1,4 @@
--- What is known of each image of an accepted set, by the laws of what images are.
+-- What holds for each image of an accepted set, by the laws of images.
 use Rattle.std.proofs.Common.{◌≡◌, ◌∙◌, ◌+◌, ◌<◌, ◌≤◌, ◌^◌, ℕ, List, ◌++◌, length, map, None, Some, sym, ap, subst, arith}
 use Rattle.std.specs.Prelude.{slice_get, option_map, All, AllPairs}
 use Rattle.std.proofs.lemmas.Option.{slice_get-map}

@@ -1,4 +1,4 @@
--- A name that is longer than each name of a set is none of them, and so is its beginning that is.
+-- A name that is longer than each name of a set matches none, and neither does a beginning of it that is longer.
 use Rattle.std.proofs.Common.{◌≡◌, ◌∙◌, ℕ, ◌<◌, ◌≤◌, false, List, [], ◌∷◌, ◌++◌, length, get_or, take, None, refl, sym, ap, arith, inl, inr, length-take}
 use Rattle.std.specs.Prelude.{◌==◌, max, position}
 use Rattle.std.specs.List.{list_any}
@@ -20,7 +20,7 @@ within_more longest names name within =
     All-append (λ (n : List ℕ). length n ≤ later) names (name ∷ [])
     (λ k d lt. let le = within k d lt in omega (arith, le)) (All-cons (λ (n : List ℕ). length n ≤ later) name [] (omega arith) (All-nil _))
 
--- what is added to the name of a forwarder's module does not shorten it
+-- `.dll` does not shorten the name of a forwarder's module
 forwarded_length : (text : List ℕ) → length text ≤ length (forwarded_name text)
 forwarded_length text = elim (cases_Bool (list_any (λ (byte : ℕ). byte == 46) text)) [
   | inl dot ↦ (let is : forwarded_name text ≡ text = rw dot refl in rw is (omega arith))
@@ -40,15 +40,15 @@ module _ (longest : ℕ) (names : List (List ℕ)) (within : AreWithin longest n
     | inr other ↦ other
   ]
 
-  -- a text that is longer is none of the names
+  -- a string that is longer is none of the names
   pub too_long : (text : List ℕ) → longest < length text → position (λ name. bytes_eq text name) names ≡ None
   too_long text long = (none_passes (λ (name : List ℕ). bytes_eq text name) names text (other_length text long)).1
 
-  -- two texts that are longer
+  -- two strings that are longer
   pub both_long : (text other : List ℕ) → longest < length text → longest < length other → FoundAlike names text other
   both_long text other long too = too_long text long ∙ sym (too_long other too)
 
-  -- the beginning of a text, of one byte more than the names have
+  -- the beginning of a string, of one byte more than the names have
   pub beginning_alike : (text : List ℕ) (count : ℕ) → longest < count → FoundAlike names (str_to_ascii_lowercase (take count text)) (str_to_ascii_lowercase text)
   beginning_alike text count more = elim (cases_lt longest (length text)) [
     | inl long ↦

@@ -1,4 +1,4 @@
--- What an image of a set is, once its file is read.
+-- An image of a set, once its file is read.
 use Rattle.std.proofs.Common.{◌≡◌, ℕ, List, ap, refl}
 use Rattle.pe_head.specs.declared.headers.Headers.{Headers}
 use Rattle.pe_head.specs.declared.optional.Magic.{Magic}

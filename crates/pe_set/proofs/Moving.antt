@@ -1,4 +1,4 @@
--- A move without a fault leaves the images of a set where they may stand.
+-- A move without a fault leaves the images of a set where they may be.
 use Rattle.std.proofs.Common.{◌≡◌, ◌∙◌, ◌+◌, ◌⊎◌, ℕ, zero, suc, List, [], ◌∷◌, Bool, true, false, map, None, Some, refl, sym, ap, subst, arith, inl, inr}
 use Rattle.std.specs.Prelude.{slice_get, slice_set, nat_lt, ◌&&◌}
 use Rattle.std.specs.List.{list_any}
@@ -104,7 +104,7 @@ module _ (s : List Module) (i base : ℕ) (before : first_standing (places_tests
       subst (λ (m : Module). Fits (others_than i (map placement_of s)) (placement_of m)) (sym is)
       (subst (λ (p : Placement). Fits (others_than i (map placement_of s)) (record p { base = base })) (placed_at s i n at) move_fits)
 
-  -- the moved image stands where it may
+  -- the moved image is where it may be
   mover_stands : (j : ℕ) (n m : Module) → j ≡ i → slice_get s i ≡ Some n → m ≡ record n { base = base } → Stands (moved s i base) j m
   mover_stands j n m here at is =
       let ok = moved_fits n m at is in
@@ -121,7 +121,7 @@ module _ (s : List Module) (i base : ℕ) (before : first_standing (places_tests
         };
       }
 
-  -- and so does each other, which it does not meet
+  -- and so is each other, which it does not meet
   other_stands : (j : ℕ) (m : Module) → (j ≡ i → ⊥) → slice_get s j ≡ Some m → Stands (moved s i base) j m
   other_stands j m ne at =
       let ok = stands s before j m at in
@@ -144,7 +144,7 @@ module _ (s : List Module) (i base : ℕ) (before : first_standing (places_tests
     | inr other ↦ other_stands j m other.0 other.1
   ])
 
--- a set that is accepted is accepted with an image moved, where the move has no fault
+-- an accepted set is accepted with an image moved, if the move has no fault
 pub accepted_moved : (policy : Policy) (es : List Entry) (i base : ℕ) → set_error policy es ≡ None
     → first_standing (move_tests (map placement_of (modules_of es)) i base) ≡ None
     → set_error policy (at_bases (slice_set (bases_of es) i base) es) ≡ None

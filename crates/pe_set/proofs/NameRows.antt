@@ -1,4 +1,4 @@
--- Names of modules as the definitions see them, written out.
+-- Names of modules by the definitions, as examples.
 use Rattle.std.proofs.Common.{◌≡◌, ℕ, ◌+◌, ◌/◌, ◌%◌, true, false, List, [], ◌∷◌, Some, None, map, refl, codes}
 use Rattle.std.specs.List.{range_with_len}
 use Rattle.pe_view.specs.declared.fault.Place.TheVariants.{Item}
@@ -19,20 +19,20 @@ other_name = refl
 longer_name : same_name (codes "a.dll") (codes "a.dll.dll") ≡ false
 longer_name = refl
 
--- of other letters the case counts: these are Ä and ä in Latin-1
+-- the case of other letters counts: these are Ä and ä in Latin-1
 other_case_past_ascii : same_name (0xc4 ∷ []) (0xe4 ∷ []) ≡ false
 other_case_past_ascii = refl
 
--- bytes beside the letters have no case, though they too are 32 apart
+-- bytes next to the letters have no case, though they too are 32 apart
 around_the_letters : map (λ byte. same_name (byte ∷ []) ((byte + 32) ∷ [])) (0x40 ∷ 0x41 ∷ 0x5a ∷ 0x5b ∷ []) ≡ false ∷ true ∷ true ∷ false ∷ []
 around_the_letters = refl
 
 -- ---- the module that a forwarder names
--- `.dll` is added where there is no dot
+-- `.dll` is appended if there is no dot
 without_dot : forwarded_name (codes "b") ≡ codes "b.dll"
 without_dot = refl
 
--- a name with a dot stays, whatever stands behind the dot
+-- a name with a dot remains, whatever comes after the dot
 with_dot : forwarded_name (codes "b.x") ≡ codes "b.x"
 with_dot = refl
 
@@ -45,7 +45,7 @@ with_last_dot = refl
 abbrev entry : List ℕ → Entry
 entry name = record { name = name; file = []; base = 0 }
 
--- so many entries, of which no two have a name in common: names are of two bytes, and none is a letter
+-- so many entries with different names: names are of two bytes, and none is a letter
 abbrev entries : ℕ → List Entry
 entries n = map (λ k. entry (k / 32 ∷ k % 32 ∷ [])) (range_with_len 0 n)
 
@@ -59,7 +59,7 @@ one_too_many : first_standing (names_tests (entries 257)) ≡ Some (record { num
 unfolding names_tests
 one_too_many = refl
 
--- number 256 is asked for 41 before its name is
+-- number 256 is tested for 41 before its name is
 too_many_before_twice : first_standing (name_tests (entry [] ∷ []) 256 (entry [])) ≡ Some (record { number = 41; image = 256; place = Item 256 })
 too_many_before_twice = refl
 

@@ -1,4 +1,4 @@
--- Each image of a set has its own imports, and names them where they stand.
+-- Each image of a set has its own imports, and each name at its RVA.
 use Rattle.std.proofs.Common.{◌≡◌, ◌∙◌, ℕ, ◌+◌, ◌<◌, List, [], ◌∷◌, length, get_or, Option, None, Some, All, refl, sym, ap, subst}
 use Rattle.std.specs.Prelude.{IfSome, slice_get}
 use Rattle.std.proofs.lemmas.List.{get_or-map, length-map}
@@ -33,7 +33,7 @@ own_at ms i m lt is all =
     let inside : i < length (modules_view ms) = rw (length-map ms module_view) lt in
     subst HasOwn here (all i (module_view m) inside)
 
--- an import whose place is known has the text there
+-- an import whose RVA is known has the string there
 pub named_here : (image : LaidOut) (rvas : List ℕ) (imports : List Import) (k : ℕ) (x : Import) → AreNamedAt image rvas imports → slice_get imports k ≡ Some x
     → (o : Option ℕ) → slice_get rvas k ≡ o → IfSome o (λ rva. IsNamedAt image rva x)
 named_here image rvas imports k x named here None is = tt

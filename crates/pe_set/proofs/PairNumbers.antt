@@ -10,7 +10,7 @@ use Rattle.pe_tables.specs.Exports.{Exports, target_at}
 use Rattle.pe_set.specs.Set.{Module}
 use Rattle.pe_set.specs.Search.{target_in, pairs_of}
 
--- the index of the first item that a test takes, or their number
+-- the index of the first item that passes a test, or their number
 abbrev first : {X : Type 0} → (X → Bool) → List X → ℕ
 first p [] = 0
 first p (x ∷ xs) = cond (p x) 0 (suc (first p xs))
@@ -40,7 +40,7 @@ same_step true false z o o' x y i j here later is is' e = absurd (omega (arith, 
 same_step false true z o o' x y i j here later is is' e = absurd (omega (arith, e))
 same_step false false z o o' x y i j here later is is' e = later is is' (omega (arith, e))
 
--- an item that both tests take
+-- an item that passes both tests
 same_first : {X : Type 0} (p q : X → Bool) (xs : List X) (x y : X) → find p xs ≡ Some x → find q xs ≡ Some y → first p xs ≡ first q xs → (z : X) × (p z ≡ true) × (q z ≡ true)
 same_first p q [] x y is is' e = absurd cc
 same_first p q (z ∷ xs) x y is is' e =

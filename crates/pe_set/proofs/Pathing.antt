@@ -1,4 +1,4 @@
--- A path of which a place is looked up, or that gets one more.
+-- A path in which a place is looked up, or to which one is added.
 use Rattle.std.proofs.Common.{◌≡◌, ◌≢◌, ◌∙◌, ◌++◌, ◌∷◌, [], ℕ, List, None, Some, length, sym, ap, subst, inl, inr}
 use Rattle.std.specs.Prelude.{slice_get}
 use Rattle.std.specs.Map.{lookup}

@@ -1,4 +1,4 @@
--- Where images may stand as the definitions see it, written out.
+-- Where images may be, by the definitions, as examples.
 use Rattle.std.proofs.Common.{◌≡◌, ℕ, true, false, List, [], ◌∷◌, Option, Some, None, refl}
 use Rattle.pe_view.specs.declared.fault.Fault.{Fault}
 use Rattle.pe_view.specs.declared.fault.Place.TheVariants.{Address, Item}
@@ -7,7 +7,7 @@ use Rattle.pe_head.specs.declared.optional.Magic.{Magic}
 use Rattle.pe_head.specs.declared.optional.Magic.TheVariants.{Pe32, Pe32Plus}
 use Rattle.pe_set.specs.Placement.{Placement, base_tests, move_tests}
 
--- an image at a base, with its size and Magic, which may stand anywhere
+-- an image at a base, with its size and Magic, which may be anywhere
 abbrev placed : ℕ → ℕ → Magic → Placement
 placed base size magic = record { base = base; size = size; magic = magic; image_base = 0x10000000; is_stripped = false }
 
@@ -15,7 +15,7 @@ placed base size magic = record { base = base; size = size; magic = magic; image
 abbrev stripped : ℕ → ℕ → Placement
 stripped base image_base = record { base = base; size = 0x3000; magic = Pe32; image_base = image_base; is_stripped = true }
 
--- the fault that image 1 has beside others
+-- the fault that image 1 has with others
 abbrev beside : List Placement → Placement → Option Fault
 beside others own = first_standing (base_tests others 1 own)
 
@@ -41,11 +41,11 @@ up_to_the_end = refl
 past_the_end : beside [] (placed 0xffff0000 0x10001 Pe32) ≡ at_base 45 0xffff0000
 past_the_end = refl
 
--- PE32: a base behind all addresses
+-- PE32: a base past all addresses
 behind_the_end : beside [] (placed 0x100000000 0x3000 Pe32) ≡ at_base 45 0x100000000
 behind_the_end = refl
 
--- PE32+: it may stand where no PE32 image may
+-- PE32+: it may be where no PE32 image may
 plus_behind_4_gib : beside [] (placed 0x140000000 0x3000 Pe32Plus) ≡ None
 plus_behind_4_gib = refl
 
@@ -57,7 +57,7 @@ plus_up_to_the_end = refl
 plus_past_the_end : beside [] (placed 0xffffffffffff0000 0x10001 Pe32Plus) ≡ at_base 45 0xffffffffffff0000
 plus_past_the_end = refl
 
--- ---- 46: an image without relocations stands at its ImageBase
+-- ---- 46: an image without relocations is at its ImageBase
 -- there it may
 at_its_image_base : beside [] (stripped 0x10000000 0x10000000) ≡ None
 at_its_image_base = refl
@@ -66,7 +66,7 @@ at_its_image_base = refl
 off_its_image_base : beside [] (stripped 0x10010000 0x10000000) ≡ at_base 46 0x10010000
 off_its_image_base = refl
 
--- an image with relocations may stand elsewhere
+-- an image with relocations may be elsewhere
 with_relocations : beside [] (placed 0x20000000 0x3000 Pe32) ≡ None
 with_relocations = refl
 
@@ -95,11 +95,11 @@ begins_in_another = refl
 at_one_base : beside (placed 0x10000000 0x3000 Pe32 ∷ []) (placed 0x10000000 0x3000 Pe32) ≡ at_base 47 0x10000000
 at_one_base = refl
 
--- each of the others is asked
+-- it is compared with each of the others
 meets_the_second : beside (placed 0x20000 0x3000 Pe32 ∷ placed 0x30000 0x3000 Pe32 ∷ []) (placed 0x30000 0x3000 Pe32) ≡ at_base 47 0x30000
 meets_the_second = refl
 
--- ---- the first that stands is the answer
+-- ---- the first that holds is returned
 -- 44 before 45, though the image also ends too late
 first_of_two : beside [] (placed 0xffff8000 0x10000 Pe32) ≡ at_base 44 0xffff8000
 first_of_two = refl
@@ -137,7 +137,7 @@ over_its_old_place = refl
 to_its_old_place : moved 0 0x20000000 ≡ None
 to_its_old_place = refl
 
--- it meets the addresses of an image that comes behind it in the set
+-- it meets the addresses of an image that comes after it in the set
 onto_a_later_image : moved 0 0x0fff0000 ≡ Some (record { number = 47; image = 0; place = Address 0x0fff0000 })
 onto_a_later_image = refl
 
@@ -145,14 +145,14 @@ onto_a_later_image = refl
 onto_an_earlier_image : moved 1 0x20010000 ≡ Some (record { number = 47; image = 1; place = Address 0x20010000 })
 onto_an_earlier_image = refl
 
--- the base of a move is asked as that of an image of a set is
+-- the base of a move is tested like that of an image of a set
 moved_by_half : moved 1 0x30008000 ≡ Some (record { number = 44; image = 1; place = Address 0x30008000 })
 moved_by_half = refl
 
--- it may not end behind the addresses
+-- it may not end past the addresses
 moved_too_far : moved 0 0xffff0000 ≡ Some (record { number = 45; image = 0; place = Address 0xffff0000 })
 moved_too_far = refl
 
--- an image without relocations can't be moved, but to where it is
+-- an image without relocations can only be moved to where it is
 moved_without_relocations : first_standing (move_tests (stripped 0x10000000 0x10000000 ∷ []) 0 0x20000000) ≡ Some (record { number = 46; image = 0; place = Address 0x20000000 })
 moved_without_relocations = refl

@@ -1,4 +1,4 @@
--- Where the images of a set stand: what faults 43 to 47 ask of each, place by place.
+-- Where the images of a set are: what faults 43 to 47 test of each, image by image.
 use Rattle.std.proofs.Common.{◌≡◌, ◌∙◌, ◌+◌, ◌%◌, ◌<◌, ◌==◌, ℕ, zero, suc, List, [], ◌∷◌, false, not, map, take, None, Some, refl, sym, ap, subst, arith, inl, inr}
 use Rattle.std.specs.Prelude.{slice_get, nat_lt, ◌&&◌}
 use Rattle.std.specs.List.{list_any}
@@ -14,7 +14,7 @@ use Rattle.pe_set.specs.Set.{Module, placement_of}
 use Rattle.pe_set.specs.SetFaults.{has_other_magic, placing_tests, places_tests}
 use Rattle.pe_set.proofs.Distinct.{numbered_none}
 
--- where no test of an item stands, no test does
+-- if no test of an item holds, no test does
 numbered_all : {X : Type 0} (f : ℕ → X → List Test) (n : ℕ) (xs : List X) → ((j : ℕ) (x : X) → slice_get xs j ≡ Some x → first_standing (f (n + j) x) ≡ None) → first_standing (numbered f n xs) ≡ None
 numbered_all f n [] each = refl
 numbered_all f n (x ∷ xs) each =

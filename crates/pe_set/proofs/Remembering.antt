@@ -1,4 +1,4 @@
--- What is remembered of searches: what is found, and what is put in.
+-- The remembered searches: what is found, and what is added.
 use Rattle.std.proofs.Common.{◌≡◌, ◌<◌, ◌∙◌, ℕ, suc, List, true, cond, Option, None, Some, refl, sym, ap, inl, inr}
 use Rattle.std.specs.Prelude.{IfSome, option_map}
 use Rattle.std.specs.Ordering.{nat_cmp, ordering_then, is_eq, MatchOrdering}
@@ -15,7 +15,7 @@ use Rattle.pe_set.specs.Search.{resolve, resolve_in, ended, cycle_at, steps, fro
 use Rattle.pe_set.specs.RememberedView.{text_at, query_cmp, StandsFor}
 use Rattle.pe_set.specs.declared.search.Resolution.{Resolution}
 
--- a search depends on which image the name names alone
+-- a search depends only on which image the name names
 pub resolve_named : (s : List Module) (a b : List ℕ) (key : Key) → named s a ≡ named s b → resolve s a key ≡ resolve s b key
 unfolding resolve
 resolve_named s a b key same =

@@ -1,4 +1,4 @@
--- A search that comes to where it was runs in a cycle, which has the length of the way between.
+-- A search that comes back to where it was runs in a cycle, which is as long as the hops between.
 use Rattle.std.proofs.Common.{◌≡◌, ◌∙◌, ◌<◌, ◌+◌, ◌-◌, ◌≤◌, ℕ, suc, List, Option, None, Some, refl, sym, ap, arith, inl, inr}
 use Rattle.std.proofs.lemmas.Bool.{cases_lt}
 use Rattle.pe_tables.specs.Key.{Key}
@@ -8,7 +8,7 @@ use Rattle.pe_set.specs.SearchEnds.{Repeats}
 use Rattle.pe_set.specs.declared.search.Resolution.TheVariants.{Endless}
 use Rattle.pe_set.proofs.Cycles.{NeverEnds, steps_add, steps_none, goes_on, times, times_more, round, cycle_is}
 
--- a search stands at one place after so many hops, and so many later again, but not between
+-- a search is at one place after so many hops, and so many later again, but not between
 pub record IsReturn (s : List Module) (name : List ℕ) (key : Key) (first length : ℕ) (p : ℕ × Key) : Type 0 where
   pub above : 0 < length
   pub there : stands s name key first ≡ Some p
@@ -25,7 +25,7 @@ module _ (s : List Module) (name : List ℕ) (key : Key) (first length : ℕ) (p
   rounds : (n : ℕ) → stands s name key (first + times n length) ≡ Some p
   rounds n = from_first (times n length) ∙ round s p length once_round n
 
-  -- it stands somewhere after any number of hops
+  -- it is somewhere after any number of hops
   not_lost : (n : ℕ) (o : Option (ℕ × Key)) → stands s name key n ≡ o → (q : ℕ × Key) × (o ≡ Some q)
   not_lost n (Some q) is = (q, refl)
   not_lost n None is =
@@ -53,7 +53,7 @@ module _ (s : List Module) (name : List ℕ) (key : Key) (first length : ℕ) (p
         (q.0, q.1, ap (stands s name key) e' ∙ from_first (length + r) ∙ steps_add s length r (Some p) ∙ ap (steps s r) once_round ∙ sym here ∙ q.1),
   )
 
-  -- where it stands as it did n hops before from some hop on, it does so from the place on
+  -- if from some hop on it is where it was n hops before, it is so from the place on
   comes_back : (n : ℕ) → Repeats (stands s name key) n → stands s name key (first + n) ≡ Some p
   comes_back n again =
       let t = times again.0 length in

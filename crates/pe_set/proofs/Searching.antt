@@ -1,4 +1,4 @@
--- What an image that has been read is, and how a search goes on from it.
+-- An image that was read, and how a search continues from it.
 use Rattle.std.proofs.Common.{◌≡◌, ◌∙◌, ◌<◌, ◌+◌, ℕ, suc, List, [], ◌∷◌, Bool, true, false, not, cond, length, map, get_or, Option, None, Some, refl, sym, ap, arith}
 use Rattle.std.specs.Prelude.{option_map, nat_lt, position, ◌||◌}
 use Rattle.std.specs.List.{list_any, position_or_len, prefix_len}
@@ -62,7 +62,7 @@ module _ (s : List Module) (name : List ℕ) (key : Key) (n : ℕ) where
     pub stand_step : (to : List ℕ) (next : Key) → target_in s key i ≡ Some (Forward to next) → steps s (suc n) (stand_at s name key) ≡ steps s n (stand_at s (forwarded_name to) next)
     stand_step to next is = ap (λ o. steps s n (option_and_then (step s) (option_map (λ i. (i, key)) o))) here ∙ ap (λ t. steps s n (onward s t)) is
 
--- what the image of a number exports
+-- what image number i exports
 pub target_is : {A : Type 0} (ms : List (code_module.Module A)) (m : code_module.Module A) (i : ℕ) (key : Key) (o : Option Target) → i < length ms → m ≡ get_or ms i m
     → o ≡ target_at (module_view m).exports key → target_in (modules_view ms) key i ≡ o
 target_is ms m i key o lt is found =
@@ -87,7 +87,7 @@ number_within ms name i is =
     let count = names_count ms names refl in
     omega (arith, lt, count)
 
--- texts that are not told apart are the same
+-- strings that compare as not different are equal
 not_false : (b : Bool) → not b ≡ false → b ≡ true
 not_false true is = refl
 not_false false is = absurd cc

@@ -1,4 +1,4 @@
--- Sets of images as the definitions see them, written out: their places, their searches, their bindings.
+-- Sets of images by the definitions, as examples: their places, their searches, their bindings.
 use Rattle.std.proofs.Common.{◌≡◌, ℕ, ◌+◌, ◌-◌, false, List, [], ◌∷◌, ◌++◌, Some, None, get_or, map, refl, codes}
 use Rattle.std.specs.List.{range_with_len}
 use Rattle.pe_view.specs.declared.fault.Fault.{Fault}
@@ -37,11 +37,11 @@ abbrev with_tables : List ℕ → ℕ → LaidOut → List (ℕ × Target) → L
 with_tables name base image ordinals names imports =
     record { name = name; base = base; magic = Pe32; image = image; exports = record { ordinals = ordinals; names = names; name_ordinals = [] }; imports = imports; fixups = [] }
 
--- `a.dll` exports number 1, which is `f`: it forwards them to number 7 of `b`
+-- `a.dll` exports ordinal 1, which is also `f`: it forwards both to ordinal 7 of `b`
 abbrev forwarding : Module
 forwarding = with_tables (codes "a.dll") 0x10000000 (image 0 0 [] 0x10000000) ((1, Forward (codes "b") (Ordinal 7)) ∷ []) ((codes "f", Forward (codes "b") (Ordinal 7)) ∷ []) []
 
--- `b.dll` exports numbers 5 and 7
+-- `b.dll` exports ordinals 5 and 7
 abbrev exporting : Module
 exporting = with_tables (codes "b.dll") 0x20000000 (image 1 0 [] 0x20000000) ((5, keys.Rva 0x1004) ∷ (7, keys.Rva 0x1010) ∷ []) [] []
 
@@ -66,11 +66,11 @@ three = forwarding ∷ exporting ∷ importing_f ∷ []
 found_in_other_case : named three (codes "B.DLL") ≡ Some 1
 found_in_other_case = refl
 
--- one hop goes on to the module and the key of a forwarder
+-- one hop leads to the module and the key of a forwarder
 one_hop : hop three (codes "A.DLL", Name (codes "f")) ≡ Some (codes "b.dll", Ordinal 7)
 one_hop = refl
 
--- no second one goes on from an RVA
+-- no second one leads on from an RVA
 no_second_hop : after 2 three (codes "A.DLL", Name (codes "f")) ≡ None
 no_second_hop = refl
 
@@ -84,7 +84,7 @@ found_through : resolve three (codes "A.DLL") (Name (codes "f")) ≡ Bound 1 0x1
 unfolding resolve
 found_through = refl
 
--- between the numbers that `b.dll` exports
+-- between the ordinals that `b.dll` exports
 below_7 : resolve three (codes "b.dll") (Ordinal 6) ≡ Unknown
 unfolding resolve
 below_7 = refl
@@ -94,12 +94,12 @@ below_5 : resolve three (codes "b.dll") (Ordinal 4) ≡ Unknown
 unfolding resolve
 below_5 = refl
 
--- case counts in the names of exports
+-- case matters in the names of exports
 export_in_other_case : resolve three (codes "a.dll") (Name (codes "F")) ≡ Unknown
 unfolding resolve
 export_in_other_case = refl
 
--- `.dll` is added to what forwarders name, not to what imports name
+-- `.dll` is appended to what forwarders name, not to what imports name
 import_without_dot : resolve three (codes "b") (Ordinal 5) ≡ Missing
 unfolding resolve
 import_without_dot = refl
@@ -115,15 +115,15 @@ unfolding resolve
 forwarded_wrong = refl
 
 -- ---- how far a search goes
--- `f.dll` forwards each of its numbers below n + 1 to the next, and number n + 1 is this
+-- `f.dll` forwards each of its ordinals below n + 1 to the next, and ordinal n + 1 is this
 abbrev chain : ℕ → Target → Module
 chain n last = with_tables (codes "f.dll") 0x20000000 (image 0 0 [] 0x20000000) (map (λ k. (k, Forward (codes "f") (Ordinal (k + 1)))) (range_with_len 1 n) ++ (n + 1, last) ∷ []) [] []
 
--- `c.exe` imports its number 1
+-- `c.exe` imports its ordinal 1
 abbrev importing_1 : Module
 importing_1 = importing (import (codes "F.DLL") (Ordinal 1) 0x1030 ∷ [])
 
--- to an RVA behind 65 forwarders
+-- to an RVA after 65 forwarders
 far : resolve (chain 65 (keys.Rva 0x1004) ∷ []) (codes "F.DLL") (Ordinal 1) ≡ Bound 0 0x1004
 unfolding resolve
 far = refl
@@ -137,12 +137,12 @@ far_unknown : resolve (chain 65 (Forward (codes "f") (Ordinal 67)) ∷ []) (code
 unfolding resolve
 far_unknown = refl
 
--- the last goes back to number 33: 32 hops lead to the cycle, which has 34
+-- the last leads back to ordinal 33: 32 hops lead to the cycle, which has 34
 long_cycle : resolve (chain 65 (Forward (codes "f") (Ordinal 33)) ∷ []) (codes "F.DLL") (Ordinal 1) ≡ Endless 34
 unfolding resolve
 long_cycle = refl
 
--- a cycle of one behind 65
+-- a cycle of one after 65
 short_cycle : resolve (chain 65 (Forward (codes "f") (Ordinal 66)) ∷ []) (codes "F.DLL") (Ordinal 1) ≡ Endless 1
 unfolding resolve
 short_cycle = refl
@@ -176,7 +176,7 @@ bound_by_image : bindings_of (importing (import (codes "b.dll") (Ordinal 7) 0x10
 unfolding bindings_of resolve
 bound_by_image = refl
 
--- bases bear on no binding
+-- bases do not matter for bindings
 bound_at_other_bases : bindings_of (rebased (0x30000000 ∷ 0x40000000 ∷ []) three) ≡ bindings_of three
 unfolding bindings_of resolve
 bound_at_other_bases = refl
@@ -186,7 +186,7 @@ bound_at_other_bases = refl
 abbrev fault : ℕ → ℕ → ℕ → Fault
 fault number image slot = record { number = number; image = image; place = Rva slot }
 
--- none, where all searches come to an RVA
+-- none, if all searches end at an RVA
 all_bound : imports_errors Strict three ≡ []
 unfolding imports_errors resolve
 all_bound = refl
@@ -196,7 +196,7 @@ not_there : first_error (imports_errors Strict (forwarding ∷ importing_f ∷ [
 unfolding imports_errors resolve
 not_there = refl
 
--- that is no fault where only what is known is bound
+-- that is no fault if unknown modules are left unbound
 left_alone : imports_errors Known (forwarding ∷ importing_f ∷ []) ≡ []
 unfolding imports_errors resolve
 left_alone = refl
@@ -211,7 +211,7 @@ all_alone : first_error (imports_errors Strict (importing_f ∷ [])) ≡ Some (e
 unfolding imports_errors resolve
 all_alone = refl
 
--- `c.exe` imports a number that `b.dll` does not export
+-- `c.exe` imports an ordinal that `b.dll` does not export
 abbrev importing_6 : Module
 importing_6 = importing (import (codes "b.dll") (Ordinal 6) 0x1030 ∷ [])
 
@@ -220,12 +220,12 @@ not_exported : first_error (imports_errors Strict (exporting ∷ importing_6 ∷
 unfolding imports_errors resolve
 not_exported = refl
 
--- and also where only what is known is bound: the module is known
+-- and also if unknown modules are left unbound: this module is known
 not_exported_known : first_error (imports_errors Known (exporting ∷ importing_6 ∷ [])) ≡ Some (errors.Fault (fault 49 1 0x1030))
 unfolding imports_errors resolve
 not_exported_known = refl
 
--- 49: also behind 65 forwarders
+-- 49: also after 65 forwarders
 not_exported_far : first_error (imports_errors Strict (chain 65 (Forward (codes "f") (Ordinal 67)) ∷ importing_1 ∷ [])) ≡ Some (errors.Fault (fault 49 1 0x1030))
 unfolding imports_errors resolve
 not_exported_far = refl
@@ -243,7 +243,7 @@ cycle_of_one : resolve (circling ∷ importing_f ∷ []) (codes "A.DLL") (Name (
 unfolding resolve
 cycle_of_one = refl
 
--- the same as `a.dll` and `b.dll`, of which number 7 goes back
+-- the same of `a.dll` and `b.dll`, whose ordinal 7 leads back
 abbrev circling_by_two : List Module
 circling_by_two = forwarding ∷ with_tables (codes "b.dll") 0x20000000 (image 1 0 [] 0x20000000) ((7, Forward (codes "a") (Name (codes "f"))) ∷ []) [] [] ∷ importing_f ∷ []
 
@@ -261,7 +261,7 @@ met_twice : resolve (with_tables (codes "a.dll") 0x10000000 (image 0 0 [] 0x1000
 unfolding resolve
 met_twice = refl
 
--- the first import with a fault decides, whatever its number
+-- the first import with a fault counts, whatever the fault's number
 first_import : first_error (imports_errors Strict (exporting ∷ importing (import (codes "b.dll") (Ordinal 5) 0x1030 ∷ import (codes "b.dll") (Ordinal 6) 0x1034 ∷ import (codes "d.dll") (Ordinal 5) 0x1038 ∷ []) ∷ []))
     ≡ Some (errors.Fault (fault 49 1 0x1034))
 unfolding imports_errors resolve
@@ -277,16 +277,16 @@ all_fit = refl
 abbrev plus : Module
 plus = record exporting { magic = Pe32Plus; base = 0x180000000 }
 
--- 43: a PE32+ image behind a PE32 one
+-- 43: a PE32+ image after a PE32 one
 other_magic : first_standing (places_tests (forwarding ∷ plus ∷ [])) ≡ Some (record { number = 43; image = 1; place = Item 1 })
 unfolding places_tests
 other_magic = refl
 
--- 43 is asked of the first image, not of the one before
+-- 43 compares with the first image, not with the one before
 magic_of_the_first : first_standing (placing_tests (forwarding ∷ plus ∷ exporting ∷ []) 2 exporting) ≡ None
 magic_of_the_first = refl
 
--- PE32+ images alone
+-- only PE32+ images
 all_plus : first_standing (places_tests (record forwarding { magic = Pe32Plus } ∷ plus ∷ [])) ≡ None
 unfolding places_tests
 all_plus = refl
@@ -301,7 +301,7 @@ by_image : first_standing (places_tests (forwarding ∷ record exporting { base 
 unfolding places_tests
 by_image = refl
 
--- and 43 counts before the others of one image
+-- and 43 comes before the others of one image
 magic_before_base : first_standing (places_tests (forwarding ∷ record plus { base = 0x180008000 } ∷ [])) ≡ Some (record { number = 43; image = 1; place = Item 1 })
 unfolding places_tests
 magic_before_base = refl

@@ -1,4 +1,4 @@
--- The fields and bound slots of an accepted set are in order, and so are the places of its images.
+-- The fields and bound slots of an accepted set are sound, and so are the places of its images.
 use Rattle.std.proofs.Common.{◌≡◌, ◌∙◌, ◌+◌, ◌*◌, ◌%◌, ◌≤◌, ℕ, zero, suc, List, [], ◌∷◌, length, None, Some, refl, sym, ap, subst, arith}
 use Rattle.std.specs.Prelude.{slice_get, All, AllPairs}
 use Rattle.std.proofs.lemmas.Bool.{ltb-false}

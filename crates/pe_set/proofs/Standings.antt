@@ -1,4 +1,4 @@
--- Maps by where a search stands.
+-- Maps by where a search is.
 use Rattle.std.proofs.Common.{◌≡◌, ◌≢◌, ◌∙◌, ◌⊎◌, ℕ, zero, suc, List, [], ◌∷◌, None, Some, refl, sym, ap, subst, inl, inr}
 use Rattle.std.specs.Prelude.{slice_get}
 use Rattle.std.specs.Cmp.{Equal-is}
@@ -46,7 +46,7 @@ pub tied_place : (a b : Standing) → stand_view a ≡ stand_view b → compare 
 tied_place a b same = compare_is a b ∙ ap (by_view (stand_view a)) (sym same) ∙ sym (compare_is a a) ∙ tied_itself total-law a
 
 module _ {X : Type 0} (at : Standing) where
-  -- an entry that is found is of this place
+  -- an entry that is found has this place
   pub found_place : (entries : List (Standing × X)) (x : X) → lookup (is_at (compare at)) entries ≡ Some x
       → (i : ℕ) × (known : Standing × X) × (slice_get entries i ≡ Some known) × (stand_view at ≡ stand_view known.0) × (known.1 ≡ x)
   found_place entries x is =
@@ -59,7 +59,7 @@ module _ {X : Type 0} (at : Standing) where
   lacks_step known entries Equal is none = let test = ap is_eq is in absurd cc
   lacks_step known entries Greater is none = ((λ same. let tied = tied_place at known.0 (sym same) in absurd cc), (let test = ap is_eq is in rw test at none))
 
-  -- where none is found, no entry is of this place
+  -- if none is found, no entry has this place
   pub lacks_place : (entries : List (Standing × X)) → lookup (is_at (compare at)) entries ≡ None → (i : ℕ) (known : Standing × X) → slice_get entries i ≡ Some known → stand_view known.0 ≢ stand_view at
   lacks_place [] none i known is = absurd cc
   lacks_place (x ∷ entries) none zero known is = let first = same_Some x known is in subst (λ (e : Standing × X). stand_view e.0 ≢ stand_view at) first (lacks_step x entries (compare at x.0) refl none).0
@@ -85,7 +85,7 @@ module _ {X : Type 0} (at : Standing) where
     from_step x entries rest Greater is later zero known got = inl (0, got)
     from_step x entries rest Greater is later (suc i) known got = old_later x known entries (later i known got)
 
-    -- an entry after one was put in is an old one or the new one
+    -- an entry after one was added is an old one or the new one
     pub from_inserted : (entries : List (Standing × X)) (i : ℕ) (known : Standing × X) → slice_get (insert_entry compare entries at value) i ≡ Some known → Old entries known ⊎ New known
     from_inserted [] zero known got = let first = same_Some (at, value) known got in inr (subst New first (refl, refl))
     from_inserted [] (suc i) known got = absurd cc
@@ -101,7 +101,7 @@ module _ {X : Type 0} (at : Standing) where
     kept_step x entries rest Greater is later zero known got other = (0, got)
     kept_step x entries rest Greater is later (suc i) known got other = let kept = later i known got other in (suc kept.0, kept.1)
 
-    -- the entries of other places are kept
+    -- the entries of other places remain
     pub kept_inserted : (entries : List (Standing × X)) (i : ℕ) (known : Standing × X) → slice_get entries i ≡ Some known → stand_view known.0 ≢ stand_view at → Old (insert_entry compare entries at value) known
     kept_inserted [] i known got other = absurd cc
     kept_inserted (x ∷ entries) i known got other = kept_step x entries (insert_entry compare entries at value) (compare at x.0) refl (kept_inserted entries) i known got other

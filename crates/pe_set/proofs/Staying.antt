@@ -1,4 +1,4 @@
--- What other bases leave of what may be wrong with a set: all but where its images stand.
+-- The faults of a set at other bases: all but where its images are remain the same.
 use Rattle.std.proofs.Common.{◌≡◌, ◌∙◌, ◌+◌, ◌==◌, ℕ, zero, suc, List, [], ◌∷◌, ◌++◌, Bool, take, None, refl, ap}
 use Rattle.std.specs.Prelude.{◌||◌}
 use Rattle.std.specs.List.{list_any, flat_map}
@@ -82,7 +82,7 @@ imports_rebased policy bases s = imports_within policy bases s 0 (rebased bases 
 imports_stay : (policy : Policy) (bases : List ℕ) (es : List Entry) → imports_errors policy (modules_of (at_bases bases es)) ≡ imports_errors policy (modules_of es)
 imports_stay policy bases es = ap (imports_errors policy) (images_at bases es) ∙ imports_rebased policy bases (modules_of es)
 
--- a set that is accepted is accepted at all bases at which its images may stand
+-- an accepted set is accepted at all bases at which its images may be
 pub accepted_at : (policy : Policy) (es : List Entry) (bases : List ℕ) → set_error policy es ≡ None
     → first_standing (places_tests (modules_of (at_bases bases es))) ≡ None → set_error policy (at_bases bases es) ≡ None
 accepted_at policy es bases none placed =

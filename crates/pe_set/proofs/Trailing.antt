@@ -1,4 +1,4 @@
--- Trails by exporter and end: one that is taken out, and one that is put in.
+-- Trails by exporter and end: one that is taken out, and one that is added.
 use Rattle.std.proofs.Common.{◌≡◌, ◌∙◌, ℕ, Bool, true, false, cond, List, [], Option, None, Some, refl, sym, ap, subst, inl, inr}
 use Rattle.std.specs.Prelude.{IfSome, option_map, slice_get}
 use Rattle.std.specs.Ordering.{is_eq}
@@ -33,7 +33,7 @@ module _ {A : Type 0} (modules : List (code_module.Module A)) (file : List ℕ) 
     right = λ number end trail m got there. absurd (let missing = sym (ap (lookup (is_at (query_cmp (number, end)))) none) ∙ got in cc);
   }
 
-  -- whatever texts are known besides
+  -- whatever string ends are remembered besides
   pub trails_kept : (old new : Trails A) → AreTrailsOf modules file old → AreEndsOf file new.texts → new.trails ≡ old.trails → AreTrailsOf modules file new
   trails_kept old new known ends same = record {
     ends = ends;

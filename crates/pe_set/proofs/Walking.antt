@@ -1,4 +1,4 @@
--- A search and its path: where it stood after each hop, and what follows for its end.
+-- A search and its path: where it was after each hop, and what follows for its end.
 use Rattle.std.proofs.Common.{◌≡◌, ◌∙◌, ◌<◌, ◌+◌, ◌-◌, ◌≤◌, ◌++◌, ℕ, suc, List, [], ◌∷◌, length, Some, refl, sym, ap, arith, inl, inr, get_or}
 use Rattle.std.specs.Prelude.{option_map, slice_get}
 use Rattle.std.proofs.lemmas.Bool.{cases_lt}
@@ -19,7 +19,7 @@ use Rattle.pe_set.proofs.PairNumbers.{pair_number, number_in, number_same}
 use Rattle.pe_set.proofs.Returning.{IsReturn, return_is_cycle, return_never}
 use Rattle.pe_set.proofs.Searching.{resolve_hop, stand_step}
 
--- a place is that of one image and key
+-- a place is that of only one image and key
 pub one_stand : (p q : ℕ × Key) → stand_of p ≡ stand_of q → p ≡ q
 one_stand (i, Ordinal n) (j, Ordinal m) same =
     let number : suc n ≡ suc m = ap (λ (at : Stand). at.1) same in
@@ -28,15 +28,15 @@ one_stand (i, Ordinal n) (j, Name text) same = let number : suc n ≡ 0 = ap (λ
 one_stand (i, Name text) (j, Ordinal n) same = let number : 0 ≡ suc n = ap (λ (at : Stand). at.1) same in absurd (omega (arith, number))
 one_stand (i, Name text) (j, Name other) same = ap (λ (k : ℕ). (k, Name text)) (ap (λ (at : Stand). at.0) same) ∙ ap (λ (t : List ℕ). (j, Name t)) (ap (λ (at : Stand). at.3) same)
 
--- ---- where a search stood after so many hops: at a forwarder
+-- ---- where a search was after so many hops: at a forwarder
 abbrev pub Stood : List Module → List ℕ → Key → ℕ → Stand → Type 0
 Stood s name key i at = (p : ℕ × Key) × (at ≡ stand_of p) × (stands s name key i ≡ Some p) × (to : List ℕ) × (next : Key) × (target_in s p.1 p.0 ≡ Some (Forward to next))
 
--- a search that stands there ends as one does that stands at a name and a key
+-- a search from there ends as one from a name and a key does
 abbrev pub Leads : List Module → List ℕ → Key → Stand → Type 0
 Leads s name key at = (p : ℕ × Key) × (at ≡ stand_of p) × ((n : ℕ) (end : Resolution) → resolve_in n s name key ≡ Some end → EndsFrom s end p)
 
--- a search that began at a name and a key has come by the places of a path to another name and key
+-- a search from a name and a key has passed the places of a path and is at another name and key
 pub record Walked (s : List Module) (from : List ℕ) (wanted : Key) (path : List Stand) (name : List ℕ) (key : Key) : Type 0 where
   pub stood : (i : ℕ) (at : Stand) → slice_get path i ≡ Some at → Stood s from wanted i at
   pub here : stands s from wanted (length path) ≡ stand_at s name key
@@ -131,7 +131,7 @@ module _ (s : List Module) (from : List ℕ) (wanted : Key) where
             absurd (omega (arith, lt, one)))
       ]
 
-      -- ---- a search that comes to a place of its path runs in a cycle
+      -- ---- a search that comes back to a place of its path runs in a cycle
       module _ (i : ℕ) (named_so : named s name ≡ Some i) (first : ℕ) (before : slice_get path first ≡ Some (stand_of (i, key))) where
         comes_to : (k : ℕ) (at : Stand) → slice_get path k ≡ Some at → stands s from wanted k ≡ Some (i, key) → at ≡ stand_of (i, key)
         comes_to k at is there =

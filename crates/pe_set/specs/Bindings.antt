@@ -15,7 +15,7 @@ bound_to i slot Missing = None
 bound_to i slot Unknown = None
 bound_to i slot (Endless length) = None
 
--- what an import of image i is bound to
+-- the binding of an import of image i, if any
 abbrev pub binding_of : List Module → ℕ → Import → Option Binding
 binding_of s i x = bound_to i x.slot (resolve s x.module_name x.key)
 

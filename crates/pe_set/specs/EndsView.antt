@@ -1,4 +1,4 @@
--- What is known of how searches end. No contract of a public function cites it.
+-- The searches whose ends are remembered. No contract of a public function cites it.
 use Rattle.std.specs.Prelude.{◌≡◌, ℕ, List, Some, slice_get}
 use Rattle.pe_tables.specs.Key.{Key}
 use Rattle.pe_set.specs.Set.{Module}
@@ -8,7 +8,7 @@ use Rattle.pe_set.specs.declared.ends.Ends.{Ends}
 use Rattle.pe_set.specs.declared.search.Resolution.{Resolution}
 use Rattle.pe_set.specs.declared.standing.Standing.{Standing}
 
--- a search that comes to this place ends so
+-- a search that passes this place ends so
 abbrev pub IsEnd : List Module → Standing × Resolution → Type 0
 IsEnd s known = (p : ℕ × Key) → stand_view known.0 ≡ stand_of p → EndsFrom s known.1 p
 

@@ -5,7 +5,7 @@ use Rattle.std.specs.Str.{bytes_eq, str_to_ascii_lowercase}
 use Rattle.pe_set.specs.Set.{Module, same_name}
 use Rattle.pe_set.specs.declared.module_names.Names.{Names}
 
--- as they are held, in lower case
+-- as they are stored, in lower case
 abbrev pub names_in : {A : Type 0} → Names A → List (List ℕ)
 names_in names = map (λ name. name.items) names.names.keys
 
@@ -21,6 +21,6 @@ AreDistinct s = (i : ℕ) (m : Module) → slice_get s i ≡ Some m → list_any
 abbrev pub found : List (List ℕ) → List ℕ → Option ℕ
 found names name = position (λ other. bytes_eq (str_to_ascii_lowercase name) other) names
 
--- two texts are the same name of these, or neither is one
+-- two strings are the same name of these, or neither is one
 abbrev pub FoundAlike : List (List ℕ) → List ℕ → List ℕ → Type 0
 FoundAlike names text other = position (λ name. bytes_eq text name) names ≡ position (λ name. bytes_eq other name) names

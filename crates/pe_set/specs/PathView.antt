@@ -31,10 +31,10 @@ Adds old new at back = MatchOption back
     ((new ≡ old ++ at ∷ []) × ((i : ℕ) → slice_get old i ≢ Some at))
     (λ hops. (new ≡ old) × (first : ℕ) × (slice_get old first ≡ Some at) × (hops ≡ length old - first))
 
--- a search that comes to a place ends so
+-- a search that passes a place ends so
 abbrev pub EndsSo : List Module → Resolution → Stand → Type 0
 EndsSo s end at = (p : ℕ × Key) × (at ≡ stand_of p) × EndsFrom s end p
 
--- where a search ends, those end as it does that come to a place of its path
+-- all searches that pass a place of its path end as it does
 abbrev pub LeadsTo : List Module → List ℕ → Key → Resolution → List Stand → Type 0
 LeadsTo s name key end path = (n : ℕ) → resolve_in n s name key ≡ Some end → (i : ℕ) (at : Stand) → slice_get path i ≡ Some at → EndsSo s end at

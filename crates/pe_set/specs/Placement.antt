@@ -1,4 +1,4 @@
--- Where an image stands, and what decides where it may stand.
+-- Where an image is, and what decides where it may be.
 use Rattle.std.specs.Prelude.{ℕ, suc, ◌+◌, ◌%◌, ◌^◌, ◌==◌, Bool, false, not, ◌&&◌, nat_lt, List, [], ◌∷◌, ◌++◌, length, take, drop, slice_index_or}
 use Rattle.std.specs.List.{list_any}
 use Rattle.pe_view.specs.declared.fault.Place.TheVariants.{Address, Item}
@@ -24,7 +24,7 @@ address_limit Pe32Plus = 2 ^ 64
 abbrev pub overlap : Placement → Placement → Bool
 overlap p q = meets p.base p.size q.base q.size
 
--- faults 44 to 47 of image i, beside other images
+-- faults 44 to 47 of image i, with other images
 abbrev pub base_tests : List Placement → ℕ → Placement → List Test
 base_tests others i p =
     test 44 i (Address p.base) (not (p.base % 65536 == 0))
@@ -33,7 +33,7 @@ base_tests others i p =
     ∷ test 47 i (Address p.base) (list_any (overlap p) others)
     ∷ []
 
--- where no image stands
+-- the placement of no image
 abbrev pub no_placement : Placement
 no_placement = record { base = 0; size = 0; magic = Pe32; image_base = 0; is_stripped = false }
 
@@ -44,6 +44,6 @@ placement_at ps i = slice_index_or ps i no_placement
 abbrev pub others_than : ℕ → List Placement → List Placement
 others_than i ps = take i ps ++ drop (suc i) ps
 
--- faults 55 and 44 to 47 of a move of image i to a base, which looks at every other image, and not at where image i stood
+-- faults 55 and 44 to 47 of a move of image i to a base, which tests it with every other image, whatever base it had before
 abbrev pub move_tests : List Placement → ℕ → ℕ → List Test
 move_tests ps i base = test 55 i (Item i) (not (nat_lt i (length ps))) ∷ base_tests (others_than i ps) i (record (placement_at ps i) { base = base })

@@ -1,4 +1,4 @@
--- The search for what a key of a module stands for, through forwarders ("PE Format", Export Address Table).
+-- The search for the export of a module by a key, through forwarders ("PE Format", Export Address Table).
 use Rattle.std.specs.Prelude.{ℕ, zero, suc, ◌+◌, ◌==◌, ◌&&◌, Bool, false, List, [], ◌∷◌, length, Option, Some, None, slice_get, option_map, option_and_then, if◌then◌else◌}
 use Rattle.std.specs.Str.{bytes_eq}
 use Rattle.pe_tables.specs.Key.{Key, Ordinal, Name, Target, Rva, Forward}
@@ -11,24 +11,24 @@ use Rattle.pe_set.specs.declared.search.Resolution.TheVariants.{Bound, Missing, 
 abbrev pub target_in : List Module → Key → ℕ → Option Target
 target_in s key i = option_and_then (λ (m : Module). target_at m.exports key) (slice_get s i)
 
--- how a search goes on from what image i exports: an RVA ends it, a forwarder is one hop
+-- how a search continues from what image i exports: an RVA ends it, a forwarder is one hop
 abbrev pub from_target : (List ℕ → Key → Option Resolution) → ℕ → Option Target → Option Resolution
 from_target next i None = Some Unknown
 from_target next i (Some (Rva rva)) = Some (Bound i rva)
 from_target next i (Some (Forward name key)) = next (forwarded_name name) key
 
--- how it goes on from the image that a name names
+-- how it continues from the image that a name names
 abbrev pub from_image : List Module → (List ℕ → Key → Option Resolution) → Key → Option ℕ → Option Resolution
 from_image s next key None = Some Missing
 from_image s next key (Some i) = from_target next i (target_in s key i)
 
--- where a search ends that looks in at most n modules; none where it has not ended by then
+-- how a search ends that looks in at most n modules; none if it has not ended by then
 abbrev pub resolve_in : ℕ → List Module → List ℕ → Key → Option Resolution
 resolve_in zero s name key = None
 resolve_in (suc n) s name key = from_image s (resolve_in n s) key (named s name)
 
--- ---- the images and keys at which it stands
--- where the module is an image of the set
+-- ---- the images and keys that it passes
+-- if the module is an image of the set
 abbrev pub stand_at : List Module → List ℕ → Key → Option (ℕ × Key)
 stand_at s name key = option_map (λ i. (i, key)) (named s name)
 
@@ -66,7 +66,7 @@ abbrev pub same_stand : ℕ × Key → Option (ℕ × Key) → Bool
 same_stand p None = false
 same_stand p (Some q) = p.0 == q.0 && same_key p.1 q.1
 
--- after how many hops a search that stands at q stands at p, at most n
+-- how many hops, at most n, a search at q takes to p
 abbrev pub steps_to : ℕ → List Module → ℕ × Key → Option (ℕ × Key) → ℕ
 steps_to zero s p q = 0
 steps_to (suc n) s p q = suc (if same_stand p (option_and_then (step s) q) then 0 else steps_to n s p (option_and_then (step s) q))
@@ -75,7 +75,7 @@ abbrev pub cycle_at : ℕ → List Module → Option (ℕ × Key) → ℕ
 cycle_at n s None = 0
 cycle_at n s (Some p) = steps_to n s p (Some p)
 
--- the length of the cycle of a search that does not end: after one hop more than there are pairs it stands on the cycle
+-- the length of the cycle of a search that does not end: after one hop more than there are pairs it is on the cycle
 abbrev pub cycle_length : List Module → List ℕ → Key → ℕ
 cycle_length s name key = cycle_at (pairs_of s) s (stands s name key (suc (pairs_of s)))
 
@@ -83,6 +83,6 @@ abbrev pub ended : ℕ → Option Resolution → Resolution
 ended length None = Endless length
 ended length (Some end) = end
 
--- where a search ends: after at most as many hops as there are pairs, or never
+-- how a search ends: after at most as many hops as there are pairs, or never
 unfoldable pub resolve : List Module → List ℕ → Key → Resolution
 resolve s name key = ended (cycle_length s name key) (resolve_in (suc (pairs_of s)) s name key)

@@ -1,4 +1,4 @@
--- Sets of images: named files with bases, and what the files hold.
+-- Sets of images: named files with bases, and the contents of the files.
 use Rattle.std.specs.Prelude.{◌≡◌, ℕ, ◌+◌, ◌==◌, Bool, List, [], ◌∷◌, ◌++◌, Option, if◌then◌else◌, position, map}
 use Rattle.std.specs.List.{list_any}
 use Rattle.std.specs.Str.{str_eq_ignore_ascii_case}
@@ -11,13 +11,13 @@ use Rattle.pe_tables.specs.Fixups.{fixups_of}
 use Rattle.pe_tables.specs.declared.fixups.Fixup.{Fixup}
 use Rattle.pe_set.specs.Placement.{Placement}
 
--- what the caller hands in for an image
+-- an image as the caller passes it
 pub record Entry : Type 0 where
   pub name : List ℕ
   pub file : List ℕ
   pub base : ℕ
 
--- an image of a set: its name, its base, and what its file holds
+-- an image of a set: its name, its base, and the contents of its file
 pub record Module : Type 0 where
   pub name : List ℕ
   pub base : ℕ
@@ -27,7 +27,7 @@ pub record Module : Type 0 where
   pub imports : List Import
   pub fixups : List Fixup
 
--- an image with the tables that its bytes hold
+-- an image with the tables in its bytes
 abbrev pub module_from : List ℕ → ℕ → Magic → LaidOut → Module
 module_from name base magic image = record {
   name = name;
@@ -51,7 +51,7 @@ modules_from n (e ∷ es) = module_of n e ∷ modules_from (n + 1) es
 unfoldable pub modules_of : List Entry → List Module
 modules_of es = modules_from 0 es
 
--- where an image of a set stands
+-- where an image of a set is
 abbrev pub placement_of : Module → Placement
 placement_of m = record {
   base = m.base;
@@ -61,17 +61,17 @@ placement_of m = record {
   is_stripped = m.image.is_stripped;
 }
 
--- where entries stand
+-- the bases of entries
 abbrev pub bases_of : List Entry → List ℕ
 bases_of es = map (λ (e : Entry). e.base) es
 
--- the same entries at these bases; one for which there is none keeps its own
+-- the same entries at these bases; those after the last base keep their own
 abbrev pub at_bases : List ℕ → List Entry → List Entry
 at_bases [] es = es
 at_bases (base ∷ bases) [] = []
 at_bases (base ∷ bases) (e ∷ es) = record e { base = base } ∷ at_bases bases es
 
--- the same images at these bases; one for which there is none keeps its own
+-- the same images at these bases; those after the last base keep their own
 abbrev pub rebased : List ℕ → List Module → List Module
 rebased [] s = s
 rebased (base ∷ bases) [] = []
@@ -92,6 +92,6 @@ same_name a b = str_eq_ignore_ascii_case a b
 abbrev pub named : List Module → List ℕ → Option ℕ
 named s name = position (λ (m : Module). same_name name m.name) s
 
--- the module that a forwarder names: `.dll` is added where its name has no dot
+-- the module that a forwarder names: `.dll` is appended if its name has no dot
 abbrev pub forwarded_name : List ℕ → List ℕ
 forwarded_name name = if list_any (λ byte. byte == 46) name then name else name ++ 46 ∷ 100 ∷ 108 ∷ 108 ∷ []

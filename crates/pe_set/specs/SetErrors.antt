@@ -20,7 +20,7 @@ use Rattle.pe_set.specs.declared.error.MapError.TheVariants as errors
 abbrev pub slot_fault : ℕ → ℕ → ℕ → Fault
 slot_fault number i slot = record { number = number; image = i; place = Rva slot }
 
--- the error of an import whose search ends in this way: 50 is that of a cycle, and has its length
+-- the error of an import whose search ends in this way; fault 50 is a cycle with its length
 abbrev pub end_errors : Policy → ℕ → ℕ → Resolution → List MapError
 end_errors policy i slot (Bound image rva) = []
 end_errors policy i slot Missing = if is_strict policy then errors.Fault (slot_fault 48 i slot) ∷ [] else []
@@ -38,12 +38,12 @@ abbrev pub first_error : List MapError → Option MapError
 first_error [] = None
 first_error (error ∷ later) = Some error
 
--- the faults that stand, as errors
+-- the faults of tests, as errors
 abbrev pub faults_in : List Test → List MapError
 faults_in [] = []
 faults_in (t ∷ ts) = if t.stands then errors.Fault t.fault ∷ faults_in ts else faults_in ts
 
--- all errors of a set, in the order in which they count: of its names, of its files, of its places, of its imports
+-- all errors of a set, in order: of its names, of its files, of its places, of its imports
 unfoldable pub set_errors : Policy → List Entry → List MapError
 set_errors policy es =
     faults_in (names_tests es)
@@ -51,22 +51,22 @@ set_errors policy es =
     ++ (faults_in (places_tests (modules_of es))
     ++ imports_errors policy (modules_of es)))
 
--- the error of a set: the first that counts
+-- the first error of a set
 abbrev pub set_error : Policy → List Entry → Option MapError
 set_error policy es = first_error (set_errors policy es)
 
--- an error is this one, or want of memory
+-- an error is this one, or out of memory
 abbrev pub ErrorIs : Option MapError → MapError → Type 0
 ErrorIs first errors.Memory = Unit {0}
 ErrorIs first (errors.Fault fault) = first ≡ Some (errors.Fault fault)
 ErrorIs first (errors.Cycle fault length) = first ≡ Some (errors.Cycle fault length)
 
--- Ok, of a value with the property, only where there is no error; otherwise the error, or want of memory
+-- Ok, with a value that has the property, only if there is no error; otherwise the error, or out of memory
 abbrev pub SetAnswers : {X : Type 0} → Option MapError → (X → Type 0) → Result X MapError → Type 0
 SetAnswers first P (Ok x) = (first ≡ None) × P x
 SetAnswers first P (Err error) = ErrorIs first error
 
--- ---- what a cycle tells of
+-- ---- the import of a cycle
 -- import number `index` of an image has the fault at its slot, and the search for it never ends, in a cycle of this length
 pub record IsCycleOf (s : List Module) (fault : Fault) (length : ℕ) : Type 0 where
   pub image : ℕ

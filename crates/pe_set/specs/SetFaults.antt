@@ -1,4 +1,4 @@
--- What may be wrong with the names of a set, with each image's file, and with where the images stand.
+-- The faults of the names of a set, of each image's file, and of where the images are.
 use Rattle.std.specs.Prelude.{◌≡◌, ℕ, ◌==◌, Bool, true, false, not, List, [], ◌∷◌, take, map, None, Some, Result, Ok, Err}
 use Rattle.std.specs.List.{list_any}
 use Rattle.pe_view.specs.declared.fault.Place.TheVariants.{Item}
@@ -16,14 +16,14 @@ use Rattle.pe_set.specs.declared.entry.Policy.TheVariants.{Strict, Known}
 use Rattle.pe_set.specs.declared.error.MapError.{MapError}
 use Rattle.pe_set.specs.declared.error.MapError.TheVariants as errors
 
--- entry i, where it is one too many, or an earlier one has its name
+-- entry i, if it is one too many, or an earlier one has its name
 abbrev pub name_tests : List Entry → ℕ → Entry → List Test
 name_tests es i e =
     test 41 i (Item i) (i == 256)
     ∷ test 42 i (Item i) (list_any (λ (before : Entry). same_name e.name before.name) (take i es))
     ∷ []
 
--- faults 41 and 42: what follows entry 256 does not count, as 41 stands there
+-- faults 41 and 42: entries after number 256 do not matter, since 41 holds for that one
 unfoldable pub names_tests : List Entry → List Test
 names_tests es = numbered (name_tests es) 0 es
 
@@ -53,14 +53,14 @@ abbrev pub is_strict : Policy → Bool
 is_strict Strict = true
 is_strict Known = false
 
--- ---- what is answered
--- the first fault that stands of names, files or places, among which there is no cycle; want of memory may stand in its place
+-- ---- the results
+-- the first fault of names, files or places, none of which is a cycle; or out of memory
 abbrev pub RefusesClass : List Test → MapError → Type 0
 RefusesClass tests errors.Memory = Unit {0}
 RefusesClass tests (errors.Fault fault) = first_standing tests ≡ Some fault
 RefusesClass tests (errors.Cycle fault length) = ⊥
 
--- Ok, of a value with the property, only where no test stands; otherwise the first fault that does, or want of memory
+-- Ok, with a value that has the property, only if no test holds; otherwise the first fault, or out of memory
 abbrev pub ClassAnswers : {X : Type 0} → List Test → (X → Type 0) → Result X MapError → Type 0
 ClassAnswers tests P (Ok x) = (first_standing tests ≡ None) × P x
 ClassAnswers tests P (Err error) = RefusesClass tests error

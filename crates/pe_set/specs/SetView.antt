@@ -1,4 +1,4 @@
--- What contracts see of a set, and of its images once they are read.
+-- A set, and its images once they are read, as contracts see them.
 use Rattle.std.specs.Prelude.{◌≡◌, List, map}
 use Rattle.pe_layout.specs.Layout.{headers_of, image_of}
 use Rattle.pe_tables.specs.ExportsView.{exports_view}
@@ -29,7 +29,7 @@ module_view m = record {
 abbrev pub modules_view : {A : Type 0} → List (code_module.Module A) → List Module
 modules_view modules = map module_view modules
 
--- what is accepted is the images of these entries and their bindings
+-- what is accepted are the images of these entries and their bindings
 pub record IsAcceptedFrom {A : Type 0} (es : List Entry) (accepted : Accepted A) : Type 0 where
   pub modules : modules_view accepted.modules.items ≡ modules_of es
   pub bindings : accepted.bindings.items ≡ bindings_of (modules_of es)

@@ -1,4 +1,4 @@
--- What holds of the images of each set that is accepted, and of its bound slots.
+-- What holds for the images of each accepted set, and for its bound slots.
 use Rattle.std.specs.Prelude.{◌≡◌, ◌+◌, ◌*◌, ◌%◌, ◌<◌, ◌≤◌, ◌^◌, ℕ, List, Some, All, AllPairs, length, slice_get}
 use Rattle.pe_layout.specs.Image.{slot_width_of}
 use Rattle.pe_tables.specs.Fixups.{width_of, range_of}

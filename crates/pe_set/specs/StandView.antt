@@ -1,4 +1,4 @@
--- Where a search stands, as it is looked up. No contract of a public function cites it.
+-- Where a search is, as maps store it. No contract of a public function cites it.
 use Rattle.std.specs.Prelude.{ℕ, suc, List, [], length}
 use Rattle.pe_tables.specs.Key.{Key, Ordinal, Name}
 use Rattle.pe_set.specs.declared.standing.Standing.{Standing}

@@ -1,4 +1,4 @@
--- How far an image's long names are known to the exports of others. No contract of a public function cites it.
+-- The trails of an image's long names in the exports of others. No contract of a public function cites it.
 use Rattle.std.specs.Prelude.{◌≡◌, ℕ, List, Some, slice_get}
 use Rattle.std.specs.BTreeMap.{get}
 use Rattle.pe_view.specs.TextEnds.{AreEndsOf}

@@ -1,4 +1,4 @@
-//! `Binding`: a slot and the export that it is bound to; and faults 48 to 50 of imports.
+//! `Binding`: an import address table entry and the export that it is bound to; and faults 48 to 50 of imports.
 
 ghost use Rattle.std.specs.Prelude.{◌≡◌, ◌++◌, ◌≤◌, ◌^◌, length, All, IsOk, OnOk};
 ghost use Rattle.std.specs.List.{flat_map, filter_map};
@@ -27,7 +27,7 @@ use pe_tables::Import;
 use pe_view::{Fault, Place};
 use std::alloc::Allocator;
 
-/// A slot of an image that holds the address of an export.
+/// An import address table entry, called slot here, and the export whose address it holds.
 #[derive(Clone, Copy, Debug, PartialEq, Eq)]
 pub struct Binding {
     /// The number of the image that has the slot.
@@ -40,8 +40,8 @@ pub struct Binding {
     pub rva: u32,
 }
 
-/// What a slot is bound to where the search for its import ends in this way, or the fault that this is: 48, 49, or 50 with the
-/// length of the cycle.
+/// The binding of a slot by how the search for its import ended, `None` if the slot is left as it is, or the fault: 48, 49, or 50
+/// with the length of the cycle.
 fn bound(
     policy: Policy,
     image: u16,
@@ -76,9 +76,9 @@ fn bound(
     }
 }
 
-/// Binds the imports of image `number`, which has this layout, or answers the first of their faults 48 to 50. A module's name is
-/// looked up once for the imports in a row that name it, and a long name of an export once for all imports that share it. `buffer` has
-/// room for names while it runs.
+/// Binds the imports of image `number`, which has this layout, or returns the first of their faults 48 to 50. A module's name is
+/// looked up once for consecutive imports from it, and a long name of an export once for all imports that share it. `buffer` is
+/// scratch space for names.
 fn bind_imports<'a, A: Allocator + Copy>(
     modules: &[Module<'a, A>],
     names: &Names<A>,
@@ -132,7 +132,7 @@ fn bind_imports<'a, A: Allocator + Copy>(
     Ok(())
 }
 
-/// Binds the imports of all images, image by image, or answers the first of their faults 48 to 50.
+/// Binds the imports of all images, image by image, or returns the first of their faults 48 to 50.
 pub(crate) fn bind<A: Allocator + Copy>(
     alloc: A,
     modules: &[Module<A>],

@@ -9,17 +9,17 @@ use std::alloc::{AllocError, AllocFailed};
 /// Why a set of images is not accepted, or not mapped.
 #[derive(Clone, Copy, Debug, PartialEq, Eq)]
 pub enum MapError {
-    /// The set breaks a rule: this is its first fault, which is not 50.
+    /// The first fault of the set, which is not 50.
     Fault(Fault),
     /// The first fault of the set is 50: the search for an import runs in a cycle of forwarders.
     Cycle {
         /// The fault, at the slot of the import.
         fault: Fault,
-        /// How long the cycle is: the least number of hops, above 0, after which the search stands at the same key of the same
-        /// image again.
+        /// How long the cycle is: the least number of hops, above 0, after which the search is at the same key of the same image
+        /// again.
         length: u32,
     },
-    /// A growth of memory was refused.
+    /// Out of memory.
     Memory,
 }
 

@@ -16,23 +16,23 @@ use crate::placing::check_places;
 use crate::reading::{Module, read_modules};
 use std::alloc::Allocator;
 
-/// The images of a set in which no fault stands, and what their imports are bound to.
+/// The images of a set without a fault, and the bindings of their imports.
 #[derive(Drop)]
 pub struct Accepted<'a, A: Allocator> {
     /// The images, in the order of the set's entries.
     pub modules: Vec<Module<'a, A>, A>,
-    /// The slots that are bound: image by image, and those of an image in the order of its imports.
+    /// The slots that are bound: by image, and those of an image in the order of its imports.
     pub bindings: Vec<Binding, A>,
 }
 
-/// Reads the images of a set and judges the set. An image has the number of its entry, counted from 0, and so do its faults.
+/// Reads and checks the images of a set. An image has the number of its entry, counted from 0, and so do its faults.
 ///
-/// Faults are looked for class by class, and in a class only where those before it have none: the names of the entries (41, 42);
-/// the image faults of each file, image by image; where the images stand (43 to 47), image by image; their imports (48 to 50),
-/// image by image, and in each image in the order of its imports. An error is [`MapError::Fault`] with the first fault, or, where
-/// that is 50, [`MapError::Cycle`] with the fault and the length of the cycle, or [`MapError::Memory`] where a growth of memory was
-/// refused. It is never the latter where a name has a fault, and so not for more than 256 entries, nor for a set of no entries. On
-/// an error all memory that was taken has been given back.
+/// Faults are tested class by class, each class only if those before it have none: the names of the entries (41, 42); the image
+/// faults of each file, image by image; where the images are (43 to 47), image by image; their imports (48 to 50), image by image,
+/// and in each image in the order of its imports. The error is [`MapError::Fault`] with the first fault; if that is 50,
+/// [`MapError::Cycle`] with the fault and the length of the cycle; or [`MapError::Memory`] if an allocation failed. It is never
+/// [`MapError::Memory`] if a name has a fault, and so not for more than 256 entries, nor for a set of no entries. On an error all
+/// memory is freed.
 pub fn judge<'a, A: Allocator + Copy>(
     alloc: A,
     set: &[SetEntry<'a>],

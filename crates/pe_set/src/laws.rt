@@ -1,5 +1,5 @@
 //! What the definitions mean, as laws. The contract of each function here is a law, and its body only calls the laws of other
-//! crates on which that rests.
+//! crates that it uses.
 
 ghost use Rattle.std.specs.Prelude.{◌≡◌, ◌≤◌, ◌^◌, ◌↔◌, ℕ, List, [], None, Some, slice_set, map};
 ghost use Rattle.pe_view.specs.Faults.{first_standing};
@@ -20,9 +20,9 @@ ghost use Rattle.pe_set.specs.declared.error.MapError.TheVariants as errors;
 ghost use Rattle.pe_set.specs.Sound.{IsSound};
 ghost use Rattle.pe_set.specs.declared.entry.Policy.{Policy};
 
-/// Each search ends in exactly one way, after any number of hops: at an RVA of an image, at a module that is not in the set, at
-/// an export that does not exist; or it never ends, and runs in a cycle. The length of the cycle is the least number above 0 such
-/// that the search, from some hop on, is at the same image and key again that many hops later.
+/// Each search ends in exactly one way, after any number of hops: at an RVA of an image, at a module that is not in the set, at an
+/// export that does not exist; or it never ends, and runs in a cycle. The length of the cycle is the least number above 0 such that
+/// the search, from some hop on, is at the same image and key again that many hops later.
 pub fn searches_end_in_one_way()
     ensures ends { (s : List Module) (name : List ℕ) (key : Key) → EndsAs s (name, key) (resolve s name key) }
     ensures one { (s : List Module) (name : List ℕ) (key : Key) (end : Resolution) → EndsAs s (name, key) end → end ≡ resolve s name key }
@@ -43,7 +43,7 @@ pub fn slots_are_bound_to_their_exports()
     searches_end_in_one_way();
 }
 
-/// The errors of a set count class by class: the first fault of its names, else of its files, else of its places, else the first
+/// The errors of a set come class by class: the first fault of its names, else of its files, else of its places, else the first
 /// error of an import.
 pub fn errors_count_class_by_class()
     ensures names { (policy : Policy) (es : List Entry) (fault : Fault) → first_standing (names_tests es) ≡ Some fault → set_error policy es ≡ Some (errors.Fault fault) }
@@ -63,8 +63,8 @@ pub fn accepted_sets_have_no_fault()
     ensures imports { (policy : Policy) (es : List Entry) → set_error policy es ≡ None → imports_errors policy (modules_of es) ≡ [] }
 {}
 
-/// The error of a set is a cycle only if the search for one of its imports runs in a cycle of this length: its fault is 50, at
-/// the slot of that import.
+/// The error of a set is a cycle only if the search for one of its imports runs in a cycle of this length: its fault is 50, at the
+/// slot of that import.
 pub fn cycles_are_of_endless_searches()
     ensures { (policy : Policy) (es : List Entry) (fault : Fault) (length : ℕ) → set_error policy es ≡ Some (errors.Cycle fault length) → IsCycleOf (modules_of es) fault length }
 {}

@@ -1,7 +1,8 @@
-//! Sets of images in one address space: the first fault of a set, what each image holds, and what each import is bound to.
+//! Sets of images in one address space: the first fault of a set, the contents of each image, and the export that each import is
+//! bound to.
 //!
-//! [`judge`] reads all files of a set and looks for faults in the one order in which they count: names, files, places, imports.
-//! It is the ground of every space of images: `pe_space` maps what it accepts.
+//! [`judge`] reads all files of a set and tests its faults in the one fixed order: names, files, places, imports. `pe_space` maps
+//! the sets that it accepts.
 //!
 //! ```text
 //! let set = [SetEntry { name: b"a.dll", file, base: 0x1000_0000 }];

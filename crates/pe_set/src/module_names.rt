@@ -11,19 +11,19 @@ use indexmap::IndexSet;
 use std::alloc::{AllocError, Allocator};
 use std::hash::{BuildHasherDefault, FoldHasher};
 
-/// The names of a set's images, in lower case, by which their numbers are found.
+/// The numbers of a set's images by their names in lower case.
 ///
-/// The hasher has a fixed seed, so names can be made to collide. They are 256 at most: a look-up compares a name with no more than
-/// these, and with those of its length alone.
+/// The hasher has a fixed seed, so names can be made to collide. There are at most 256: a look-up compares a name with no more than
+/// these, and only with those of its length.
 #[derive(Drop)]
 pub(crate) struct Names<A: Allocator> {
     pub names: IndexSet<Vec<u8, A>, BuildHasherDefault<FoldHasher>, A>,
-    /// How many bytes the longest name has.
+    /// The length of the longest name in bytes.
     pub longest: usize,
     ghost none_longer: { AreWithin longest (map (λ name. name.items) names.keys) },
 }
 
-/// Puts a name in lower case into the buffer.
+/// Stores a name in lower case in the buffer.
 fn lower_into<A: Allocator + Copy>(buffer: &mut Vec<u8, A>, name: &[u8]) -> Result<(), AllocError>
     ensures { OnOk result (buffer.new.items ≡ str_to_ascii_lowercase name.now) }
 {
@@ -33,7 +33,7 @@ fn lower_into<A: Allocator + Copy>(buffer: &mut Vec<u8, A>, name: &[u8]) -> Resu
     Ok(())
 }
 
-/// Puts the name of the module that a forwarder names into the buffer, in lower case: `.dll` is added to a name without a dot.
+/// Stores the name of a forwarder's module in lower case in the buffer; `.dll` is appended to a name without a dot.
 fn forward_into<A: Allocator + Copy>(buffer: &mut Vec<u8, A>, name: &[u8]) -> Result<(), AllocError>
     ensures { OnOk result (buffer.new.items ≡ str_to_ascii_lowercase (forwarded_name name.now)) }
 {
@@ -64,15 +64,15 @@ impl<A: Allocator + Copy> Names<A> {
         Ok(Names { names, longest })
     }
 
-    /// As much of a name as is looked up: one that is longer than each name of the set is none of them, and so is its beginning
-    /// of one byte more than these have.
+    /// The beginning of a name that is looked up: one byte more than the longest name of the set. A longer name matches none, and
+    /// neither does its beginning, so no file can make a look-up read more.
     pub fn beginning<'n>(&self, name: &'n [u8]) -> &'n [u8]
         ensures { result.now ≡ take (self.now.longest + 1) name.now }
     {
         &name[..name.len().min(self.longest.saturating_add(1))]
     }
 
-    /// Puts the name of a module into the buffer, in lower case, as far as it is looked up.
+    /// Stores the name of a module in lower case in the buffer, cut to what is looked up.
     fn name_into(&self, buffer: &mut Vec<u8, A>, name: &[u8]) -> Result<(), AllocError>
         ensures { OnOk result (FoundAlike (names_in self.now) buffer.new.items (str_to_ascii_lowercase name.now)) }
     {
@@ -80,8 +80,8 @@ impl<A: Allocator + Copy> Names<A> {
         Ok(())
     }
 
-    /// Puts the name of the module that a forwarder names into the buffer, in lower case, as far as it is looked up: `.dll` is
-    /// added to a name without a dot.
+    /// Stores the name of a forwarder's module in lower case in the buffer, cut to what is looked up; `.dll` is appended to a name
+    /// without a dot.
     fn forward_into(&self, buffer: &mut Vec<u8, A>, name: &[u8]) -> Result<(), AllocError>
         ensures { OnOk result (FoundAlike (names_in self.now) buffer.new.items (str_to_ascii_lowercase (forwarded_name name.now))) }
     {
@@ -89,14 +89,14 @@ impl<A: Allocator + Copy> Names<A> {
         Ok(())
     }
 
-    /// The number of the image with a name, which is in lower case.
+    /// The number of the image with a name in lower case.
     fn number(&self, name: &[u8]) -> Option<usize>
         ensures { result ≡ position (λ other. bytes_eq name.now other) (names_in self.now) }
     {
         self.names.get_index_of(name)
     }
 
-    /// The number of the image with a name. `buffer` has room for the name while it runs.
+    /// The number of the image with a name. `buffer` is scratch space for the name.
     pub fn find(&self, buffer: &mut Vec<u8, A>, name: &[u8]) -> Result<Option<usize>, AllocError>
         ensures { IfOk result (λ number. number ≡ found (names_in self.now) name.now) }
     {
@@ -104,7 +104,7 @@ impl<A: Allocator + Copy> Names<A> {
         Ok(self.number(buffer.as_slice()))
     }
 
-    /// The number of the image with the name that a forwarder's module stands for. `buffer` has room for the name while it runs.
+    /// The number of the image that a forwarder's module names. `buffer` is scratch space for the name.
     pub fn find_forwarded(
         &self,
         buffer: &mut Vec<u8, A>,

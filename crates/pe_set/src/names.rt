@@ -10,10 +10,10 @@ use crate::entry::SetEntry;
 use crate::error::{MapError, fault};
 use pe_view::Place;
 
-/// How many images a set may have.
+/// The most images of a set.
 const IMAGE_LIMIT: usize = 256;
 
-/// Whether two names of modules match: the case of ASCII letters does not count.
+/// Whether two names of modules match, without regard to the case of ASCII letters.
 fn is_same_name(one: &[u8], other: &[u8]) -> bool
     ensures { result ≡ same_name one.now other.now }
 {
@@ -32,8 +32,8 @@ fn has_name(entries: &[SetEntry], name: &[u8]) -> bool
     false
 }
 
-/// Looks for faults 41 and 42: an entry too many, and an entry whose name matches that of an earlier one. At most 256 names are
-/// compared with one another, and no memory is taken.
+/// Tests faults 41 and 42: an entry too many, and an entry whose name matches that of an earlier one. Every name is compared with
+/// those before it, 256 at most, and nothing is allocated.
 pub(crate) fn check_names(set: &[SetEntry]) -> Result<(), MapError>
     ensures exact { ClassAnswers (names_tests (entries_of set.now)) (λ _. Unit {0}) result }
     ensures no_memory { result ≢ Err MapError.Memory }

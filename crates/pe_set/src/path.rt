@@ -1,4 +1,4 @@
-//! `Path`: the forwarders that one search came to, in order, by which a cycle is noticed.
+//! `Path`: the forwarders that one search passed, in order, by which a cycle is detected.
 
 ghost use Rattle.std.specs.Prelude.{◌≡◌, ◌<◌, ◌-◌, ◌^◌, ◌≤◌, [], length, OnOk, IfOk};
 ghost use Rattle.pe_set.specs.StandView.{stand_view};
@@ -7,19 +7,19 @@ use crate::standing::Standing;
 use std::alloc::{AllocError, Allocator};
 use std::collections::BTreeMap;
 
-/// The forwarders to which a search came, each of them once.
+/// The forwarders that a search passed, each once.
 #[derive(Drop)]
 pub(crate) struct Path<'a, A: Allocator> {
-    /// In the order in which it came to them.
+    /// In the order in which it passed them.
     pub stands: Vec<Standing<'a>, A>,
-    /// How many hops before each.
+    /// How many hops came before each.
     pub hops: BTreeMap<Standing<'a>, u32, A>,
 }
 
 impl<'a, A: Allocator + Copy> Path<'a, A> {
     ghost use Rattle.pe_set.specs.PathView.{path_view, IsPath, Adds};
 
-    /// No forwarder.
+    /// No forwarder. Allocates nothing.
     pub fn new(alloc: A) -> Path<'a, A>
         ensures empty { path_view result ≡ [] }
         ensures whole { IsPath result }
@@ -30,7 +30,7 @@ impl<'a, A: Allocator + Copy> Path<'a, A> {
         }
     }
 
-    /// Adds a forwarder, or answers how many hops ago the search came to it before.
+    /// Adds a forwarder, or returns how many hops ago the search passed it before.
     pub fn add(&mut self, at: Standing<'a>) -> Result<Option<u32>, AllocError>
         requires few { length (path_view self.old) ≤ 2 ^ 25 }
         requires whole { IsPath self.old }

@@ -1,4 +1,4 @@
-//! `Placed`: an image at a base, however its bytes are kept; and `base_fault`, the first of faults 44 to 47.
+//! `Placed`: an image at a base, whatever stores its bytes; and `base_fault`, the first of faults 44 to 47.
 
 ghost use Rattle.std.specs.Prelude.{◌≡◌, ◌++◌, map};
 ghost use Rattle.std.specs.List.{list_any};
@@ -12,7 +12,7 @@ use pe_view::{Fault, Place};
 /// Every base is a multiple of this.
 const BASE_ALIGNMENT: u64 = 0x1_0000;
 
-/// An image at a base, however its bytes are kept.
+/// An image at a base, whatever stores its bytes.
 pub trait Placed {
     ghost placement: { Self → Placement };
 
@@ -28,16 +28,16 @@ pub trait Placed {
     fn magic(&self) -> Magic
         ensures { result ≡ (placement self.now).magic };
 
-    /// The address at which it prefers to stand.
+    /// Its preferred base, ImageBase.
     fn image_base(&self) -> u64
         ensures { result ≡ (placement self.now).image_base };
 
-    /// Whether its relocations were stripped, so that it can stand at its ImageBase alone.
+    /// Whether its relocations were stripped, so that it can only be at its ImageBase.
     fn is_stripped(&self) -> bool
         ensures { result ≡ (placement self.now).is_stripped };
 }
 
-/// The address after the last that an image of this Magic may take.
+/// The end of the addresses that an image of this Magic may use.
 fn address_limit(magic: Magic) -> u128
     ensures { result ≡ address_limit magic }
 {
@@ -47,7 +47,7 @@ fn address_limit(magic: Magic) -> u128
     }
 }
 
-/// Whether an image of this size at a base has an address in common with one of the others.
+/// Whether an image of this size at a base shares an address with one of the others.
 fn overlaps_any<P: Placed>(base: u64, size: u32, others: &[P]) -> bool
     ensures { result ≡ list_any (λ other. meets base size other.base other.size) (map P.placement others.now) }
 {
@@ -62,12 +62,12 @@ fn overlaps_any<P: Placed>(base: u64, size: u32, others: &[P]) -> bool
     false
 }
 
-/// The first of faults 44 to 47 that image `number` of a set, which is `own`, has at `base` beside other images of the set: some
-/// that come before it, and some that come behind it. The fault is at [`Place::Address`] of `base`.
+/// The first of faults 44 to 47 of image `number` of a set, which is `own`, at `base`, with other images of the set: some that come
+/// before it, and some that come after it. The fault is at [`Place::Address`] of `base`.
 ///
 /// The base is no multiple of 65,536 (44); the image passes the end of the addresses, which is 2^32 for PE32 and 2^64 for PE32+
-/// (45); its relocations were stripped and the base is not its ImageBase (46); it has an address in common with one of the others
-/// (47). It takes no memory.
+/// (45); its relocations were stripped and the base is not its ImageBase (46); it shares an address with one of the others (47).
+/// Allocates nothing.
 pub fn base_fault<P: Placed>(
     before: &[P],
     behind: &[P],

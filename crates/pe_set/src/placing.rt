@@ -10,8 +10,8 @@ use crate::reading::Module;
 use pe_view::Place;
 use std::alloc::Allocator;
 
-/// Looks for faults 43 to 47, image by image: the Magic of each is compared with that of the first (43), its addresses with those
-/// of the images before it (47). There are at most 256 images.
+/// Tests faults 43 to 47, image by image: the Magic of each is compared with that of the first (43), its addresses with those of
+/// the images before it (47). There are at most 256 images.
 pub(crate) fn check_places<A: Allocator + Copy>(modules: &[Module<A>]) -> Result<(), MapError>
     requires few { length modules.now ≤ 256 }
     ensures exact { ClassAnswers (places_tests (modules_view modules.now)) (λ _. Unit {0}) result }

@@ -16,7 +16,7 @@ use pe_image::{Image, read_image};
 use pe_tables::TableError;
 use std::alloc::Allocator;
 
-/// An image of a set: its name, its base, and what its file holds. It borrows both the name and the file.
+/// An image of a set: its name, its base, and the contents of its file. It borrows both the name and the file.
 #[derive(Drop)]
 pub struct Module<'a, A: Allocator> {
     /// The name by which other images import from it.
@@ -59,7 +59,7 @@ impl<'a, A: Allocator + Copy> Placed for Module<'a, A> {
     }
 }
 
-/// Reads an image, as `read_image` does, and if others may import from it has its names guessed.
+/// Reads an image, as `read_image` does; if others may import from it, builds the guesses of its exports' names.
 fn read_exporter<A: Allocator + Copy>(
     alloc: A,
     file: &[u8],
@@ -75,7 +75,7 @@ fn read_exporter<A: Allocator + Copy>(
     Ok(image)
 }
 
-/// Reads the images of a set, or answers the first of their image faults.
+/// Reads the images of a set, or returns the first of their image faults.
 pub(crate) fn read_modules<'a, A: Allocator + Copy>(
     alloc: A,
     set: &[SetEntry<'a>],

@@ -1,4 +1,4 @@
-//! `Remembered`: how the searches of an image's imports by long names ended, by where the names stand.
+//! `Remembered`: how the searches of an image's imports by long names ended, by the RVAs of the names.
 
 ghost use Rattle.std.specs.Prelude.{◌≡◌, ℕ, List, Some, IfSome, IfOk, IsTrue, OnOk, map, option_map, slice_get};
 ghost use Rattle.pe_layout.specs.Image.{LaidOut};
@@ -17,13 +17,13 @@ use pe_tables::{Import, import_name_rvas};
 use std::alloc::{AllocError, Allocator};
 use std::collections::BTreeMap;
 
-/// How many bytes a name has at least whose search is remembered.
+/// The least length in bytes of a name whose search is remembered.
 const LONG: usize = 256;
 
 /// How the searches of one image's imports ended, by the number of the exporter and the RVA of the name.
 ///
-/// So each long name of the image is looked up once in each exporter, however many imports share it, and another look-up takes log n
-/// steps.
+/// So each long name of the image is looked up once in each exporter, however many imports share it, and another look-up takes log
+/// n steps.
 #[derive(Drop)]
 pub(crate) struct Remembered<A: Allocator> {
     pub ends: BTreeMap<(usize, u32), Resolution, A>,
@@ -39,7 +39,7 @@ fn is_long(import: &Import) -> bool
     }
 }
 
-/// Where the names of an image's imports stand, if one of them is long, else nothing.
+/// The RVAs of the names of an image's imports if one of them is long, else an empty list.
 pub(crate) fn places_of<A: Allocator>(
     alloc: A,
     layout: &Layout,
@@ -55,7 +55,7 @@ pub(crate) fn places_of<A: Allocator>(
     import_name_rvas(alloc, layout)
 }
 
-/// Where the name of the import of a number stands, if that is known.
+/// The RVA of the name of import `number`, if that is known.
 #[inline(always)]
 pub(crate) fn place_at(places: &[u32], number: usize) -> Option<u32>
     ensures { result ≡ slice_get places.now number }
@@ -63,8 +63,8 @@ pub(crate) fn place_at(places: &[u32], number: usize) -> Option<u32>
     places.get(number).copied()
 }
 
-/// The exporter and the place by which the search of an import is remembered: none where its name is short, or that of its module is
-/// not in the set.
+/// The exporter and the RVA by which the search of an import is remembered: `None` if its name is short, or its module is not in
+/// the set.
 #[inline(always)]
 pub(crate) fn query_of(
     import: &Import,
@@ -95,7 +95,7 @@ pub(crate) fn place_of(query: Option<(usize, u32)>) -> Option<u32>
 impl<A: Allocator + Copy> Remembered<A> {
     ghost use Rattle.pe_set.specs.RememberedView.{AreRemembered, StandsFor};
 
-    /// No search.
+    /// No search. Allocates nothing.
     pub fn new(alloc: A) -> Remembered<A>
         ensures { (s : List Module) (image : LaidOut) → AreRemembered s image result }
     {
@@ -121,7 +121,7 @@ impl<A: Allocator + Copy> Remembered<A> {
         Ok(())
     }
 
-    /// How a search ended, if there is one and it is remembered.
+    /// How a search ended, if it has a query and is remembered.
     #[inline(always)]
     pub fn find(&self, query: Option<(usize, u32)>) -> Option<Resolution>
         ensures { (s : List Module) (image : LaidOut) (name : List ℕ) (key : Key) → AreRemembered s image self.now → StandsFor s image query name key → IfSome result (λ end. resolve s name key ≡ end) }
@@ -132,7 +132,7 @@ impl<A: Allocator + Copy> Remembered<A> {
         }
     }
 
-    /// Remembers how a search ended, if there is one.
+    /// Remembers how a search ended, if it has a query.
     #[inline(always)]
     pub fn keep(&mut self, query: Option<(usize, u32)>, end: Resolution) -> Result<(), AllocError>
         ensures { (s : List Module) (image : LaidOut) (name : List ℕ) (key : Key) → AreRemembered s image self.old → StandsFor s image query name key → resolve s name key ≡ end → OnOk result (AreRemembered s image self.new) }

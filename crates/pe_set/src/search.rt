@@ -26,23 +26,23 @@ use pe_layout::Layout;
 use pe_tables::{Import, Key, Target};
 use std::alloc::{AllocError, Allocator};
 
-/// How the search for what a key of a module stands for ends.
+/// How the search for the export of a module by a key ends.
 #[derive(Clone, Copy)]
 pub(crate) enum Resolution {
-    /// It stands for what is at this RVA of an image of the set.
+    /// At an RVA of an image of the set.
     Bound {
         /// The image's number.
         image: u16,
         /// The RVA.
         rva: u32,
     },
-    /// The search comes to a module that is not in the set.
+    /// At a module that is not in the set.
     Missing,
-    /// The search comes to a module that has no such export.
+    /// At a module that has no such export.
     Unknown,
-    /// The search runs in a cycle of forwarders.
+    /// Never: it runs in a cycle of forwarders.
     Endless {
-        /// After how many hops it comes to the same key of the same image again.
+        /// The number of hops from a key of an image to the same key and image again.
         length: u32,
     },
 }
@@ -80,9 +80,9 @@ fn target_of<'a, A: Allocator + Copy>(
     }
 }
 
-/// Where the search for what an import of the image with this layout names ends. `image` is the number of the image that has the name
-/// of its module, and `place` where its own name stands, if that is long and this is known. The path, which has no forwarder yet, gets
-/// those to which the search comes, up to the first one whose end is known. `buffer` has room for names while it runs.
+/// How the search for an import of the image with this layout ends. `image` is the number of the image with the name of its module,
+/// and `place` the RVA of the import's name, if that is long and the RVA is known. The forwarders that the search passes are added to
+/// the path, which is empty before, up to the first one whose end is known. `buffer` is scratch space for names.
 ///
 /// A search that comes to a forwarder of its path runs in a cycle, which is as long as that is back.
 fn search<'a, A: Allocator + Copy>(
@@ -137,9 +137,9 @@ fn search<'a, A: Allocator + Copy>(
     Ok(Resolution::Missing)
 }
 
-/// Where the search for what an import of the image with this layout names ends. `image` is the number of the image that has the name
-/// of its module, and `place` where its own name stands, if that is long and this is known. It is kept for the forwarders to which the
-/// search comes that they end so. `buffer` has room for names while it runs.
+/// How the search for an import of the image with this layout ends. `image` is the number of the image with the name of its module,
+/// and `place` the RVA of the import's name, if that is long and the RVA is known. Unless it is a cycle, the end is remembered for the
+/// forwarders that the search passed. `buffer` is scratch space for names.
 pub(crate) fn resolve<'a, A: Allocator + Copy>(
     modules: &[Module<'a, A>],
     names: &Names<A>,
@@ -175,9 +175,9 @@ pub(crate) fn resolve<'a, A: Allocator + Copy>(
     Ok(end)
 }
 
-/// Where the search for what an import of the image with this layout names ends. `place` is where its name stands, if that is known:
-/// then a long name is looked up once for all imports whose names stand there, and along the trail of those that end where it does.
-/// `buffer` has room for names while it runs.
+/// How the search for an import of the image with this layout ends. `place` is the RVA of its name, if that is known: then a long
+/// name is looked up once for all imports whose names are at that RVA, and along the trail of those with the same end. `buffer` is
+/// scratch space for names.
 pub(crate) fn resolve_once<'a, A: Allocator + Copy>(
     modules: &[Module<'a, A>],
     names: &Names<A>,

@@ -1,4 +1,4 @@
-//! `Standing`: where a search is, at a key of an image, in an order by which it is looked up.
+//! `Standing`: where a search is, at a key of an image, in the order in which maps store it.
 
 ghost use Rattle.std.specs.Prelude.{◌≡◌};
 ghost use Rattle.pe_tables.specs.Key.{key_view};
@@ -6,17 +6,17 @@ ghost use Rattle.pe_set.specs.StandView.{stand_view, stand_of};
 
 use pe_tables::Key;
 
-/// Where a search stands, at a key of an image, in an order in which it is looked up.
+/// Where a search is, at a key of an image, in the order in which maps store it.
 #[derive(Clone, Copy, PartialEq, Eq, PartialOrd, Ord)]
 pub(crate) struct Standing<'a> {
     /// The image's number.
     pub image: usize,
-    /// 1 more than the ordinal; 0 where the key is a name.
+    /// 1 more than the ordinal; 0 for a name.
     pub number: u32,
-    /// How many bytes the name has. It comes before the name, so that names of different lengths, as ends of one string, are told apart
-    /// unread.
+    /// The length of the name in bytes. It comes before the name, so that names of different lengths, such as ends of one string,
+    /// are compared without reading them.
     pub len: usize,
-    /// The name; no byte where the key is an ordinal.
+    /// The name; empty for an ordinal.
     pub name: &'a [u8],
 }
 

@@ -18,8 +18,8 @@ use std::collections::BTreeMap;
 
 /// The trails of the long names of one image's imports, in each exporter.
 ///
-/// Names that are ends of one string share a trail, so each block of 256 bytes of the string is looked up once in an exporter, and each
-/// name costs log n steps and fewer than 512 bytes more. A trail takes 16 bytes for each block of its longest name.
+/// Names that are ends of one string share a trail, so each block of 256 bytes of the string is looked up once in an exporter, and
+/// each name costs log n steps and fewer than 512 bytes more. A trail takes 16 bytes for each block of its longest name.
 #[derive(Drop)]
 pub(crate) struct Trails<A: Allocator> {
     alloc: A,
@@ -32,7 +32,7 @@ pub(crate) struct Trails<A: Allocator> {
 impl<A: Allocator + Copy> Trails<A> {
     ghost use Rattle.pe_set.specs.TrailsView.{AreTrailsOf};
 
-    /// No trail. No memory is taken.
+    /// No trail. Allocates nothing.
     pub fn new(alloc: A) -> Trails<A>
         ensures texts { (file : List ℕ) → AreEndsOf file result.texts }
         ensures trails { result.trails.entries ≡ [] }
@@ -44,7 +44,7 @@ impl<A: Allocator + Copy> Trails<A> {
         }
     }
 
-    /// Takes out the trail of the names that have one end, in the exports of the image of a number.
+    /// Takes out the trail of the names with one end in the exports of image `number`, or starts one.
     fn take(&mut self, modules: &[Module<A>], number: usize, end: u64) -> NameTrail<A>
         requires { number < length modules.now }
         ensures trail { (file : List ℕ) → AreTrailsOf modules.now file self.old → IfSome (slice_get modules.now number) (λ m. IsTrailOf m.image.exports file end result) }
@@ -56,7 +56,7 @@ impl<A: Allocator + Copy> Trails<A> {
         }
     }
 
-    /// What the image of a number exports by the name at an RVA of the image with this layout.
+    /// What image `number` exports by the name at an RVA of the image with this layout.
     #[inline(never)]
     pub fn look_up<'a>(
         &mut self,

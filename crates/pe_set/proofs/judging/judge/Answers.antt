@@ -1,4 +1,4 @@
--- Each class is asked behind classes without a fault.
+-- Each class is tested after classes without a fault.
 use Rattle.std.proofs.Common.{◌≡◌, ◌∙◌, ◌≤◌, ◌^◌, All, List, length, ap, subst, sym, arith, inl, inr, None}
 use Rattle.std.proofs.lemmas.Result.{err_from_is_err_and}
 use Rattle.pe_view.specs.Faults.{first_standing}

@@ -14,7 +14,7 @@ use Rattle.pe_set.proofs.Searching.{own_base}
 use Rattle.pe_set.specs.declared.reading.Module as code_module
 use Rattle.pe_set.proofs.placing.check_places.Goals as goal
 
--- the first image decides
+-- the first image is compared
 first_decides : {A : Type 0} (ms : List (code_module.Module A)) (first : code_module.Module A) (m : Module) (b : Bool) → 0 < length ms → first ≡ get_or ms 0 first
     → not (same_magic (module_view first).magic m.magic) ≡ b → has_other_magic (modules_view ms) m ≡ b
 first_decides [] first m b some is decides = absurd (omega arith)
@@ -31,7 +31,7 @@ compared : (m own a b : Magic) (r : Bool) → a ≡ m → b ≡ own → not (den
 compared m own a b r is_a is_b differs =
     ap (λ (g : Magic). not (same_magic m g)) (sym is_b) ∙ ap (λ (g : Magic). not (same_magic g b)) (sym is_a) ∙ ap not (sym (same_magic-sameb a b)) ∙ differs
 
--- an image is asked beside those before it
+-- an image is tested with those before it
 beside : {A : Type 0} (ms : List (code_module.Module A)) (i : ℕ) (own : code_module.Module A)
     → base_tests (map (λ (m : code_module.Module A). placement_of (module_view m)) (take i ms) ++ []) i (record (placement_of (module_view own)) { base = own.base })
     ≡ base_tests (map placement_of (take i (modules_view ms))) i (placement_of (module_view own))

@@ -1,4 +1,4 @@
--- Each import has the text at the RVA that is told of it.
+-- Each import has the string at its RVA.
 use Rattle.std.proofs.Common.{◌≡◌, ℕ, List, sym, subst}
 use Rattle.std.proofs.lemmas.Result.{IfOk-weaker}
 use Rattle.pe_layout.specs.Layout.{image_of}

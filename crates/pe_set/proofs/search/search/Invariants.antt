@@ -11,7 +11,7 @@ use Rattle.pe_set.specs.TrailsView.{AreTrailsOf}
 use Rattle.pe_set.proofs.Walking.{Walked}
 use Rattle.pe_set.proofs.search.search.Given as goal
 
--- the search has come by its path to a name and a key
+-- the search is at a name and a key after its path
 abbrev pub invariant-loop-image : goal.invariant-loop-image
 invariant-loop-image g l = record {
   name : List ℕ;

@@ -1,4 +1,4 @@
--- The trail goes on to the name, which the image of the number is asked for.
+-- The trail is extended to the name, which is looked up in image `number`.
 use Rattle.std.proofs.Common.{◌≡◌, ◌∙◌, ℕ, List, [], Option, Some, get_or, sym, ap, subst, refl}
 use Rattle.std.specs.Prelude.{IfSome, slice_get, unwrap_or}
 use Rattle.std.proofs.lemmas.Option.{slice_get-get_or}

@@ -1,4 +1,4 @@
--- The trail was known, or is one of no name; the others stay.
+-- The trail was known, or has no name; the others remain.
 use Rattle.std.proofs.Common.{◌≡◌, ◌∙◌, get_or, sym, subst, refl}
 use Rattle.std.specs.Prelude.{slice_get}
 use Rattle.std.proofs.lemmas.Option.{same_Some, slice_get-get_or}
