@@ -1,6 +1,6 @@
 -- Trails by exporter and end: one that is taken out, and one that is added.
-use Rattle.std.proofs.Common.{◌≡◌, ◌∙◌, ℕ, Bool, true, false, cond, List, [], Option, None, Some, refl, sym, ap, subst, inl, inr}
-use Rattle.std.specs.Prelude.{IfSome, option_map, slice_get}
+use Rattle.std.proofs.Common.{◌≡◌, ◌∙◌, ℕ, Bool, true, false, cond, List, [], Option, None, Some, Result, Ok, Err, refl, sym, ap, subst, inl, inr}
+use Rattle.std.specs.Prelude.{IfSome, OnOk, OnErr, option_map, slice_get}
 use Rattle.std.specs.Ordering.{is_eq}
 use Rattle.std.specs.BTreeMap.{get, is_at}
 use Rattle.std.specs.Map.{lookup}
@@ -21,6 +21,11 @@ pub if_some : {X : Type 0} (P : X → Type 0) (o : Option X) → ((x : X) → o 
 if_some P None each = tt
 if_some P (Some x) each = each x refl
 
+-- what follows from both outcomes of a call
+pub in_both : {X Y : Type 0} (r : Result X Y) (P Q R : Type 0) → OnOk r P → OnErr r Q → (P → R) → (Q → R) → R
+in_both (Ok x) P Q R ok err f g = f ok
+in_both (Err y) P Q R ok err f g = g err
+
 -- what holds of the second part of a pair
 pub second_of : (P : ℕ → Type 0) (o : Option (ℕ × ℕ)) → IfSome o (λ p. P p.1) → IfSome (option_map (λ p. p.1) o) P
 second_of P None h = tt
@@ -34,10 +39,10 @@ module _ {A : Type 0} (modules : List (code_module.Module A)) (file : List ℕ) 
   }
 
   -- whatever string ends are remembered besides
-  pub trails_kept : (old new : Trails A) → AreTrailsOf modules file old → AreEndsOf file new.texts → new.trails ≡ old.trails → AreTrailsOf modules file new
+  pub trails_kept : (old new : Trails A) → AreTrailsOf modules file old → AreEndsOf file new.texts → new.trails.entries ≡ old.trails.entries → AreTrailsOf modules file new
   trails_kept old new known ends same = record {
     ends = ends;
-    right = λ number end trail m got there. known.right number end trail m (ap (λ ts. get query_cmp ts (number, end)) (sym same) ∙ got) there;
+    right = λ number end trail m got there. known.right number end trail m (ap (lookup (is_at (query_cmp (number, end)))) (sym same) ∙ got) there;
   }
 
   pub trails_less : (old new : Trails A) (place : ℕ × ℕ) → AreTrailsOf modules file old → new.texts ≡ old.texts

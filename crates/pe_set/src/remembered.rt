@@ -81,7 +81,7 @@ pub(crate) fn query_of(
     Some((number, rva))
 }
 
-/// Where the name stands by which the search of an import is remembered.
+/// The RVA of a query.
 #[inline(always)]
 pub(crate) fn place_of(query: Option<(usize, u32)>) -> Option<u32>
     ensures { result ≡ option_map (λ query. query.1) query }

@@ -58,7 +58,7 @@ fn target<'a, A: Allocator + Copy>(image: &Module<'a, A>, key: Key) -> Option<Ta
     }
 }
 
-/// What the image of a number exports by a key: where the key is a long name at a known RVA of the image with this layout, by its trail.
+/// What image `number` exports by a key. A long name is looked up by its trail, if its RVA in the image with this layout is known.
 #[inline(always)]
 fn target_of<'a, A: Allocator + Copy>(
     modules: &[Module<'a, A>],
@@ -67,16 +67,16 @@ fn target_of<'a, A: Allocator + Copy>(
     key: Key,
     place: Option<u32>,
     trails: &mut Trails<A>,
-) -> Result<Option<Target<'a>>, AllocError>
+) -> Option<Target<'a>>
     requires number { number < length modules.now }
     requires placed { IfSome place (λ rva. key_view key ≡ Name (text_at (image_of layout.now) rva)) }
     requires trails { AreTrailsOf modules.now (file_of layout.now) trails.old }
-    ensures exact { IfOk result (λ found. option_map target_view found ≡ target_in (modules_view modules.now) (key_view key.entry) number) }
-    ensures trails { OnOk result (AreTrailsOf modules.now (file_of layout.now) trails.new) }
+    ensures exact { option_map target_view result ≡ target_in (modules_view modules.now) (key_view key.entry) number }
+    ensures trails { AreTrailsOf modules.now (file_of layout.now) trails.new }
 {
     match place {
         Some(rva) => trails.look_up(modules, layout, number, rva),
-        None => Ok(target(&modules[number], key)),
+        None => target(&modules[number], key),
     }
 }
 
@@ -112,7 +112,7 @@ fn search<'a, A: Allocator + Copy>(
 {
     let (mut image, mut key, mut place) = (image, import.key, place);
     while let Some(number) = image {
-        match target_of(modules, layout, number, key, place, trails)? {
+        match target_of(modules, layout, number, key, place, trails) {
             None => return Ok(Resolution::Unknown),
             Some(Target::Rva(rva)) => {
                 return Ok(Resolution::Bound {

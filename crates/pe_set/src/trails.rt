@@ -1,6 +1,6 @@
 //! `Trails`: how far the long names by which an image imports have been looked up in the images that export them.
 
-ghost use Rattle.std.specs.Prelude.{◌≡◌, ◌<◌, ℕ, List, [], length, slice_get, option_map, IfOk, IfSome, OnOk};
+ghost use Rattle.std.specs.Prelude.{◌≡◌, ◌<◌, ℕ, List, [], length, slice_get, option_map, IfSome};
 ghost use Rattle.pe_view.specs.TextEnds.{AreEndsOf};
 ghost use Rattle.pe_layout.specs.Layout.{file_of, image_of};
 ghost use Rattle.pe_tables.specs.Key.{Name, target_view};
@@ -13,7 +13,7 @@ use crate::reading::Module;
 use pe_layout::Layout;
 use pe_tables::{NameTrail, Target};
 use pe_view::TextEnds;
-use std::alloc::{AllocError, Allocator};
+use std::alloc::Allocator;
 use std::collections::BTreeMap;
 
 /// The trails of the long names of one image's imports, in each exporter.
@@ -56,7 +56,8 @@ impl<A: Allocator + Copy> Trails<A> {
         }
     }
 
-    /// What image `number` exports by the name at an RVA of the image with this layout.
+    /// What image `number` exports by the name at an RVA of the image with this layout. If memory for the trail is refused, the names
+    /// that follow start another.
     #[inline(never)]
     pub fn look_up<'a>(
         &mut self,
@@ -64,21 +65,21 @@ impl<A: Allocator + Copy> Trails<A> {
         layout: &Layout<'a>,
         number: usize,
         rva: u32,
-    ) -> Result<Option<Target<'a>>, AllocError>
+    ) -> Option<Target<'a>>
         requires number { number < length modules.now }
         requires known { AreTrailsOf modules.now (file_of layout.now) self.old }
-        ensures found { IfOk result (λ target. option_map target_view target ≡ target_in (modules_view modules.now) (Name (text_at (image_of layout.now) rva)) number) }
-        ensures known { OnOk result (AreTrailsOf modules.now (file_of layout.now) self.new) }
+        ensures found { option_map target_view result ≡ target_in (modules_view modules.now) (Name (text_at (image_of layout.now) rva)) number }
+        ensures known { AreTrailsOf modules.now (file_of layout.now) self.new }
     {
         let Some(text) = layout.text_at(&mut self.texts, rva) else {
-            return Ok(modules[number].image.exports.by_name(b""));
+            return modules[number].image.exports.by_name(b"");
         };
         let mut trail = self.take(modules, number, text.end);
         let target = modules[number]
             .image
             .exports
-            .by_name_along(text, &mut trail)?;
-        self.trails.insert((number, text.end), trail)?;
-        Ok(target)
+            .by_name_along(text, &mut trail);
+        let _ = self.trails.insert((number, text.end), trail);
+        target
     }
 }

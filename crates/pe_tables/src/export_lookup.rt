@@ -1,6 +1,6 @@
 //! `Exports`: the exports of an image, looked up by ordinal and by name.
 
-ghost use Rattle.std.specs.Prelude.{◌≡◌, ◌<◌, ◌≤◌, ◌==◌, ℕ, List, [], Some, length, slice_index_or, IfOk, IfSome, IsTrue, OnOk, option_map, map, AllPairs};
+ghost use Rattle.std.specs.Prelude.{◌≡◌, ◌<◌, ◌≤◌, ◌==◌, ℕ, List, [], Some, length, slice_index_or, IfSome, IsTrue, option_map, map, AllPairs};
 ghost use Rattle.std.specs.List.{find};
 ghost use Rattle.std.specs.Str.{bytes_eq};
 ghost use Rattle.pe_tables.specs.NameIndex.{AreHeld, IsSearchable};
@@ -12,7 +12,7 @@ use crate::long_texts::BLOCK;
 use crate::name_index::NameIndex;
 use crate::name_trail::NameTrail;
 use pe_layout::Text;
-use std::alloc::{AllocError, Allocator};
+use std::alloc::Allocator;
 
 /// The exports of an image ("PE Format", The .edata Section).
 #[derive(Drop)]
@@ -211,19 +211,15 @@ impl<'a, A: Allocator + Copy> Exports<'a, A> {
     /// one string. `trail` is that of the names with the same end, and is extended to this name.
     ///
     /// So each block of 256 bytes is looked up once for all names with one end, and then each name costs two look-ups of less than
-    /// a block: no name is compared as a whole. Out of memory, the trail can be used no further.
-    pub fn by_name_along(
-        &self,
-        name: Text,
-        trail: &mut NameTrail<A>,
-    ) -> Result<Option<Target<'a>>, AllocError>
+    /// a block: no name is compared as a whole. If memory for the trail is refused, the name is looked up without it.
+    pub fn by_name_along(&self, name: Text, trail: &mut NameTrail<A>) -> Option<Target<'a>>
         ensures exact { (file : List ℕ) → IsTextOf file name.entry → IsTrailOf self.now file name.entry.end trail.old
-            → IfOk result (λ target. option_map target_view target ≡ target_at (exports_view self.now) (Name name.entry.bytes.now)) }
-        ensures follows { (file : List ℕ) → IsTextOf file name.entry → IsTrailOf self.now file name.entry.end trail.old → OnOk result (IsTrailOf self.now file name.entry.end trail.new) }
+            → option_map target_view result ≡ target_at (exports_view self.now) (Name name.entry.bytes.now) }
+        ensures follows { (file : List ℕ) → IsTextOf file name.entry → IsTrailOf self.now file name.entry.end trail.old → IsTrailOf self.now file name.entry.end trail.new }
     {
-        match self.names.get_along(name, &mut trail.nodes)? {
-            Some(target) => Ok(target),
-            None => Ok(None),
+        match self.names.get_along(name, &mut trail.nodes) {
+            Ok(found) => found?,
+            Err(_) => self.by_name(name.bytes),
         }
     }
 

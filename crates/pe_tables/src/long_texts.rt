@@ -105,12 +105,12 @@ impl<'a, A: Allocator + Copy> LongTexts<'a, A> {
         self.longer(name_trail::last_node(trail)?, block(text, trail.len()))
     }
 
-    /// Extends a trail to the last block of a string.
+    /// Extends a trail to the last block of a string, or as far as memory for it is not refused.
     fn extend(&self, text: &[u8], trail: &mut Vec<Option<usize>, A>) -> Result<(), AllocError>
-        ensures follows { Follows self.now.nodes.items text.now trail.old.items → OnOk result (Follows self.now.nodes.items text.now trail.new.items) }
+        ensures follows { Follows self.now.nodes.items text.now trail.old.items → Follows self.now.nodes.items text.now trail.new.items }
+        ensures goes_on { (more : List (Option ℕ)) × (trail.new.items ≡ trail.old.items ++ more) }
+        ensures needed { length trail.new.items ≤ max (length trail.old.items) (length text.now / 256) }
         ensures whole { OnOk result (length text.now / 256 ≤ length trail.new.items) }
-        ensures goes_on { OnOk result ((more : List (Option ℕ)) × (trail.new.items ≡ trail.old.items ++ more)) }
-        ensures needed { OnOk result (length trail.new.items ≤ max (length trail.old.items) (length text.now / 256)) }
     {
         while trail.len() < text.len() / BLOCK {
             let next = self.next_node(text, trail);
@@ -128,7 +128,7 @@ impl<'a, A: Allocator + Copy> LongTexts<'a, A> {
         ensures exact { (file : List ℕ) → IsTextOf file text.entry → IsTrail self.now.nodes.items file text.entry.end trail.old.items
             → IfOk result (λ held. held ≡ long_held self.now.nodes.items text.entry.bytes.now) }
         ensures follows { (file : List ℕ) → IsTextOf file text.entry → IsTrail self.now.nodes.items file text.entry.end trail.old.items
-            → OnOk result (IsTrail self.now.nodes.items file text.entry.end trail.new.items) }
+            → IsTrail self.now.nodes.items file text.entry.end trail.new.items }
     {
         self.extend(text.bytes, trail)?;
         match name_trail::last_node(&trail[..text.bytes.len() / BLOCK]) {

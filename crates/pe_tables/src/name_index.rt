@@ -78,7 +78,7 @@ impl<'a, A: Allocator + Copy> NameIndex<'a, A> {
         ensures exact { (file : List ℕ) → IsTextOf file text.entry → IsTrail self.now.long.nodes.items file text.entry.end trail.old.items
             → IfOk result (λ found. found ≡ held self.now text.entry.bytes.now) }
         ensures follows { (file : List ℕ) → IsTextOf file text.entry → IsTrail self.now.long.nodes.items file text.entry.end trail.old.items
-            → OnOk result (IsTrail self.now.long.nodes.items file text.entry.end trail.new.items) }
+            → IsTrail self.now.long.nodes.items file text.entry.end trail.new.items }
     {
         if text.bytes.len() < BLOCK {
             return Ok(self.short.get(text.bytes));

@@ -42,7 +42,7 @@ returns-in-None-clause-exact g c =
     let key : Key = key_view c.loop-image.key in
     let i : ℕ = c.in-Some.number in
     let here = sym at.here ∙ c.in-Some.is in
-    let lacks = sym c.in_ok-target_of.ensures.exact ∙ ap (option_map target_view) c.in-None.is in
+    let lacks = sym c.target_of.ensures.exact ∙ ap (option_map target_view) c.in-None.is in
     walk_ends s c.args.import.now.«module».now (key_view c.args.import.now.key) (path_view c.loop-image.path) at.name key at.walked 1 Unknown (resolve_unknown s at.name key 0 i here lacks)
 
 pub returns-in-None-clause-leads : goal.returns-in-None-clause-leads
@@ -53,7 +53,7 @@ returns-in-None-clause-leads g c =
     let key : Key = key_view c.loop-image.key in
     let i : ℕ = c.in-Some.number in
     let here = sym at.here ∙ c.in-Some.is in
-    let lacks = sym c.in_ok-target_of.ensures.exact ∙ ap (option_map target_view) c.in-None.is in
+    let lacks = sym c.target_of.ensures.exact ∙ ap (option_map target_view) c.in-None.is in
     walk_leads s c.args.import.now.«module».now (key_view c.args.import.now.key) (path_view c.loop-image.path) at.name key at.walked 1 Unknown (resolve_unknown s at.name key 0 i here lacks)
 
 pub returns-in-Some-Rva-clause-exact : goal.returns-in-Some-Rva-clause-exact
@@ -64,7 +64,7 @@ returns-in-Some-Rva-clause-exact g c =
     let key : Key = key_view c.loop-image.key in
     let i : ℕ = c.in-Some.number in
     let here = sym at.here ∙ c.in-Some.is in
-    let found = sym c.in_ok-target_of.ensures.exact ∙ ap (option_map target_view) (c.in-Some-Rva.is ∙ ap (λ t. Some t) c.in-Some-Rva.field-0-is) in
+    let found = sym c.target_of.ensures.exact ∙ ap (option_map target_view) (c.in-Some-Rva.is ∙ ap (λ t. Some t) c.in-Some-Rva.field-0-is) in
     walk_ends s c.args.import.now.«module».now (key_view c.args.import.now.key) (path_view c.loop-image.path) at.name key at.walked 1 (Bound i c.in-Some-Rva.rva) (resolve_bound s at.name key 0 i here c.in-Some-Rva.rva found)
 
 pub returns-in-Some-Rva-clause-leads : goal.returns-in-Some-Rva-clause-leads
@@ -75,7 +75,7 @@ returns-in-Some-Rva-clause-leads g c =
     let key : Key = key_view c.loop-image.key in
     let i : ℕ = c.in-Some.number in
     let here = sym at.here ∙ c.in-Some.is in
-    let found = sym c.in_ok-target_of.ensures.exact ∙ ap (option_map target_view) (c.in-Some-Rva.is ∙ ap (λ t. Some t) c.in-Some-Rva.field-0-is) in
+    let found = sym c.target_of.ensures.exact ∙ ap (option_map target_view) (c.in-Some-Rva.is ∙ ap (λ t. Some t) c.in-Some-Rva.field-0-is) in
     walk_leads s c.args.import.now.«module».now (key_view c.args.import.now.key) (path_view c.loop-image.path) at.name key at.walked 1 (Bound i c.in-Some-Rva.rva) (resolve_bound s at.name key 0 i here c.in-Some-Rva.rva found)
 
 pub returns-in-Some-get-clause-exact : goal.returns-in-Some-get-clause-exact
@@ -133,14 +133,14 @@ loop-image-preserved g c =
     let here = sym at.here ∙ c.in-Some.is in
     let to = c.in-Some-Forward.«module».now in
     let next : Key = key_view c.in-Some-Forward.next in
-    let on = sym c.in_ok-target_of.ensures.exact ∙ ap (option_map target_view) (c.in-Some-Forward.is ∙ ap (λ t. Some t) c.in-Some-Forward.field-0-is) in
+    let on = sym c.target_of.ensures.exact ∙ ap (option_map target_view) (c.in-Some-Forward.is ∙ ap (λ t. Some t) c.in-Some-Forward.field-0-is) in
     let adds = rw c.in_default-2.is at c.in_ok-length-in-Some-Forward.ensures.adds in
     let longer = adds.0 ∙ ap (λ (p : Stand). path ++ p ∷ []) c.at-at.ensures in
     record {
       name = forwarded_name to;
       here = c.in_ok-image-in-Some-Forward.ensures ∙ found_named ms (names_in c.args.names.now) (forwarded_name to) c.requires.named;
       placed = tt;
-      trails = c.in_ok-target_of.ensures.trails;
+      trails = c.target_of.ensures.trails;
       whole = c.in_ok-length-in-Some-Forward.ensures.whole;
       walked = rw longer (walk_on s c.args.import.now.«module».now (key_view c.args.import.now.key) path at.name key at.walked i here to next on);
     }
@@ -156,7 +156,7 @@ loop-image-smaller g c =
     let here = sym at.here ∙ c.in-Some.is in
     let to = c.in-Some-Forward.«module».now in
     let next : Key = key_view c.in-Some-Forward.next in
-    let on = sym c.in_ok-target_of.ensures.exact ∙ ap (option_map target_view) (c.in-Some-Forward.is ∙ ap (λ t. Some t) c.in-Some-Forward.field-0-is) in
+    let on = sym c.target_of.ensures.exact ∙ ap (option_map target_view) (c.in-Some-Forward.is ∙ ap (λ t. Some t) c.in-Some-Forward.field-0-is) in
     let adds = rw c.in_default-2.is at c.in_ok-length-in-Some-Forward.ensures.adds in
     let longer = adds.0 ∙ ap (λ (p : Stand). path ++ p ∷ []) c.at-at.ensures in
     let walk = walk_on s c.args.import.now.«module».now (key_view c.args.import.now.key) path at.name key at.walked i here to next on in

@@ -27,3 +27,14 @@ loop-trail-preserved g c =
       goes_on = (more.0 ++ next ∷ [], pushed ∙ ap (λ (ns : List (Option ℕ)). ns ++ next ∷ []) more.1 ∙ append_assoc c.args.trail.now.items more.0 (next ∷ []));
       needed = let all = ap (λ (ns : List (Option ℕ)). length ns) pushed ∙ length-append trail (next ∷ []) in omega (arith, all, lt, len, size.0);
     }
+
+pub returns-in_err-push-clause-follows : goal.returns-in_err-push-clause-follows
+returns-in_err-push-clause-follows g c =
+    let same = c.in_err-push.ensures.items in
+    λ before. subst (λ (ns : List (Option ℕ)). Follows c.args.self.now.nodes.items c.args.text.now ns) (sym same) (c.loop-trail.invariant.follows before)
+
+pub returns-in_err-push-clause-goes_on : goal.returns-in_err-push-clause-goes_on
+returns-in_err-push-clause-goes_on g c = let more = c.loop-trail.invariant.goes_on in (more.0, c.in_err-push.ensures.items ∙ more.1)
+
+pub returns-in_err-push-clause-needed : goal.returns-in_err-push-clause-needed
+returns-in_err-push-clause-needed g c = let same = ap (λ (ns : List (Option ℕ)). length ns) c.in_err-push.ensures.items in let needed = c.loop-trail.invariant.needed in omega (arith, same, needed)

@@ -29,10 +29,15 @@ returns-in-None-clause-exact g c = λ file is along.
 
 pub returns-in-Some-clause-follows : goal.returns-in-Some-clause-follows
 returns-in-Some-clause-follows g c = λ file is along.
-    let f = c.in_ok-extend.ensures in
+    let f = c.extend.ensures in
     trail_on c.args.self.now.nodes.items file c.args.text.end c.args.text.bytes.now c.args.trail.now.items c.extend.new.trail.items is.inside is.bytes along f.follows f.goes_on f.needed
 
 pub returns-in-None-clause-follows : goal.returns-in-None-clause-follows
 returns-in-None-clause-follows g c = λ file is along.
-    let f = c.in_ok-extend.ensures in
+    let f = c.extend.ensures in
+    trail_on c.args.self.now.nodes.items file c.args.text.end c.args.text.bytes.now c.args.trail.now.items c.extend.new.trail.items is.inside is.bytes along f.follows f.goes_on f.needed
+
+pub returns-in_err-extend-clause-follows : goal.returns-in_err-extend-clause-follows
+returns-in_err-extend-clause-follows g c = λ file is along.
+    let f = c.extend.ensures in
     trail_on c.args.self.now.nodes.items file c.args.text.end c.args.text.bytes.now c.args.trail.now.items c.extend.new.trail.items is.inside is.bytes along f.follows f.goes_on f.needed
