@@ -66,7 +66,7 @@ fn push_relocations<A: Allocator>(
     Ok(())
 }
 
-/// The raw data of a section that is stored in the file.
+/// The raw data of a section; empty if none is stored in the file.
 pub(crate) fn raw_bytes<'a>(raw: RawData<'a>) -> &'a [u8]
     ensures { result.now ≡ raw_bytes (raw_view raw.entry) }
 {

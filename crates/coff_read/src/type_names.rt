@@ -1,4 +1,4 @@
-//! The names of the storage classes of symbols and of the types of relocations, as "PE Format" spells them.
+//! The names of the storage classes of symbols and of relocation types, as "PE Format" spells them.
 
 ghost use Rattle.std.specs.Prelude.{◌≡◌, option_map};
 ghost use Rattle.pe_head.specs.Names.{name_in};
@@ -44,7 +44,7 @@ pub fn storage_class_name(class: u8) -> Option<&'static str>
     }
 }
 
-/// The name of a type of relocations for AMD64, without IMAGE_REL_AMD64_ ("PE Format", Type Indicators).
+/// The name of a relocation type for AMD64, without IMAGE_REL_AMD64_ ("PE Format", Type Indicators).
 #[tactic(auto, unfolding(crate::specs::TypeNames::amd64_type_names))]
 fn amd64_type_name(kind: u16) -> Option<&'static str>
     ensures { option_map (λ name. name.now) result ≡ name_in amd64_type_names kind }
@@ -71,7 +71,7 @@ fn amd64_type_name(kind: u16) -> Option<&'static str>
     }
 }
 
-/// The name of a type of relocations for I386, without IMAGE_REL_I386_ ("PE Format", Type Indicators).
+/// The name of a relocation type for I386, without IMAGE_REL_I386_ ("PE Format", Type Indicators).
 #[tactic(auto, unfolding(crate::specs::TypeNames::i386_type_names))]
 fn i386_type_name(kind: u16) -> Option<&'static str>
     ensures { option_map (λ name. name.now) result ≡ name_in i386_type_names kind }
@@ -92,7 +92,7 @@ fn i386_type_name(kind: u16) -> Option<&'static str>
     }
 }
 
-/// The name of a type of relocations for ARM64, without IMAGE_REL_ARM64_ ("PE Format", Type Indicators).
+/// The name of a relocation type for ARM64, without IMAGE_REL_ARM64_ ("PE Format", Type Indicators).
 #[tactic(auto, unfolding(crate::specs::TypeNames::arm64_type_names))]
 fn arm64_type_name(kind: u16) -> Option<&'static str>
     ensures { option_map (λ name. name.now) result ≡ name_in arm64_type_names kind }
@@ -120,7 +120,7 @@ fn arm64_type_name(kind: u16) -> Option<&'static str>
     }
 }
 
-/// The name of a type of relocations for the other ARM processors, without IMAGE_REL_ARM_ ("PE Format", Type Indicators).
+/// The name of a relocation type for the other ARM processors, without IMAGE_REL_ARM_ ("PE Format", Type Indicators).
 #[tactic(auto, unfolding(crate::specs::TypeNames::arm_type_names))]
 fn arm_type_name(kind: u16) -> Option<&'static str>
     ensures { option_map (λ name. name.now) result ≡ name_in arm_type_names kind }
@@ -144,7 +144,7 @@ fn arm_type_name(kind: u16) -> Option<&'static str>
     }
 }
 
-/// The name of a type of a machine's relocations, such as `REL32`, or `None` if "PE Format" has none. The format has one list for
+/// The name of a machine's relocation type, such as `REL32`, or `None` if "PE Format" has none. The format has one list for
 /// ARM and ARMNT.
 pub fn relocation_type_name(machine: u16, kind: u16) -> Option<&'static str>
     ensures { option_map (λ name. name.now) result ≡ name_in (relocation_type_names machine) kind }

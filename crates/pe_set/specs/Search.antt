@@ -22,7 +22,7 @@ abbrev pub from_image : List Module → (List ℕ → Key → Option Resolution)
 from_image s next key None = Some Missing
 from_image s next key (Some i) = from_target next i (target_in s key i)
 
--- how a search ends that looks in at most n modules; none if it has not ended by then
+-- the end of a search that looks in at most n modules; none if it has not ended by then
 abbrev pub resolve_in : ℕ → List Module → List ℕ → Key → Option Resolution
 resolve_in zero s name key = None
 resolve_in (suc n) s name key = from_image s (resolve_in n s) key (named s name)

@@ -1,4 +1,4 @@
-//! `Ends`: how the searches end that pass a forwarder, so that none is followed twice.
+//! `Ends`: how the searches that pass a forwarder end, so that no forwarder is followed twice.
 
 ghost use Rattle.std.specs.Prelude.{◌≡◌, ℕ, List, IfSome, OnOk};
 ghost use Rattle.pe_tables.specs.Key.{Key};
@@ -11,7 +11,7 @@ use crate::standing::Standing;
 use std::alloc::{AllocError, Allocator};
 use std::collections::BTreeMap;
 
-/// How the searches end that pass each known forwarder.
+/// How the searches that pass a forwarder end, by forwarder.
 #[derive(Drop)]
 pub(crate) struct Ends<'a, A: Allocator> {
     pub alloc: A,
@@ -31,14 +31,14 @@ impl<'a, A: Allocator + Copy> Ends<'a, A> {
         }
     }
 
-    /// How a search ends that passes a forwarder, if that is known.
+    /// How a search that passes a forwarder ends, if that is known.
     pub fn get(&self, at: Standing<'a>) -> Option<Resolution>
         ensures { (s : List Module) (p : ℕ × Key) → AreEnds s self.now → stand_view at.entry ≡ stand_of p → IfSome result (λ end. EndsFrom s end p) }
     {
         self.ends.get(&at).copied()
     }
 
-    /// Remembers how a search ends that passes a forwarder.
+    /// Remembers how a search that passes a forwarder ends.
     pub fn keep(&mut self, at: Standing<'a>, end: Resolution) -> Result<(), AllocError>
         ensures { (s : List Module) (p : ℕ × Key) → AreEnds s self.old → stand_view at.entry ≡ stand_of p → EndsFrom s end p → OnOk result (AreEnds s self.new) }
     {

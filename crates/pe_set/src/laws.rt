@@ -87,7 +87,7 @@ pub fn sets_export_little()
     pe_tables::laws::exports_are_few();
 }
 
-/// What slots are bound to depends on the names, exports and imports of the images alone.
+/// What slots are bound to depends only on the names, exports and imports of the images.
 pub fn tables_decide_bindings()
     ensures { (s t : List Module) → AreAlike s t → bindings_of s ≡ bindings_of t }
 {}
@@ -98,7 +98,7 @@ pub fn bases_change_no_binding()
     ensures bindings { (bases : List ℕ) (es : List Entry) → bindings_of (modules_of (at_bases bases es)) ≡ bindings_of (modules_of es) }
 {}
 
-/// Bases decide faults 44 to 47 alone: a set that is accepted at some bases is accepted at all others at which its images may be.
+/// Bases decide only faults 44 to 47: a set that is accepted at some bases is accepted at all others at which its images may be.
 pub fn accepted_where_placed()
     ensures { (policy : Policy) (es : List Entry) (bases : List ℕ) → set_error policy es ≡ None
         → first_standing (places_tests (modules_of (at_bases bases es))) ≡ None → set_error policy (at_bases bases es) ≡ None }

@@ -15,7 +15,7 @@ use Rattle.pe_tables.specs.Fixups.{Block, Entry, entry_at, entry_of, entries_at,
 use Rattle.pe_tables.specs.FixupFaults.{entry_tests, entries_tests}
 use Rattle.pe_tables.specs.declared.fixups.Fixup.{Fixup}
 
--- what is left of a list that a function gives, from an index on
+-- the rest of the list of a function's values, from an index on
 pub drop-given : {X : Type 0} (f : ℕ → X) (n k : ℕ) → k < n → drop k (map f (range_with_len 0 n)) ≡ f k ∷ drop (k + 1) (map f (range_with_len 0 n))
 drop-given f n k lt =
     let xs = map f (range_with_len 0 n) in
@@ -104,7 +104,7 @@ range-apart from (suc m) n =
     let b : from + 1 + m ≡ from + suc m = omega arith in
     rw a (ap (λ (ks : List ℕ). from ∷ ks) (range-apart (from + 1) m n ∙ rw b refl))
 
--- what a function gives from one number on is what it gives of the later numbers
+-- a function's values from one number on are its values at later numbers
 shifted_range : {X : Type 0} (f g : ℕ → X) (from m n : ℕ) → ((k : ℕ) → f (from + k) ≡ g (m + k)) → map f (range_with_len from n) ≡ map g (range_with_len m n)
 shifted_range f g from m zero same = refl
 shifted_range f g from m (suc n) same =

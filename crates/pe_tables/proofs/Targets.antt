@@ -53,7 +53,7 @@ inside_by : (b : Bool) → (not b) ≡ false → b ≡ true
 inside_by true e = refl
 inside_by false e = absurd cc
 
--- what a value exports that has no fault
+-- what a value without a fault exports
 value_fits : (i : LaidOut) (d : Directory) (rva value : ℕ) (t : Target) → first_standing (value_tests i d rva value) ≡ None → target_of i d value ≡ Some t → IsIn i.size t
 value_fits i d rva value t none is = elim (cases_Bool (value == 0)) [
   | inl nothing ↦ (let e = rw nothing at is in absurd cc)

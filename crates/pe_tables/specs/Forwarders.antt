@@ -1,4 +1,4 @@
--- What is known of the forwarders of an image. No contract of a public function cites it.
+-- The parts of an image's forwarder strings that are remembered. No contract of a public function cites it.
 use Rattle.std.specs.Prelude.{◌≡◌, ℕ, ◌-◌, ◌≤◌, List, [], Some}
 use Rattle.std.specs.Ordering.{nat_cmp}
 use Rattle.std.specs.BTreeMap.{get}

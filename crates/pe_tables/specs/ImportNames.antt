@@ -1,4 +1,4 @@
--- Where the names are by which an image imports ("PE Format", Hint/Name Table).
+-- The RVAs of the names of an image's imports ("PE Format", Hint/Name Table).
 use Rattle.std.specs.Prelude.{◌≡◌, ℕ, ◌+◌, ◌%◌, ◌^◌, List, [], Option, Some, None, slice_get, if◌then◌else◌, unwrap_or}
 use Rattle.std.specs.List.{filter_map, flat_map}
 use Rattle.pe_head.specs.declared.directory.Directory.{Directory}

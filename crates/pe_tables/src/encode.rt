@@ -23,7 +23,7 @@ fn push_entry<A: Allocator>(bytes: &mut Vec<u8, A>, fixup: &Fixup) -> Result<(),
     bytes.extend_from_slice(&entry.to_le_bytes())
 }
 
-/// How many of the first fixups are in the page of the first.
+/// The number of fixups at the start that are in the page of the first one.
 fn page_len(fixups: &[Fixup]) -> usize
     requires { 0 < length fixups.now }
     ensures some { 0 < result }

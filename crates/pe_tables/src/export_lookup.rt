@@ -148,7 +148,7 @@ impl<'a, A: Allocator + Copy> Exports<'a, A> {
         Some(target)
     }
 
-    /// The first guess of a name's index at which a name of the same length is.
+    /// The first of a name's guesses that is the index of a name of the same length.
     fn likely_index(&self, name: &[u8]) -> Option<usize> {
         let exports = self.names.exports.as_slice();
         for guess in self.guesses.get(name) {

@@ -182,7 +182,7 @@ fn read_ordinals<'a, A: Allocator + Copy>(
     Ok(ordinals)
 }
 
-/// Reads what the entries export, and by it what these names do, or returns the first fault 21 or 22.
+/// Reads what the entries export, and from that what the names do, or returns the first fault 21 or 22.
 fn read_entries<'a, A: Allocator + Copy>(
     alloc: A,
     layout: &Layout<'a>,

@@ -1,4 +1,4 @@
-//! `import_name_rvas`: where the names are by which an image imports.
+//! `import_name_rvas`: the RVAs of the names of an image's imports.
 
 ghost use Rattle.std.specs.Prelude.{◌≡◌, ◌++◌, None, IsOk, IfOk, OnOk, not, option_to_list};
 ghost use Rattle.std.specs.List.{filter_map};

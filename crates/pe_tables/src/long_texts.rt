@@ -21,7 +21,7 @@ pub(crate) const BLOCK: usize = 256;
 pub(crate) struct Node<'a, A: Allocator> {
     /// The nodes with one more block, by this block.
     pub longer: BTreeMap<&'a [u8], usize, A>,
-    /// What the strings export that have less than a block before these blocks, by these bytes.
+    /// What each string with these last blocks exports, by the bytes before them, which are less than a block.
     pub targets: BTreeMap<&'a [u8], Option<Target<'a>>, A>,
 }
 
@@ -72,7 +72,7 @@ impl<'a, A: Allocator + Copy> LongTexts<'a, A> {
         self.nodes.get(node)?.longer.get(block).copied()
     }
 
-    /// What the string exports that has the blocks of a node and begins with these bytes, if it is stored.
+    /// What the string with the blocks of a node and these bytes before them exports, if it is stored.
     fn held_at(&self, node: usize, front: &[u8]) -> Option<Option<Target<'a>>>
         ensures { result ≡ held_at self.now.nodes.items node front.now }
     {
@@ -193,7 +193,7 @@ impl<'a, A: Allocator + Copy> LongTexts<'a, A> {
         Ok(next)
     }
 
-    /// Sets what the string exports that has the blocks of a node and begins with these bytes.
+    /// Sets what the string with the blocks of a node and these bytes before them exports.
     fn set_target(
         &mut self,
         node: usize,
