@@ -54,7 +54,7 @@ pub struct ObjSection<'a, A: Allocator> {
     pub relocations: Vec<Relocation, A>,
 }
 
-/// A section of an object that was not copied into lists ("PE Format", Section Table).
+/// A section of an object, with its relocations left in the file ("PE Format", Section Table).
 #[derive(Clone, Copy)]
 pub struct FileSection<'a> {
     /// The section's name, taken from the string table if it is there.

@@ -16,8 +16,8 @@ use pe_view::{TextEnds, View};
 use std::alloc::Allocator;
 
 /// The sections of an object file, in table order. Where strings of the string table end is remembered, so each byte of it is
-/// searched at most once, and 256 more for each name, however many sections share a name. Out of memory for that, a string is
-/// searched again.
+/// searched at most once, and 256 more for each name, however many sections share a name. If memory for that runs out, a
+/// string is searched again.
 #[derive(Drop)]
 pub struct EachSection<'a, A: Allocator> {
     pub(crate) view: View<'a>,

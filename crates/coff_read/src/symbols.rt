@@ -51,8 +51,8 @@ impl<'a> Iterator for Symbols<'a> {
 }
 
 /// The symbols of an object file, as [`Symbols`] returns them. Where strings of the string table end is remembered, so each byte of
-/// it is searched at most once, and 256 more for each name, however many symbols share a name. Out of memory for that, a string is
-/// searched again.
+/// it is searched at most once, and 256 more for each name, however many symbols share a name. If memory for that runs out, a
+/// string is searched again.
 #[derive(Drop)]
 pub struct EachSymbol<'a, A: Allocator> {
     pub(crate) view: View<'a>,

@@ -90,7 +90,7 @@ meets-run start len run others meets = list_any-append _ run others ∙ ap (λ (
 pub meets-others : (start len : ℕ) (run others : List (ℕ × ℕ)) → meets_any start len run ≡ false → meets_any start len (run ++ others) ≡ meets_any start len others
 meets-others start len run others apart = list_any-append _ run others ∙ ap (λ (b : Bool). b || meets_any start len others) apart
 
--- a run to which a range was pushed, or was not, out of memory
+-- a run to which a range was pushed, unless memory ran out
 pub ascending-pushed : (pushed : Bool) (old new : List (ℕ × ℕ)) (start len : ℕ) → new ≡ (if pushed then old ++ (start, len) ∷ [] else old) → IsAscending old → All (λ range. range.0 < start) old → All (FitsBeside start len) old → IsAscending new
 ascending-pushed true old new start len is ascending below fits = subst IsAscending (sym is) (ascending-push old start len ascending below fits)
 ascending-pushed false old new start len is ascending below fits = subst IsAscending (sym is) ascending

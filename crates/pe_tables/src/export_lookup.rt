@@ -126,7 +126,7 @@ impl<'a, A: Allocator + Copy> Exports<'a, A> {
     }
 
     /// Makes [`Exports::by_name`] find most names without a search, which pays if many are looked up. It takes 8 to 16 bytes of
-    /// memory for each name; out of memory, it changes nothing.
+    /// memory for each name; if memory runs out, it changes nothing.
     pub fn guess_names(&mut self, alloc: A)
         ensures { exports_view self.new ≡ exports_view self.old }
     {

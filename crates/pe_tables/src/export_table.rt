@@ -50,7 +50,7 @@ fn table_at(layout: &Layout, rva: u32) -> Table
     }
 }
 
-/// Whether `count` entries of `width` bytes at an RVA are not all in the image; never for no entries.
+/// Whether `count` entries of `width` bytes at an RVA are not all in the image; false for no entries.
 fn is_outside(layout: &Layout, rva: u32, width: u32, count: u32) -> bool
     ensures { result ≡ is_outside (image_of layout.now) rva width count }
 {

@@ -60,7 +60,7 @@ impl<'a, A: Allocator + Copy> Forwarders<'a, A> {
         }
     }
 
-    /// Remembers the ending of a forwarder string; out of memory, it does not.
+    /// Remembers the ending of a forwarder string, unless memory runs out.
     fn keep(&mut self, text: Text<'a>, target: Target<'a>)
         requires { forwarder_of text.bytes.now ≡ Some (target_view target) }
         ensures { (file : List ℕ) → AreForwardersOf file self.old → IsTextOf file text.entry → AreForwardersOf file self.new }

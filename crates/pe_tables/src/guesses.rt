@@ -79,7 +79,7 @@ impl<A: Allocator + Copy> Guesses<A> {
         }
     }
 
-    /// Guesses for the names of these exports; none if out of memory.
+    /// Guesses for the names of these exports; none if memory runs out.
     pub(crate) fn of(alloc: A, exports: &[(&[u8], Target)]) -> Guesses<A> {
         let mut guesses = Guesses::none(alloc);
         let Some(bits) = exports.len().checked_ilog2() else {
