@@ -1,4 +1,4 @@
--- A number in as many hexadecimal digits as it needs is what `{:x}` writes of it.
+-- `{:x}` writes a number in as many hexadecimal digits as it needs.
 use Rattle.std.proofs.Common.{ℕ, zero, suc, ◌≡◌, ◌⊎◌, inl, inr, ◌+◌, ◌*◌, ◌/◌, ◌%◌, ◌^◌, ◌<◌, ◌≤◌, List, [], ◌∷◌, ◌++◌, length, refl, arith, sym, ◌∙◌, ap, append_assoc}
 use Rattle.std.specs.Prelude.{false, nat_lt}
 use Rattle.std.specs.Fmt.{digits, digits_onto, digit_glyph}
@@ -12,13 +12,13 @@ use Rattle.pe_text.specs.Text.{glyph, hex, width_from}
 sixteenth : (k n : ℕ) → n / 16 ^ suc k ≡ n / 16 / 16 ^ k
 sixteenth k n = ap (λ (m : ℕ). n / m) (pow-succ' 16 k) ∙ sym (div-div-eq-div-mul n 16 (16 ^ k))
 
--- the last digit of a number stands after those of its sixteenth
+-- the last digit of a number comes after those of its sixteenth
 hex_last : (k n : ℕ) → hex (suc k) n ≡ hex k (n / 16) ++ (glyph (n % 16) ∷ [])
 unfolding hex
 hex_last zero n = rw (div-one n) refl
 hex_last (suc k) n = rw (sixteenth k n, hex_last k n) refl
 
--- a number of k + 1 digits, of which the first is no zero but where it is the only one
+-- a number of k + 1 digits, of which the first is not zero unless it is the only one
 onto : (k more n : ℕ) (acc : List ℕ) → k < more → n < 16 ^ suc k → (k ≡ 0) ⊎ (16 ^ k ≤ n) → digits_onto more 16 false n acc ≡ hex (suc k) n ++ acc
 unfolding hex
 onto k zero n acc below fits least = absurd omega (arith, below)
@@ -54,7 +54,7 @@ shown (suc more) j n bound fits least =
 pub hex_shown : (n : ℕ) → n < 2 ^ 64 → hex (width_from 15 1 n) n ≡ digits 16 false n
 hex_shown n below = shown 15 0 n (omega arith) below (inl refl)
 
--- as many digits are shown as are asked for
+-- as many digits are shown as the width
 pub length-hex : (k n : ℕ) → length (hex k n) ≡ k
 unfolding hex
 length-hex zero n = refl

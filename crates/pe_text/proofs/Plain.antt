@@ -1,4 +1,4 @@
--- The bytes of a quoted text that stand for themselves.
+-- The bytes of a quoted string that need no escape.
 use Rattle.std.proofs.Common.{◌≡◌, ℕ, zero, suc, ◌+◌, ◌-◌, ◌<◌, ◌≤◌, true, List, [], ◌∷◌, length, take, drop, get_or, refl, ap, arith}
 use Rattle.std.specs.Prelude.{flat_map}
 use Rattle.std.proofs.Math.Seq.{take-add}
@@ -19,7 +19,7 @@ plain_text (suc n) [] fits plain = absurd (omega arith)
 plain_text (suc n) (byte ∷ bytes) fits plain =
     rw (itself byte (plain 0 0 (omega arith))) (ap (λ (bs : List ℕ). byte ∷ bs) (plain_text n bytes (omega arith) (λ k d lt. plain (suc k) d (omega arith))))
 
--- some more bytes of a quoted text
+-- some more bytes of a quoted string
 pub escaped-then : {W : Type 0} {taken : W → List ℕ} {failures : W → ℕ} {a b c : TextWriter W} (at n : ℕ) (bytes : List ℕ)
     → Adds taken failures a b (flat_map escaped (take at bytes)) → Adds taken failures b c (flat_map escaped (take n (take (length bytes - at) (drop at bytes)))) → Adds taken failures a c (flat_map escaped (take (at + n) bytes))
 escaped-then at n bytes p q = rw (take-add, flat_map-append) (p then (rw take_rest at q))

@@ -1,4 +1,4 @@
--- What an engine reads and writes, from the contracts of the reading and of the text writer.
+-- What an engine reads and writes, from the contracts of `read_whole` and of the text writer.
 use Rattle.std.proofs.Common.{ℕ, ◌≡◌, ◌+◌, ◌^◌, ◌<◌, ◌≤◌, Bool, List, [], ◌++◌, length, Result, Ok, Err, refl, sym, ◌∙◌, ap, append_assoc, append-nil, arith}
 use Rattle.std.specs.Prelude.{IsErrAnd, IsErrOf, ◌↔◌}
 use Rattle.std.proofs.lemmas.List.{append_cancel_left}
@@ -24,7 +24,7 @@ module _ {W : Type 0} (taken : W → List ℕ) (failures : W → ℕ) (IsText : 
       let e = ends (taken w) (taken w ++ put.0) (failures w) (put.2.text _ _ _ (Stands-fresh taken failures a w fresh)) in
       (put.0, rw is e.0, (put.1, rw is e.1))
 
-  -- a beginning of the text was written
+  -- the beginning of the text was written
   pub Puts-failed : (a b c : TextWriter W) (w v : W) (outcome : Outcome) → IsFresh w a
       → ((text : List ℕ) × IsText outcome text × Adds taken failures a b text)
       → ((start text : List ℕ) (count : ℕ) → Stands taken failures b start text count
@@ -41,7 +41,7 @@ module _ {W : Type 0} (taken : W → List ℕ) (failures : W → ℕ) (IsText : 
       let e : v ≡ w = is ∙ same ∙ fresh.sink_is in
       ([], rw e (sym (append-nil (taken w))), (rw e refl, refl))
 
--- nothing was judged and nothing was written after a reading that failed
+-- if reading failed, nothing was checked and nothing was written
 unread : (IsText : Outcome → List ℕ → Type 0) (Whole : Type 0) (count count' : ℕ) (error : ToolError) (input : List ℕ) → FailsAfter input count count' error
     → (let result : Result Outcome ToolError = Err error in Written IsText result [] × OnJudged result Whole × (IsErrOf result Memory → 0 < length input))
 unread IsText Whole count count' Read input fails = (refl, tt, λ is. cc)
@@ -58,7 +58,7 @@ Ran-unread IsText given given' taken ended count count' error (Err e) is read =
     let u = unread (IsText read.0) (IsWhole ended read.0) count count' error read.0 read.2 in
     rw is (record { input = read.0; written = []; reads = read.1; writes = sym (append-nil taken); text = u.0; limit = read.3; whole = u.1; memory = u.2 })
 
--- a write failed exactly where the count rose
+-- a write failed exactly if the count rose
 pub write_told : (IsText : Outcome → List ℕ → Type 0) (before now : List ℕ) (count count' : ℕ) (result : Result Outcome ToolError) → Puts IsText before now count count' result
     → IsErrOf result Write ↔ (count < count')
 write_told IsText before now count count' (Ok outcome) puts = let same = puts.2.1 in (λ is. absurd cc, λ rose. absurd (omega (arith, rose, same)))

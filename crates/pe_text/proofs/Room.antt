@@ -1,10 +1,10 @@
--- Texts that are cut to the room that there is.
+-- Strings that are cut to the room that there is.
 use Rattle.std.proofs.Common.{ℕ, zero, suc, ◌≡◌, ◌+◌, ◌-◌, ◌≤◌, List, [], ◌∷◌, ◌++◌, length, take, refl, arith, sym, ◌∙◌, ap}
 use Rattle.std.specs.Prelude.{min}
 use Rattle.std.proofs.lemmas.List.{take_min}
 use Rattle.std.proofs.Math.Seq.{take-append-add}
 
--- a text that was cut is cut once more with what is added to it
+-- to add to a cut string and cut it again is to add to the whole string and cut it
 pub cut_again : (n : ℕ) (xs ys : List ℕ) → take n (take n xs ++ ys) ≡ take n (xs ++ ys)
 cut_again zero xs ys = refl
 cut_again (suc n) [] ys = refl
@@ -20,6 +20,6 @@ filled n count xs ys within e =
     let same : count ≡ min (n - length xs) (length ys) = omega (arith, e) in
     rw all at (behind (n - length xs) count xs ys same)
 
--- a text that was cut is added to
+-- bytes are added to a string that was cut
 pub adds : (n : ℕ) {before now : List ℕ} (xs ys : List ℕ) → before ≡ take n xs → now ≡ take n (before ++ ys) → now ≡ take n (xs ++ ys)
 adds n xs ys e added = added ∙ rw e (cut_again n xs ys)

@@ -6,7 +6,7 @@ use Rattle.std.specs.Prelude.{Option}
 use denote.Bor.{Bor}
 use Rattle.pe_text.specs.FaultWords.{Words, rule_view, words_in}
 
--- a row of a table as the code holds it
+-- a row of a table as the code has it
 abbrev Row : Type 0
 Row = ℕ × Bor (List ℕ) × Bor (List ℕ)
 
@@ -15,7 +15,7 @@ get_or-map [] i d = refl
 get_or-map (row ∷ rows) zero d = refl
 get_or-map (row ∷ rows) (suc i) d = get_or-map rows i d
 
--- the rows from i on are row i and those behind it
+-- the rows from i on are row i and those after it
 row_here : (rows : List Row) (i : ℕ) (d : Row) → i < length rows → drop i (map rule_view rows) ≡ rule_view (get_or rows i d) ∷ drop (i + 1) (map rule_view rows)
 row_here rows i d below =
     let count = length-map rows rule_view in

@@ -11,12 +11,12 @@ use Rattle.std.proofs.lemmas.Nat.{pow-add}
 use Rattle.std.proofs.lemmas.Bool.{cases_Bool, cases_lt, eqb-true, lt-ltb, le-ltb}
 use Rattle.pe_text.specs.Text.{glyph, hex, width_from}
 
--- a shift by four bits a digit
+-- a shift by four bits for each digit
 shift-digits : (k : ℕ) → 2 ^ (4 * k) ≡ 16 ^ k
 shift-digits zero = refl
 shift-digits (suc k) = let e : 4 * suc k ≡ 4 + 4 * k = omega arith in rw (e, pow-add 2 4 (4 * k), shift-digits k, pow-succ' 16 k) refl
 
--- the least width that holds a number
+-- the least width that has all digits of a number
 width_is : (more k w n : ℕ) → k ≤ w → w ≤ k + more → ((j : ℕ) → j < w → 16 ^ j ≤ n) → n < 16 ^ w → width_from more k n ≡ w
 unfolding width_from
 width_is zero k w n low high least holds = omega arith
@@ -25,7 +25,7 @@ width_is (suc more) k w n low high least holds = elim (cases_lt k w) [
   | inr there ↦ (let e : k ≡ w = omega arith in rw (lt-ltb n (16 ^ k) (rw (sym e) at holds)) e)
 ]
 
--- that of a number with this highest bit
+-- the width of a number with this highest bit
 pub width_of_bit : (bit n : ℕ) → bit < 64 → 2 ^ bit ≤ n → n < 2 * 2 ^ bit → width_from 15 1 n ≡ bit / 4 + 1
 width_of_bit bit n small le lt =
     let least : (j : ℕ) → j < bit / 4 + 1 → 16 ^ j ≤ n = λ j below. rw (sym (shift-digits j)) (omega (arith, le, pow-le-pow_right {n = 2} (omega arith) {i = 4 * j} {j = bit} (omega arith))) in
@@ -33,12 +33,12 @@ width_of_bit bit n small le lt =
     let holds : n < 16 ^ (bit / 4 + 1) = rw (sym (shift-digits (bit / 4 + 1))) (omega (arith, lt, more)) in
     width_is 15 1 (bit / 4 + 1) n (omega arith) (omega arith) least holds
 
--- that of zero
+-- the width of zero
 pub width_of_zero : width_from 15 1 0 ≡ 1
 unfolding width_from
 width_of_zero = refl
 
--- one more digit stands before those at the end
+-- one more digit comes before those at the end
 pub hex-before : (k n digit : ℕ) (digits : List ℕ) → k < 16 → length digits ≡ 16 → digit ≡ glyph (n / 2 ^ (4 * k) % 16) → drop (16 - k) digits ≡ hex k n
     → drop (16 - (k + 1)) (set digits (15 - k) digit) ≡ hex (k + 1) n
 unfolding hex
@@ -49,7 +49,7 @@ hex-before k n digit digits below long d e =
     drop-set_at digits (15 - k) (16 - (k + 1)) digit one (omega arith)
     ∙ rw (next, e, d, shift-digits k) (ap (λ (j : ℕ). hex j n) (sym more))
 
--- the list of digits has each in its place
+-- the list of digits has each digit at its index
 is_listed : ℕ → Bool
 is_listed d = get_or (codes "0123456789abcdef") d 0 == glyph d
 

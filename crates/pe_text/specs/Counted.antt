@@ -1,8 +1,8 @@
--- What a counted device tells of its calls.
+-- What a counted device records of its calls.
 use Rattle.std.specs.Prelude.{ℕ, Bool, List}
 use Rattle.pe_text.specs.declared.counted.Counted.{Counted}
 
--- the bytes that it gave or took
+-- the bytes that it returned or took
 abbrev pub bytes_told : {T : Type 0} → Counted T → List ℕ
 bytes_told counted = counted.told.list
 

@@ -1,4 +1,4 @@
--- A fault in words: what stands at its place, and which rule does not hold of it.
+-- A fault in words: what is at its place, and the rule that it breaks.
 use Rattle.std.specs.Prelude.{ℕ, false, ◌==◌, if◌then◌else◌, List, [], ◌∷◌, ◌++◌, codes, decimal, Option, None, Some, unwrap_or, map}
 use Rattle.std.specs.Fmt.{digits}
 use denote.Bor.{Bor}
@@ -10,7 +10,7 @@ use Rattle.pe_view.specs.declared.fault.Place.{Place}
 use Rattle.pe_view.specs.declared.fault.Place.TheVariants.{File, Rva, Address, Item}
 use Rattle.pe_view.specs.declared.fault.Fault.{Fault}
 
--- what stands at the place of a fault, and what is wrong with it
+-- what is at the place of a fault, and what is wrong with it
 abbrev pub Words : Type 0
 Words = List ℕ × List ℕ
 
@@ -22,7 +22,7 @@ abbrev pub words_in : List (ℕ × Words) → ℕ → Option Words
 words_in [] number = None
 words_in (row ∷ rows) number = if number == row.0 then Some row.1 else words_in rows number
 
--- a row of a table of numbers and words, as the code holds it
+-- a row of a table of numbers and words, as the code has it
 abbrev pub rule_view : ℕ × Bor (List ℕ) × Bor (List ℕ) → ℕ × Words
 rule_view row = (row.0, (row.1.now, row.2.now))
 
@@ -30,7 +30,7 @@ rule_view row = (row.0, (row.1.now, row.2.now))
 unfoldable pub rules : List (ℕ × Words)
 rules = map (λ row. (row.0, (row.1.now, row.2.now))) RULES
 
--- the words of a number, which no fault may have
+-- the words of a number, also of one that no fault has
 abbrev pub words_of : ℕ → Words
 words_of number = unwrap_or (words_in rules number) (codes "place", codes "no fault has this number")
 
@@ -38,7 +38,7 @@ words_of number = unwrap_or (words_in rules number) (codes "place", codes "no fa
 abbrev pub hex_text : ℕ → List ℕ
 hex_text = digits 16 false
 
--- what is before the number of a place
+-- the words before the number of a place
 abbrev pub at_words : Place → List ℕ
 at_words (File offset) = codes " at 0x"
 at_words (Rva rva) = codes " at RVA 0x"
@@ -52,7 +52,7 @@ place_number (Rva rva) = hex_text rva
 place_number (Address address) = hex_text address
 place_number (Item item) = decimal item
 
--- a number as the code holds it, in digits
+-- the digits of a number, in the base that the code has with it
 abbrev pub number_text : PlaceNumber → List ℕ
 number_text (Hex number) = hex_text number
 number_text (Decimal number) = decimal number

@@ -1,4 +1,4 @@
--- What the first bytes of a file show it to be.
+-- The kind of a file by its first bytes.
 use Rattle.std.specs.Prelude.{ℕ, ◌==◌, ◌&&◌, ◌||◌, Bool, nat_lt, nat_le, nat_eq, if◌then◌else◌, List, [], ◌∷◌, ◌++◌, codes, length, Option, None, Some}
 use Rattle.std.specs.List.{list_all, starts_with}
 use Rattle.pe_view.specs.Number.{num, byte_of}
@@ -22,7 +22,7 @@ is_machine m = m == 0x14c || (m == 0x8664 || (m == 0xaa64 || (m == 0x1c0 || m ==
 abbrev pub begins_object : List ℕ → Bool
 begins_object bytes = nat_le 2 (length bytes) && is_machine (num (byte_of bytes) 0 2)
 
--- the first of these that the bytes show
+-- the first of the kinds that may begin with these bytes
 abbrev pub kind_of : List ℕ → Option FileKind
 kind_of bytes =
     if begins_with bytes (codes "MZ") then Some Image

@@ -6,12 +6,12 @@ use Rattle.pe_head.specs.declared.headers.Headers.{Headers}
 use Rattle.pe_head.specs.Optional.{image_base_width}
 use Rattle.pe_text.specs.Field.{Field, field, time_date_stamp, characteristics}
 
--- the Magic field
+-- the value of the Magic field
 abbrev pub magic_number : Magic → ℕ
 magic_number Pe32 = 0x10b
 magic_number Pe32Plus = 0x20b
 
--- the width of the fields that PE32+ extends, of which ImageBase is one
+-- the width in bytes of the fields that PE32+ extends, such as ImageBase
 abbrev pub extended_width : Magic → ℕ
 extended_width = image_base_width
 
@@ -39,7 +39,7 @@ standard_fields h =
     ∷ field (codes "BaseOfCode") 4 h.base_of_code
     ∷ []
 
--- the standard field that PE32 alone has
+-- the standard field that only PE32 has
 abbrev pub base_of_data_fields : Option ℕ → List Field
 base_of_data_fields None = []
 base_of_data_fields (Some base) = field (codes "BaseOfData") 4 base ∷ []

@@ -1,4 +1,4 @@
--- The exit status that tells an engine's answer.
+-- The exit status for an engine's result.
 use Rattle.std.specs.Prelude.{ℕ, Result, Ok, Err}
 use Rattle.pe_text.specs.declared.outcome.Outcome.{Outcome}
 use Rattle.pe_text.specs.declared.outcome.Outcome.TheVariants.{Done, Refused}

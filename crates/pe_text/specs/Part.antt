@@ -4,7 +4,7 @@ use Rattle.pe_text.specs.declared.part.Part.{Part}
 use Rattle.pe_text.specs.declared.part.Part.TheVariants.{Text, Quoted, Name, Decimal, Hex, Hex2, Hex4, Hex8, Hex16}
 use Rattle.pe_text.specs.Text.{hex, hex_at_least, quoted}
 
--- a blank and a name, where there is one
+-- a space and a name, if there is one
 abbrev pub name_text : Option (List ℕ) → List ℕ
 name_text None = []
 name_text (Some name) = codes " " ++ name
@@ -20,7 +20,7 @@ part_text (Hex4 number) = hex 4 number
 part_text (Hex8 number) = hex 8 number
 part_text (Hex16 number) = hex 16 number
 
--- texts one after another
+-- the concatenation of strings
 abbrev pub joined : List (List ℕ) → List ℕ
 joined [] = []
 joined (text ∷ texts) = text ++ joined texts

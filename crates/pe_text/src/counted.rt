@@ -8,8 +8,8 @@ use std::io::{Read, Write};
 
 /// A reader or a writer of std as a [`Source`] or a [`Sink`].
 ///
-/// It keeps the list of its bytes, whether its end was seen, and the count of its failures, from each call's own answer.
-/// The list is for contracts alone and takes no memory.
+/// It records its bytes, whether its end was seen and how often it failed, from the result of each call. The list of bytes is for
+/// contracts alone and takes no memory.
 #[derive(Drop)]
 pub struct Counted<T> {
     inner: T,
@@ -21,7 +21,7 @@ pub struct Counted<T> {
 impl<T> Counted<T> {
     ghost use Rattle.pe_text.specs.Counted.{bytes_told, has_ended, failures_of};
 
-    /// A device that has given and taken nothing, has not ended and has not failed.
+    /// A device that has returned and taken no bytes, has not ended and has not failed.
     pub fn new(inner: T) -> Counted<T>
         ensures bytes { bytes_told result ≡ [] }
         ensures ended { has_ended result ≡ false }

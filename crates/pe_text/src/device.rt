@@ -11,21 +11,21 @@ pub struct Failed;
 
 /// What an engine reads from.
 ///
-/// A source counts its failures: a call fails exactly where the count rises, by one. It tells contracts the bytes that
-/// it has given so far, and whether its end was seen.
+/// A source counts its failures: a call fails exactly if the count rises, by one. Contracts see the bytes that it has returned so
+/// far, and whether its end was seen.
 pub trait Source {
     ghost use Rattle.pe_text.specs.Device.{Counts, GrowsBy, sees_end};
 
-    // the bytes that it has given so far
+    // the bytes that it has returned so far
     ghost given: { Self → List ℕ };
 
-    // whether its end was seen: a read gave nothing to a buffer with room
+    // whether its end was seen: a read into a non-empty buffer returned 0
     ghost ended: { Self → Bool };
 
     // how often it has failed
     ghost failures: { Self → ℕ };
 
-    /// Puts bytes at the beginning of the buffer and answers how many. None of them, in a buffer with room, is the end.
+    /// Reads bytes into the beginning of the buffer, and returns how many. 0 bytes, for a non-empty buffer, are the end.
     fn read(&mut self, buffer: &mut [u8]) -> Result<usize, Failed>
         requires { failures self.old < 2 ^ 64 - 1 }
         ensures fits { IfOk result (λ count. count ≤ length buffer.new) }
@@ -40,8 +40,7 @@ pub trait Source {
 
 /// What an engine writes to.
 ///
-/// A sink counts its failures: a call fails exactly where the count rises, by one. It tells contracts the bytes that it
-/// has taken so far.
+/// A sink counts its failures: a call fails exactly if the count rises, by one. Contracts see the bytes that it has taken so far.
 pub trait Sink {
     ghost use Rattle.pe_text.specs.Device.{Counts, GrowsBy};
 
@@ -51,8 +50,7 @@ pub trait Sink {
     // how often it has failed
     ghost failures: { Self → ℕ };
 
-    /// Takes bytes from the beginning of the piece and answers how many; to take none of a piece that is not empty is a
-    /// failure.
+    /// Takes bytes from the beginning of the piece, and returns how many; to take none of a non-empty piece is a failure.
     fn write(&mut self, piece: &[u8]) -> Result<usize, Failed>
         requires { failures self.old < 2 ^ 64 - 1 }
         ensures fits { IfOk result (λ count. count ≤ length piece.now) }

@@ -18,8 +18,8 @@ fn hex_digit(digit: u8) -> u8
     GLYPHS[digit as usize]
 }
 
-/// The last `width` hexadecimal digits of a number, at the end of these bytes. It stands in line, so that callers with a constant
-/// width have no loop.
+/// The last `width` hexadecimal digits of a number, at the end of the array. It is inlined, so that callers with a constant width
+/// have no loop.
 #[inline(always)]
 pub(crate) fn hex_digits(width: usize, number: u64) -> [u8; DIGITS]
     requires { width ≤ 16 }
@@ -32,7 +32,7 @@ pub(crate) fn hex_digits(width: usize, number: u64) -> [u8; DIGITS]
     digits
 }
 
-/// How many hexadecimal digits a number has.
+/// How many hexadecimal digits a number has: 1 for 0.
 pub fn hex_width(number: u64) -> u8
     ensures value { result ≡ hex_width number }
     ensures bound { result ≤ 16 }

@@ -1,4 +1,4 @@
-//! `run_report`: reads a file whole, judges it and writes its text, as a `Report` says.
+//! `run_report`: reads a whole file, checks it and writes the text of a `Report`.
 
 ghost use Rattle.std.specs.Prelude.{◌≡◌, ◌-◌, ◌^◌, ◌<◌, ◌↔◌, ℕ, List, length, IfOk, OnErr, IsErrOf};
 ghost use Rattle.pe_text.specs.declared.outcome.Outcome.{Outcome};
@@ -14,13 +14,12 @@ use crate::whole_file::read_whole;
 use pe_view::Fault;
 use std::alloc::{AllocError, Allocator};
 
-/// What an engine says of a file.
+/// The text that an engine writes for a file.
 pub trait Report {
-    // a text says so of the file, by the outcome
+    // whether a file has this outcome and this text
     ghost is_text: { List ℕ → Outcome → List ℕ → Type 0 };
 
-    /// Judges the file, and only then adds the text. Where memory is refused it adds nothing, and that never comes of an
-    /// empty file.
+    /// Checks the file, and only then adds the text. If it is out of memory it adds nothing; that never happens for an empty file.
     fn write<A: Allocator + Copy, W: Sink>(
         &self,
         alloc: A,
@@ -34,7 +33,7 @@ pub trait Report {
         ensures reads { OnErr result (0 < length file.now) };
 }
 
-/// Adds the line of a fault.
+/// Adds the line of the fault that refuses a file.
 pub fn refuse<W: Sink>(text: &mut TextWriter<W>, fault: Fault) -> Outcome
     requires { IsReady W.failures text.old }
     ensures adds { Adds W.taken W.failures text.old text.new (fault_line fault) }
@@ -44,7 +43,7 @@ pub fn refuse<W: Sink>(text: &mut TextWriter<W>, fault: Fault) -> Outcome
     Outcome::Refused(fault)
 }
 
-/// Judges a file, and writes its text.
+/// Checks a file, and writes its text.
 fn write_report<T: Report, A: Allocator + Copy, W: Sink>(
     report: &T,
     alloc: A,
@@ -66,11 +65,11 @@ fn write_report<T: Report, A: Allocator + Copy, W: Sink>(
     }
 }
 
-/// Reads a file whole, judges it, and writes its text.
+/// Reads a whole file, checks it, and writes its text.
 ///
-/// The reader is read to its end, or to 2^32 + 1 bytes. After `Write` a beginning of the text was written, after `Read` and
-/// `Memory` nothing; `Memory` never comes where the reader gave no byte. Condition: fewer than 2^64 - 1 failures are counted
-/// on either device so far.
+/// The file is read to its end, or to 2^32 + 1 bytes. On the error `Write` the beginning of the text was written, on `Read` and
+/// `Memory` nothing; `Memory` never comes if the reader returned no byte. Condition: each device has counted fewer than 2^64 - 1
+/// failures so far.
 pub fn run_report<T: Report, A: Allocator + Copy, R: Source, W: Sink>(
     report: &T,
     alloc: A,

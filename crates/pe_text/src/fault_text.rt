@@ -9,16 +9,16 @@ use itoa::Buffer;
 use pe_view::{Fault, Place};
 use std::fmt::{self, Display};
 
-/// What stands at the place of a fault, and what is wrong with it, in the terms of "PE Format".
+/// What is at the place of a fault, and what is wrong with it, in the terms of "PE Format".
 #[derive(Clone, Copy, Debug, PartialEq, Eq)]
 pub struct FaultWords {
-    /// What stands at the fault's place.
+    /// What is at the fault's place.
     pub subject: &'static str,
-    /// Which rule does not hold of it.
+    /// The rule that it breaks.
     pub rule: &'static str,
 }
 
-/// The words of each fault: its number, what stands at its place, and which rule does not hold of it.
+/// The words of each fault: its number, what is at its place, and the rule that it breaks.
 static RULES: [(u16, &str, &str); 69] = [
     (1, "byte", "the file is larger than 2^32 bytes"),
     (
@@ -303,7 +303,7 @@ static RULES: [(u16, &str, &str); 69] = [
     (85, "object", "a part of it does not fit the format"),
 ];
 
-/// The words of a number among these.
+/// The words of a number in this table.
 fn words_among(rules: &[(u16, &'static str, &'static str)], number: u16) -> Option<FaultWords>
     ensures { option_map words_view result ≡ words_in (map rule_view rules.now) number }
 {
@@ -322,7 +322,7 @@ pub fn fault_words(number: u16) -> Option<FaultWords>
     words_among(&RULES, number)
 }
 
-/// The words of a number, which no fault may have.
+/// The words of a number, also of one that no fault has.
 fn words_of(number: u16) -> FaultWords
     ensures { words_view result ≡ words_of number }
 {
@@ -335,14 +335,14 @@ fn words_of(number: u16) -> FaultWords
     }
 }
 
-/// The number of a place, as it is shown.
+/// The number of a place, in the base in which it is shown.
 #[derive(Clone, Copy)]
 enum PlaceNumber {
     Hex(u64),
     Decimal(u32),
 }
 
-/// What is before the number of a place, and the number.
+/// The words before the number of a place, and the number.
 fn place_words(place: Place) -> (&'static str, PlaceNumber)
     ensures words { result.0.now ≡ at_words place }
     ensures number { number_text result.1 ≡ place_number place }
@@ -355,7 +355,7 @@ fn place_words(place: Place) -> (&'static str, PlaceNumber)
     }
 }
 
-/// A fault in words: `section header at 0x138: the section's raw data passes the end of the file`.
+/// A fault in words: `section header at 0x138: the section's raw data extends past the end of the file`.
 #[derive(Clone, Copy, Debug)]
 pub struct FaultText(pub Fault);
 
@@ -372,7 +372,7 @@ impl Display for FaultText {
     }
 }
 
-/// Adds as many of these bytes as there is room for.
+/// Adds as many of these bytes as fit.
 fn add(text: &mut ArrayVec<u8, 256>, bytes: &[u8])
     ensures { text.new.items ≡ take 256 (text.old.items ++ bytes.now) }
 {
@@ -380,7 +380,7 @@ fn add(text: &mut ArrayVec<u8, 256>, bytes: &[u8])
     text.try_extend_from_slice(&bytes[..count]).unwrap();
 }
 
-/// The words of a fault with a place between them, as far as there is room.
+/// The words of a fault with a place between them, cut to 256 bytes.
 fn with_place(words: FaultWords, at: &str, number: &[u8]) -> ArrayVec<u8, 256>
     ensures { result.items ≡ take 256 (words.subject.now ++ at.now ++ number.now ++ codes ": " ++ words.rule.now) }
 {
@@ -393,7 +393,7 @@ fn with_place(words: FaultWords, at: &str, number: &[u8]) -> ArrayVec<u8, 256>
     text
 }
 
-/// The same with a number in hexadecimal.
+/// The same with the number of the place in hexadecimal.
 fn with_hex(words: FaultWords, at: &str, number: u64) -> ArrayVec<u8, 256>
     ensures text { result.items ≡ take 256 (words.subject.now ++ at.now ++ hex_text number ++ codes ": " ++ words.rule.now) }
     ensures short { length (hex_text number) ≤ 16 }
@@ -403,7 +403,7 @@ fn with_hex(words: FaultWords, at: &str, number: u64) -> ArrayVec<u8, 256>
     with_place(words, at, &digits[DIGITS - width as usize..])
 }
 
-/// The bytes of a fault in words, which are those of [`FaultText`]. No fault has over 256.
+/// The bytes of a fault in words, as [`FaultText`] displays it. No fault has more than 256.
 pub fn fault_sentence(fault: &Fault) -> ArrayVec<u8, 256>
     ensures { result.items ≡ sentence fault.now }
 {

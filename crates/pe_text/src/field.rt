@@ -12,7 +12,7 @@ pub struct Field {
     pub name: &'static [u8],
     /// How many bytes it has in the file.
     pub width: u8,
-    /// What it holds.
+    /// Its value.
     pub value: u64,
     ghost narrow: { width ≤ 8 },
 }

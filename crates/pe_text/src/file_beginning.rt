@@ -1,4 +1,4 @@
-//! `file_kind`: what kind of file the first bytes of a file show.
+//! `file_kind`: the kind of a file by its first bytes.
 
 ghost use Rattle.std.specs.Prelude.{◌≡◌, Some};
 ghost use Rattle.std.specs.List.{list_all};
@@ -8,7 +8,7 @@ use pe_head::machine;
 use pe_view::View;
 use std::fmt::{self, Display};
 
-/// A kind of file. Shown, it is a clause: `it is an ELF file`.
+/// A kind of file. It displays as a clause: `it is an ELF file`.
 #[derive(Clone, Copy, Debug, PartialEq, Eq)]
 pub enum FileKind {
     /// It begins with `MZ`.
@@ -37,28 +37,28 @@ impl Display for FileKind {
     }
 }
 
-/// Whether a byte stands in a text: it is printable ASCII, a tab, a line feed or a carriage return.
+/// Whether a text file may contain a byte: it is printable ASCII, a tab, a line feed or a carriage return.
 fn is_text_byte(byte: u8) -> bool
     ensures { result ≡ is_text_byte byte }
 {
     matches!(byte, b' '..=b'~' | b'\t' | b'\n' | b'\r')
 }
 
-/// Whether all bytes stand in a text.
+/// Whether a text file may contain all these bytes.
 fn all_text(bytes: &[u8]) -> bool
     ensures { result ≡ list_all is_text_byte bytes.now }
 {
     bytes.iter().all(|byte| is_text_byte(*byte))
 }
 
-/// Whether a text may begin so.
+/// Whether a text file may begin with these bytes.
 fn is_text(first: &[u8]) -> bool
     ensures { result ≡ is_text first.now }
 {
     !first.is_empty() && all_text(first)
 }
 
-/// Whether objects are made for a machine of this number.
+/// Whether COFF objects are made for the machine of this number.
 fn is_machine(number: u16) -> bool
     ensures { result ≡ is_machine number }
 {
@@ -68,7 +68,7 @@ fn is_machine(number: u16) -> bool
     )
 }
 
-/// Whether a COFF object may begin so.
+/// Whether a COFF object may begin with these bytes.
 fn begins_object(first: &[u8]) -> bool
     ensures { result ≡ begins_object first.now }
 {
@@ -78,9 +78,10 @@ fn begins_object(first: &[u8]) -> bool
     }
 }
 
-/// What a file's first bytes show it to be, however many they are; `None` where they show none of the kinds.
+/// The kind of a file by its first bytes, however many they are; `None` if they are those of no kind.
 ///
-/// The kinds are asked in their order, so that bytes that may begin both a text and an object show a text.
+/// The kinds are tested in the order of [`FileKind`], so that a file whose first bytes may begin both a text and an object is a
+/// text.
 pub fn file_kind(first: &[u8]) -> Option<FileKind>
     ensures { result ≡ kind_of first.now }
 {

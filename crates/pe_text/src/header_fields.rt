@@ -8,7 +8,7 @@ use crate::field::Field;
 use crate::fields::{characteristics, time_date_stamp};
 use pe_head::{Headers, Magic};
 
-/// A field of a name, a width in bytes and a value.
+/// A field with a name, a width in bytes and a value.
 macro_rules! field {
     ($name:literal, $width:expr, $value:expr) => {
         Field {
@@ -19,7 +19,7 @@ macro_rules! field {
     };
 }
 
-/// The Magic field.
+/// The value of the Magic field.
 fn magic_number(magic: Magic) -> u64
     ensures { result ≡ magic_number magic }
 {
@@ -29,7 +29,7 @@ fn magic_number(magic: Magic) -> u64
     }
 }
 
-/// The width of the fields that PE32+ extends, of which ImageBase is one.
+/// The width in bytes of the fields that PE32+ extends, such as ImageBase.
 fn extended_width(magic: Magic) -> u8
     ensures value { result ≡ extended_width magic }
     ensures fits { result ≤ 8 }
@@ -51,7 +51,7 @@ pub fn coff_fields(headers: &Headers) -> [Field; 6]
     ]
 }
 
-/// The standard fields of the optional header but for BaseOfData, in the header's order ("PE Format", Optional Header Standard
+/// The standard fields of the optional header except BaseOfData, in the header's order ("PE Format", Optional Header Standard
 /// Fields).
 pub fn standard_fields(headers: &Headers) -> [Field; 8]
     ensures { map field_of result ≡ standard_fields headers.now }

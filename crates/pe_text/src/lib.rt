@@ -1,7 +1,7 @@
-//! What all texts share: the devices that files are read from and texts are written to, the writer of lines, and faults in words.
+//! What all reports share: the devices that files are read from and text is written to, the writer of lines, and faults in words.
 //!
-//! A [`Report`] says of a file's bytes which text they have, and [`run_report`] reads the file from any [`Source`] and writes the
-//! text to any [`Sink`]; [`Counted`] makes one of any reader or writer of std. Lines are written part by part:
+//! A [`Report`] defines the text for a file, and [`run_report`] reads the file from any [`Source`] and writes the text to any
+//! [`Sink`]; [`Counted`] makes one of any reader or writer of std. Lines are written part by part:
 //!
 //! ```text
 //! let mut text = TextWriter::new(&mut writer);
@@ -9,7 +9,7 @@
 //! text.finish()?;
 //! ```
 //!
-//! The crates of `petool`'s texts and its engines alone are written against it.
+//! The crates of `petool`'s reports and engines are built on it.
 #![tactic(auto)]
 
 mod counted;

@@ -10,7 +10,7 @@ use crate::part::write_parts;
 use crate::text_writer::TextWriter;
 use pe_head::{machine, machine_name};
 
-/// The name of a machine, of those that a dump names, or `other`.
+/// The name of a machine in a dump: `other` for those that a dump does not name.
 fn dumped_name(machine: u16) -> &'static str
     ensures { result.now ≡ dumped_name machine }
 {

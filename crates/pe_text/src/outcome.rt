@@ -11,7 +11,7 @@ use thiserror::Error;
 pub enum Outcome {
     /// The file has no fault, and the text says what it holds.
     Done,
-    /// The file is refused by this fault, and the text says so: it is the fault's line, or the page or the line of JSON of a
+    /// The file is refused for this fault, and the text says so: it is the fault's line, or the page or the line of JSON of a
     /// refused file.
     Refused(Fault),
 }
@@ -22,15 +22,15 @@ pub enum ToolError {
     /// A read failed. Nothing was written.
     #[error("reading failed")]
     Read,
-    /// A write failed, or took no byte. What was written is a beginning of the text.
+    /// A write failed, or took no byte. The beginning of the text was written.
     #[error("writing failed")]
     Write,
-    /// Memory was refused. Nothing was written, but `json` may have written a beginning of its line.
+    /// Out of memory. Nothing was written, but `json` may have written the beginning of its line.
     #[error("out of memory")]
     Memory,
 }
 
-/// The exit status that tells an engine's answer: 0 done, 1 refused, 3 reading or writing failed, 4 memory.
+/// The exit status for an engine's result: 0 done, 1 refused, 3 reading or writing failed, 4 out of memory.
 pub fn status(answer: &Result<Outcome, ToolError>) -> u8
     ensures { result ≡ status_of answer.now }
 {

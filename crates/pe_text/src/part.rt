@@ -10,21 +10,21 @@ use crate::text_writer::TextWriter;
 /// A part of a line.
 #[derive(Clone, Copy)]
 pub enum Part<'a> {
-    /// These bytes, as they stand.
+    /// These bytes, unchanged.
     Text(&'a [u8]),
-    /// A text in double quotes.
+    /// A string in double quotes, with escapes.
     Quoted(&'a [u8]),
-    /// A blank and a name, where there is one.
+    /// A space and a name, if there is one.
     Name(Option<&'a [u8]>),
     /// A number in decimal.
     Decimal(u64),
-    /// A number in hexadecimal digits, so many at least.
+    /// A number in at least so many hexadecimal digits.
     Hex(u64, u8),
     /// A number in 2 hexadecimal digits.
     Hex2(u8),
     /// A number in 4 hexadecimal digits.
     Hex4(u16),
-    /// A number in 8 hexadecimal digits; of a greater one the last 8.
+    /// A number in 8 hexadecimal digits; the last 8 of a larger one.
     Hex8(u64),
     /// A number in 16 hexadecimal digits.
     Hex16(u64),

@@ -11,7 +11,7 @@ fn is_printable_byte(byte: u8) -> bool
     matches!(byte, b' '..=b'~')
 }
 
-/// Whether all bytes of a piece are printable ASCII: all are looked at, which goes by vectors.
+/// Whether all bytes of a piece are printable ASCII. There is no early exit, so that vector instructions test all at once.
 fn is_printable_piece(piece: &[u8; 16]) -> bool
     ensures { result ≡ list_all is_printable piece.now }
 {
@@ -29,14 +29,14 @@ fn are_printable_pieces(pieces: &[[u8; 16]]) -> bool
     pieces.iter().all(|piece| is_printable_piece(piece))
 }
 
-/// Whether all of these few bytes are printable ASCII.
+/// Whether all of these bytes, fewer than a piece, are printable ASCII.
 fn are_printable_bytes(bytes: &[u8]) -> bool
     ensures { result ≡ list_all is_printable bytes.now }
 {
     bytes.iter().all(|byte| is_printable_byte(*byte))
 }
 
-/// Whether all bytes of a text are printable ASCII, as those of nearly all names are: 16 are looked at together.
+/// Whether all bytes of a string are printable ASCII. 16 are tested together, since those of nearly all names are printable.
 pub fn is_printable(text: &[u8]) -> bool
     ensures { result ≡ list_all is_printable text.now }
 {

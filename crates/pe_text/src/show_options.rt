@@ -1,6 +1,6 @@
 //! `ShowOptions`: which tables a page lists row by row, and whether it has colours.
 
-/// What a page on a file shows beside its headers, its sections and the counts of its tables.
+/// What a page on a file shows in addition to its headers, its sections and the counts of its tables.
 #[derive(Clone, Copy, Debug, Default, PartialEq, Eq)]
 pub struct ShowOptions {
     /// The exports, a row each.

@@ -9,10 +9,10 @@ use crate::digits::{DIGITS, hex_digits, hex_width};
 use arrayvec::ArrayVec;
 use itoa::Buffer;
 
-/// Writes a text to a sink in pieces of at most 256 bytes.
+/// Writes text to a sink in pieces of at most 256 bytes.
 ///
-/// A call adds to the text and takes no memory; a full array, or the end of the text, is what makes a write. After a
-/// write that failed nothing more is written, and [`TextWriter::finish`] tells of it.
+/// A call adds to the text and allocates nothing; the sink is called only if the array is full, and at the end of the text. After a
+/// failed write nothing more is written, and [`TextWriter::finish`] returns an error.
 #[derive(Drop)]
 pub struct TextWriter<'w, W: Sink> {
     writer: &'w mut W,
@@ -33,14 +33,14 @@ pub fn write_all<W: Sink>(writer: &mut W, piece: &[u8]) -> Result<(), Failed>
     Ok(())
 }
 
-/// Whether a byte of a quoted text stands for itself: it is printable, no quote and no backslash.
+/// Whether a byte needs no escape in a quoted string: it is printable, no quote and no backslash.
 pub fn is_plain(byte: u8) -> bool
     ensures { result ≡ is_plain byte }
 {
     matches!(byte, b' '..=b'~') && byte != b'"' && byte != b'\\'
 }
 
-/// How many bytes of a quoted text stand for themselves, from the first on.
+/// How many bytes at the beginning of a quoted string need no escape.
 fn plain_len(bytes: &[u8]) -> usize
     ensures within { result ≤ length bytes.now }
     ensures plain { (k d : ℕ) → k < result → is_plain (slice_index_or bytes.now k d) ≡ true }
@@ -56,7 +56,7 @@ fn plain_len(bytes: &[u8]) -> usize
 impl<'w, W: Sink> TextWriter<'w, W> {
     ghost use Rattle.pe_text.specs.TextWriter.{IsFresh, IsReady, Stands, Adds, TellsFailure, TakesNoMore};
 
-    /// A writer of a text that goes on where the sink is.
+    /// A writer whose text goes on after the bytes that the sink has taken.
     pub fn new(writer: &'w mut W) -> TextWriter<'w, W>
         ensures same { result.writer.ghost_name ≡ writer.entry.ghost_name }
         ensures fresh { IsFresh writer.old result }
@@ -68,8 +68,8 @@ impl<'w, W: Sink> TextWriter<'w, W> {
         }
     }
 
-    /// Whether a write has failed. Then nothing more is written, so a caller may leave out what is left of its text, and need not
-    /// read it.
+    /// Whether a write has failed. Then nothing more is written, so a caller may leave out the rest of its text, and need not read
+    /// it.
     #[inline]
     pub fn has_failed(&self) -> bool
         ensures tells { TellsFailure W.taken W.failures self.now result }
@@ -78,7 +78,7 @@ impl<'w, W: Sink> TextWriter<'w, W> {
         self.failed
     }
 
-    /// Writes what is held.
+    /// Writes the held bytes and clears them; after a failed write it only clears them.
     fn flush(&mut self)
         requires { IsReady W.failures self.old }
         ensures adds { Adds W.taken W.failures self.old self.new [] }
@@ -93,7 +93,7 @@ impl<'w, W: Sink> TextWriter<'w, W> {
         self.failed = result.is_err();
     }
 
-    /// Writes what is held if there is no room for another byte.
+    /// Writes the held bytes if there is no room for another.
     fn make_room(&mut self)
         requires { IsReady W.failures self.old }
         ensures adds { Adds W.taken W.failures self.old self.new [] }
@@ -105,7 +105,7 @@ impl<'w, W: Sink> TextWriter<'w, W> {
         self.flush();
     }
 
-    /// Adds as many of the bytes as there is room for, and answers how many.
+    /// Adds as many of the bytes as there is room for, and returns how many.
     fn hold(&mut self, bytes: &[u8]) -> usize
         requires { IsReady W.failures self.old }
         ensures fits { result ≤ length bytes.now }
@@ -118,7 +118,7 @@ impl<'w, W: Sink> TextWriter<'w, W> {
         count
     }
 
-    /// Adds these bytes, at once where there is room for all.
+    /// Adds these bytes, all at once if there is room.
     #[inline]
     pub fn text(&mut self, bytes: &[u8])
         requires { IsReady W.failures self.old }
@@ -130,8 +130,8 @@ impl<'w, W: Sink> TextWriter<'w, W> {
         }
     }
 
-    /// Adds these bytes, as many at once as there is room for. It stands apart so that callers of [`TextWriter::text`] hold what
-    /// fits in line.
+    /// Adds these bytes, as many at once as there is room for. It is a separate function so that [`TextWriter::text`], which is
+    /// inlined, is short.
     #[cold]
     #[inline(never)]
     fn text_in_parts(&mut self, bytes: &[u8])
@@ -164,7 +164,7 @@ impl<'w, W: Sink> TextWriter<'w, W> {
         self.text(&digits[DIGITS - width as usize..]);
     }
 
-    /// Adds a number in `least` hexadecimal digits, or in more where it needs them, and in 16 at most.
+    /// Adds a number in `least` hexadecimal digits, or in more if it needs them, and in 16 at most.
     pub fn hex_at_least(&mut self, least: u8, number: u64)
         requires { IsReady W.failures self.old }
         ensures { Adds W.taken W.failures self.old self.new (hex_at_least least number) }
@@ -172,7 +172,7 @@ impl<'w, W: Sink> TextWriter<'w, W> {
         self.hex(hex_width(number).max(least).min(16), number);
     }
 
-    /// Adds a byte of a quoted text that doesn't stand for itself: `\x` and two digits.
+    /// Adds a byte of a quoted string that needs an escape: `\x` and two digits.
     #[tactic(auto, unfolding(crate::specs::Text::escaped))]
     fn escaped(&mut self, byte: u8)
         requires ready { IsReady W.failures self.old }
@@ -183,7 +183,8 @@ impl<'w, W: Sink> TextWriter<'w, W> {
         self.hex(2, byte as u64);
     }
 
-    /// Adds some bytes of a quoted text, from the first on, and answers how many: those that stand for themselves at once.
+    /// Adds bytes from the beginning of a quoted string, and returns how many: all that need no escape, or else one with its
+    /// escape.
     fn some_escaped(&mut self, bytes: &[u8]) -> usize
         requires ready { IsReady W.failures self.old }
         requires some { 0 < length bytes.now }
@@ -200,7 +201,7 @@ impl<'w, W: Sink> TextWriter<'w, W> {
         plain
     }
 
-    /// Adds the bytes of a quoted text. After a write that failed they are not looked at: texts may be long, and many.
+    /// Adds the bytes of a quoted string. After a failed write they are not read: strings may be long, and many.
     fn all_escaped(&mut self, bytes: &[u8])
         requires { IsReady W.failures self.old }
         ensures { Adds W.taken W.failures self.old self.new (flat_map escaped bytes.now) }
@@ -214,7 +215,7 @@ impl<'w, W: Sink> TextWriter<'w, W> {
         }
     }
 
-    /// Adds a text in double quotes, each byte that is not printable, a quote or a backslash as `\x` and two digits.
+    /// Adds a string in double quotes, each byte that is not printable, a quote or a backslash as `\x` and two digits.
     #[tactic(auto, unfolding(crate::specs::Text::quoted))]
     pub fn quoted(&mut self, bytes: &[u8])
         requires { IsReady W.failures self.old }
@@ -225,7 +226,7 @@ impl<'w, W: Sink> TextWriter<'w, W> {
         self.text(b"\"");
     }
 
-    /// Writes what is held, and tells whether a write has failed.
+    /// Writes the held bytes. The error means that this or an earlier write failed.
     pub fn finish(&mut self) -> Result<(), Failed>
         requires { IsReady W.failures self.old }
         ensures adds { Adds W.taken W.failures self.old self.new [] }

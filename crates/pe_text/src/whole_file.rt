@@ -11,16 +11,16 @@ use std::alloc::{AllocError, Allocator};
 /// The most bytes that are read: one more than a file may have.
 const READ_LIMIT: usize = (1 << 32) + 1;
 
-/// The most bytes that one read asks for.
+/// The most bytes that one read requests.
 const PIECE: usize = 1 << 16;
 
-/// The most bytes that the first read asks for, which come while there is no buffer yet.
+/// The most bytes that the first read requests: it reads into an array on the stack, as no buffer is allocated yet.
 const FIRST: usize = 1 << 9;
 
 /// The most bytes that are cleared at once: so few are cleared by vector stores, more by a slower string instruction.
 const CLEARED: usize = 1 << 11;
 
-/// Reads the first piece of a file, and takes no memory before a byte came.
+/// Reads the first piece of a file, and allocates nothing unless it has a byte.
 fn read_first<A: Allocator + Copy, R: Source>(
     reader: &mut R,
     bytes: &mut Vec<u8, A>,
@@ -41,8 +41,7 @@ fn read_first<A: Allocator + Copy, R: Source>(
     Ok(count)
 }
 
-/// Makes room behind the bytes that fill the buffer's beginning, where none is left: as much as they take, and at most a
-/// piece. What stands there is zero bytes until it is read.
+/// Makes room after the first `filled` bytes of the buffer if there is none: as many zero bytes as those, and at most a piece.
 fn make_room<A: Allocator>(bytes: &mut Vec<u8, A>, filled: usize) -> Result<(), AllocError>
     requires some { 0 < vec_len bytes.old }
     requires within { filled ≤ vec_len bytes.old }
@@ -64,7 +63,7 @@ fn make_room<A: Allocator>(bytes: &mut Vec<u8, A>, filled: usize) -> Result<(), 
     Ok(())
 }
 
-/// Reads a piece of a file behind the bytes that fill the buffer's beginning, and answers how many bytes it has.
+/// Reads a piece of a file after the first `filled` bytes of the buffer, and returns how many bytes it has.
 fn read_piece<A: Allocator + Copy, R: Source>(
     reader: &mut R,
     bytes: &mut Vec<u8, A>,
@@ -90,11 +89,11 @@ fn read_piece<A: Allocator + Copy, R: Source>(
     }
 }
 
-/// Reads to the source's end, or 2^32 + 1 bytes: one more than a file may have. The source writes straight into the file's
-/// buffer, all but the first piece.
+/// Reads to the source's end, or 2^32 + 1 bytes: one more than a file may have. All pieces but the first are read directly into the
+/// returned buffer.
 ///
-/// `Read` where a read failed; `Memory` where memory was refused, and never before the source gave a byte. There is no `Write`.
-/// Condition: fewer than 2^64 - 1 failures are counted on the source so far.
+/// The error is `Read` if a read failed, and `Memory` if out of memory, never before the source returned a byte; it is never
+/// `Write`. Condition: the source has counted fewer than 2^64 - 1 failures so far.
 pub fn read_whole<A: Allocator + Copy, R: Source>(
     alloc: A,
     reader: &mut R,

@@ -1,4 +1,4 @@
--- The pieces and the rest are all bytes.
+-- The pieces and the rest together are all bytes.
 use Rattle.std.proofs.Common.{◌∙◌, ◌&&◌, ◌*◌, ◌/◌, ℕ, Bool, List, length, drop, ap, sym}
 use Rattle.std.specs.List.{list_all}
 use Rattle.pe_text.specs.Text.{is_printable}
