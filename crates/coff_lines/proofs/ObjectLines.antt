@@ -23,17 +23,17 @@ section-next lines index sections section written all below is e =
     at_drop_more (λ ys. ys) sections index section below ∙ ap (λ (s : Section). s ∷ drop (index + 1) sections) (get_or_from_slice_get sections index section section is) in
     rw append_assoc (rw first at e)
 
--- the item at a place of a list that is made by places
+-- the item at an index of a list that is made from its indexes
 pub item_is : {X : Type 0} (item : ℕ → X) (n i : ℕ) (x : X) → i < n → Some x ≡ slice_get (map item (range_with_len 0 n)) i → x ≡ item i
 item_is item n i x below is = sym (get_or_from_slice_get (map item (range_with_len 0 n)) i x x (sym is)) ∙ get_or-map-range_with_len item 0 n i i x below (zero-add i)
 
--- which auxiliary record is told
+-- the auxiliary record that is shown
 pub record_told : (s : Symbol) (k : ℕ) (aux : AuxRecord) → k < aux_records s → Some aux ≡ aux_record s k → aux ≡ aux_of s (part s.aux (18 * k) 18)
 record_told s k aux below is =
     let e : Some aux ≡ Some (aux_of s (part s.aux (18 * k) 18)) = rw (lt-ltb k (aux_records s) below) at is in
     cc
 
--- a writer that takes no more need not be given what is left
+-- the rest of a text may be left out if the writer takes no more
 pub left-out : {W : Type 0} {taken : W → List ℕ} {failures : W → ℕ} (a b : TextWriter W) (written left all : List ℕ)
     → Adds taken failures a b written → TakesNoMore taken failures b → written ++ left ≡ all → Adds taken failures a b all
 left-out {taken = taken} {failures = failures} a b written left all adds ends is = subst (Adds taken failures a b) is (adds then ends left)

@@ -34,7 +34,7 @@ aux_part file k j below =
     ∙ take-take 18 more _ (omega arith)
     ∙ ap (λ (bytes : List ℕ). take 18 bytes) (drop-drop (18 * j) start file ∙ ap (λ (n : ℕ). drop n file) at)
 
--- lines that are numbered from 0 on, and from another number
+-- the same lines, numbered from one index and from another
 numbered_alike : (f g : ℕ → List ℕ) (a b n : ℕ) → ((j : ℕ) → j < a + n → f j ≡ g (b + j)) → flat_map f (range_with_len a n) ≡ flat_map g (range_with_len (b + a) n)
 numbered_alike f g a b zero e = refl
 numbered_alike f g a b (suc n) e =
@@ -52,7 +52,7 @@ aux_shown file k count =
     ∙ numbered_alike line (aux_record_line file k) 0 (k + 1) (aux_count file k) (λ j below. ap (λ (bytes : List ℕ). aux_line (k + 1 + j) (aux_of s bytes)) (aux_part file k j (omega arith)))
     ∙ ap (λ (m : ℕ). flat_map (aux_record_line file k) (range_with_len m (aux_count file k))) (omega arith)
 
--- the symbols that the records from k on begin, of which the first are auxiliary, in lines that show each with its records
+-- the lines of the symbols from record k on, after `skip` auxiliary records, with the auxiliary records of each
 shown : (file : List ℕ) (lines : ℕ → List ℕ)
     → ((k : ℕ) → aux_records (symbol_at file (record_start file k)) ≡ aux_count file k → item_lines (k, symbol_at file (record_start file k)) ≡ lines k)
     → (k left skip : ℕ) → skip ≤ left → k + left ≡ record_count file → strings_start file ≤ length file
@@ -78,7 +78,7 @@ shown file lines same k (suc left) zero le end inside none =
     ∙ sym (append_assoc (symbol_line k s) (aux_lines (k + 1) s) (flat_map lines behind))
     ∙ ap (λ (xs : List ℕ). xs ++ flat_map lines behind) (same k count)
 
--- the symbols of a file that is not refused
+-- the symbols of an accepted file
 all_shown : (file : List ℕ) (lines : ℕ → List ℕ)
     → ((k : ℕ) → aux_records (symbol_at file (record_start file k)) ≡ aux_count file k → item_lines (k, symbol_at file (record_start file k)) ≡ lines k)
     → first_standing (object_tests file) ≡ None → symbol_lines 0 (object_of file).symbols ≡ flat_map lines (symbol_indexes file)

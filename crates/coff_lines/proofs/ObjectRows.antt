@@ -1,4 +1,4 @@
--- The lines of an object's dump as the definitions give them, written out.
+-- Lines of an object's dump by the definitions, written out.
 use Rattle.std.proofs.Common.{◌≡◌, ℕ, List, [], ◌∷◌, refl, codes}
 use Rattle.std.specs.Fmt.{digits}
 use Rattle.coff_read.specs.Auxiliary as auxiliary
@@ -35,7 +35,7 @@ file_symbol = record {
 plain_symbol : List ℕ → Symbol
 plain_symbol name = record { name = name; value = 0; section = belongs.Section 1; kind = 0x20; class = 2; aux = [] }
 
--- the symbol behind an auxiliary record has the index behind its
+-- the symbol after an auxiliary record has the index after that record's
 indexes : object_text (record { machine = 0x8664; time_stamp = 0; characteristics = 0; optional = []; sections = long_section ∷ []; symbols = file_symbol ∷ plain_symbol (codes "abcdefgh") ∷ [] })
     ≡ codes "Machine 0x8664 AMD64\nTimeDateStamp 0x00000000\nCharacteristics 0x0000\nsection 1 \".text$long\" size 0x00000006 bytes flags 0x60000020 relocations 1\nreloc 0x00000001 symbol 3 type 4 REL32\nsymbol 0 \".file\" value 0x00000000 section debug type 0x0000 class 103 FILE aux 1\naux 1 file \"a.c\"\nsymbol 2 \"abcdefgh\" value 0x00000000 section 1 type 0x0020 class 2 EXTERNAL aux 0\nend\n"
 unfolding long_section file_symbol plain_symbol object_text machine_line field_line section_line relocation_line symbol_line aux_line quoted escaped hex digits machine_names amd64_type_names i386_type_names storage_class_names

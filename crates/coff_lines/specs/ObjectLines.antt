@@ -1,4 +1,4 @@
--- The dump of an object: what it holds, a line each.
+-- The lines of an object's dump.
 use Rattle.std.specs.Prelude.{ℕ, ◌+◌, ◌*◌, ◌==◌, Bool, if◌then◌else◌, List, [], ◌∷◌, ◌++◌, codes, decimal, flat_map, length, Option, None, Some}
 use Rattle.std.specs.List.{list_any, range_with_len}
 use Rattle.pe_view.specs.Number.{part}
@@ -48,7 +48,7 @@ section_line number s = joined
     (codes "section " ∷ decimal number ∷ codes " " ∷ quoted s.name ∷ codes " size 0x" ∷ hex 8 (raw_size s.raw) ∷ raw_word s.raw
     ∷ codes " flags 0x" ∷ hex 8 s.flags ∷ codes " relocations " ∷ decimal (length s.relocations) ∷ codes "\n" ∷ [])
 
--- a relocation: where it stands, the record of its symbol, and its type for the machine
+-- a relocation: its VirtualAddress, its SymbolTableIndex, and its Type with the name for the machine
 unfoldable pub relocation_line : ℕ → Relocation → List ℕ
 relocation_line machine r = joined
     (codes "reloc 0x" ∷ hex 8 r.address ∷ codes " symbol " ∷ decimal r.symbol
@@ -58,7 +58,7 @@ abbrev pub section_lines : ℕ → ℕ → Section → List ℕ
 section_lines machine number s = section_line number s ++ flat_map (relocation_line machine) s.relocations
 
 -- ---- symbols
--- to which section a symbol belongs
+-- the section of a symbol
 abbrev pub section_text : SymbolSection → List ℕ
 section_text belongs.Undefined = codes "undefined"
 section_text belongs.Absolute = codes "absolute"
@@ -73,7 +73,7 @@ symbol_line index s = joined
     ∷ codes " class " ∷ decimal s.class ∷ name_text (class_name s.class)
     ∷ codes " aux " ∷ decimal (aux_records s) ∷ codes "\n" ∷ [])
 
--- what an auxiliary record holds, by its shape
+-- the fields of an auxiliary record, by its format
 abbrev pub shape_text : AuxRecord → List ℕ
 shape_text (auxiliary.Function tag_index total_size pointer_to_linenumber pointer_to_next_function) = joined
     (codes "function " ∷ decimal tag_index ∷ codes " " ∷ decimal total_size
@@ -90,11 +90,11 @@ shape_text (auxiliary.Raw bytes) = codes "raw " ++ flat_map (hex 2) bytes
 unfoldable pub aux_line : ℕ → AuxRecord → List ℕ
 aux_line index aux = codes "aux " ++ decimal index ++ codes " " ++ shape_text aux ++ codes "\n"
 
--- the auxiliary records of a symbol, the first with an index
+-- the lines of a symbol's auxiliary records, of which the first has the index
 abbrev pub aux_lines : ℕ → Symbol → List ℕ
 aux_lines index s = flat_map (λ k. aux_line (index + k) (aux_of s (part s.aux (18 * k) 18))) (range_with_len 0 (aux_records s))
 
--- symbols, the first with an index: its auxiliary records stand behind its own, and behind them the next symbol's
+-- the lines of symbols, of which the first has the index: after each symbol's come those of its auxiliary records
 abbrev pub symbol_lines : ℕ → List Symbol → List ℕ
 symbol_lines index [] = []
 symbol_lines index (s ∷ ss) = symbol_line index s ++ (aux_lines (index + 1) s ++ symbol_lines (index + (1 + aux_records s)) ss)

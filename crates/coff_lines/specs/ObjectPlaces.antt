@@ -6,10 +6,10 @@ use Rattle.coff_read.specs.Auxiliary.{aux_of}
 use Rattle.coff_read.specs.Reading.{aux_count, record_start, symbol_at}
 use Rattle.coff_lines.specs.ObjectLines.{symbol_line, aux_line}
 
--- the record of this index behind the symbol of record k, in the symbol's shape
+-- the line of the auxiliary record with an index, in the format for the symbol that record k begins
 abbrev pub aux_record_line : List ℕ → ℕ → ℕ → List ℕ
 aux_record_line file k index = aux_line index (aux_of (symbol_at file (record_start file k)) (part file (record_start file index) 18))
 
--- the symbol that record k begins, and the records behind it that are auxiliary, each with its own index
+-- the lines of the symbol that record k begins and of the auxiliary records after it, each with its own index
 abbrev pub record_lines : List ℕ → ℕ → List ℕ
 record_lines file k = symbol_line k (symbol_at file (record_start file k)) ++ flat_map (aux_record_line file k) (range_with_len (k + 1) (aux_count file k))

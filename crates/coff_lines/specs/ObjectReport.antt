@@ -1,4 +1,4 @@
--- What an object's dump says of its file.
+-- The dump of an object, by its file.
 use Rattle.std.specs.Prelude.{ℕ, List}
 use Rattle.coff_read.specs.ObjectFaults.{object_tests}
 use Rattle.coff_read.specs.Reading.{object_of}
@@ -6,6 +6,6 @@ use Rattle.pe_text.specs.declared.outcome.Outcome.{Outcome}
 use Rattle.pe_text.specs.Engine.{IsFileText}
 use Rattle.coff_lines.specs.ObjectLines.{object_text}
 
--- what `dump_object` writes of a file
+-- what `dump_object` writes for a file
 abbrev pub IsObjectText : List ℕ → Outcome → List ℕ → Type 0
 IsObjectText = IsFileText object_tests (λ file. object_text (object_of file))

@@ -9,7 +9,7 @@ use coff_read::ObjectFile;
 use pe_text::{Outcome, Report, Sink, Source, TextWriter, ToolError, refuse, run_report};
 use std::alloc::{AllocError, Allocator};
 
-/// The report of [`dump_object`]: what an accepted object holds, or its first fault.
+/// The report of [`dump_object`]: the dump of an accepted object, or the object's first fault.
 struct DumpObject;
 
 impl Report for DumpObject {
@@ -31,13 +31,12 @@ impl Report for DumpObject {
     }
 }
 
-/// Writes what an object holds, a line for three fields of its header, for each section, relocation, symbol and auxiliary
-/// record, or the object's first fault.
+/// Writes a line for each of three header fields, and for each section, relocation, symbol and auxiliary record of an object, or
+/// the object's first fault.
 ///
-/// The reader is read to its end, or to 2^32 + 1 bytes; then all faults are asked, and only then the text is written. Beside
-/// the file's bytes no memory is taken. After
-/// `Write` a beginning of it was written, after `Read` and `Memory` nothing; `Memory` never comes where the reader gave no
-/// byte. Condition: fewer than 2^64 - 1 failures are counted on either device so far.
+/// The file is read to its end, or to 2^32 + 1 bytes; the text is written only after all faults were tested. Memory is allocated
+/// only for the file's bytes. On the error `Write` the beginning of the text was written, on `Read` and `Memory` nothing; `Memory`
+/// never comes if the reader returned no byte. Condition: each device has counted fewer than 2^64 - 1 failures so far.
 pub fn dump_object<A: Allocator + Copy, R: Source, W: Sink>(
     alloc: A,
     reader: &mut R,

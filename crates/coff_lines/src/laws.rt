@@ -7,8 +7,8 @@ ghost use Rattle.coff_read.specs.Reading.{object_of, symbol_indexes};
 ghost use Rattle.coff_lines.specs.ObjectLines.{symbol_lines};
 ghost use Rattle.coff_lines.specs.ObjectPlaces.{record_lines};
 
-/// In the dump of an accepted object each record of the symbol table has its own index: as a symbol if it begins one, and
-/// otherwise in the shape of the symbol before it.
+/// The dump of an accepted object shows each record of the symbol table under its own index: as a symbol if it begins one, and
+/// otherwise as an auxiliary record in the format for the symbol before it.
 pub fn records_are_shown_under_their_indexes()
     ensures { (file : List ℕ) → first_standing (object_tests file) ≡ None → symbol_lines 0 (object_of file).symbols ≡ flat_map (record_lines file) (symbol_indexes file) }
 {}

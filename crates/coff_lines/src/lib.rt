@@ -1,6 +1,7 @@
-//! The dump of a COFF object: a line for three fields of its header, for each section, relocation, symbol and auxiliary record.
+//! The dump of a COFF object: a line for each of three header fields, and for each section, relocation, symbol and auxiliary
+//! record.
 //!
-//! [`dump_object`] reads the object's file, judges it and writes the text:
+//! [`dump_object`] reads the object's file, checks it and writes the dump:
 //!
 //! ```text
 //! let mut reader = Counted::new(file);

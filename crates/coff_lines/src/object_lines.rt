@@ -1,4 +1,4 @@
-//! The lines of an object's dump: its sections, relocations, symbols and auxiliary records. They end once a write has failed.
+//! The lines of an object's dump: its sections, relocations, symbols and auxiliary records. After a failed write no more are made.
 
 ghost use Rattle.std.specs.Prelude.{◌≡◌, ◌+◌, ◌^◌, ◌≤◌, ◌∷◌, [], codes, decimal, flat_map, option_map};
 ghost use Rattle.coff_read.specs.Auxiliary.{Function, Section as SectionRecord};
@@ -23,7 +23,7 @@ use pe_text::{
     Sink, TextWriter, characteristics, time_date_stamp, write_fields, write_machine, write_parts,
 };
 
-/// The name of a storage class, of those that a dump names.
+/// The name of a storage class, if a dump names it.
 fn class_name(class: u8) -> Option<&'static str>
     ensures { option_map (λ name. name.now) result ≡ class_name class }
 {
@@ -33,7 +33,7 @@ fn class_name(class: u8) -> Option<&'static str>
     }
 }
 
-/// The name of a relocation's type, of those that a dump names: most of AMD64's and some of I386's.
+/// The name of a relocation's type, if a dump names it: most of AMD64's and some of I386's.
 fn type_name(machine: u16, kind: u16) -> Option<&'static str>
     ensures { option_map (λ name. name.now) result ≡ type_name machine kind }
 {
@@ -45,7 +45,7 @@ fn type_name(machine: u16, kind: u16) -> Option<&'static str>
     }
 }
 
-/// How many bytes a section has, and whether they stand in the file.
+/// How many bytes a section has, and whether they are in the file.
 fn size_and_word(raw: &RawData) -> (u64, &'static [u8])
     ensures size { result.0 ≡ raw_size (raw_view raw.now) }
     ensures word { result.1.now ≡ raw_word (raw_view raw.now) }
@@ -82,7 +82,7 @@ fn write_section<W: Sink>(line: &mut TextWriter<W>, number: u64, section: &FileS
     );
 }
 
-/// Adds a blank and a name, where there is one.
+/// Adds a space and a name, if there is one.
 fn write_name<W: Sink>(line: &mut TextWriter<W>, name: Option<&str>)
     requires { IsReady W.failures line.old }
     ensures { Adds W.taken W.failures line.old line.new (name_text (option_map (λ text. text.now) name.entry)) }
@@ -137,7 +137,7 @@ fn write_sections<W: Sink>(text: &mut TextWriter<W>, machine: u16, object: &Obje
     }
 }
 
-/// Adds to which section a symbol belongs: a word, or a number.
+/// Adds the section of a symbol: its number from 1, or a word.
 fn write_symbol_section<W: Sink>(line: &mut TextWriter<W>, section: SymbolSection)
     requires { IsReady W.failures line.old }
     ensures { Adds W.taken W.failures line.old line.new (section_text section) }
@@ -173,7 +173,7 @@ fn write_symbol<W: Sink>(line: &mut TextWriter<W>, index: u64, symbol: &Symbol)
     line.text(b"\n");
 }
 
-/// Adds two digits for each byte.
+/// Adds two hexadecimal digits for each byte.
 fn write_digits<W: Sink>(line: &mut TextWriter<W>, bytes: &[u8])
     requires { IsReady W.failures line.old }
     ensures { Adds W.taken W.failures line.old line.new (flat_map (hex 2) bytes.now) }
@@ -194,7 +194,7 @@ fn write_pair<W: Sink>(line: &mut TextWriter<W>, word: &[u8], first: u64, second
     );
 }
 
-/// Adds what the record behind a function's definition holds.
+/// Adds the fields of the auxiliary record of a function definition.
 fn write_function<W: Sink>(
     line: &mut TextWriter<W>,
     tag_index: u32,
@@ -221,7 +221,7 @@ fn write_function<W: Sink>(
     );
 }
 
-/// Adds what the record behind a section's symbol holds.
+/// Adds the fields of the auxiliary record of a section definition.
 fn write_section_record<W: Sink>(
     line: &mut TextWriter<W>,
     length: u32,
@@ -254,7 +254,7 @@ fn write_section_record<W: Sink>(
     );
 }
 
-/// Adds what an auxiliary record holds.
+/// Adds the fields of an auxiliary record ("PE Format", Auxiliary Symbol Records), after a word for its format.
 fn write_shape<W: Sink>(line: &mut TextWriter<W>, aux: &Aux)
     requires { IsReady W.failures line.old }
     ensures { Adds W.taken W.failures line.old line.new (shape_text (aux_view aux.now)) }

@@ -1,4 +1,4 @@
--- A line is its parts, one behind the other.
+-- A line is the concatenation of its parts.
 use Rattle.pe_text.proofs.Adding.{◌then◌}
 use Rattle.coff_lines.specs.ObjectLines.{symbol_line}
 use Rattle.coff_lines.proofs.object_lines.write_symbol.Goals as goal
