@@ -1,4 +1,4 @@
--- Texts that grow, and what is written in the end.
+-- Texts to which bytes are added, and what is written in the end.
 use Rattle.std.proofs.Common.{ℕ, List, [], ◌++◌, ◌≡◌, ◌∙◌, ◌+◌, refl, append_assoc, append-nil}
 use Rattle.pe_text.specs.declared.text_writer.TextWriter.{TextWriter}
 use Rattle.pe_text.specs.TextWriter.{IsBeginning, IsFresh, IsReady, Stands, Adds}
@@ -6,7 +6,7 @@ use Rattle.pe_text.proofs.Adding.{Stands-fresh}
 use Rattle.pe_json.specs.Growing.{Stood, Grows}
 
 module _ {W : Type 0} {taken : W → List ℕ} {failures : W → ℕ} where
-  -- by bytes that are added
+  -- the text grows by added bytes
   pub grows_by : {a b : TextWriter W} {bytes : List ℕ} → Adds taken failures a b bytes → Grows taken failures a b
   grows_by {bytes = bytes} p = record {
     same = p.same;
@@ -15,7 +15,7 @@ module _ {W : Type 0} {taken : W → List ℕ} {failures : W → ℕ} where
   }
 
   infixl 20 ◌then◌
-  -- and then some more
+  -- it grows, and then grows again
   pub ◌then◌ : {a b c : TextWriter W} → Grows taken failures a b → Grows taken failures b c → Grows taken failures a c
   p then q = record {
     same = q.same ∙ p.same;
@@ -24,11 +24,11 @@ module _ {W : Type 0} {taken : W → List ℕ} {failures : W → ℕ} where
   }
 
 module _ {W : Type 0} (taken : W → List ℕ) (failures : W → ℕ) where
-  -- at its beginning nothing stands behind what the sink had taken
+  -- at first the text is the bytes that the sink had taken
   fresh_stood : (a : TextWriter W) (w : W) → IsFresh w a → Stood taken failures a (taken w) (failures w)
   fresh_stood a w fresh = record { rest = []; stands = rw (append-nil (taken w)) (Stands-fresh taken failures a w fresh) }
 
-  -- the line was written, or memory was refused in it
+  -- the line was written, or its beginning before memory ran out
   pub written_whole : (a b c : TextWriter W) (w v : W) → IsFresh w a → Grows taken failures a b
       → ((start text : List ℕ) (count : ℕ) → Stands taken failures b start text count → (taken c.writer.now ≡ text) × (failures c.writer.now ≡ count))
       → v ≡ c.writer.now → ((written : List ℕ) × (taken v ≡ taken w ++ written)) × (failures v ≡ failures w)
@@ -37,7 +37,7 @@ module _ {W : Type 0} (taken : W → List ℕ) (failures : W → ℕ) where
       let e = ends (taken w) (taken w ++ s.rest) (failures w) s.stands in
       ((s.rest, rw is e.0), rw is e.1)
 
-  -- a beginning of it was
+  -- the beginning of the line was written, and a write failed
   pub written_part : (a b c : TextWriter W) (w v : W) → IsFresh w a → Grows taken failures a b
       → ((start text : List ℕ) (count : ℕ) → Stands taken failures b start text count
       → IsBeginning start (taken c.writer.now) × IsBeginning (taken c.writer.now) text × (failures c.writer.now ≡ count + 1))

@@ -1,4 +1,4 @@
--- What `json` answers of a file, and what it reads and writes.
+-- What `json` returns for a file, and what it reads and writes.
 use Rattle.std.specs.Prelude.{ℕ, ◌≡◌, ◌<◌, ◌≤◌, ◌+◌, ◌^◌, Bool, List, [], ◌++◌, length, Result, Ok, Err, MatchResult, IsErrOf}
 use Rattle.pe_text.specs.declared.outcome.Outcome.{Outcome}
 use Rattle.pe_text.specs.declared.outcome.ToolError.{ToolError}
@@ -6,19 +6,19 @@ use Rattle.pe_text.specs.declared.outcome.ToolError.TheVariants.{Read, Write, Me
 use Rattle.pe_text.specs.Engine.{IsWhole, OnJudged}
 use Rattle.pe_names.specs.Judged.{file_tests, IsOutcomeOf}
 
--- why a line was not written whole: a write failed, or memory was refused
+-- why a line was not written whole: a write failed, or memory ran out
 abbrev pub Fails : ℕ → ℕ → ToolError → Type 0
 Fails count count' Read = ⊥
 Fails count count' Write = count' ≡ count + 1
 Fails count count' Memory = count' ≡ count
 
--- that bytes were written after what was there, where `count` failures became `count'`, by the answer of the writing
+-- bytes were written after the sink's earlier bytes, and `count` failures became `count'`, by the result
 abbrev pub Prints : List ℕ → List ℕ → List ℕ → ℕ → ℕ → Result Outcome ToolError → Type 0
 Prints file before now count count' result = ((written : List ℕ) × (now ≡ before ++ written)) × MatchResult result
     (λ outcome. IsOutcomeOf (file_tests file) outcome × (count' ≡ count))
     (Fails count count')
 
--- what is said of the file, by the engine's answer
+-- what holds of the file and of the written bytes, by the engine's result
 abbrev pub Judged : List ℕ → List ℕ → Result Outcome ToolError → Type 0
 Judged file written (Ok outcome) = IsOutcomeOf (file_tests file) outcome
 Judged file written (Err Read) = written ≡ []

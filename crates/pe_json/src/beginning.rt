@@ -1,4 +1,4 @@
-//! The beginning of a line, and the whole line of a refused file, for which no memory is taken.
+//! The beginning of a line, and the whole line of a refused file. Neither allocates memory.
 
 ghost use Rattle.std.specs.Prelude.{◌≡◌};
 ghost use Rattle.pe_json.specs.Growing.{Grows};
@@ -17,7 +17,7 @@ fn add<W: Sink>(text: &mut TextWriter<W>, parts: &[Part])
     write_parts(text, parts);
 }
 
-/// Adds a byte of a JSON string: a control character, a quote and a backslash by its shortest escape.
+/// Adds a byte of a JSON string: a control character, a quote or a backslash as its shortest escape.
 fn add_byte<W: Sink>(text: &mut TextWriter<W>, byte: u8)
     requires { IsReady W.failures text.old }
     ensures { Grows W.taken W.failures text.old text.new }
@@ -35,7 +35,7 @@ fn add_byte<W: Sink>(text: &mut TextWriter<W>, byte: u8)
     add(text, &[Text(&[b'\\', letter])]);
 }
 
-/// Adds the bytes of a name to a string: as they stand, with escapes, where they are UTF-8, else two hexadecimal digits each.
+/// Adds the bytes of a name to a string: with JSON's escapes if the name is UTF-8, else as two hexadecimal digits each.
 fn add_bytes<W: Sink>(text: &mut TextWriter<W>, name: &[u8], is_utf8: bool)
     requires { IsReady W.failures text.old }
     ensures { Grows W.taken W.failures text.old text.new }
@@ -49,7 +49,7 @@ fn add_bytes<W: Sink>(text: &mut TextWriter<W>, name: &[u8], is_utf8: bool)
     }
 }
 
-/// Adds the beginning of the line, up to whether the file is accepted.
+/// Adds the beginning of the line, up to and with the member `accepted`.
 pub(crate) fn begin<W: Sink>(text: &mut TextWriter<W>, name: &[u8], accepted: bool)
     requires { IsReady W.failures text.old }
     ensures { Grows W.taken W.failures text.old text.new }
@@ -65,7 +65,7 @@ pub(crate) fn begin<W: Sink>(text: &mut TextWriter<W>, name: &[u8], accepted: bo
     add(text, &[Text(b"\",\"accepted\":"), Text(answer)]);
 }
 
-/// A fault's place: its key, its number, and what stands behind it.
+/// A fault's place: its key, its number, and what ends it.
 fn place_parts(place: Place) -> [Part<'static>; 3] {
     match place {
         Place::File(offset) => [Text(b"file\":"), Decimal(offset), Text(b"}")],
@@ -75,7 +75,7 @@ fn place_parts(place: Place) -> [Part<'static>; 3] {
     }
 }
 
-/// What stands at a fault's place and what is wrong with it, in words, where its number has some.
+/// The members of a fault's words, if there are any for its number: what is at its place, and the rule that it breaks.
 fn word_parts(number: u16) -> [Part<'static>; 5] {
     match fault_words(number) {
         Some(FaultWords { subject, rule }) => [

@@ -1,4 +1,4 @@
-//! `json`: the engine of `petool json`, which judges a file as an image or an object and writes its line.
+//! `json`: the engine of `petool json`, which checks a file as an image or an object and writes its line.
 
 ghost use Rattle.std.specs.Prelude.{◌-◌, ◌^◌, ◌<◌, ◌↔◌, length, IfOk, OnErr, IsErrOf};
 ghost use Rattle.coff_read.specs.ObjectFaults.{object_tests};
@@ -19,7 +19,7 @@ use pe_tables::TableError;
 use pe_text::{Outcome, Sink, Source, TextWriter, ToolError, read_whole};
 use std::alloc::{AllocError, Allocator};
 
-/// Judges an object, and writes its line.
+/// Checks an object, and writes its line.
 fn write_object_line<A: Allocator + Copy, W: Sink>(
     alloc: A,
     text: &mut TextWriter<W>,
@@ -43,7 +43,7 @@ fn write_object_line<A: Allocator + Copy, W: Sink>(
     }
 }
 
-/// Judges an image, and writes its line.
+/// Checks an image, and writes its line.
 fn write_image_line<A: Allocator + Copy, W: Sink>(
     alloc: A,
     text: &mut TextWriter<W>,
@@ -68,7 +68,7 @@ fn write_image_line<A: Allocator + Copy, W: Sink>(
     }
 }
 
-/// Judges a file as what its first bytes show it to be, and writes its line.
+/// Checks a file as an object if it begins like one, else as an image, and writes its line.
 fn write_line<A: Allocator + Copy, W: Sink>(
     alloc: A,
     text: &mut TextWriter<W>,
@@ -87,7 +87,7 @@ fn write_line<A: Allocator + Copy, W: Sink>(
     }
 }
 
-/// Judges a file, and writes its line to a sink.
+/// Checks a file, and writes its line to a sink.
 fn print_line<A: Allocator + Copy, W: Sink>(
     alloc: A,
     writer: &mut W,
@@ -109,17 +109,17 @@ fn print_line<A: Allocator + Copy, W: Sink>(
     }
 }
 
-/// Writes one JSON object, and a line feed, of the file that the reader gives: what the image or the object holds, or its first
-/// fault. `name` is what the line calls the file.
+/// Writes one JSON object and a line feed for the image or object whose file comes from the reader: its content, or its first
+/// fault. `name` is that of the file in the line.
 ///
-/// A file whose first bytes show a COFF object is judged by the object faults of docs/FAULTS.md, and every other one by the image
-/// faults. After `Done` none of these stands of the file, and after `Refused` the one that is answered is the first that does.
-/// What the line says is not part of the contract.
+/// A file that begins like a COFF object is tested for the object faults of docs/FAULTS.md, and any other for the image faults.
+/// `Done` means that it has none of these, and `Refused` has the first that it has. The text of the line is not part of the
+/// contract.
 ///
-/// At most 2^32 + 1 bytes are read; an outcome and `Write` come only after so many, or after the reader's end. The answer is
-/// `Read` or `Write` exactly where a call of that device failed, and `Memory` never comes where the reader gave no byte. After
-/// `Read` nothing was written. After `Write` and `Memory` bytes may have been: the line is written row by row, and a row may want
-/// memory. Condition: fewer than 2^64 - 1 failures are counted on either device so far.
+/// At most 2^32 + 1 bytes are read; an outcome and `Write` come only after so many, or after the reader's end. The error is `Read`
+/// or `Write` exactly if a call of that device failed, and `Memory` never comes if the reader returned no byte. On `Read` nothing
+/// was written. On `Write` and `Memory` bytes may have been: the line is written row by row, and a row may need memory. Condition:
+/// each device has counted fewer than 2^64 - 1 failures so far.
 pub fn json<A: Allocator + Copy, R: Source, W: Sink>(
     alloc: A,
     name: &[u8],

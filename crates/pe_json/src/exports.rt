@@ -10,7 +10,7 @@ use pe_tables::{Exports, Key, Target};
 use pe_text::{Sink, TextWriter};
 use std::alloc::Allocator;
 
-/// Adds the member of what is exported in place of an RVA.
+/// Adds the member of a forwarder, which takes the place of an RVA.
 fn add_forwarder<A: Allocator + Copy>(json: &mut JsonText<A>, module: &[u8], key: &Key) {
     json.key("forward");
     json.begin_object();
@@ -38,7 +38,7 @@ fn add_export<A: Allocator + Copy>(
     json.end_object();
 }
 
-/// Writes the rows of an ordinal that has these names.
+/// Writes the rows of an ordinal: one for each of its names, or one if it has none.
 fn write_ordinal<A: Allocator + Copy, W: Sink>(
     json: &mut JsonText<A>,
     text: &mut TextWriter<W>,
@@ -65,7 +65,7 @@ fn write_ordinal<A: Allocator + Copy, W: Sink>(
     }
 }
 
-/// Writes the rows of all ordinals, in their order, of which these names have theirs.
+/// Writes the rows of all ordinals, in the order of the export address table, with the names of each.
 fn write_rows<A: Allocator + Copy, W: Sink>(
     json: &mut JsonText<A>,
     text: &mut TextWriter<W>,

@@ -20,7 +20,7 @@ macro_rules! wide {
     };
 }
 
-/// The fields of a COFF file header, in its order ("PE Format", COFF File Header).
+/// The fields of a COFF file header, in the header's order ("PE Format", COFF File Header).
 pub(crate) fn coff_members(header: &FileHeader) -> [Member<'static>; 9] {
     [
         number!(header, machine),
@@ -38,7 +38,7 @@ pub(crate) fn coff_members(header: &FileHeader) -> [Member<'static>; 9] {
     ]
 }
 
-/// The fields of an optional header, in its order ("PE Format", Optional Header).
+/// The fields of an optional header, in the header's order ("PE Format", Optional Header).
 pub(crate) fn optional_members(headers: &Headers) -> [Member<'static>; 32] {
     [
         (

@@ -18,7 +18,7 @@ use pe_text::{Sink, TextWriter};
 use pe_view::View;
 use std::alloc::Allocator;
 
-/// Adds the headers and the list of directories ("PE Format", Optional Header Data Directories).
+/// Adds the headers and the list of data directories ("PE Format", Optional Header Data Directories).
 fn add_headers<A: Allocator + Copy>(json: &mut JsonText<A>, headers: &Headers) {
     let format = match headers.magic {
         Magic::Pe32 => "PE32",
@@ -77,7 +77,7 @@ fn write_sections<A: Allocator + Copy, W: Sink>(
     json.end_list();
 }
 
-/// Writes what an image holds.
+/// Writes the members of an image, from its headers to its base relocations.
 pub(crate) fn write_image<A: Allocator + Copy, W: Sink>(
     json: &mut JsonText<A>,
     text: &mut TextWriter<W>,

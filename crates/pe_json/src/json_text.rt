@@ -1,4 +1,4 @@
-//! `JsonText`: JSON text, written row by row with the ported crate `json`, and whether memory ran out.
+//! `JsonText`: JSON text, written row by row with the ported crate `json`, until an allocation fails.
 
 ghost use Rattle.json.specs.Print.{IsPrintable};
 ghost use Rattle.json.specs.Reads.{token_of};
@@ -15,23 +15,23 @@ use std::{mem, str};
 /// How many rows are written at once.
 const ROWS: usize = 16;
 
-/// A JSON text that is made row by row: a row is any tokens of it that stand one behind the other.
+/// A JSON text that is made row by row: a row is any consecutive tokens of it.
 ///
-/// Escapes, numbers and the commas in a row are those of [`Writer`]; the comma between rows that are not written at once
-/// is ours. The room for rows is kept, so memory is taken only where they are longer than all before them. Where it is refused,
-/// nothing more is written, and [`JsonText::end`] tells of it.
+/// [`Writer`] makes escapes, numbers and commas, except a comma between rows that are not written together. The buffer for rows is
+/// kept, so it grows only for rows longer than all before them. After an allocation that failed nothing more is written, and
+/// [`JsonText::end`] returns the error.
 #[derive(Drop)]
 pub(crate) struct JsonText<A: Allocator> {
     pub alloc: A,
     row: Writer<A>,
-    /// How many rows the text has that is to be written.
+    /// How many rows are not written yet.
     rows: usize,
     after_value: bool,
     refused: bool,
 }
 
 impl<A: Allocator + Copy> JsonText<A> {
-    /// A text that goes on behind the value of a member.
+    /// A text that goes on after the value of a member.
     pub fn new(alloc: A) -> JsonText<A> {
         JsonText {
             alloc,
@@ -42,7 +42,7 @@ impl<A: Allocator + Copy> JsonText<A> {
         }
     }
 
-    /// Notes whether memory was refused.
+    /// Notes an allocation that failed.
     pub fn note(&mut self, done: Result<(), AllocError>) {
         if done.is_err() {
             self.refused = true;
@@ -82,7 +82,7 @@ impl<A: Allocator + Copy> JsonText<A> {
         self.note(done);
     }
 
-    /// Adds a string of two hexadecimal digits for each byte to the row.
+    /// Adds a string to the row: two hexadecimal digits for each byte.
     fn bytes(&mut self, bytes: &[u8]) {
         match hex::encode(self.alloc, bytes) {
             Ok(digits) => self.token(Token::String(digits.as_str())),
@@ -90,7 +90,7 @@ impl<A: Allocator + Copy> JsonText<A> {
         }
     }
 
-    /// Adds a list of the names of the flags that are set to the row. Those without a name are in the number alone.
+    /// Adds the list of the names of the set flags to the row. Flags without a name are in the number only.
     fn flags(&mut self, kind: FlagKind, flags: u32) {
         self.token(Token::BeginArray);
         for place in 0..u32::BITS {
@@ -113,13 +113,14 @@ impl<A: Allocator + Copy> JsonText<A> {
         }
     }
 
-    /// Adds a member that is a text of ours to the row.
+    /// Adds a member that is a fixed string to the row.
     pub fn text(&mut self, key: &str, text: &str) {
         self.key(key);
         self.token(Token::String(text));
     }
 
-    /// Adds a member that is a name of a file to the row: a string where it is UTF-8, else digits under the other key.
+    /// Adds a member that is a name from the file to the row: a string if it is UTF-8, else its hexadecimal digits under the other
+    /// key.
     pub fn name(&mut self, key: &str, key_hex: &str, name: &[u8]) {
         match str::from_utf8(name) {
             Ok(name) => {
@@ -180,7 +181,7 @@ impl<A: Allocator + Copy> JsonText<A> {
         self.token(Token::EndArray);
     }
 
-    /// Ends a row, and writes it with those before it where there are enough.
+    /// Ends a row, and writes it with those before it if there are enough.
     pub fn put<W: Sink>(&mut self, text: &mut TextWriter<W>)
         requires { IsReady W.failures text.old }
         ensures { Grows W.taken W.failures text.old text.new }
@@ -191,7 +192,7 @@ impl<A: Allocator + Copy> JsonText<A> {
         }
     }
 
-    /// Writes the rows, unless memory was refused, and begins the next.
+    /// Writes the rows, unless an allocation failed, and begins the next.
     fn write_rows<W: Sink>(&mut self, text: &mut TextWriter<W>)
         requires { IsReady W.failures text.old }
         ensures { Grows W.taken W.failures text.old text.new }
@@ -207,7 +208,7 @@ impl<A: Allocator + Copy> JsonText<A> {
         self.rows = 0;
     }
 
-    /// Writes the end of the line, unless memory was refused.
+    /// Writes the end of the line, unless an allocation failed.
     pub fn end<W: Sink>(&mut self, text: &mut TextWriter<W>) -> Result<(), AllocError>
         requires { IsReady W.failures text.old }
         ensures { Grows W.taken W.failures text.old text.new }
@@ -221,7 +222,7 @@ impl<A: Allocator + Copy> JsonText<A> {
         Ok(())
     }
 
-    /// Writes the text of a row, behind a comma where the one before ends a value and this one begins one.
+    /// Writes the text of rows, after a comma if the text before ends with a value and this text begins with a key or a value.
     fn write<W: Sink>(&mut self, text: &mut TextWriter<W>, row: &[u8])
         requires { IsReady W.failures text.old }
         ensures { Grows W.taken W.failures text.old text.new }

@@ -1,6 +1,6 @@
-//! What an image or an object holds, as one line of JSON for scripts.
+//! The content of an image or an object, as one line of JSON for scripts.
 //!
-//! [`json`] reads a file, judges it as an image or as an object, and writes one JSON object and a line feed (JSON Lines):
+//! [`json`] reads a file, checks it as an image or as an object, and writes one JSON object and a line feed (JSON Lines):
 //!
 //! ```text
 //! let mut reader = Counted::new(file);
@@ -8,8 +8,8 @@
 //! let answer = json(alloc, b"zlib1.dll", &mut reader, &mut writer);
 //! ```
 //!
-//! The line's members are those of docs/JSON.md. Its text is written row by row, as a row is made: no line is held whole, and
-//! after a write that failed no further row is made. Its beginning, and all of a refused file's line, takes no memory.
+//! The line's members are those of docs/JSON.md. It is written as its rows are made, with at most 16 of them in memory; after a
+//! failed write no further row is made. Its beginning, and the whole line of a refused file, allocate nothing.
 #![tactic(auto)]
 
 mod beginning;

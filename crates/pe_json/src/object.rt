@@ -55,7 +55,7 @@ fn write_relocations<A: Allocator + Copy, W: Sink>(
     json.end_list();
 }
 
-/// Writes a section, whose number counts from 1.
+/// Writes a section, with its number from 1.
 fn write_section<'a, A: Allocator + Copy, W: Sink>(
     json: &mut JsonText<A>,
     text: &mut TextWriter<W>,
@@ -100,7 +100,7 @@ fn write_sections<A: Allocator + Copy, W: Sink>(
     json.end_list();
 }
 
-/// Adds what an auxiliary record holds, in the shape of its symbol's class ("PE Format", Auxiliary Symbol Records).
+/// Adds the fields of an auxiliary record, in the format for its symbol ("PE Format", Auxiliary Symbol Records).
 fn add_aux<'a, A: Allocator + Copy>(json: &mut JsonText<A>, index: Member<'a>, aux: &Aux<'a>) {
     match aux {
         Aux::Function {
@@ -162,7 +162,7 @@ fn add_aux<'a, A: Allocator + Copy>(json: &mut JsonText<A>, index: Member<'a>, a
     }
 }
 
-/// Adds the list of the auxiliary records that stand behind the symbol of this index.
+/// Adds the list of the auxiliary records after the symbol of this index.
 fn add_aux_records<A: Allocator + Copy>(json: &mut JsonText<A>, index: u32, symbol: &Symbol) {
     json.begin_list("auxiliary_records");
     for k in 0..symbol.aux_count() {
@@ -174,7 +174,7 @@ fn add_aux_records<A: Allocator + Copy>(json: &mut JsonText<A>, index: u32, symb
     json.end_list();
 }
 
-/// Adds a symbol and its auxiliary records ("PE Format", COFF Symbol Table). Its section is a number that counts from 1, or a word.
+/// Adds a symbol and its auxiliary records ("PE Format", COFF Symbol Table). Its section is a number from 1, or a word.
 fn add_symbol<A: Allocator + Copy>(json: &mut JsonText<A>, index: u32, symbol: &Symbol) {
     let section = match symbol.section {
         SymbolSection::Section(number) => ("section_number", Number(number as u64)),
@@ -221,7 +221,7 @@ fn write_symbols<A: Allocator + Copy, W: Sink>(
     json.end_list();
 }
 
-/// Writes what an object holds.
+/// Writes the members of an object: its header, sections and symbols.
 pub(crate) fn write_object<A: Allocator + Copy, W: Sink>(
     json: &mut JsonText<A>,
     text: &mut TextWriter<W>,

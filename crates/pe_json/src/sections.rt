@@ -6,7 +6,8 @@ use bstr::ByteSlice;
 use pe_head::SectionHeader;
 use pe_names::FlagKind;
 
-/// A section of a name ("PE Format", Section Table). Its short name is the field without the zero bytes at its end.
+/// The members of a section ("PE Format", Section Table). The short name is the Name field without the zero bytes at its end; it is
+/// left out if it is the section's name.
 pub(crate) fn section_members<'a>(
     number: Member<'a>,
     name: &'a [u8],

@@ -40,7 +40,7 @@ pub(crate) fn write_imports<A: Allocator + Copy, W: Sink>(
     json.end_list();
 }
 
-/// Adds a base relocation: how many bits of an address its field holds, or which half of it.
+/// Adds a base relocation: how many bits of an address its field has, or which half of one.
 fn add_fixup<A: Allocator + Copy>(json: &mut JsonText<A>, fixup: &Fixup) {
     json.begin_object();
     json.number("rva", fixup.field as u64);

@@ -7,13 +7,13 @@ use pe_names::FlagKind;
 pub(crate) enum Value<'a> {
     /// The member is left out.
     Absent,
-    /// A number that every reader of JSON holds exactly: it is under 2^53.
+    /// A number that every reader of JSON represents exactly: it is under 2^53.
     Number(u64),
-    /// A number of 64 bits, as a string of `0x` and hexadecimal digits.
+    /// A 64-bit number, as a string of `0x` and hexadecimal digits, since it may be over 2^53.
     Wide(u64),
-    /// A text of ours.
+    /// A fixed string.
     Text(&'static str),
-    /// A name of a file: a string where it is UTF-8, else a string of two hexadecimal digits a byte, under this key.
+    /// A name from the file: a string if it is UTF-8, else a string of two hexadecimal digits for each byte, under this key.
     Name(&'static str, &'a [u8]),
     /// Bytes, as a string of two hexadecimal digits each.
     Bytes(&'a [u8]),
@@ -24,7 +24,7 @@ pub(crate) enum Value<'a> {
 /// A member of a JSON object: its key and its value.
 pub(crate) type Member<'a> = (&'static str, Value<'a>);
 
-/// A text of ours, where there is one.
+/// A fixed string, or no member if there is none.
 pub(crate) fn text_if(text: Option<&'static str>) -> Value<'static> {
     match text {
         Some(text) => Value::Text(text),
