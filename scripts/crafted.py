@@ -142,6 +142,7 @@ def importer(names, texts):
 
 def forwarding(count, text):
     """A module whose names are ends of a text, and all forwarded to one more name of it, and a file that imports them."""
+    count = min(count, 65535)
     strings = text + b"m.z\0z\0"
     forwarder, name = len(text), len(text) + 4
     exporter = exports([*range(count), name], strings, [forwarder, len(strings)], inside=True, entries_of=[0] * count + [1])

@@ -89,6 +89,7 @@ impl<'a, A: Allocator + Copy> TextMap<'a, A> {
     }
 
     /// What a string exports, if it is stored.
+    #[inline]
     pub fn get(&self, text: &[u8]) -> Option<Option<Target<'a>>>
         ensures { result ≡ found text.now (entries_in self.now) }
     {
