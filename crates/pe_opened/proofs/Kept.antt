@@ -1,4 +1,4 @@
--- What an opened image keeps is what its file says.
+-- The contents that an opened image keeps are those of its file.
 use Rattle.std.proofs.Common.{◌≡◌, ℕ, List, None, ap, sym, subst, ◌∙◌}
 use Rattle.pe_view.specs.Faults.{first_standing}
 use Rattle.pe_view.specs.FirstStanding.{none-append}
@@ -23,7 +23,7 @@ module _ {A : Type 0} (image : Image A) (file : List ℕ) (seen : file_of image.
   pub headers_kept : headers_of image.layout ≡ head_of file
   headers_kept = is.layout.headers ∙ ap (λ (f : List ℕ). head_of f) seen
 
--- guesses of where names stand change nothing
+-- guesses of the indices of names change nothing
 pub guessed : {A : Type 0} (file : List ℕ) (image : Image A) (exports : Exports A) → IsImageOf 0 file image → exports_view exports ≡ exports_view image.exports
     → IsImageOf 0 (file_of image.layout) (record { layout = image.layout; exports = exports; imports = image.imports; fixups = image.fixups })
 guessed file image exports is same = subst (λ (f : List ℕ). IsImageOf 0 f (record { layout = image.layout; exports = exports; imports = image.imports; fixups = image.fixups })) (sym is.layout.bytes)

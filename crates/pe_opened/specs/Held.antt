@@ -1,4 +1,4 @@
--- What a handle owns: a box with one of the owners of an opened image while it is open, and else nothing.
+-- What a handle owns: if it is open, a box with one of the owners of an opened image; otherwise nothing.
 use Rattle.std.specs.Prelude.{ℕ, List, Bool, true, false, Option, None, Some, option_map}
 use Rattle.std.specs.Coded.{Coded, coded_option}
 use base.Fml.{Fml, ftrue, ffalse}
@@ -26,7 +26,7 @@ image_coded = coded_option image_row.coded
 abbrev pub file_in : Option Owner → Option (List ℕ)
 file_in = option_map (λ owner. owner.value)
 
--- by the allocator, whether there is an image, its address, and the owner
+-- by the allocator, whether the handle is open, the address, and the owner
 abbrev pub held : Global → Bool → Ptr → Option Owner → Fml
 held alloc false state None = ftrue
 held alloc false state (Some image) = ffalse

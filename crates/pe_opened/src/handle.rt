@@ -1,4 +1,4 @@
-//! `ImageHandle`: an opened image that a C program keeps, or none where the handle is closed.
+//! `ImageHandle`: an opened image that a C program holds, or none if the handle is closed.
 
 ghost use Rattle.std.specs.Prelude.{◌≡◌, true, false, None, Some, is_some, is_ok, option_map};
 ghost use Rattle.std.specs.declared.option.Option.{Option};
@@ -10,10 +10,10 @@ use std::alloc::{AllocError, Global};
 use std::marker::Model;
 use std::sync::Arc;
 
-/// An opened image, or none. In C it is `struct { void *state; bool is_open; }`, and all zero it is closed.
+/// An opened image, or none. In C it is `struct { void *state; bool is_open; }`; all zeros are a closed handle.
 ///
-/// A handle is one of the owners of what was read of the image: a second copy of its bytes is no second owner, but [`share`] makes
-/// one. Dropping the last owner gives the memory back.
+/// The handle is one of the owners of the image: a bytewise copy of it is no second owner, but [`share`] makes one. Dropping the
+/// last owner frees the memory.
 #[repr(C)]
 pub struct ImageHandle {
     state: *mut u8,
@@ -29,7 +29,7 @@ impl Model for ImageHandle {
 }
 
 impl ImageHandle {
-    /// A handle that has no image. It takes no memory.
+    /// A handle without an image. Allocates nothing.
     pub fn closed(alloc: Global) -> ImageHandle
         ensures none { result.image ≡ None }
         ensures shut { result.is_open ≡ false }
@@ -41,7 +41,7 @@ impl ImageHandle {
         }
     }
 
-    /// The handle of a box that was taken apart.
+    /// The handle that has the image of a box in parts.
     fn hold(parts: BoxParts<Arc<OpenedImage<'static>>, Global>) -> ImageHandle
         ensures image { result.image ≡ Some parts.entry.value }
         ensures open { result.is_open ≡ true }
@@ -54,7 +54,7 @@ impl ImageHandle {
         }
     }
 
-    /// The parts of the box of an open handle.
+    /// The parts of the box of an open handle, or `None` if it is closed.
     fn release(self) -> Option<BoxParts<Arc<OpenedImage<'static>>, Global>>
         ensures image { option_map (λ parts. parts.value) result ≡ self.image }
         ensures open { is_some result ≡ self.is_open }
@@ -74,7 +74,7 @@ impl ImageHandle {
         }
     }
 
-    /// A handle that has this image. It takes no memory.
+    /// A handle that has this image. Allocates nothing.
     pub fn of(image: Box<Arc<OpenedImage<'static>>>) -> ImageHandle
         ensures image { result.image ≡ Some image.entry.value }
         ensures open { result.is_open ≡ true }
@@ -82,7 +82,7 @@ impl ImageHandle {
         ImageHandle::hold(BoxParts::of(image))
     }
 
-    /// The image of the handle, or `None` of one that is closed.
+    /// The image of the handle, or `None` if it is closed.
     pub fn take(self) -> Option<Box<Arc<OpenedImage<'static>>>>
         ensures image { option_map (λ image. image.value) result ≡ self.image }
         ensures open { is_some result ≡ self.is_open }
@@ -94,9 +94,8 @@ impl ImageHandle {
     }
 }
 
-/// Makes another handle of an image, in the place of `other`, which is closed first: both keep the image, and it goes with the last
-/// of them. Of a closed one the other is closed too. Where memory is refused, the other stays closed; that never comes for a closed
-/// one.
+/// Makes `other` a second handle of an image, after closing what it held: the image is freed with the last of its handles. If
+/// `image` is closed, so is `other`. If an allocation fails, `other` stays closed; for a closed `image` nothing is allocated.
 pub fn share(
     alloc: Global,
     image: &mut ImageHandle,
@@ -129,5 +128,5 @@ impl Drop for ImageHandle {
     }
 }
 
-// an image may be read by many threads at once, and its last owner may be in any
+// many threads may read an image at once, and any of them may drop its last owner
 unsafe impl Send for ImageHandle {}

@@ -1,8 +1,8 @@
-//! An image opened once: its file is judged by one call, and what its tables hold is kept for the look-ups that follow.
+//! An image opened once: its file is checked by one call, which keeps the contents of its tables for the look-ups that follow.
 //!
-//! [`OpenedImage::open`] reads an image whole, and each other call answers as if it read the file again. [`open_shared`] opens one
-//! for several owners, and an [`ImageHandle`] is how a program in another language keeps such an owner: a pointer, and a flag that
-//! says whether the image is there. [`share`] makes another handle of the same image, which another thread may have.
+//! [`OpenedImage::open`] reads a whole image; each other call returns what it would if it read the file again. [`open_shared`]
+//! opens one for several owners. A program in another language holds such an owner as an [`ImageHandle`]: a pointer, and a flag
+//! that says whether there is an image. [`share`] makes another handle of the same image, which another thread may use.
 //!
 //! ```text
 //! let mut handle = ImageHandle::of(open_shared(alloc, file)?);

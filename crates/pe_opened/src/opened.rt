@@ -1,4 +1,4 @@
-//! `OpenedImage`: an image that was read whole, and is asked for what its tables hold.
+//! `OpenedImage`: a whole image, read once, and the look-ups in its tables.
 
 ghost use Rattle.std.specs.Prelude.{◌≡◌, ◌+◌, ◌≤◌, ◌↔◌, None, IsErrOf, IsTrue, length, map, option_map};
 ghost use Rattle.std.specs.Bool.{OnTrue, OnFalse};
@@ -24,7 +24,7 @@ use pe_view::Refusal;
 use std::alloc::Global;
 use std::marker::Model;
 
-/// An image in whose file no fault stands, and what its tables hold. It borrows the file, and to contracts it is the file's bytes.
+/// An image without a fault, and the contents of its tables. It borrows the file, whose bytes are its value in contracts.
 #[derive(Drop)]
 pub struct OpenedImage<'a> {
     image: Image<'a, Global>,
@@ -43,8 +43,8 @@ impl<'a> Model for OpenedImage<'a> {
 }
 
 impl<'a> OpenedImage<'a> {
-    /// Opens the image of a file: judges it, and keeps what its tables hold. The answer is the first that stands of faults 1 to 38,
-    /// in image 0, or want of memory, which never comes where one of 1 to 15 stands.
+    /// Opens the image of a file: checks it, and keeps the contents of its tables. The error is the first of faults 1 to 38, in
+    /// image 0, or [`Refusal::Memory`] if an allocation failed, which never comes for a file with one of faults 1 to 15.
     pub fn open(alloc: Global, file: &'a [u8]) -> Result<OpenedImage<'a>, Refusal>
         ensures exact { AnswersOrWants (image_tests 0 file.entry.now) (λ opened. opened ≡ file.entry.now) result }
         ensures memory { IsErrOf result Refusal.Memory → first_standing (layout_tests 0 file.entry.now) ≡ None }
@@ -54,7 +54,7 @@ impl<'a> OpenedImage<'a> {
         Ok(OpenedImage { image })
     }
 
-    /// What a name exports: what the first of the names with this text does.
+    /// What a name exports. If several names have these bytes, the first in the name pointer table counts.
     pub fn by_name(&self, name: &[u8]) -> Option<Target<'a>>
         ensures { option_map target_view result ≡ target_at (exports_of (image_of_file 0 self.now)) (Name name.now) }
     {
@@ -75,7 +75,7 @@ impl<'a> OpenedImage<'a> {
         self.image.exports.ordinals()
     }
 
-    /// The exports by name, in the order of the name pointer table: each text once, where it stands first.
+    /// The exports by name, in the order of the name pointer table. A name that is repeated comes once, at its first place.
     pub fn names(&self) -> &[(&'a [u8], Target<'a>)]
         ensures { map export_view result.now ≡ (exports_of (image_of_file 0 self.now)).names }
     {
@@ -96,7 +96,7 @@ impl<'a> OpenedImage<'a> {
         self.image.fixups.as_slice()
     }
 
-    /// Fills a buffer with the bytes from an RVA on, where they all lie inside the image, and tells whether they do.
+    /// Fills a buffer with the bytes from an RVA on, if they all lie inside the image, and returns whether they do.
     pub fn read(&self, rva: u32, buffer: &mut [u8]) -> bool
         ensures fits { IsTrue result ↔ (rva + length buffer.old ≤ (image_of_file 0 self.now).size) }
         ensures filled { OnTrue result (buffer.new ≡ bytes_at (image_of_file 0 self.now) rva (length buffer.old)) }
@@ -105,14 +105,15 @@ impl<'a> OpenedImage<'a> {
         self.image.layout.fill(rva, buffer)
     }
 
-    /// The zero-ended text at an RVA, without its zero byte.
+    /// The zero-terminated string at an RVA, without its zero byte; `None` if it does not end in the headers or the section in
+    /// which it begins, or begins past the end of the image.
     pub fn text(&self, rva: u32) -> Option<&'a [u8]>
         ensures { option_map (λ text. text.now) result ≡ (image_of_file 0 self.now).text rva }
     {
         self.image.layout.name_at(rva)
     }
 
-    /// What stands at an RVA.
+    /// What is at an RVA: the piece that contains it, and the file offset of the byte if it comes from the file.
     pub fn locate(&self, rva: u32) -> Located
         ensures { result ≡ located (head_of self.now) rva }
     {

@@ -1,4 +1,4 @@
--- What was opened has no fault, and so none of its headers and sections.
+-- An opened image has no fault, and so none of its headers and sections.
 use Rattle.pe_opened.proofs.Kept.{laid_out}
 use Rattle.pe_opened.proofs.opening.open_shared.Goals as goal
 

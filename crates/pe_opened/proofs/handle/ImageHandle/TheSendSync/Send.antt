@@ -1,4 +1,4 @@
--- A handle says the same to every thread: what an open one owns does so.
+-- A handle means the same in every thread, since what an open one owns does.
 use mathlib.Core.Bool.{Bool, true, false}
 use mir.Raw.{raw}
 use base.Fraction.{full_share}
