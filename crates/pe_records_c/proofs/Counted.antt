@@ -1,4 +1,4 @@
--- A set is judged by its first 257 entries: one that has more has fault 41, or 42 before it.
+-- The first 257 entries of a set decide its error: a set that has more has fault 41, or 42 before it.
 use Rattle.std.proofs.Common.{◌≡◌, ◌⊎◌, ℕ, ◌+◌, ◌≤◌, ◌<◌, ◌==◌, List, [], ◌∷◌, ◌++◌, length, take, drop, Option, None, Some, Result, Ok, Err, inl, inr, refl, sym, ap, subst, ◌∙◌, arith}
 use Rattle.std.proofs.lemmas.Bool.{cases_lt}
 use Rattle.std.proofs.lemmas.List.{length-map, length-take, take-append-le, take-append-drop, take_all}
@@ -19,7 +19,7 @@ use Rattle.pe_set.specs.declared.error.MapError.{MapError}
 use Rattle.pe_set.specs.declared.error.MapError.TheVariants as errors
 use Rattle.pe_set.proofs.Distinct.{few_entries}
 
--- what stands first in a front stands first in the whole
+-- the first fault of the tests in front is the first of all
 stands_on : (front rest more : List Test) (y : Fault) (first : Option Fault) → first_standing front ≡ first → (first_standing rest ≡ Some y → first_standing more ≡ Some y)
     → first_standing (front ++ rest) ≡ Some y → first_standing (front ++ more) ≡ Some y
 stands_on front rest more y None is on at = first-past front more is ∙ on (sym (first-past front rest is) ∙ at)
@@ -29,7 +29,7 @@ front_stands : (f : ℕ → Entry → List Test) (n : ℕ) (xs ys : List Entry) 
 front_stands f n [] ys y at = absurd cc at
 front_stands f n (x ∷ xs) ys y at = stands_on (f n x) (numbered f (n + 1) xs) (numbered f (n + 1) (xs ++ ys)) y (first_standing (f n x)) refl (front_stands f (n + 1) xs ys y) at
 
--- the entries of a front have the same tests in the whole
+-- the first entries of a set have the same tests in the whole set
 same_tests : (all more : List Entry) (n : ℕ) (es : List Entry) → n + length es ≤ length all → numbered (name_tests (all ++ more)) n es ≡ numbered (name_tests all) n es
 same_tests all more n [] fits = refl
 same_tests all more n (e ∷ es) fits =
@@ -46,7 +46,7 @@ many_have_fault : (es : List Entry) (first : Option Fault) → first_standing (n
 many_have_fault es None none more = absurd (omega (arith, few_entries (take 257 es) none, length-take 257 es, more))
 many_have_fault es (Some y) at more = (y, at, ap (λ (all : List Entry). first_standing (names_tests all)) (sym (take-append-drop 257 es)) ∙ front_has_fault (take 257 es) (drop 257 es) y at)
 
--- a set is short, or the same fault of its names stands first in it and in what counts of it
+-- a set has at most 256 entries, or its names have the same first fault as those of its first 257 entries
 few_or_fault : (es : List Entry) → (length es ≤ 256) ⊎ ((y : Fault) × (first_standing (names_tests (take 257 es)) ≡ Some y) × (first_standing (names_tests es) ≡ Some y))
 few_or_fault es = elim (cases_lt 256 (length es)) [
   | inl more ↦ inr (many_have_fault es (first_standing (names_tests (take 257 es))) refl more)
@@ -61,7 +61,7 @@ error_counts policy names es = elim (few_or_fault es) [
   | inr fault ↦ names (take 257 es) fault.0 fault.1 ∙ sym (names es fault.0 fault.2)
 ]
 
--- and where its names have no fault, all of it counts
+-- and if its names have no fault, all its entries are read
 all_count : (es : List Entry) → first_standing (names_tests (take 257 es)) ≡ None → take 257 es ≡ es
 all_count es none = elim (few_or_fault es) [
   | inl few ↦ take_all 257 es (omega (arith, few))
@@ -74,7 +74,7 @@ pub answer_counts : {X : Type 0} (policy : Policy) (P : List Entry → X → Typ
 answer_counts policy P names none es (Ok x) answers = (sym (error_counts policy names es) ∙ answers.0, subst (λ (all : List Entry). P all x) (all_count es (none (take 257 es) answers.0)) answers.1)
 answer_counts policy P names none es (Err error) answers = subst (λ (first : Option MapError). ErrorIs first error) (error_counts policy names es) answers
 
--- no entries are put for a set of none
+-- no entries are copied of an empty set
 pub none_put : (set : List SetEntry) (es : List Entry) → map entry_view set ≡ take 257 es → length es ≡ 0 → length set ≡ 0
 none_put set es put none =
     let as_many : length set ≡ length (take 257 es) = sym (length-map set entry_view) ∙ ap length put in

@@ -1,4 +1,4 @@
--- How a set is answered for.
+-- What a call on a set returns.
 use Rattle.std.proofs.Common.{◌≡◌, ◌≢◌, ℕ, List, None, Option, Result, Ok, Err, refl}
 use Rattle.pe_set.specs.Bindings.{bindings_of}
 use Rattle.pe_set.specs.Set.{Entry, modules_of}
@@ -11,7 +11,7 @@ use Rattle.pe_records_c.specs.Faults.{IsAccepted}
 use Rattle.pe_records_c.specs.SetRows.{IsSetTold, IsJudged}
 use Rattle.pe_records_c.specs.declared.fault.FaultRecord.{FaultRecord}
 
--- an error, which is told
+-- an error, which is reported
 pub error_told : (first : Option MapError) (error : MapError) (before after : FaultRecord) (cycle cycle_after status : ℕ) → ErrorIs first error → IsSetTold error before after cycle cycle_after status
     → IsJudged first before after cycle cycle_after status
 error_told first (errors.Fault fault) before after cycle cycle_after status is told = record {
@@ -33,7 +33,7 @@ error_told first errors.Memory before after cycle cycle_after status is told = r
   cycle_kept = λ _. told.2;
 }
 
--- an error is no acceptance
+-- the status of an error is not one of acceptance
 pub told_not_accepted : {X : Type 0} (error : MapError) (before after : FaultRecord) (cycle cycle_after status : ℕ) → IsSetTold error before after cycle cycle_after status → IsAccepted status → X
 told_not_accepted (errors.Fault fault) before after cycle cycle_after status told accepted = absurd (accepted.0 told.0)
 told_not_accepted (errors.Cycle fault length) before after cycle cycle_after status told accepted = absurd (accepted.0 told.0)
@@ -48,7 +48,7 @@ none_judged first before cycle status none other = record {
   cycle_kept = λ _. refl;
 }
 
--- what is accepted has the set's bindings
+-- an accepted set has its bindings
 pub bindings_answered : {A : Type 0} (first : Option MapError) (es : List Entry) (result : Result (Accepted A) MapError) → SetAnswers first (IsAcceptedFrom es) result
     → SetAnswers first (λ accepted. accepted.bindings.items ≡ bindings_of (modules_of es)) result
 bindings_answered first es (Ok accepted) answers = (answers.0, answers.1.bindings)

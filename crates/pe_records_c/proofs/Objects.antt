@@ -1,4 +1,4 @@
--- An object has few sections, as their headers stand in its file; and what is told of one is no fault.
+-- An object has few sections, since their headers lie in its file; and the status of its relocations is not that of a fault.
 use Rattle.std.proofs.Common.{◌≡◌, ◌≢◌, ◌∙◌, ℕ, ◌≤◌, ◌^◌, List, Option, None, Some, length, arith}
 use Rattle.std.proofs.lemmas.List.{length-map}
 use Rattle.std.proofs.lemmas.List.FromFn.{length-map-range_with_len}

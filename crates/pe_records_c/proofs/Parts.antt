@@ -1,4 +1,4 @@
--- Rows that are filled part by part.
+-- Rows that are filled in parts.
 use Rattle.std.proofs.Common.{◌≡◌, ℕ, zero, suc, ◌+◌, ◌-◌, ◌≤◌, ◌<◌, List, [], ◌∷◌, ◌++◌, length, take, drop, get_or, refl, sym, ap, subst, ◌∙◌, arith, min, append-nil}
 use Rattle.std.proofs.lemmas.List.{length-drop, drop_all, take_rest}
 use borrow.Rule.Slice.PartMut.{mid_of, post_of, put_mid}
@@ -17,7 +17,7 @@ told_cons : {T R : Type 0} (tells : T → R → Type 0) (x : T) (r : R) (xs : Li
 told_cons tells x r xs rows here rest item row zero a b = here
 told_cons tells x r xs rows here rest item row (suc k) a b = rest item row k (omega (arith, a)) (omega (arith, b))
 
--- rows that tell of some items, and behind them of more, tell of all
+-- rows of some items, and after them of more, are rows of all
 pub fills_more : {T R : Type 0} (tells : T → R → Type 0) (first more : List T) (old rows part : List R) (start : ℕ) → start ≡ min (length first) (length rows)
     → Fills tells first old rows → Fills tells more (drop start rows) part → Fills tells (first ++ more) old (take start rows ++ part)
 fills_more tells [] more old rows part zero is f m = subst (λ (o : List _). Fills tells more o part) f.others m
@@ -46,7 +46,7 @@ fills_more tells (x ∷ first) more (o ∷ old) (r ∷ rows) part (suc start) is
       others = filled.others;
     }
 
--- the items behind those that are passed, where some more are passed
+-- after n items of a list, those that are passed now, and the rest after them
 pub record Passed {X : Type 0} (all now rest : List X) (n : ℕ) : Type 0 where
   pub before : take (n + length now) all ≡ take n all ++ now
   pub behind : drop (n + length now) all ≡ rest
@@ -75,7 +75,7 @@ passed_more (x ∷ all) now rest (suc n) le is =
       within = omega (arith, tail.within);
     }
 
--- the rows from a start on that were given away and are back
+-- rows from a start on that were filled through a slice
 pub part_filled : {T R : Type 0} (tells : T → R → Type 0) (first more : List T) (old rows part : List R) (skipped start : ℕ) → start ≡ min (length first - skipped) (length rows)
     → Fills tells (drop skipped first) old rows → Fills tells (drop (skipped - length first) more) (mid_of start (length rows - start) rows) part
     → Fills tells (drop skipped (first ++ more)) old (put_mid start (length rows - start) rows part)
@@ -88,7 +88,7 @@ part_filled tells first more old rows part skipped start is f m =
     subst (λ (rs : List _). Fills tells (drop skipped (first ++ more)) old rs) back
     (subst (λ (ts : List _). Fills tells ts old (take start rows ++ part)) (sym (drop_both skipped first more)) all)
 
--- rows that are as they were tell of no item
+-- unchanged rows are those of no item
 pub nothing_told : {T R : Type 0} (tells : T → R → Type 0) (rows : List R) → Fills tells [] rows rows
 nothing_told tells rows = record {
   told = λ item row k a b. absurd (omega (arith, a));

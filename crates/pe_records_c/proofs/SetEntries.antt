@@ -1,4 +1,4 @@
--- The entries of a set that were put into an array are those that count.
+-- The entries of a set that were copied into an array are those that are read.
 use Rattle.std.proofs.Common.{◌≡◌, ℕ, List, length, take, drop, ◌++◌, sym, ap, ◌∙◌}
 use Rattle.std.proofs.lemmas.List.{map-id, length-map, length-take, take-map, take_at}
 use Rattle.std.specs.Prelude.{map, min}

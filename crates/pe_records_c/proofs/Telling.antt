@@ -1,4 +1,4 @@
--- How a call tells what a file was refused for, or that it was not.
+-- How a call reports why a file was refused, or that it was not.
 use Rattle.std.proofs.Common.{◌≡◌, ◌≢◌, ℕ, Bool, true, false, List, length, Option, None, Some, Result, Err, refl, sym, ap, ◌∙◌, inl, inr}
 use Rattle.std.proofs.lemmas.Option.{same_Some}
 use Rattle.std.specs.Prelude.{map, option_map, nat_le, if◌then◌else◌}
@@ -14,7 +14,7 @@ use Rattle.pe_records_c.specs.Rows.{Fills, ReadsTable, TellsTable}
 use Rattle.pe_records_c.specs.declared.fault.FaultRecord.{FaultRecord}
 use Rattle.pe_records_c.proofs.Rows.{table_told}
 
--- a refusal, which is told
+-- a refusal, which is reported
 pub refusal_told : (wants : Type 0) (tests : List Test) (refusal : Refusal) (before after : FaultRecord) (status : ℕ) → Refuses tests refusal → (refusal ≡ refusals.Memory → wants)
     → IsTold refusal before after status → IsAnswered wants tests before after status
 refusal_told wants tests (refusals.Fault fault) before after status refused memory told = record {
@@ -30,7 +30,7 @@ refusal_told wants tests refusals.Memory before after status refused memory told
   kept = λ _. told.1;
 }
 
--- no refusal: another status, and the record as it was
+-- no refusal: another status, and the record unchanged
 pub none_told : (wants : Type 0) (tests : List Test) (before : FaultRecord) (status : ℕ) → first_standing tests ≡ None → status ≢ 1 → status ≢ 2 → IsAnswered wants tests before before status
 none_told wants tests before status none not_fault not_memory = record {
   refused = λ e. absurd (not_fault e);
@@ -39,12 +39,12 @@ none_told wants tests before status none not_fault not_memory = record {
   kept = λ _. refl;
 }
 
--- the status of a table is that of no refusal
+-- the status of a table is not that of a refusal
 pub no_refusal : (b : Bool) (status : ℕ) → status ≡ (if b then 0 else 4) → (status ≢ 1) × (status ≢ 2)
 no_refusal true status e = (λ one. absurd cc (e, one), λ two. absurd cc (e, two))
 no_refusal false status e = (λ one. absurd cc (e, one), λ two. absurd cc (e, two))
 
--- a status that was told is no other one
+-- the status of a refusal is not one of acceptance
 pub told_refuses : {X : Type 0} (refusal : Refusal) (before after : FaultRecord) (status : ℕ) → IsTold refusal before after status → IsAccepted status → X
 told_refuses (refusals.Fault fault) before after status told accepted = absurd (accepted.0 told.0)
 told_refuses refusals.Memory before after status told accepted = absurd (accepted.1 told.0)
@@ -52,7 +52,7 @@ told_refuses refusals.Memory before after status told accepted = absurd (accepte
 pub accepted_or_refused : {X : Type 0} (status : ℕ) → IsAccepted status → IsRefused status → X
 accepted_or_refused status accepted refused = elim refused [ inl one ↦ absurd (accepted.0 one) | inr two ↦ absurd (accepted.1 two) ]
 
--- a table that is told
+-- a table that is reported
 pub table_read : {T R S W : Type 0} (wants : Type 0) (tests : List Test) (view : R → W) (item : T → S) (row : S → W) (table : List T) (items : List S) (old new : List R) (before count : ℕ) (fault : FaultRecord) (status : ℕ)
     → first_standing tests ≡ None → map item table ≡ items → Fills (λ x r. view r ≡ row (item x)) table old new → count ≡ length table → status ≡ (if nat_le (length table) (length old) then 0 else 4)
     → ReadsTable wants tests view row items old new before count fault fault status
@@ -65,7 +65,7 @@ table_read wants tests view item row table items old new before count fault stat
       count_kept = λ refused. accepted_or_refused status accepted refused;
     }
 
--- a table that is not told
+-- a table that is refused
 pub table_refused : {T R W : Type 0} (wants : Type 0) (tests : List Test) (view : R → W) (row : T → W) (items : List T) (rows : List R) (count : ℕ) (before after : FaultRecord) (status : ℕ) (refusal : Refusal)
     → Refuses tests refusal → (refusal ≡ refusals.Memory → wants) → IsTold refusal before after status
     → ReadsTable wants tests view row items rows rows count count before after status
@@ -76,7 +76,7 @@ table_refused wants tests view row items rows count before after status refusal 
   count_kept = λ _. refl;
 }
 
--- what is told of a target is no refusal
+-- the status of a target is not that of a refusal
 pub target_answered : (wants : Type 0) (tests : List Test) (fault : FaultRecord) (target : Option Target) (before after : TargetRecord) (status : ℕ) → first_standing tests ≡ None → TellsTarget target before after status
     → IsAnswered wants tests fault fault status
 target_answered wants tests fault None before after status none told = none_told wants tests fault status none (λ one. absurd cc (told.0, one)) (λ two. absurd cc (told.0, two))
@@ -86,16 +86,16 @@ pub target_kept : (target : Option Target) (before after : TargetRecord) (status
 target_kept None before after status told refused = told.1
 target_kept (Some target) before after status told refused = elim refused [ inl one ↦ absurd cc (told.0, one) | inr two ↦ absurd cc (told.0, two) ]
 
--- a call that did all it was asked
+-- a call that succeeded
 pub done_told : (wants : Type 0) (tests : List Test) (before : FaultRecord) → first_standing tests ≡ None → IsAnswered wants tests before before 0
 done_told wants tests before none = none_told wants tests before 0 none (λ one. absurd cc) (λ two. absurd cc)
 
--- want of memory comes only where no early fault stands, if each of these is refused as itself
+-- memory runs out only if there is no early fault, given that each early fault is returned
 pub early_none : {X : Type 0} (first : Option Fault) (refusal : Refusal) → refusal ≡ refusals.Memory → ((fault : Fault) → first ≡ Some fault → ◌≡◌ {A = Result X Refusal} (Err refusal) (Err (refusals.Fault fault))) → first ≡ None
 early_none None refusal memory early = refl
 early_none (Some fault) refusal memory early = absurd cc (memory, early fault refl)
 
--- of a call that wants no memory: the first fault, which is told
+-- for a call that allocates nothing: the first fault, which is reported
 pub fault_told : (first : Option Fault) (fault : Fault) (before after : FaultRecord) (status : ℕ) → first ≡ Some fault → status ≡ 1 → after ≡ fault_record fault → IsRefusedBy first before after status
 fault_told None fault before after status is one told = absurd cc is
 fault_told (Some other) fault before after status is one told = (one, told ∙ ap fault_record (sym (same_Some other fault is)))
@@ -105,6 +105,6 @@ pub none_refused : (first : Option Fault) (before : FaultRecord) (status : ℕ) 
 none_refused None before status none other = (other, refl)
 none_refused (Some fault) before status none other = absurd cc none
 
--- the status of a table that is told is no fault's
+-- the status of a table is not that of a fault
 pub table_no_fault : {T R W : Type 0} (view : R → W) (row : T → W) (table : List T) (before after : List R) (count status : ℕ) → TellsTable view row table before after count status → status ≢ 1
 table_no_fault view row table before after count status told = (no_refusal _ status told.status_is).0

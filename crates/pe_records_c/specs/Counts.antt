@@ -12,6 +12,6 @@ pub record AreCounts (i : LaidOut) (counts : CountsRecord) : Type 0 where
   pub imports : counts.imports ≡ length (imports_of i)
   pub fixups : counts.fixups ≡ length (fixups_of i)
 
--- each table has as many rows as items, or more
+-- each table has at least as many rows as items
 abbrev pub have_room : CountsRecord → ℕ → ℕ → ℕ → ℕ → Bool
 have_room counts exports names imports fixups = (nat_le counts.exports exports && nat_le counts.names names) && (nat_le counts.imports imports && nat_le counts.fixups fixups)

@@ -1,10 +1,10 @@
--- Exports as C has them, with texts as their bytes.
+-- Exports as C has them, with strings as their bytes.
 use Rattle.std.specs.Prelude.{◌≡◌, ℕ, List, [], Option, None, Some}
 use Rattle.pe_tables.specs.Key.{Ordinal, Name, Target, Rva, Forward}
 use Rattle.pe_records_c.specs.declared.export.ExportRow.{ExportRow}
 use Rattle.pe_records_c.specs.declared.export.TargetRecord.{TargetRecord}
 
--- what an export stands for: 0 an RVA, 1 an ordinal of another module, or 2 a name of one
+-- what an export leads to: 0 an RVA, 1 an ordinal of another module, or 2 a name of one
 pub record TargetText : Type 0 where
   pub kind : ℕ
   pub value : ℕ
@@ -19,7 +19,7 @@ target_of (Forward module_name (Name text)) = record { kind = 2; value = 0; modu
 abbrev pub target_text : TargetRecord → TargetText
 target_text t = record { kind = t.kind; value = t.value; module_name = t.«module».now; name = t.name.now }
 
--- an export, of which the name or the ordinal is left empty
+-- an export: its name is empty or its ordinal is 0
 pub record ExportText : Type 0 where
   pub ordinal : ℕ
   pub name : List ℕ
@@ -34,7 +34,7 @@ export_by_name e = record { ordinal = 0; name = e.0; target = target_of e.1 }
 abbrev pub export_text : ExportRow → ExportText
 export_text row = record { ordinal = row.ordinal; name = row.name.now; target = target_text row.target }
 
--- what is told of a target: status 0 and what it is, or 3 where there is none
+-- how a target is reported: status 0 and the target, or 3 if there is none
 abbrev pub TellsTarget : Option Target → TargetRecord → TargetRecord → ℕ → Type 0
 TellsTarget None before after status = (status ≡ 3) × (after ≡ before)
 TellsTarget (Some target) before after status = (status ≡ 0) × (target_text after ≡ target_of target)

@@ -33,29 +33,29 @@ place_of kind at = if kind == 0 then File at else (if kind == 1 then Rva (at % 2
 abbrev pub fault_of : FaultRecord → Fault
 fault_of r = record { number = r.number; image = r.image; place = place_of (r.place % 4) r.at }
 
--- how a refusal is told: status 1 and the fault, or status 2 and the record as it was
+-- how a refusal is reported: status 1 and the fault, or status 2 and the record unchanged
 abbrev pub IsTold : Refusal → FaultRecord → FaultRecord → ℕ → Type 0
 IsTold (refusals.Fault fault) before after status = (status ≡ 1) × (after ≡ fault_record fault)
 IsTold refusals.Memory before after status = (status ≡ 2) × (after ≡ before)
 
--- how the first fault of a call that wants no memory is told: status 1 and the fault exactly where there is one, and else
--- another status and the record as it was
+-- how a call that allocates nothing reports the first fault: status 1 and the fault if there is one, otherwise another status and
+-- the record unchanged
 abbrev pub IsRefusedBy : Option Fault → FaultRecord → FaultRecord → ℕ → Type 0
 IsRefusedBy None before after status = (status ≢ 1) × (after ≡ before)
 IsRefusedBy (Some fault) before after status = (status ≡ 1) × (after ≡ fault_record fault)
 
--- how a call that takes memory answers for the tests of a file: status 1 with the first fault; status 2, want of memory, only
--- where `wants` says; another status only where no test stands. All but 1 leave the record as it was
+-- how a call that allocates reports the tests of a file: status 1 with the first fault; status 2, out of memory, only if `wants`
+-- holds; another status only if there is no fault. All but 1 leave the record unchanged
 pub record IsAnswered (wants : Type 0) (tests : List Test) (before after : FaultRecord) (status : ℕ) : Type 0 where
   pub refused : status ≡ 1 → option_map fault_record (first_standing tests) ≡ Some after
   pub memory : status ≡ 2 → wants
   pub accepted : status ≢ 1 → status ≢ 2 → first_standing tests ≡ None
   pub kept : status ≢ 1 → after ≡ before
 
--- no refusal: the call did what it was asked, as far as there was room
+-- no refusal: the call succeeded, as far as there was room
 abbrev pub IsAccepted : ℕ → Type 0
 IsAccepted status = (status ≢ 1) × (status ≢ 2)
 
--- a refusal: a fault, or want of memory
+-- a refusal: a fault, or out of memory
 abbrev pub IsRefused : ℕ → Type 0
 IsRefused status = (status ≡ 1) ⊎ (status ≡ 2)

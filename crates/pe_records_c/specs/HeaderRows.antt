@@ -14,7 +14,7 @@ use Rattle.pe_records_c.specs.Rows.{filled}
 abbrev pub directory_row : Directory → DirectoryRow
 directory_row d = record { rva = d.rva; size = d.size }
 
--- where a section stands in the image and in the file, with the fields that say so
+-- where a section lies in the image and in the file, with the fields of its header
 abbrev pub section_row : SectionHeader → SectionRow
 section_row s = record {
   name = s.name;
@@ -32,11 +32,11 @@ abbrev pub magic_number : Magic → ℕ
 magic_number Pe32 = 0x10b
 magic_number Pe32Plus = 0x20b
 
--- sixteen directories, of which those that the headers do not hold are 0
+-- sixteen directories; those that the headers do not hold are 0
 abbrev pub directory_rows : List Directory → List DirectoryRow
 directory_rows ds = filled directory_row ds (replicate 16 (record { rva = 0; size = 0 }))
 
--- the headers, field by field; BaseOfData is 0 where PE32+ has none
+-- the headers, field by field; BaseOfData is 0 in PE32+, which has none
 abbrev pub headers_record : Headers → HeadersRecord
 headers_record h = record {
   image_base = h.image_base;

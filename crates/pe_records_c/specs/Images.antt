@@ -1,4 +1,4 @@
--- How the calls of an opened image answer: as those over the bytes of its file do, and by 6 where there is no image.
+-- What the calls of an opened image return: the same as those over the bytes of its file, or 6 if there is no image.
 use Rattle.std.specs.Prelude.{◌≡◌, ◌<◌, ◌≤◌, ◌+◌, ◌⊎◌, ℕ, List, [], Option, None, Some}
 use Rattle.pe_head.specs.Head.{head_of}
 use Rattle.pe_layout.specs.Image.{image_of_file, bytes_at}
@@ -17,7 +17,7 @@ abbrev pub TellsTargetOf : Option (List ℕ) → Key → TargetRecord → Target
 TellsTargetOf None key before after status = (status ≡ 6) × (after ≡ before)
 TellsTargetOf (Some file) key before after status = TellsTarget (target_at (exports_of (image_of_file 0 file)) key) before after status
 
--- the tables of an image that is there
+-- the tables of an open image
 abbrev pub opened_ordinals : Option (List ℕ) → List (ℕ × Target)
 opened_ordinals None = []
 opened_ordinals (Some file) = (exports_of (image_of_file 0 file)).ordinals
@@ -34,7 +34,7 @@ abbrev pub opened_fixups : Option (List ℕ) → List Fixup
 opened_fixups None = []
 opened_fixups (Some file) = fixups_of (image_of_file 0 file)
 
--- a read of n bytes: status 0 and the bytes, or 3 where they do not all lie in the image
+-- a read of n bytes: status 0 and the bytes, or 3 if they do not all lie in the image
 abbrev pub IsRead : List ℕ → ℕ → ℕ → List ℕ → List ℕ → ℕ → Type 0
 IsRead file rva n old new status =
     ((status ≡ 0) × (rva + n ≤ (image_of_file 0 file).size) × (new ≡ bytes_at (image_of_file 0 file) rva n))
@@ -44,7 +44,7 @@ abbrev pub IsBytesOf : Option (List ℕ) → ℕ → ℕ → List ℕ → List �
 IsBytesOf None rva n old new status = (status ≡ 6) × (new ≡ old)
 IsBytesOf (Some file) rva n old new status = IsRead file rva n old new status
 
--- a text: status 0 and its bytes, or 3 where there is none
+-- a string: status 0 and its bytes, or 3 if there is none
 abbrev pub IsText : Option (List ℕ) → TextRecord → TextRecord → ℕ → Type 0
 IsText None old new status = (status ≡ 3) × (new ≡ old)
 IsText (Some text) old new status = (status ≡ 0) × (new.bytes.now ≡ text)
@@ -53,7 +53,7 @@ abbrev pub IsTextOf : Option (List ℕ) → ℕ → TextRecord → TextRecord �
 IsTextOf None rva old new status = (status ≡ 6) × (new ≡ old)
 IsTextOf (Some file) rva old new status = IsText ((image_of_file 0 file).text rva) old new status
 
--- where the file holds a byte: status 0 and its offset, or 3
+-- the file offset of a byte: status 0 and the offset, or 3 if the file does not hold the byte
 abbrev pub IsOffset : Option ℕ → ℕ → ℕ → ℕ → Type 0
 IsOffset None old new status = (status ≡ 3) × (new ≡ old)
 IsOffset (Some offset) old new status = (status ≡ 0) × (new ≡ offset)

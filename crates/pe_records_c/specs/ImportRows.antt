@@ -1,10 +1,10 @@
--- Imports as C has them, with texts as their bytes.
+-- Imports as C has them, with strings as their bytes.
 use Rattle.std.specs.Prelude.{ℕ, Bool, true, false, List, []}
 use Rattle.pe_tables.specs.Imports.{Import}
 use Rattle.pe_tables.specs.Key.{Key, Ordinal, Name}
 use Rattle.pe_records_c.specs.declared.import.ImportRow.{ImportRow}
 
--- an import, of which the name or the ordinal is left empty
+-- an import: its name is empty or its ordinal is 0
 pub record ImportText : Type 0 where
   pub module_name : List ℕ
   pub name : List ℕ

@@ -1,7 +1,7 @@
--- Texts as C has them, which a zero byte ends.
+-- Strings as C has them, zero-terminated.
 use Rattle.std.specs.Prelude.{ℕ, List, [], ◌∷◌, ◌++◌, length, take, drop}
 
--- a text in a buffer, cut to its room, of which the zero byte takes one; what is behind that stays
+-- a string in a buffer, cut so that a zero byte fits after it; the bytes after that are unchanged
 abbrev pub line_of : List ℕ → List ℕ → List ℕ
 line_of text [] = []
 line_of text (byte ∷ room) = take (length room) text ++ 0 ∷ drop (length (take (length room) text)) room

@@ -1,4 +1,4 @@
--- Sections and relocations of an object as C has them, with texts and bytes as lists.
+-- Sections and relocations of an object as C has them, with strings and bytes as lists.
 use Rattle.std.specs.Prelude.{◌≡◌, ℕ, List, [], length, Option, None, Some}
 use Rattle.std.specs.List.{flat_map}
 use Rattle.coff_read.specs.Reading.{object_of}
@@ -8,7 +8,7 @@ use Rattle.pe_records_c.specs.declared.object.ObjectRelocationRow.{ObjectRelocat
 use Rattle.pe_records_c.specs.declared.object.ObjectSectionRow.{ObjectSectionRow}
 use Rattle.pe_records_c.specs.Rows.{Fills, TellsTable}
 
--- a section, of which the bytes are empty where none stand in the file, and the absent size is 0 where they do
+-- a section: its bytes are empty if the file holds none, and the absent size is 0 if it holds them
 pub record SectionText : Type 0 where
   pub name : List ℕ
   pub bytes : List ℕ
@@ -51,15 +51,15 @@ section_text row = record {
 abbrev pub relocation_row : Relocation → ObjectRelocationRow
 relocation_row r = record { address = r.address; symbol = r.symbol; kind = r.kind }
 
--- the first rows are those of relocations, and the others are as they were
+-- the first rows are those of the relocations, and the others are unchanged
 abbrev pub FillsRelocations : List Relocation → List ObjectRelocationRow → List ObjectRelocationRow → Type 0
 FillsRelocations relocations rows rows_after = Fills (λ relocation row. row ≡ relocation_row relocation) relocations rows rows_after
 
--- the relocations of all sections of the object that a file holds, section by section
+-- the relocations of all sections of a file's object, section by section
 unfoldable pub relocations_of : List ℕ → List Relocation
 relocations_of file = flat_map (λ s. s.relocations) (object_of file).sections
 
--- how the relocations of a section are told, or status 3 and all as it was where there is no section
+-- how the relocations of a section are reported; if there is no section, status 3, and all is unchanged
 abbrev pub TellsRelocations : Option Section → List ObjectRelocationRow → List ObjectRelocationRow → ℕ → ℕ → ℕ → Type 0
 TellsRelocations None rows rows_after count count_after status = (status ≡ 3) × (rows_after ≡ rows) × (count_after ≡ count)
 TellsRelocations (Some s) rows rows_after count count_after status = TellsTable (λ row. row) relocation_row s.relocations rows rows_after count_after status

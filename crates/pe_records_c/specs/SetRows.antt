@@ -1,4 +1,4 @@
--- Sets of images as C has them, and how they are judged.
+-- Sets of images as C has them, and how they are checked.
 use Rattle.std.specs.Prelude.{◌≡◌, ◌≢◌, ℕ, Bool, true, false, List, take, Option, None, Some}
 use Rattle.pe_set.specs.Set.{Entry}
 use Rattle.pe_set.specs.declared.binding.Binding.{Binding}
@@ -14,31 +14,31 @@ use Rattle.pe_records_c.specs.declared.set.EntryRecord.{EntryRecord}
 abbrev pub entry_text : EntryRecord → Entry
 entry_text e = record { name = e.name.now; file = e.file.now; base = e.base }
 
--- the entries of a set that count: at the one behind the 256th stands fault 41
+-- the entries of a set that are read: the 257th has fault 41
 abbrev pub counted : List Entry → List Entry
 counted es = take 257 es
 
 abbrev pub binding_row : Binding → BindingRow
 binding_row b = record { image = b.image; slot = b.slot; exporter = b.exporter; rva = b.rva }
 
--- whether modules outside the set are known
+-- how modules outside the set are treated
 abbrev pub policy_of : Bool → Policy
 policy_of true = Known
 policy_of false = Strict
 
--- how an error is told: status 1 and the fault, of a cycle also how long it is, or status 2 and both as they were
+-- how an error is reported: status 1 and the fault, for a cycle also its length, or status 2 and both unchanged
 abbrev pub IsSetTold : MapError → FaultRecord → FaultRecord → ℕ → ℕ → ℕ → Type 0
 IsSetTold (errors.Fault fault) before after cycle cycle_after status = (status ≡ 1) × (after ≡ fault_record fault) × (cycle_after ≡ cycle)
 IsSetTold (errors.Cycle fault length) before after cycle cycle_after status = (status ≡ 1) × (after ≡ fault_record fault) × (cycle_after ≡ length)
 IsSetTold errors.Memory before after cycle cycle_after status = (status ≡ 2) × (after ≡ before) × (cycle_after ≡ cycle)
 
--- the first error of a set, where it is a refusal's, and none where it is accepted
+-- the first error of a set, which is reported
 pub record IsFirst (first : Option MapError) (before after : FaultRecord) (cycle cycle_after status : ℕ) : Type 0 where
   pub error : MapError
   pub is_first : first ≡ Some error
   pub told : IsSetTold error before after cycle cycle_after status
 
--- how a set is answered for: status 1 with its first error, and another status but that of want of memory only where it has none
+-- what a call on a set returns: status 1 with its first error, and a status other than 1 and 2 only if it has none
 pub record IsJudged (first : Option MapError) (before after : FaultRecord) (cycle cycle_after status : ℕ) : Type 0 where
   pub refused : status ≡ 1 → IsFirst first before after cycle cycle_after status
   pub accepted : IsAccepted status → first ≡ None

@@ -1,4 +1,4 @@
--- How the calls of a space answer.
+-- What the calls of a space return.
 use Rattle.std.specs.Prelude.{◌≡◌, ℕ, List, [], Option, None, Some, Result, Ok, Err}
 use Rattle.pe_view.specs.declared.fault.Fault.{Fault}
 use Rattle.pe_set.specs.declared.binding.Binding.{Binding}
@@ -9,7 +9,7 @@ use Rattle.pe_records_c.specs.Faults.{fault_record}
 use Rattle.pe_records_c.specs.declared.fault.FaultRecord.{FaultRecord}
 use Rattle.pe_records_c.specs.declared.space.MovedRecord.{MovedRecord}
 
--- what a read of n bytes answers: status 0 and the bytes, or 1 and the fault, or 6 where there is no space; else both are as they were
+-- a read of n bytes: status 0 and the bytes, 1 and the fault, or 6 if there is no space; the rest is unchanged
 abbrev pub IsWindow : Result (List ℕ) Fault → List ℕ → List ℕ → FaultRecord → FaultRecord → ℕ → Type 0
 IsWindow (Ok bytes) old new before after status = (status ≡ 0) × (new ≡ bytes) × (after ≡ before)
 IsWindow (Err fault) old new before after status = (status ≡ 1) × (new ≡ old) × (after ≡ fault_record fault)
@@ -21,7 +21,7 @@ IsReadOf (Some space) address n old new before after status = IsWindow (window_a
 abbrev pub moved_record : Moved → MovedRecord
 moved_record counts = record { fields = counts.fields; slots = counts.slots }
 
--- the same of a move, by its fault
+-- the same for a move, by its fault
 abbrev pub IsMoveBy : Option Fault → Content → ℕ → ℕ → Option Content → MovedRecord → MovedRecord → FaultRecord → FaultRecord → ℕ → Type 0
 IsMoveBy None space image base new counts_before counts_after before after status =
     (status ≡ 0) × (new ≡ Some (moved space image base)) × (counts_after ≡ moved_record (moved_counts space image)) × (after ≡ before)
@@ -33,7 +33,7 @@ IsMoveOf None image base new counts_before counts_after before after status = (s
 IsMoveOf (Some space) image base new counts_before counts_after before after status =
     IsMoveBy (move_fault space image base) space image base new counts_before counts_after before after status
 
--- of a space that is there, where an image stands and how long it is
+-- the base and the size of an image of an open space
 abbrev pub base_of : Option Content → ℕ → Option ℕ
 base_of None image = None
 base_of (Some space) image = base_at space image

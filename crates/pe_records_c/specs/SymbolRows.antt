@@ -1,4 +1,4 @@
--- Symbols of an object as C has them, with texts as their bytes.
+-- Symbols of an object as C has them, with strings as their bytes.
 use Rattle.std.specs.Prelude.{ℕ, List}
 use Rattle.coff_read.specs.Reading.{symbol_indexes}
 use Rattle.coff_read.specs.Records.{Symbol}

@@ -1,4 +1,4 @@
--- What may be wrong with a file that is asked for one table: faults of its headers and sections, and then of the table.
+-- The tests of a file of which one table is read: those of its headers and sections, and then those of the table.
 use Rattle.std.specs.Prelude.{ℕ, List, ◌++◌}
 use Rattle.pe_view.specs.Faults.{Test}
 use Rattle.pe_layout.specs.Image.{image_of_file}

@@ -10,22 +10,22 @@ use crate::row::Row;
 use crate::status;
 use pe_tables::{Key, Target};
 
-/// What an export stands for.
+/// What an export leads to.
 #[repr(C)]
 #[derive(Clone, Copy)]
 pub struct TargetRecord<'a> {
-    /// 0 what stands at an RVA of the image, 1 an ordinal of another module, 2 a name of another module.
+    /// 0 an RVA of the image, 1 a forwarder to an ordinal of another module, 2 a forwarder to a name of one.
     pub kind: u32,
-    /// The RVA, or the ordinal at the other module; 0 beside a name.
+    /// The RVA, or the ordinal in the other module; 0 for a name.
     pub value: u32,
-    /// The other module's name, as it stands in the image; else empty.
+    /// The other module of a forwarder, as written in the image; otherwise empty.
     pub module: &'a [u8],
-    /// The name at the other module; else empty.
+    /// The name of a forwarder to a name; otherwise empty.
     pub name: &'a [u8],
 }
 
 impl<'a> TargetRecord<'a> {
-    /// What an export stands for, as C has it.
+    /// What an export leads to, as C has it.
     pub fn of(target: Target<'a>) -> TargetRecord<'a>
         ensures { target_text result ≡ target_of (target_view target.entry) }
     {
@@ -58,11 +58,11 @@ impl<'a> TargetRecord<'a> {
 #[repr(C)]
 #[derive(Clone, Copy)]
 pub struct ExportRow<'a> {
-    /// Of an export by ordinal its ordinal, which may pass 2^32; else 0.
+    /// The ordinal of an export by ordinal, which may exceed 2^32; otherwise 0.
     pub ordinal: u64,
-    /// Of an export by name its name; else empty.
+    /// The name of an export by name; otherwise empty.
     pub name: &'a [u8],
-    /// What it stands for.
+    /// What it leads to.
     pub target: TargetRecord<'a>,
 }
 
@@ -92,7 +92,7 @@ impl<'a> Row<(&'a [u8], Target<'a>)> for ExportRow<'a> {
     }
 }
 
-/// Tells what an export stands for, and answers the status, 0 or 3.
+/// Stores what an export leads to, and returns the status: 0, or 3 if there is no export, which leaves the record unchanged.
 pub fn put_target<'a>(target: Option<Target<'a>>, told: &mut TargetRecord<'a>) -> u32
     ensures { TellsTarget (option_map target_view target.entry) told.old told.new result }
 {

@@ -1,4 +1,4 @@
-//! `FaultRecord`: how C is told of a fault, or that memory ran out.
+//! `FaultRecord`: a fault as C has it; and how a refusal is reported.
 
 ghost use Rattle.std.specs.Prelude.{◌≡◌};
 ghost use Rattle.pe_records_c.specs.Faults.{fault_record, fault_of, IsTold};
@@ -6,17 +6,17 @@ ghost use Rattle.pe_records_c.specs.Faults.{fault_record, fault_of, IsTold};
 use crate::status;
 use pe_view::{Fault, Place, Refusal};
 
-/// A rule of the format that does not hold: which, in which image, and where.
+/// A rule of the format that is broken: which, in which image, and where.
 #[repr(C)]
 #[derive(Clone, Copy)]
 pub struct FaultRecord {
     /// The fault's number in docs/FAULTS.md, from 1 to 85.
     pub number: u16,
-    /// Of a set the index of the image, else 0.
+    /// The index of the entry in a set; otherwise 0.
     pub image: u16,
     /// What `at` counts: 0 bytes of the file, 1 bytes of the image, 2 bytes of the address space, 3 items of a list.
     pub place: u32,
-    /// Where the fault stands.
+    /// Where the rule is broken.
     pub at: u64,
 }
 
@@ -38,8 +38,8 @@ pub fn fault_record(fault: Fault) -> FaultRecord
     }
 }
 
-/// The fault of a record. A record that no call has filled is read as one: by the last two bits of `place`, and by the last 32 bits
-/// of `at` where the place is an RVA or an item.
+/// The fault of a record. A record that no call has filled is a fault too: by the lowest two bits of `place`, and by the lowest 32
+/// bits of `at` if the place is an RVA or an item.
 pub fn fault_of(told: &FaultRecord) -> Fault
     ensures { result ≡ fault_of told.now }
 {
@@ -56,7 +56,7 @@ pub fn fault_of(told: &FaultRecord) -> Fault
     }
 }
 
-/// Tells a fault, and answers its status.
+/// Stores a fault in the caller's record, and returns the status, 1.
 pub fn refuse(fault: Fault, told: &mut FaultRecord) -> u32
     ensures status { result ≡ 1 }
     ensures told { told.new ≡ fault_record fault }
@@ -65,7 +65,7 @@ pub fn refuse(fault: Fault, told: &mut FaultRecord) -> u32
     status::FAULT
 }
 
-/// Tells a fault or want of memory, and answers its status.
+/// Stores a fault and returns 1; or, out of memory, returns 2 and leaves the record unchanged.
 pub fn refuse_for(refusal: Refusal, told: &mut FaultRecord) -> u32
     ensures { IsTold refusal told.old told.new result }
 {

@@ -19,7 +19,7 @@ pub struct FixupRow {
     pub kind: u32,
 }
 
-/// The type that stands for a kind of field.
+/// The type of the entry for a kind of field.
 fn type_of(kind: FixupKind) -> u32
     ensures { result ≡ type_of kind }
 {

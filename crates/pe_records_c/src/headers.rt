@@ -32,7 +32,7 @@ impl Row<Directory> for DirectoryRow {
 #[repr(C)]
 #[derive(Clone, Copy)]
 pub struct SectionRow {
-    /// The name, filled up with zero bytes.
+    /// The name, padded with zero bytes.
     pub name: [u8; 8],
     /// The RVA of the first byte.
     pub rva: u32,
@@ -40,9 +40,9 @@ pub struct SectionRow {
     pub extent: u32,
     /// How many of these, from the first on, come from the file.
     pub file_size: u32,
-    /// The file offset of the first byte, as the header has it.
+    /// The file offset of the raw data, as the header has it.
     pub pointer_to_raw_data: u32,
-    /// The size in the file, as the header has it.
+    /// The size of the raw data, as the header has it.
     pub size_of_raw_data: u32,
     /// The size in the laid-out image, as the header has it.
     pub virtual_size: u32,
@@ -67,12 +67,11 @@ impl Row<SectionHeader> for SectionRow {
     }
 }
 
-/// Every field of an image's headers, with the greater of two widths where PE32 and PE32+ differ. Offsets and sizes count
-/// bytes.
+/// Every field of an image's headers, with the wider type where PE32 and PE32+ differ. Offsets and sizes count bytes.
 #[repr(C)]
 #[derive(Clone, Copy)]
 pub struct HeadersRecord {
-    /// The address at which the image prefers to stand.
+    /// The preferred address of the image.
     pub image_base: u64,
     /// The bytes of stack to reserve.
     pub size_of_stack_reserve: u64,
@@ -84,7 +83,7 @@ pub struct HeadersRecord {
     pub size_of_heap_commit: u64,
     /// The file offset of the signature.
     pub pe_offset: u32,
-    /// When the image was made, as its maker wrote it.
+    /// When the image was made, in seconds since 1970, as written.
     pub time_date_stamp: u32,
     /// The file offset of the symbol table, which is not read.
     pub pointer_to_symbol_table: u32,
@@ -110,17 +109,17 @@ pub struct HeadersRecord {
     pub win32_version_value: u32,
     /// The bytes of the laid-out image.
     pub size_of_image: u32,
-    /// The bytes of the headers, as a piece of the laid-out image.
+    /// The bytes of the headers in the laid-out image.
     pub size_of_headers: u32,
-    /// As it is written; it is not computed.
+    /// As written; it is not verified.
     pub check_sum: u32,
     /// Reserved.
     pub loader_flags: u32,
-    /// As it is written; at most 16 directories are held.
+    /// As written; at most 16 directories are read.
     pub number_of_rva_and_sizes: u32,
     /// The form of the optional header: 0x10b PE32, 0x20b PE32+.
     pub magic: u16,
-    /// The processor that the image is for.
+    /// The processor that the image is for, as numbered in "PE Format".
     pub machine: u16,
     /// How many sections there are.
     pub number_of_sections: u16,
@@ -128,7 +127,7 @@ pub struct HeadersRecord {
     pub size_of_optional_header: u16,
     /// Flags of the image.
     pub characteristics: u16,
-    /// What the image needs to run.
+    /// The subsystem that runs the image, as numbered in "PE Format".
     pub subsystem: u16,
     /// Flags of a library.
     pub dll_characteristics: u16,
@@ -152,7 +151,7 @@ pub struct HeadersRecord {
     pub directories: [DirectoryRow; 16],
 }
 
-/// Sixteen directories, of which those that the headers do not hold are 0.
+/// Sixteen directories; those that the headers do not hold are 0.
 fn directory_rows(directories: &[Directory]) -> [DirectoryRow; 16]
     ensures { result ≡ directory_rows directories.now }
 {
@@ -161,7 +160,7 @@ fn directory_rows(directories: &[Directory]) -> [DirectoryRow; 16]
     rows
 }
 
-/// Fills the first rows with those of sections.
+/// Fills the first rows with sections.
 pub fn put_sections(rows: &mut [SectionRow], sections: &[SectionHeader])
     ensures { rows.new ≡ filled section_row sections.now rows.old }
 {

@@ -11,15 +11,15 @@ use pe_tables::{Import, Key};
 #[repr(C)]
 #[derive(Clone, Copy)]
 pub struct ImportRow<'a> {
-    /// The name of the module that exports it, as it stands in the image.
+    /// The module that exports it, as written in the image.
     pub module: &'a [u8],
-    /// Of an import by name its name; else empty.
+    /// The name; empty for an import by ordinal.
     pub name: &'a [u8],
-    /// The RVA of the import's slot in the import address table: 4 bytes in PE32, 8 bytes in PE32+.
+    /// The RVA of its import address table entry: 4 bytes in PE32, 8 bytes in PE32+.
     pub slot: u32,
-    /// Of an import by ordinal its ordinal; else 0.
+    /// The ordinal of an import by ordinal; otherwise 0.
     pub ordinal: u16,
-    /// Whether it is one by ordinal.
+    /// Whether it is imported by ordinal.
     pub by_ordinal: bool,
 }
 

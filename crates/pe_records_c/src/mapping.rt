@@ -12,7 +12,7 @@ use pe_set::{MapError, Policy};
 use pe_space::{MappedSpace, map};
 use std::alloc::Global;
 
-/// Maps the images of the entries that count.
+/// Maps the images of the first 257 entries.
 fn map_counted(
     alloc: Global,
     rows: &[EntryRecord],
@@ -27,7 +27,7 @@ fn map_counted(
     Ok(Box::new(alloc, space)?)
 }
 
-/// Maps the images of a set. What names are refused for takes no memory.
+/// Maps the images of a set. A set that is refused for its names allocates nothing.
 pub fn map_entries(
     alloc: Global,
     rows: &[EntryRecord],

@@ -16,15 +16,15 @@ use std::alloc::Global;
 #[repr(C)]
 #[derive(Clone, Copy)]
 pub struct ObjectSectionRow<'a> {
-    /// The section's name, also where it stands in the string table.
+    /// The name, also if it is in the string table.
     pub name: &'a [u8],
-    /// The bytes; empty where none stand in the file.
+    /// The raw data; empty if the file holds none.
     pub bytes: &'a [u8],
-    /// Where no bytes stand in the file, SizeOfRawData; else 0.
+    /// SizeOfRawData if the file holds no raw data; otherwise 0.
     pub absent_size: u32,
-    /// VirtualSize, as it is written.
+    /// VirtualSize, as written.
     pub virtual_size: u32,
-    /// VirtualAddress, as it is written.
+    /// VirtualAddress, as written.
     pub virtual_address: u32,
     /// The section's flags.
     pub characteristics: u32,
@@ -36,11 +36,11 @@ pub struct ObjectSectionRow<'a> {
 #[repr(C)]
 #[derive(Clone, Copy)]
 pub struct ObjectRelocationRow {
-    /// Where the reference stands: its offset in the section's bytes, as VirtualAddress of the section is mostly 0.
+    /// Where the reference is: its offset in the section, plus the section's VirtualAddress, which is mostly 0.
     pub address: u32,
-    /// The index of the symbol's record in the symbol table, auxiliary records counted.
+    /// The index of the symbol's record, counting auxiliary records.
     pub symbol: u32,
-    /// How the reference is computed, by the machine's own table of types.
+    /// The type, which depends on the machine.
     pub kind: u32,
 }
 
@@ -78,7 +78,7 @@ impl ObjectRelocationRow {
     }
 }
 
-/// Fills the first rows with those of an object's sections.
+/// Fills the first rows with an object's sections.
 fn put_sections<'a>(alloc: Global, rows: &mut [ObjectSectionRow<'a>], object: &ObjectFile<'a>)
     ensures { Fills (λ section row. section_text row ≡ section_row section) (object_of (file_of object.now)).sections rows.old rows.new }
 {
@@ -92,7 +92,7 @@ fn put_sections<'a>(alloc: Global, rows: &mut [ObjectSectionRow<'a>], object: &O
     }
 }
 
-/// Tells the sections of an object, and answers the status, 0 or 4.
+/// Reports the sections of an object, and returns the status, 0 or 4.
 pub fn tell_sections<'a>(
     alloc: Global,
     object: &ObjectFile<'a>,
@@ -106,7 +106,7 @@ pub fn tell_sections<'a>(
     table_status(*count, rows.len())
 }
 
-/// Fills the first rows with those of relocations, without the first of them.
+/// Fills the first rows with the relocations after the first `skipped` ones.
 fn put_relocations(rows: &mut [ObjectRelocationRow], relocations: &Relocations, skipped: usize)
     ensures { FillsRelocations (drop skipped (relocations_view relocations.now)) rows.old rows.new }
 {
@@ -116,7 +116,7 @@ fn put_relocations(rows: &mut [ObjectRelocationRow], relocations: &Relocations, 
     }
 }
 
-/// Tells the relocations of a section, and answers the status, 0 or 4; or 3 where there is no such section.
+/// Reports the relocations of a section, and returns the status: 0 or 4, or 3 if there is no such section.
 pub fn tell_relocations(
     object: &ObjectFile,
     section: usize,
@@ -136,7 +136,8 @@ pub fn tell_relocations(
     }
 }
 
-/// Fills the rows behind those of the relocations of earlier sections, which are so many, with those of a section.
+/// Adds the relocations of a section to rows that hold the `earlier` ones of earlier sections; the first `skipped` of all are left
+/// out.
 fn put_more_relocations(
     rows: &mut [ObjectRelocationRow],
     earlier: usize,
@@ -154,7 +155,7 @@ fn put_more_relocations(
     );
 }
 
-/// Fills the first rows with those of the relocations of all sections, without the first of them, and counts these.
+/// Fills the first rows with the relocations of all sections after the first `skipped` ones, and returns how many come after these.
 fn put_all_relocations(
     alloc: Global,
     rows: &mut [ObjectRelocationRow],
@@ -172,8 +173,8 @@ fn put_all_relocations(
     earlier.saturating_sub(skipped)
 }
 
-/// Tells the relocations of all sections of an object, section by section and without the first of them, and answers the status,
-/// 0 or 4.
+/// Reports the relocations of all sections of an object, section by section, after the first `skipped` ones, and returns the
+/// status, 0 or 4.
 pub fn tell_all_relocations(
     alloc: Global,
     object: &ObjectFile,

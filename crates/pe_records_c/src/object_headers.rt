@@ -17,9 +17,9 @@ pub struct ObjectHeaderRecord {
     pub machine: u16,
     /// How many section headers there are.
     pub number_of_sections: u16,
-    /// When the object was made, as its maker wrote it.
+    /// When the object was made, in seconds since 1970, as written.
     pub time_date_stamp: u32,
-    /// The file offset of the symbol table; 0 where there is none.
+    /// The file offset of the symbol table; 0 if there is none.
     pub pointer_to_symbol_table: u32,
     /// How many records the symbol table has.
     pub number_of_symbols: u32,
@@ -33,15 +33,15 @@ pub struct ObjectHeaderRecord {
 #[repr(C)]
 #[derive(Clone, Copy)]
 pub struct SectionHeaderRow {
-    /// The name field: a name, filled up with zero bytes, or where it stands in the string table.
+    /// The name field, padded with zero bytes: a name, or its offset in the string table.
     pub name: [u8; 8],
-    /// VirtualSize, as it is written.
+    /// VirtualSize, as written.
     pub virtual_size: u32,
-    /// VirtualAddress.
+    /// VirtualAddress, as written.
     pub virtual_address: u32,
-    /// The size in the file.
+    /// SizeOfRawData, even if the file holds no bytes.
     pub size_of_raw_data: u32,
-    /// The file offset of the first byte; 0 where the file holds none.
+    /// The file offset of the raw data; 0 if there is none.
     pub pointer_to_raw_data: u32,
     /// The file offset of the relocations.
     pub pointer_to_relocations: u32,
@@ -91,7 +91,7 @@ pub fn object_header_record(object: &ObjectFile) -> ObjectHeaderRecord
     }
 }
 
-/// Fills the first rows, each with what tells of its header.
+/// [`put_section_headers`], with a contract about each row.
 fn fill_headers(rows: &mut [SectionHeaderRow], object: &ObjectFile)
     ensures { Fills (λ header row. row ≡ section_header_row header) (section_headers (file_of object.now)) rows.old rows.new }
 {
@@ -101,7 +101,7 @@ fn fill_headers(rows: &mut [SectionHeaderRow], object: &ObjectFile)
     }
 }
 
-/// Fills the first rows with the section headers of an object, as many as there are and as there is room for.
+/// Fills the first rows with the section headers of an object, as many as fit.
 pub fn put_section_headers(rows: &mut [SectionHeaderRow], object: &ObjectFile)
     ensures { rows.new ≡ filled section_header_row (section_headers (file_of object.now)) rows.old }
 {

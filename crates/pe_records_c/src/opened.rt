@@ -1,4 +1,4 @@
-//! What the calls of an opened image tell: exports, imports, base relocations, and what is at an RVA.
+//! What the calls of an opened image report: exports, imports, base relocations, and what is at an RVA.
 
 ghost use Rattle.std.specs.Prelude.{◌≡◌, ◌≢◌, length};
 ghost use Rattle.pe_head.specs.Head.{head_of};
@@ -23,7 +23,7 @@ use crate::text::TextRecord;
 use pe_layout::Located;
 use pe_opened::OpenedImage;
 
-/// Tells what a name exports, and answers the status, 0 or 3.
+/// Reports what a name exports, and returns the status, 0 or 3.
 pub fn tell_name<'a>(image: &OpenedImage<'a>, name: &[u8], target: &mut TargetRecord<'a>) -> u32
     ensures target { TellsTarget (target_at (exports_of (image_of_file 0 image.now)) (Name name.now)) target.old target.new result }
     ensures open { result ≢ 6 }
@@ -31,7 +31,7 @@ pub fn tell_name<'a>(image: &OpenedImage<'a>, name: &[u8], target: &mut TargetRe
     put_target(image.by_name(name), target)
 }
 
-/// Tells what an ordinal exports, and answers the status, 0 or 3.
+/// Reports what an ordinal exports, and returns the status, 0 or 3.
 pub fn tell_ordinal<'a>(image: &OpenedImage<'a>, ordinal: u32, target: &mut TargetRecord<'a>) -> u32
     ensures target { TellsTarget (target_at (exports_of (image_of_file 0 image.now)) (Ordinal ordinal)) target.old target.new result }
     ensures open { result ≢ 6 }
@@ -39,7 +39,7 @@ pub fn tell_ordinal<'a>(image: &OpenedImage<'a>, ordinal: u32, target: &mut Targ
     put_target(image.by_ordinal(ordinal), target)
 }
 
-/// Tells the exports by ordinal: fills the rows, counts the exports, and answers the status, 0 or 4.
+/// Reports the exports by ordinal: fills the rows, counts the exports, and returns the status, 0 or 4.
 pub fn tell_exports<'a>(
     image: &OpenedImage<'a>,
     rows: &mut [ExportRow<'a>],
@@ -51,7 +51,7 @@ pub fn tell_exports<'a>(
     put_table(rows, image.ordinals(), count)
 }
 
-/// Tells the exports by name: fills the rows, counts the names, and answers the status, 0 or 4.
+/// Reports the exports by name: fills the rows, counts the names, and returns the status, 0 or 4.
 pub fn tell_names<'a>(image: &OpenedImage<'a>, rows: &mut [ExportRow<'a>], count: &mut usize) -> u32
     ensures table { TellsTable export_text export_by_name (exports_of (image_of_file 0 image.now)).names rows.old rows.new count.new result }
     ensures open { result ≢ 6 }
@@ -59,7 +59,7 @@ pub fn tell_names<'a>(image: &OpenedImage<'a>, rows: &mut [ExportRow<'a>], count
     put_table(rows, image.names(), count)
 }
 
-/// Tells the imports: fills the rows, counts the imports, and answers the status, 0 or 4.
+/// Reports the imports: fills the rows, counts the imports, and returns the status, 0 or 4.
 pub fn tell_imports<'a>(
     image: &OpenedImage<'a>,
     rows: &mut [ImportRow<'a>],
@@ -71,7 +71,7 @@ pub fn tell_imports<'a>(
     put_table(rows, image.imports(), count)
 }
 
-/// Tells the base relocations: fills the rows, counts them, and answers the status, 0 or 4.
+/// Reports the base relocations: fills the rows, counts them, and returns the status, 0 or 4.
 pub fn tell_fixups(image: &OpenedImage, rows: &mut [FixupRow], count: &mut usize) -> u32
     ensures table { TellsTable (λ row. row) fixup_row (fixups_of (image_of_file 0 image.now)) rows.old rows.new count.new result }
     ensures open { result ≢ 6 }
@@ -79,8 +79,8 @@ pub fn tell_fixups(image: &OpenedImage, rows: &mut [FixupRow], count: &mut usize
     put_table(rows, image.fixups(), count)
 }
 
-/// Fills a buffer with the bytes from an RVA on, and answers the status: 0, or 3 where they do not all lie inside the image, which
-/// leaves the buffer as it was.
+/// Fills a buffer with the bytes from an RVA on, and returns the status: 0, or 3 if they do not all lie inside the image, which
+/// leaves the buffer unchanged.
 pub fn tell_bytes(image: &OpenedImage, rva: u32, buffer: &mut [u8]) -> u32
     ensures read { IsRead image.now rva (length buffer.old) buffer.old buffer.new result }
     ensures open { result ≢ 6 }
@@ -92,7 +92,7 @@ pub fn tell_bytes(image: &OpenedImage, rva: u32, buffer: &mut [u8]) -> u32
     }
 }
 
-/// Tells the zero-ended text at an RVA, and answers the status: 0, or 3 where there is none.
+/// Reports the zero-terminated string at an RVA, and returns the status: 0, or 3 if there is none.
 pub fn tell_text<'a>(image: &OpenedImage<'a>, rva: u32, text: &mut TextRecord<'a>) -> u32
     ensures text { IsText ((image_of_file 0 image.now).text rva) text.old text.new result }
     ensures open { result ≢ 6 }
@@ -106,7 +106,7 @@ pub fn tell_text<'a>(image: &OpenedImage<'a>, rva: u32, text: &mut TextRecord<'a
     }
 }
 
-/// Tells where the file holds the byte at an RVA, and answers the status: 0, or 3 where it does not hold it.
+/// Reports the file offset of the byte at an RVA, and returns the status: 0, or 3 if the file does not hold it.
 pub fn tell_offset(image: &OpenedImage, rva: u32, offset: &mut u64) -> u32
     ensures place { IsOffset (file_offset (located (head_of image.now) rva)) offset.old offset.new result }
     ensures open { result ≢ 6 }

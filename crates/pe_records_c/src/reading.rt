@@ -19,7 +19,7 @@ use pe_view::Refusal;
 use std::alloc::Global;
 
 /// The exports of a file's image, or the first fault of its headers and sections (1 to 15) and of its export table (16 to 22), or
-/// want of memory. ("PE Format": The .edata Section.)
+/// out of memory. ("PE Format": The .edata Section.)
 pub fn exports_in(alloc: Global, file: &[u8]) -> Result<Exports<'_, Global>, Refusal>
     ensures exact { AnswersOrWants (file_export_tests file.now) (λ exports. exports_view exports ≡ exports_of (image_of_file 0 file.now)) result }
     ensures memory { IsErrOf result Refusal.Memory → IsLaidOutAnd ExportsTakeMemory file.now }
@@ -29,7 +29,7 @@ pub fn exports_in(alloc: Global, file: &[u8]) -> Result<Exports<'_, Global>, Ref
 }
 
 /// The imports of a file's image, or the first fault of its headers and sections (1 to 15) and of its import table (24 to 32), or
-/// want of memory. ("PE Format": The .idata Section.)
+/// out of memory. ("PE Format": The .idata Section.)
 pub fn imports_in(alloc: Global, file: &[u8]) -> Result<Vec<Import<'_>, Global>, Refusal>
     ensures exact { AnswersOrWants (file_import_tests file.now) (λ imports. map import_view imports.items ≡ imports_of (image_of_file 0 file.now)) result }
     ensures memory { IsErrOf result Refusal.Memory → IsLaidOutAnd ImportsTakeMemory file.now }
@@ -39,7 +39,7 @@ pub fn imports_in(alloc: Global, file: &[u8]) -> Result<Vec<Import<'_>, Global>,
 }
 
 /// The base relocations of a file's image, or the first fault of its headers and sections (1 to 15), of its imports (24 to 32)
-/// and of its base relocation table (33 to 38), or want of memory. ("PE Format": The .reloc Section.)
+/// and of its base relocation table (33 to 38), or out of memory. ("PE Format": The .reloc Section.)
 pub fn fixups_in(alloc: Global, file: &[u8]) -> Result<Vec<Fixup, Global>, Refusal>
     ensures exact { AnswersOrWants (file_relocation_tests file.now) (λ fixups. fixups.items ≡ fixups_of (image_of_file 0 file.now)) result }
     ensures memory { IsErrOf result Refusal.Memory → IsLaidOutAnd FixupsTakeMemory file.now }

@@ -11,8 +11,8 @@ use crate::status;
 use pe_write::rebase_file;
 use std::alloc::Global;
 
-/// Fills a buffer of the file's length with the file of an image that is to stand at a base, and answers the status: 0, or 1 with
-/// the fault, or 2 for want of memory. The buffer is left as it was by all but 0.
+/// Fills a buffer of the file's length with the file of the image for another base, and returns the status: 0, 1 with the first
+/// fault, or 2, out of memory. All but 0 leave the buffer unchanged.
 pub fn rebase_into(
     alloc: Global,
     file: &[u8],

@@ -1,4 +1,4 @@
-//! Sets of images as C has them: `EntryRecord` and `BindingRow`; and `judged`, which reads and judges a set.
+//! Sets of images as C has them: `EntryRecord` and `BindingRow`; and `judged`, which reads and checks a set.
 
 ghost use Rattle.std.specs.Prelude.{◌≡◌, ◌<◌, IsErrOf, None, length, map};
 ghost use Rattle.pe_view.specs.Faults.{first_standing};
@@ -19,15 +19,15 @@ use std::alloc::Global;
 #[repr(C)]
 #[derive(Clone, Copy)]
 pub struct EntryRecord<'a> {
-    /// The module's name, such as `kernel32.dll`. The case of ASCII letters does not count.
+    /// The module's name, such as `kernel32.dll`; the case of ASCII letters is ignored.
     pub name: &'a [u8],
     /// The bytes of the file.
     pub file: &'a [u8],
-    /// The address at which the image is to stand.
+    /// The image's base.
     pub base: u64,
 }
 
-/// A slot of an image that holds the address of an export.
+/// An import address table entry, a slot, and the export whose address it holds.
 #[repr(C)]
 #[derive(Clone, Copy)]
 pub struct BindingRow {
@@ -66,17 +66,17 @@ impl<'a> Row<EntryRecord<'a>> for SetEntry<'a> {
     }
 }
 
-/// How many entries of a set count: at one behind the 256th stands fault 41.
+/// How many entries of a set are read: the last one has fault 41, since a set has at most 256.
 pub(crate) const COUNTED: usize = 257;
 
-/// An entry to be written over.
+/// A placeholder, which is overwritten.
 pub(crate) const NO_ENTRY: SetEntry<'static> = SetEntry {
     name: &[],
     file: &[],
     base: 0,
 };
 
-/// Puts the entries of a set that count into an array, which takes no memory.
+/// Copies the entries of a set that are read into an array, so that nothing is allocated.
 pub(crate) fn put_entries<'s, 'a>(
     entries: &'s mut [SetEntry<'a>; COUNTED],
     rows: &[EntryRecord<'a>],
@@ -87,15 +87,15 @@ pub(crate) fn put_entries<'s, 'a>(
     &entries[..COUNTED.min(rows.len())]
 }
 
-/// What becomes of an import from a module that is not in the set.
+/// How an import from a module that is not in the set is treated.
 pub fn policy_of(known: bool) -> Policy
     ensures { result ≡ policy_of known }
 {
     if known { Policy::Known } else { Policy::Strict }
 }
 
-/// Reads and judges a set, or answers its first error. With `known`, an import that leads to a module that is not in the set is
-/// no fault. What names are refused for takes no memory, nor does a set of no entries.
+/// Reads and checks a set, or returns its first error. With `known`, an import that leads to a module that is not in the set is
+/// no fault. A set that is refused for its names allocates nothing, nor does an empty one.
 pub fn judged<'a>(
     alloc: Global,
     set: &[EntryRecord<'a>],
@@ -111,7 +111,7 @@ pub fn judged<'a>(
     judge(alloc, put_entries(&mut entries, set), policy_of(known))
 }
 
-/// Tells why a set is refused, and of a cycle of forwarders how long it is, and answers the status, 1 or 2.
+/// Reports why a set is refused, for a cycle of forwarders also its length, and returns the status, 1 or 2.
 pub fn refuse_set(error: MapError, fault: &mut FaultRecord, cycle: &mut u32) -> u32
     ensures { IsSetTold error fault.old fault.new cycle.old cycle.new result }
 {

@@ -27,7 +27,7 @@ use std::alloc::Global;
 pub struct MovedRecord {
     /// How many fields of the image: as many as it has fixups.
     pub fields: u32,
-    /// How many bound slots, of all images, that end in it.
+    /// How many bound slots, of all images, that lead to it.
     pub slots: u32,
 }
 
@@ -41,7 +41,7 @@ fn moved_record(counts: Moved) -> MovedRecord
     }
 }
 
-/// Closes a space, and gives its memory back. One that is closed stays closed.
+/// Closes a space, and frees its memory. A closed one stays closed.
 pub fn close(alloc: Global, space: &mut Handle)
     ensures none { space.new.space ≡ None }
     ensures closed { space.new.is_open ≡ false }
@@ -49,8 +49,8 @@ pub fn close(alloc: Global, space: &mut Handle)
     *space = Handle::closed(alloc);
 }
 
-/// Maps the images of a set into a space, which is closed first, and is open exactly where no error is answered. With `known`, an
-/// import that leads to a module that is not in the set is no fault. What names are refused for takes no memory.
+/// Maps the images of a set into a space, which is closed first, and is then open unless an error is returned. With `known`, an
+/// import that leads to a module that is not in the set is no fault. A set that is refused for its names allocates nothing.
 pub fn map_into(
     alloc: Global,
     space: &mut Handle,
@@ -68,8 +68,8 @@ pub fn map_into(
     Ok(())
 }
 
-/// Fills a buffer with the bytes from an address on, which lie in one image, and answers the status: 0, or 1 with fault 54. The
-/// buffer is left as it was by 1.
+/// Fills a buffer with the bytes from an address on, which must lie in one image, and returns the status: 0, or 1 with fault 54,
+/// which leaves the buffer unchanged.
 pub fn read_window(
     space: &MappedSpace<Global>,
     address: u64,
@@ -85,7 +85,7 @@ pub fn read_window(
     }
 }
 
-/// Moves an image to another base, tells what that rewrote, and answers the status: 0, or 1 with the first of faults 55 and 44 to
+/// Moves an image to another base, counts what that rewrote, and returns the status: 0, or 1 with the first of faults 55 and 44 to
 /// 47, which changes nothing.
 pub fn move_image(
     space: &mut MappedSpace<Global>,
@@ -106,8 +106,8 @@ pub fn move_image(
     }
 }
 
-/// Tells where an image stands, and how many bytes it has, and answers the status: 0, or 3 past the last image, which leaves both
-/// as they were.
+/// Reports the base and the size in bytes of an image, and returns the status: 0, or 3 if there is no such image, which leaves both
+/// unchanged.
 pub fn tell_place(space: &MappedSpace<Global>, image: u16, base: &mut u64, size: &mut u32) -> u32
     ensures status { (result ≡ 0) ⊎ (result ≡ 3) }
     ensures base { result ≡ 0 → base_at space.now image ≡ Some base.new }
@@ -126,7 +126,7 @@ pub fn tell_place(space: &MappedSpace<Global>, image: u16, base: &mut u64, size:
     }
 }
 
-/// Tells the slots that are bound: fills the rows, counts the bindings, and answers the status, 0 or 4.
+/// Reports the bound slots: fills the rows, counts the bindings, and returns the status, 0 or 4.
 pub fn tell_bindings(space: &MappedSpace<Global>, rows: &mut [BindingRow], count: &mut usize) -> u32
     ensures table { TellsTable (λ row. row) binding_row space.now.bindings rows.old rows.new count.new result }
     ensures open { result ≢ 6 }

@@ -1,15 +1,14 @@
 //! The statuses that the calls of libpetool return.
 
-/// All was done.
+/// Success.
 pub const DONE: u32 = 0;
-/// A rule of the format does not hold: the fault tells which, and where.
+/// A rule of the format is broken: the fault says which, and where.
 pub const FAULT: u32 = 1;
-/// A growth of memory was refused.
+/// Out of memory.
 pub const MEMORY: u32 = 2;
-/// There is nothing of this kind: the bytes pass the image, the file does not hold the byte, or no such text, export, section,
-/// image or fault is there.
+/// There is nothing of this kind: bytes outside the image or the file, or no such string, export, section, image or fault.
 pub const ABSENT: u32 = 3;
-/// There is too little room: the count tells how much is needed.
+/// There is too little room: the count says how much is needed.
 pub const SMALL: u32 = 4;
 /// An argument has a value that it may not have.
 pub const ARGUMENT: u32 = 5;

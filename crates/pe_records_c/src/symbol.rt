@@ -14,15 +14,15 @@ use std::alloc::Global;
 #[repr(C)]
 #[derive(Clone, Copy)]
 pub struct ObjectSymbolRow<'a> {
-    /// The symbol's name, also where it stands in the string table.
+    /// The name, also if it is in the string table.
     pub name: &'a [u8],
     /// The auxiliary records, 18 bytes each.
     pub aux: &'a [u8],
-    /// The index of the symbol's record, by which relocations name it.
+    /// The index of the symbol's record, to which relocations refer.
     pub index: u32,
-    /// The value, by the section and the class.
+    /// The value, whose meaning depends on the section and the storage class.
     pub value: u32,
-    /// The number of its section, counted from 1; 0 UNDEFINED, 0xffff ABSOLUTE, 0xfffe DEBUG.
+    /// The number of its section, counted from 1; or 0 UNDEFINED, 0xffff ABSOLUTE, 0xfffe DEBUG.
     pub section_number: u16,
     /// The type.
     pub kind: u16,
@@ -66,7 +66,7 @@ fn symbol_count(object: &ObjectFile) -> usize
     object.symbol_count()
 }
 
-/// Fills the first rows with those of an object's symbols.
+/// Fills the first rows with an object's symbols.
 fn put_symbols<'a>(alloc: Global, rows: &mut [ObjectSymbolRow<'a>], object: &ObjectFile<'a>)
     ensures { Fills (λ symbol row. symbol_text row ≡ symbol_row symbol) (symbols_of (file_of object.now)) rows.old rows.new }
 {
@@ -80,7 +80,7 @@ fn put_symbols<'a>(alloc: Global, rows: &mut [ObjectSymbolRow<'a>], object: &Obj
     }
 }
 
-/// Tells the symbols of an object, and answers the status, 0 or 4.
+/// Reports the symbols of an object, and returns the status, 0 or 4.
 pub fn tell_symbols<'a>(
     alloc: Global,
     object: &ObjectFile<'a>,

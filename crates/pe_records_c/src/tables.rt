@@ -75,7 +75,7 @@ fn counts_in(image: &Image<Global>) -> CountsRecord
     }
 }
 
-/// The status of tables that are told in so many rows each.
+/// The status of tables in this many rows each: 0 if they all fit, otherwise 4.
 fn tables_status(
     counts: CountsRecord,
     exports: usize,
@@ -93,7 +93,7 @@ fn tables_status(
     }
 }
 
-/// Tells the tables of an image, and answers the status, 0 or 4.
+/// Reports the tables of an image, and returns the status: 0, or 4 if a table has more items than rows.
 pub fn put_image<'a>(
     image: &Image<'a, Global>,
     exports: &mut [ExportRow<'a>],

@@ -1,9 +1,9 @@
-//! `TextRecord`: a string, or bytes of a file, as C has them; `put_line` puts a string into a buffer.
+//! `TextRecord`: a string, or bytes of a file, as C has them; `put_line` copies a string into a buffer.
 
 ghost use Rattle.std.specs.Prelude.{◌≡◌};
 ghost use Rattle.pe_records_c.specs.Lines.{line_of};
 
-/// Bytes of a file, or of this library's own texts. No zero byte ends them.
+/// Bytes of a file, or one of this library's own strings. They are not zero-terminated.
 #[repr(C)]
 #[derive(Clone, Copy)]
 pub struct TextRecord<'a> {
@@ -11,8 +11,8 @@ pub struct TextRecord<'a> {
     pub bytes: &'a [u8],
 }
 
-/// Puts a text into a buffer as C's `snprintf` does: cut to the room, of which a zero byte takes one. A buffer without room is left
-/// as it is, and so are the bytes after the zero byte.
+/// Copies a string into a buffer as C's `snprintf` does: cut so that a zero byte fits after it. An empty buffer and the bytes after
+/// the zero byte are unchanged.
 pub fn put_line(text: &[u8], line: &mut [u8])
     ensures { line.new ≡ line_of text.now line.old }
 {

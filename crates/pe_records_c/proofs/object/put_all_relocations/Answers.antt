@@ -1,4 +1,4 @@
--- The relocations of one section more.
+-- The relocations of one more section.
 use Rattle.std.proofs.Common.{◌≡◌, ◌∙◌, ◌+◌, ◌∷◌, ℕ, List, drop, length, take, sym, ap, subst, arith}
 use Rattle.std.specs.List.{flat_map}
 use Rattle.std.proofs.lemmas.List.{drop_all, length-drop, length-take-le, take_all}

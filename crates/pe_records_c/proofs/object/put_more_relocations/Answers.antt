@@ -1,4 +1,4 @@
--- The rows behind the first tell of the section's relocations.
+-- The rows after the first are those of the section's relocations.
 use Rattle.std.proofs.Common.{◌≡◌, ℕ, ◌-◌, length, arith, min, drop, subst}
 use borrow.Rule.Slice.PartMut.{mid_of}
 use Rattle.coff_read.specs.FileView.{relocations_view}

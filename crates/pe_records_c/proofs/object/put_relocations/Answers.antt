@@ -1,4 +1,4 @@
--- One relocation more.
+-- One more relocation.
 use Rattle.std.proofs.Common.{◌≡◌, ◌∙◌, ◌+◌, ◌<◌, Some, drop, length, sym, rules}
 use Rattle.std.specs.Prelude.{slice_get}
 use Rattle.coff_read.specs.FileView.{relocations_view}

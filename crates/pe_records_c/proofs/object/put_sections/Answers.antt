@@ -1,4 +1,4 @@
--- One section more, of those that are left.
+-- One more section of those that are left.
 use Rattle.std.proofs.Common.{◌<◌, ◌≤◌, ◌∙◌, length, refl, sym, rules, arith}
 use Rattle.coff_read.specs.FileView.{file_section_view}
 use Rattle.coff_read.specs.ObjectFile.{file_of}

@@ -1,4 +1,4 @@
--- The rows tell of the relocations that the object's sections have, behind the skipped ones.
+-- The rows are those of the relocations of the object's sections, after the skipped ones.
 use Rattle.std.proofs.Common.{drop}
 use Rattle.coff_read.specs.ObjectFile.{file_of}
 use Rattle.pe_records_c.specs.ObjectRows.{relocation_row, relocations_of}

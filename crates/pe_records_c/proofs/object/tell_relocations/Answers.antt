@@ -1,4 +1,4 @@
--- The rows tell of the relocations of the section that is there.
+-- The rows are those of the relocations of the section, if there is one.
 use Rattle.std.proofs.Common.{Option, subst, refl}
 use Rattle.coff_read.specs.FileView.{relocations_view}
 use Rattle.coff_read.specs.Records.{Section}

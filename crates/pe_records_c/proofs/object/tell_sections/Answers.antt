@@ -1,4 +1,4 @@
--- The rows tell of the sections that the object has.
+-- The rows are those of the object's sections.
 use Rattle.coff_read.specs.ObjectFile.{file_of}
 use Rattle.coff_read.specs.Reading.{object_of}
 use Rattle.pe_records_c.specs.ObjectRows.{section_text, section_row}

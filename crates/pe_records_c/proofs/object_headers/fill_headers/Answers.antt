@@ -1,4 +1,4 @@
--- One header more.
+-- One more header.
 use Rattle.std.proofs.Common.{◌≡◌, ◌<◌, Some, length, sym, rules}
 use Rattle.std.specs.Prelude.{slice_get}
 use Rattle.coff_read.specs.Headers.{section_headers}

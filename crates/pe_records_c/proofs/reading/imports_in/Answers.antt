@@ -1,4 +1,4 @@
--- The table is asked for where the layout has no fault.
+-- The table is read if the layout has no fault.
 use Rattle.std.proofs.Common.{◌≡◌, subst}
 use Rattle.std.specs.Prelude.{map}
 use Rattle.std.proofs.lemmas.Result.{err_from_is_err_and}

@@ -1,4 +1,4 @@
--- The buffer holds the rebased file, or the refusal is told.
+-- The buffer holds the rebased file, or the refusal is reported.
 use Rattle.std.proofs.Common.{refl}
 use Rattle.pe_records_c.proofs.Telling.{done_told, refusal_told, told_refuses, early_none}
 use Rattle.pe_records_c.proofs.rebase.rebase_into.Goals as goal

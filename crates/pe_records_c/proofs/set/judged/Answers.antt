@@ -1,4 +1,4 @@
--- What is judged are the entries that count.
+-- The set is checked by the entries that are read.
 use Rattle.std.proofs.Common.{◌≡◌, List, length, inl, inr, subst, arith}
 use Rattle.std.proofs.lemmas.Bool.{cases_lt}
 use Rattle.std.proofs.lemmas.List.{length-map}

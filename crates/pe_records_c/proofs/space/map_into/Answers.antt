@@ -1,4 +1,4 @@
--- What a refused map leaves is the closed space.
+-- A set that is refused leaves the space closed.
 use Rattle.std.proofs.Common.{rules}
 use Rattle.pe_records_c.proofs.space.map_into.Goals as goal
 

@@ -1,4 +1,4 @@
--- One symbol more, of those that are left.
+-- One more symbol of those that are left.
 use Rattle.std.proofs.Common.{ℕ, ◌<◌, ◌≤◌, ◌∙◌, length, refl, sym, rules, arith}
 use Rattle.coff_read.specs.ObjectFile.{file_of}
 use Rattle.coff_read.specs.ObjectView.{symbol_view}

@@ -1,4 +1,4 @@
--- The rows tell of the symbols that the object has.
+-- The rows are those of the object's symbols.
 use Rattle.coff_read.specs.ObjectFile.{file_of}
 use Rattle.pe_records_c.specs.SymbolRows.{symbol_row, symbol_text, symbols_of}
 use Rattle.pe_records_c.proofs.Rows.{table_of}
