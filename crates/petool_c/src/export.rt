@@ -19,10 +19,10 @@ use std::alloc::Global;
 
 /// Reads the exports of an image by ordinal, in the order of the export address table, into the caller's rows.
 ///
-/// The status is 0; 4 where there are more exports than rows, of which the first are then told; 1 with the first fault of the
-/// headers and sections (1 to 15) and of the export table (16 to 22); or 2 for want of memory, which comes only where none of
-/// faults 1 to 18 stands and the table has a name or an entry. The count tells how many exports there are; it and the rows are
-/// left as they were by 1 and 2. ("PE Format": The .edata Section.)
+/// The status is 0; 4 if there are more exports than rows, which then hold the first exports; 1 with the first fault of the
+/// headers and sections (1 to 15) and of the export table (16 to 22); or 2, out of memory, which comes only if the file has none
+/// of faults 1 to 18 and the table has a name or an entry. The count is that of all exports; 1 and 2 leave it and the rows
+/// unchanged. ("PE Format": The .edata Section.)
 #[unsafe(no_mangle)]
 pub extern "C" fn petool_exports<'a>(
     alloc: Global,
@@ -40,9 +40,9 @@ pub extern "C" fn petool_exports<'a>(
     }
 }
 
-/// Reads the exports of an image by name, in the order of the name pointer table and each text once, into the caller's rows.
+/// Reads the exports of an image by name, in the order of the name pointer table and each name once, into the caller's rows.
 ///
-/// It answers as [`petool_exports`] does.
+/// The statuses are those of [`petool_exports`].
 #[unsafe(no_mangle)]
 pub extern "C" fn petool_export_names<'a>(
     alloc: Global,
@@ -60,11 +60,11 @@ pub extern "C" fn petool_export_names<'a>(
     }
 }
 
-/// Tells what a name of an image exports: what the first of the names with this text does.
+/// What a name of an image exports; if the name is repeated, what it exports at its first place.
 ///
-/// The status is 0; 3 where no such name exports anything; 1 with the first fault of the headers and sections (1 to 15) and of
-/// the export table (16 to 22); or 2 for want of memory, where [`petool_exports`] may want it. The target is left as it was by all
-/// but 0. The table is read at each call.
+/// The status is 0; 3 if there is no export of this name; 1 with the first fault of the headers and sections (1 to 15) and of the
+/// export table (16 to 22); or 2, out of memory, under the condition of [`petool_exports`]. All but 0 leave the target unchanged.
+/// Each call reads the table again.
 #[unsafe(no_mangle)]
 pub extern "C" fn petool_export_by_name<'a>(
     alloc: Global,
@@ -83,7 +83,7 @@ pub extern "C" fn petool_export_by_name<'a>(
     }
 }
 
-/// Tells what an ordinal of an image exports. It answers as [`petool_export_by_name`] does.
+/// What an ordinal of an image exports, with the statuses of [`petool_export_by_name`].
 #[unsafe(no_mangle)]
 pub extern "C" fn petool_export_by_ordinal<'a>(
     alloc: Global,

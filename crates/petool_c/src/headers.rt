@@ -13,10 +13,10 @@ use pe_records_c::fault::{FaultRecord, refuse};
 use pe_records_c::headers::{HeadersRecord, SectionRow, headers_record, put_sections};
 use pe_records_c::status;
 
-/// Reads the headers of an image, and of its sections as many as there is room for: an image has at most 96.
+/// Reads the headers of an image, and as many of its sections as fit into the rows: an image has at most 96.
 ///
-/// The status is 0, or 1 with the first of faults 1 to 15, which leaves the headers and the rows as they were. No memory is
-/// taken. ("PE Format": COFF File Header, Optional Header, Section Table.)
+/// The status is 0, or 1 with the first of faults 1 to 15, which leaves the headers and the rows unchanged. Allocates nothing.
+/// ("PE Format": COFF File Header, Optional Header, Section Table.)
 #[unsafe(no_mangle)]
 pub extern "C" fn petool_read_headers(
     file: &[u8],

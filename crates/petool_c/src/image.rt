@@ -17,11 +17,11 @@ use pe_records_c::status;
 use pe_records_c::text::TextRecord;
 use std::alloc::Global;
 
-/// Judges an image's file: headers and sections, exports, imports and base relocations.
+/// Checks an image's file: headers and sections, exports, imports and base relocations.
 ///
-/// The status is 0 where none of the image faults of docs/FAULTS.md stands; 1 with the first that does; or 2 for want of memory,
-/// which never comes where one of faults 1 to 15 stands. ("PE Format": Optional Header, Section Table, The .edata Section, The
-/// .idata Section, The .reloc Section.)
+/// The status is 0 if the file has none of the image faults of docs/FAULTS.md; 1 with the first of them; or 2, out of memory, but
+/// never for a file with one of faults 1 to 15. ("PE Format": Optional Header, Section Table, The .edata Section, The .idata
+/// Section, The .reloc Section.)
 #[unsafe(no_mangle)]
 pub extern "C" fn petool_check(alloc: Global, file: &[u8], fault: &mut FaultRecord) -> u32
     ensures faults { IsAnswered (IsLaidOut file.now) (image_tests 0 file.now) fault.old fault.new result }
@@ -35,8 +35,8 @@ pub extern "C" fn petool_check(alloc: Global, file: &[u8], fault: &mut FaultReco
 
 /// Fills a buffer with the bytes of an image from an RVA on, as the file lays them out: raw data, or 0.
 ///
-/// The status is 0; 1 with the first of faults 1 to 15; or 3 where the bytes do not all lie inside the image. The buffer is
-/// left as it was by all but 0. No memory is taken; the headers are judged anew at each call. ("PE Format": Section Table.)
+/// The status is 0; 1 with the first of faults 1 to 15; or 3 if the bytes do not all lie inside the image. All but 0 leave the
+/// buffer unchanged. Allocates nothing; each call checks the headers again. ("PE Format": Section Table.)
 #[unsafe(no_mangle)]
 pub extern "C" fn petool_read(
     file: &[u8],
@@ -62,10 +62,10 @@ pub extern "C" fn petool_read(
     }
 }
 
-/// Reads the zero-ended text at an RVA of an image, as a part of the file; the zero byte is none of its bytes.
+/// The zero-terminated string at an RVA of an image, without its zero byte, as a slice of the file.
 ///
-/// The status is 0; 1 with the first of faults 1 to 15; or 3 where no zero byte ends a text inside the headers or the section
-/// in which it begins, and past the image. The text is left as it was by all but 0. No memory is taken.
+/// The status is 0; 1 with the first of faults 1 to 15; or 3 if the string does not end inside the headers or the section in which
+/// it begins, or begins past the image. All but 0 leave `text` unchanged. Allocates nothing.
 #[unsafe(no_mangle)]
 pub extern "C" fn petool_read_text<'a>(
     file: &'a [u8],
@@ -92,10 +92,10 @@ pub extern "C" fn petool_read_text<'a>(
     }
 }
 
-/// Tells where the file holds the byte at an RVA of an image: its offset.
+/// The file offset of the byte at an RVA of an image.
 ///
-/// The status is 0; 1 with the first of faults 1 to 15; or 3 where the file does not hold the byte, which is one of zero fill,
-/// of a gap, or past the image. The offset is left as it was by all but 0. No memory is taken.
+/// The status is 0; 1 with the first of faults 1 to 15; or 3 if the file does not hold the byte, which lies in zero fill, in a gap,
+/// or past the image. All but 0 leave the offset unchanged. Allocates nothing.
 #[unsafe(no_mangle)]
 pub extern "C" fn petool_locate(
     file: &[u8],

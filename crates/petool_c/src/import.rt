@@ -16,10 +16,10 @@ use std::alloc::Global;
 
 /// Reads the imports of an image, in the order of its import table, into the caller's rows.
 ///
-/// The status is 0; 4 where there are more imports than rows, of which the first are then told; 1 with the first fault of the
-/// headers and sections (1 to 15) and of the import table (24 to 32); or 2 for want of memory, which comes only where a lookup
-/// entry was found to be an import without a fault and no fault stands before it. The count tells how many imports there are; it
-/// and the rows are left as they were by 1 and 2. ("PE Format": The .idata Section.)
+/// The status is 0; 4 if there are more imports than rows, which then hold the first imports; 1 with the first fault of the
+/// headers and sections (1 to 15) and of the import table (24 to 32); or 2, out of memory, which comes only if a lookup entry is
+/// an import without a fault, and there is no earlier fault. The count is that of all imports; 1 and 2 leave it and the rows
+/// unchanged. ("PE Format": The .idata Section.)
 #[unsafe(no_mangle)]
 pub extern "C" fn petool_imports<'a>(
     alloc: Global,

@@ -1,7 +1,7 @@
 //! The calls of libpetool, for programs that are not written in Rattle; bindings/c/petool.h declares them.
 //!
-//! Nothing is kept between calls but in an open image and in a space, which their caller owns and closes; nothing else has to be
-//! freed. A number says how a call ended:
+//! Calls keep nothing but open images and spaces, which the caller owns and closes; nothing else has to be freed. A call returns
+//! its status:
 //!
 //! ```text
 //! uint8_t bytes[4];

@@ -21,10 +21,10 @@ use pe_records_c::object_headers::{
 use pe_records_c::status;
 use std::alloc::Global;
 
-/// Judges an object's file.
+/// Checks an object's file.
 ///
-/// The status is 0 where none of faults 61 to 72 stands, or 1 with the first that does. No memory is taken. ("PE Format": COFF
-/// File Header, Section Table, COFF Relocations, COFF Symbol Table, COFF String Table.)
+/// The status is 0, or 1 with the first of faults 61 to 72. Allocates nothing. ("PE Format": COFF File Header, Section Table, COFF
+/// Relocations, COFF Symbol Table, COFF String Table.)
 #[unsafe(no_mangle)]
 pub extern "C" fn petool_object_check(file: &[u8], fault: &mut FaultRecord) -> u32
     ensures status { (result ≡ 0) ⊎ (result ≡ 1) }
@@ -36,9 +36,9 @@ pub extern "C" fn petool_object_check(file: &[u8], fault: &mut FaultRecord) -> u
     }
 }
 
-/// Reads the COFF file header of an object, and of its section headers as many as there is room for.
+/// Reads the COFF file header of an object, and as many of its section headers as fit into the rows.
 ///
-/// The status is 0, or 1 with the first of faults 61 to 72, which leaves the header and the rows as they were. No memory is taken.
+/// The status is 0, or 1 with the first of faults 61 to 72, which leaves the header and the rows unchanged. Allocates nothing.
 /// ("PE Format": COFF File Header, Section Table.)
 #[unsafe(no_mangle)]
 pub extern "C" fn petool_object_headers(
@@ -65,10 +65,9 @@ pub extern "C" fn petool_object_headers(
 
 /// Reads the sections of an object, in table order, into the caller's rows.
 ///
-/// The status is 0; 4 where there are more sections than rows, of which the first are then told; or 1 with the first of faults
-/// 61 to 72. The count tells how many sections there are; it and the rows are left as they were by 1. Memory is taken to remember
-/// where texts end, so that one that many share is searched once: where it is refused a text is searched again, and no status
-/// tells it.
+/// The status is 0; 4 if there are more sections than rows, which then hold the first sections; or 1 with the first of faults 61
+/// to 72. The count is that of all sections; 1 leaves it and the rows unchanged. Memory is allocated to remember where strings
+/// end, so that a string that many share is searched once; if that fails, strings are searched again, and the status is the same.
 #[unsafe(no_mangle)]
 pub extern "C" fn petool_object_sections<'a>(
     alloc: Global,
@@ -88,11 +87,11 @@ pub extern "C" fn petool_object_sections<'a>(
     }
 }
 
-/// Reads the relocations of one section of an object, which is counted from 0, in table order into the caller's rows.
+/// Reads the relocations of one section of an object, counted from 0, in table order, into the caller's rows.
 ///
-/// The status is 0; 4 where there are more relocations than rows, of which the first are then told; 3 where there is no such
-/// section; or 1 with the first of faults 61 to 72. The count tells how many relocations there are; it and the rows are left as
-/// they were by 1 and 3. No memory is taken.
+/// The status is 0; 4 if there are more relocations than rows, which then hold the first relocations; 3 if there is no such
+/// section; or 1 with the first of faults 61 to 72. The count is that of the section's relocations; 1 and 3 leave it and the rows
+/// unchanged. Allocates nothing.
 #[unsafe(no_mangle)]
 pub extern "C" fn petool_object_relocations(
     file: &[u8],
@@ -112,12 +111,11 @@ pub extern "C" fn petool_object_relocations(
     }
 }
 
-/// Reads the relocations of all sections of an object, section by section, without the first of them, into the caller's rows.
+/// Reads the relocations of all sections of an object, section by section, after the first `skipped` ones, into the caller's rows.
 ///
-/// The status is 0; 4 where there are more relocations behind the skipped ones than rows, of which the first are then told; or 1
-/// with the first of faults 61 to 72. The count tells how many relocations there are behind the skipped ones; it and the rows are
-/// left as they were by 1. A skipped relocation is not decoded, and one that finds no row neither. Memory is taken as by
-/// `petool_object_sections`.
+/// The status is 0; 4 if more relocations come after the skipped ones than there are rows, which then hold the first of these; or 1
+/// with the first of faults 61 to 72. The count is that of the relocations after the skipped ones; 1 leaves it and the rows
+/// unchanged. Relocations without a row, and skipped ones, are not decoded. Memory is allocated as by `petool_object_sections`.
 #[unsafe(no_mangle)]
 pub extern "C" fn petool_object_all_relocations(
     alloc: Global,

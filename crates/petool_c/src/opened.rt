@@ -11,12 +11,11 @@ use pe_records_c::fault::{FaultRecord, refuse_for};
 use pe_records_c::status;
 use std::alloc::Global;
 
-/// Opens the image of a file: judges it once, and keeps what its tables hold. An image that is open is closed first.
+/// Opens the image of a file: checks it once, and keeps the contents of its tables. An open image is closed first.
 ///
-/// The image is open exactly where the status is 0. It is 1 with the first of the image faults; or 2 for want of memory, which
-/// never comes where one of faults 1 to 15 stands. An open image reads the file's bytes: they have to stay as they are until it,
-/// and each that shares it, is closed. Nothing is kept of the file after that, but the contract can only say so of a file that
-/// stays for good.
+/// The status is 0, and only then the image is open; 1 with the first of the image faults; or 2, out of memory, but never for a
+/// file with one of faults 1 to 15. An open image reads the file's bytes, which must stay unchanged until it and each handle that
+/// shares it are closed. After that nothing of the file is kept, but the contract can only state this for a `'static` file.
 #[unsafe(no_mangle)]
 pub extern "C" fn petool_image_open(
     alloc: Global,
@@ -41,11 +40,11 @@ pub extern "C" fn petool_image_open(
     }
 }
 
-/// Makes another handle of an image, which another thread may have: both keep the image, and its memory goes back with the last
-/// handle that is closed. `other` is closed first.
+/// Makes `other` a second handle of an image, after closing what it held. Another thread may use it. The image is freed when the
+/// last of its handles is closed.
 ///
-/// The status is 0, and then `other` is open exactly where `image` is; or 2 for want of memory, which leaves `other` closed, and
-/// never comes where `image` is closed.
+/// The status is 0, and then `other` is open if `image` is, and closed otherwise; or 2, out of memory, which leaves `other` closed,
+/// and never comes if `image` is closed.
 #[unsafe(no_mangle)]
 pub extern "C" fn petool_image_share(
     alloc: Global,
@@ -67,7 +66,7 @@ pub extern "C" fn petool_image_share(
     }
 }
 
-/// Closes an image; where no other handle has it, its memory goes back. One that is closed stays closed.
+/// Closes an image, and frees it unless another handle has it. A closed one stays closed.
 #[unsafe(no_mangle)]
 pub extern "C" fn petool_image_close(alloc: Global, image: &mut ImageHandle)
     ensures none { file_in image.new.image ≡ None }

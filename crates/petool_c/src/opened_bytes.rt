@@ -12,8 +12,8 @@ use std::alloc::Global;
 
 /// Fills a buffer with the bytes of an open image from an RVA on, as the file lays them out: raw data, or 0.
 ///
-/// The status is 0; 3 where the bytes do not all lie inside the image; or 6 where it is closed. The buffer is left as it was by all
-/// but 0. No memory is taken.
+/// The status is 0; 3 if the bytes do not all lie inside the image; or 6 if it is closed. All but 0 leave the buffer unchanged.
+/// Allocates nothing.
 #[unsafe(no_mangle)]
 pub extern "C" fn petool_image_read(
     alloc: Global,
@@ -36,10 +36,10 @@ pub extern "C" fn petool_image_read(
     }
 }
 
-/// Reads the zero-ended text at an RVA of an open image, as a part of the file; the zero byte is none of its bytes.
+/// The zero-terminated string at an RVA of an open image, without its zero byte, as a slice of the file.
 ///
-/// The status is 0; 3 where no zero byte ends a text inside the headers or the section in which it begins, and past the image; or 6
-/// where the image is closed. The text is left as it was by all but 0. No memory is taken.
+/// The status is 0; 3 if the string does not end inside the headers or the section in which it begins, or begins past the image;
+/// or 6 if the image is closed. All but 0 leave `text` unchanged. Allocates nothing.
 #[unsafe(no_mangle)]
 pub extern "C" fn petool_image_read_text(
     alloc: Global,
@@ -62,10 +62,10 @@ pub extern "C" fn petool_image_read_text(
     }
 }
 
-/// Tells where the file of an open image holds the byte at an RVA: its offset.
+/// The file offset of the byte at an RVA of an open image.
 ///
-/// The status is 0; 3 where the file does not hold the byte, which is one of zero fill, of a gap, or past the image; or 6 where the
-/// image is closed. The offset is left as it was by all but 0. No memory is taken.
+/// The status is 0; 3 if the file does not hold the byte, which lies in zero fill, in a gap, or past the image; or 6 if the image
+/// is closed. All but 0 leave the offset unchanged. Allocates nothing.
 #[unsafe(no_mangle)]
 pub extern "C" fn petool_image_locate(
     alloc: Global,

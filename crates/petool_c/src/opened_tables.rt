@@ -20,10 +20,10 @@ use pe_records_c::opened::{
 use pe_records_c::status;
 use std::alloc::Global;
 
-/// Tells what a name of an open image exports: what the first of the names with this text does.
+/// What a name of an open image exports; if the name is repeated, what it exports at its first place.
 ///
-/// The status is 0; 3 where no such name exports anything; or 6 where the image is closed. The target is left as it was by all but
-/// 0. No memory is taken, and no table is read again: the name is looked up in the index that the image keeps.
+/// The status is 0; 3 if there is no export of this name; or 6 if the image is closed. All but 0 leave the target unchanged.
+/// Allocates nothing, and reads no table again: the name is looked up in the index that the image keeps.
 #[unsafe(no_mangle)]
 pub extern "C" fn petool_image_export_by_name(
     alloc: Global,
@@ -46,7 +46,7 @@ pub extern "C" fn petool_image_export_by_name(
     }
 }
 
-/// Tells what an ordinal of an open image exports. It answers as [`petool_image_export_by_name`] does.
+/// What an ordinal of an open image exports, with the statuses of [`petool_image_export_by_name`].
 #[unsafe(no_mangle)]
 pub extern "C" fn petool_image_export_by_ordinal(
     alloc: Global,
@@ -69,10 +69,10 @@ pub extern "C" fn petool_image_export_by_ordinal(
     }
 }
 
-/// Tells the exports by ordinal of an open image, in the order of the export address table, in the caller's rows.
+/// Copies the exports by ordinal of an open image, in the order of the export address table, into the caller's rows.
 ///
-/// The status is 0; 4 where there are more than rows, of which the first are then told; or 6 where the image is closed. The count
-/// tells how many there are; it and the rows are left as they were by 6. No memory is taken.
+/// The status is 0; 4 if there are more exports than rows, which then hold the first exports; or 6 if the image is closed. The
+/// count is that of all exports; 6 leaves it and the rows unchanged. Allocates nothing.
 #[unsafe(no_mangle)]
 pub extern "C" fn petool_image_exports(
     alloc: Global,
@@ -97,7 +97,7 @@ pub extern "C" fn petool_image_exports(
     }
 }
 
-/// Tells the exports by name of an open image, in the order of the name pointer table and each text once. It answers as
+/// Copies the exports by name of an open image, in the order of the name pointer table and each name once, as
 /// [`petool_image_exports`] does.
 #[unsafe(no_mangle)]
 pub extern "C" fn petool_image_export_names(
@@ -123,7 +123,7 @@ pub extern "C" fn petool_image_export_names(
     }
 }
 
-/// Tells the imports of an open image, in the order of its import table. It answers as [`petool_image_exports`] does.
+/// Copies the imports of an open image, in the order of its import table, as [`petool_image_exports`] does.
 #[unsafe(no_mangle)]
 pub extern "C" fn petool_image_imports(
     alloc: Global,
@@ -148,7 +148,7 @@ pub extern "C" fn petool_image_imports(
     }
 }
 
-/// Tells the base relocations of an open image, in the order of their table. It answers as [`petool_image_exports`] does.
+/// Copies the base relocations of an open image, in the order of their table, as [`petool_image_exports`] does.
 #[unsafe(no_mangle)]
 pub extern "C" fn petool_image_fixups(
     alloc: Global,

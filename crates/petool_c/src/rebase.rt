@@ -11,14 +11,13 @@ use pe_records_c::rebase::rebase_into;
 use pe_records_c::status;
 use std::alloc::Global;
 
-/// Writes the file of an image that is to stand at another base into a buffer of the file's length: each field of a base
-/// relocation is moved on by as much as the base lies above ImageBase, ImageBase is the base and CheckSum is 0; every other byte
-/// is the file's.
+/// Writes the file of an image for another base into a buffer of the file's length: each fixup's field is relocated by the
+/// difference of the base and ImageBase, ImageBase is the base, and CheckSum is 0; every other byte is the file's.
 ///
 /// The status is 0; 1 with the first fault of headers and sections (1 to 15), of imports (24 to 32) and base relocations (33 to
-/// 38), of the base (44 to 46), and of what cannot be written (51, 52); 2 for want of memory, which never comes where one of
-/// faults 1 to 15 stands; or 5 where the buffer has not the file's length. The buffer is left as it was by all but 0.
-/// ("PE Format": Optional Header, The .reloc Section.)
+/// 38), of the base (44 to 46), and of what cannot be written (51, 52); 2, out of memory, but never for a file with one of faults
+/// 1 to 15; or 5 if the buffer does not have the file's length. All but 0 leave the buffer unchanged. ("PE Format": Optional
+/// Header, The .reloc Section.)
 #[unsafe(no_mangle)]
 pub extern "C" fn petool_rebase(
     alloc: Global,

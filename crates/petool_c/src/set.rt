@@ -15,14 +15,14 @@ use pe_records_c::row::put_table;
 use pe_records_c::set::{BindingRow, EntryRecord, judged, refuse_set};
 use std::alloc::Global;
 
-/// Judges a set of images that are to stand in one address space, and tells what their imports are bound to, image by image and
-/// in the order of each one's imports. An image has the index of its entry, and so do its faults. With `known`, an import that
-/// leads to a module that is not in the set is no fault, and its slot is not bound.
+/// Checks a set of images for one address space, and reports what their imports are bound to, image by image and in the order of
+/// each image's imports. Images and their faults are numbered by entry. With `known`, an import that leads to a module that is not
+/// in the set is no fault, and its slot is not bound.
 ///
-/// The status is 0; 4 where there are more bindings than rows, of which the first are then told; 1 with the first fault of the
-/// set; or 2 for want of memory, which never comes where a name has a fault (41, 42), nor of a set of no entries. The count tells
-/// how many bindings there are; it and the rows are left as they were by 1 and 2. Where the fault is 50, a cycle of forwarders,
-/// `cycle` is how long that is, and else it is left as it was.
+/// The status is 0; 4 if there are more bindings than rows, which then hold the first bindings; 1 with the first fault of the set;
+/// or 2, out of memory, which never comes if a name has a fault (41, 42) or the set is empty. The count is that of all bindings; 1
+/// and 2 leave it and the rows unchanged. For fault 50, a cycle of forwarders, `cycle` is the cycle's length; otherwise it is
+/// unchanged.
 #[unsafe(no_mangle)]
 pub extern "C" fn petool_judge(
     alloc: Global,

@@ -18,14 +18,13 @@ use pe_records_c::space::{
 use pe_records_c::status;
 use std::alloc::Global;
 
-/// Maps a set of images into a space: each at its base, with its fields relocated and its imports bound. A space that is open is
-/// closed first. With `known`, an import that leads to a module that is not in the set is no fault, and its slot is left as it
-/// stands in the file.
+/// Maps a set of images into a space: each at its base, with its fields relocated and its imports bound. An open space is closed
+/// first. With `known`, an import that leads to a module that is not in the set is no fault, and its slot keeps its bytes from the
+/// file.
 ///
-/// The space is open exactly where the status is 0. It is 1 with the set's first fault (an image or set fault), and where that is
-/// 50 with the length of the cycle of forwarders; or 2, for want of memory, which never comes where a name has a fault (41, 42).
-/// A space takes memory of its own, also where it holds no image. `cycle` is else left as it was. The space keeps no byte of the
-/// files: they may go.
+/// The status is 0, and only then the space is open; 1 with the set's first fault (an image or set fault); or 2, out of memory,
+/// which never comes if a name has a fault (41, 42), but may for an empty set: a space allocates even without images. For fault 50
+/// `cycle` is the length of the cycle of forwarders; otherwise it is unchanged. The space keeps copies, so the files may be freed.
 #[unsafe(no_mangle)]
 pub extern "C" fn petool_space_map(
     alloc: Global,
@@ -49,7 +48,7 @@ pub extern "C" fn petool_space_map(
     }
 }
 
-/// Closes a space, and gives its memory back. One that is closed stays closed.
+/// Closes a space, and frees its memory. A closed one stays closed.
 #[unsafe(no_mangle)]
 pub extern "C" fn petool_space_close(alloc: Global, space: &mut Handle)
     ensures none { space.new.space ≡ None }
@@ -58,10 +57,10 @@ pub extern "C" fn petool_space_close(alloc: Global, space: &mut Handle)
     close(alloc, space);
 }
 
-/// Fills a buffer with the bytes from an address on, which lie in one image; an empty buffer lies anywhere.
+/// Fills a buffer with the bytes from an address on, which must lie in one image; an empty buffer fits anywhere.
 ///
-/// The status is 0; 1 with fault 54 at the address, of the image that holds it, or of image 65,535 where none does; or 6 where the
-/// space is closed. The buffer is left as it was by all but 0. No memory is taken.
+/// The status is 0; 1 with fault 54 at the address, of the image that holds it, or of image 65,535 if none does; or 6 if the space
+/// is closed. All but 0 leave the buffer unchanged. Allocates nothing.
 #[unsafe(no_mangle)]
 pub extern "C" fn petool_space_read(
     alloc: Global,
@@ -85,11 +84,11 @@ pub extern "C" fn petool_space_read(
     }
 }
 
-/// Moves an image to another base: its fields are moved on, and the slots of all images that end in it are bound anew. `moved`
-/// tells how many of each.
+/// Moves an image to another base: its fields are relocated, and the slots of all images that lead to it are bound again. `moved`
+/// counts both.
 ///
-/// The status is 0; 1 with the first of faults 55 and 44 to 47 of the move, which then changes nothing; or 6 where the space is
-/// closed. No memory is taken.
+/// The status is 0; 1 with the first of faults 55 and 44 to 47 of the move, which then changes nothing; or 6 if the space is
+/// closed. Allocates nothing.
 #[unsafe(no_mangle)]
 pub extern "C" fn petool_space_move(
     alloc: Global,
@@ -113,9 +112,9 @@ pub extern "C" fn petool_space_move(
     }
 }
 
-/// Tells where an image stands, and how many bytes it has.
+/// The base and the size in bytes of an image.
 ///
-/// The status is 0; 3 past the last image; or 6 where the space is closed. Both numbers are left as they were by all but 0.
+/// The status is 0; 3 past the last image; or 6 if the space is closed. All but 0 leave both numbers unchanged.
 #[unsafe(no_mangle)]
 pub extern "C" fn petool_space_image(
     alloc: Global,
@@ -144,10 +143,10 @@ pub extern "C" fn petool_space_image(
     }
 }
 
-/// Tells the slots that are bound: by image, and then in the order of its imports.
+/// Copies the bound slots, image by image and in the order of each image's imports, into the caller's rows.
 ///
-/// The status is 0; 4 where there are more than rows, of which the first are then told; or 6 where the space is closed. The count
-/// tells how many there are; it and the rows are left as they were by 6.
+/// The status is 0; 4 if there are more bindings than rows, which then hold the first bindings; or 6 if the space is closed. The
+/// count is that of all bindings; 6 leaves it and the rows unchanged.
 #[unsafe(no_mangle)]
 pub extern "C" fn petool_space_bindings(
     alloc: Global,

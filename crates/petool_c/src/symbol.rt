@@ -12,7 +12,7 @@ use pe_records_c::fault::{FaultRecord, refuse};
 use pe_records_c::symbol::{ObjectSymbolRow, tell_symbols};
 use std::alloc::Global;
 
-/// Reads the symbols of an object, in table order, into the caller's rows. It answers as `petool_object_sections` does.
+/// Reads the symbols of an object, in table order, into the caller's rows, as `petool_object_sections` does.
 #[unsafe(no_mangle)]
 pub extern "C" fn petool_object_symbols<'a>(
     alloc: Global,

@@ -24,9 +24,9 @@ use std::alloc::Global;
 
 /// Reads all tables of an image at once into the caller's rows: exports by ordinal and by name, imports and base relocations.
 ///
-/// The status is 0; 4 where one of the tables has more items than rows, of which the first are then told; 1 with the first of
-/// the image faults; or 2 for want of memory, which never comes where one of faults 1 to 15 stands. The counts tell how many
-/// items each table has; they and all rows are left as they were by 1 and 2.
+/// The status is 0; 4 if a table has more items than rows, which then hold its first items; 1 with the first of the image faults;
+/// or 2, out of memory, but never for a file with one of faults 1 to 15. The counts are those of all items; 1 and 2 leave them and
+/// all rows unchanged.
 #[unsafe(no_mangle)]
 pub extern "C" fn petool_tables<'a>(
     alloc: Global,

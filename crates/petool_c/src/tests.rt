@@ -1,7 +1,7 @@
 //! Each call as a program in C makes it: on its good path, and in each of its statuses.
 //!
-//! What is expected stands in the files of `pe_vectors`, which were made by hand from the format. bindings/c has the same calls from C, and
-//! with each growth of memory refused.
+//! The expected values are those of the files of `pe_vectors`, which were made by hand from the format. bindings/c tests the same
+//! calls from C, also with each allocation failing.
 
 mod images;
 mod objects;
@@ -11,7 +11,7 @@ mod spaces;
 use pe_records_c::fault::FaultRecord;
 use std::process::Abort;
 
-/// A fault that no call tells.
+/// A fault that no call reports.
 const UNTOLD: FaultRecord = FaultRecord {
     number: 0x7777,
     image: 0x8888,
@@ -19,28 +19,28 @@ const UNTOLD: FaultRecord = FaultRecord {
     at: 0xaaaa,
 };
 
-/// A fault's number, image, place and what it counts there.
+/// The fields of a fault's record.
 fn told(fault: &FaultRecord) -> (u16, u16, u32, u64) {
     (fault.number, fault.image, fault.place, fault.at)
 }
 
-/// Whether a text has these bytes.
+/// Whether a string has these bytes.
 fn is(text: &[u8], bytes: &[u8]) -> bool {
     *text == *bytes
 }
 
-/// Asserts what holds of a case.
+/// Asserts a condition of a case.
 fn assert_holds(rt: &impl Abort, case: usize, holds: bool) {
     assert!(rt; holds, "in case {case}");
 }
 
-/// Asserts a call's status, and the fault that it tells: none, where the status is not 1.
+/// Asserts a call's status, and that it reports a fault exactly if the status is 1.
 fn assert_status(rt: &impl Abort, case: usize, status: u32, expected: u32, fault: &FaultRecord) {
     assert_holds(rt, case, status == expected);
     assert_holds(rt, case, (told(fault) == told(&UNTOLD)) == (expected != 1));
 }
 
-/// Asserts the fault that a call tells, of image 0 and by its file offset.
+/// Asserts the fault that a call reports, of image 0 and at a file offset.
 fn assert_fault(
     rt: &impl Abort,
     case: usize,

@@ -10,7 +10,7 @@ use pe_records_c::status;
 use pe_records_c::text::{TextRecord, put_line};
 use pe_text::{fault_sentence, fault_words};
 
-/// The version of this library: its first part times 65,536, and its second part. A program that was built for another first
+/// The version of this library: its first part times 65,536, plus its second part. A program that was built for another first
 /// part must not call it.
 #[unsafe(no_mangle)]
 pub extern "C" fn petool_version() -> u32
@@ -19,10 +19,10 @@ pub extern "C" fn petool_version() -> u32
     0x1_0000
 }
 
-/// Tells a fault in words, by its number: what stands at its place, and which rule of the format does not hold of it. The texts
-/// are this library's own, and live as long as it.
+/// The words for a fault's number: what is at the place of the fault, and which rule of the format is broken. The strings are this
+/// library's own, and live as long as it.
 ///
-/// The status is 0, or 3 where no fault has this number, which leaves the texts as they were.
+/// The status is 0, or 3 if no fault has this number, which leaves both unchanged.
 #[unsafe(no_mangle)]
 pub extern "C" fn petool_fault_words(
     number: u16,
@@ -50,8 +50,8 @@ pub extern "C" fn petool_fault_words(
 }
 
 /// Writes a fault in words as one line for people: `section header at 0x138: the section's raw data extends past the end of the
-/// file`. It is written as C's `snprintf` does, cut to the room of `line`, of which a zero byte takes one. The result is how many
-/// bytes the whole line has without that, at most 256.
+/// file`. As by C's `snprintf`, it is cut so that a zero byte fits after it, and the result is the length of the whole line without
+/// that byte, at most 256.
 #[unsafe(no_mangle)]
 pub extern "C" fn petool_fault_line(fault: &FaultRecord, line: &mut [u8]) -> i32
     ensures whole { result ≡ pos (length (sentence (fault_of fault.now))) }

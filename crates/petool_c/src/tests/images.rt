@@ -23,7 +23,7 @@ use pe_view::View;
 use std::alloc::Global;
 use std::process::Abort;
 
-/// What no call tells.
+/// A target that no call reports.
 pub(super) const NO_TARGET: TargetRecord<'static> = TargetRecord {
     kind: 9,
     value: 9,
@@ -67,7 +67,7 @@ fn vector(rt: &impl Abort, alloc: Global, vector: Vector) -> Vec<u8> {
     file_of(alloc, vector).expect(rt, "a file")
 }
 
-/// The first 63 bytes of a file, of which fault 2 stands.
+/// The first 63 bytes of a file, which have fault 2.
 fn cut(file: &[u8]) -> &[u8] {
     &file[..file.len().min(63)]
 }
@@ -82,7 +82,7 @@ fn a_file_is_judged(rt: HostRuntime) {
     assert_fault(&rt, 1, status, &fault, 2, 63);
 }
 
-/// The numbers of the headers of VR, those of one width behind one another.
+/// Asserts numbers of each width in the headers of VR.
 fn assert_headers(rt: &impl Abort, headers: &HeadersRecord) {
     assert_holds(rt, 10, headers.image_base == 0x3e3d_3c3b_3a39_0000);
     assert_holds(rt, 11, headers.size_of_heap_commit == 0x7877_7675_7473_7271);
@@ -117,7 +117,7 @@ fn assert_headers(rt: &impl Abort, headers: &HeadersRecord) {
     assert_holds(rt, 20, headers.directories[15].size == 0xe8e7_e6e5);
 }
 
-/// The headers of V1, none of whose numbers is that of VR.
+/// The headers of V1, whose numbers all differ from those of VR.
 fn other_headers(rt: &impl Abort, alloc: Global) -> HeadersRecord {
     let file = vector(rt, alloc, Vector::V1);
     let layout = Layout::new(View::new(&file), 0).ok().expect(rt, "an image");
@@ -324,8 +324,8 @@ fn base_relocations_fill_the_rows(rt: HostRuntime) {
     assert_fault(&rt, 3, status, &fault, 2, 63);
 }
 
-/// Reads all tables of a file, its exports into these rows and the others into five rows each: the status, the last export's
-/// ordinal, and the fault's number.
+/// Reads all tables of a file, its exports into these rows and the others into five rows each. Returns the status, the last
+/// export's ordinal, and the fault's number.
 fn tables<'a>(
     alloc: Global,
     file: &'a [u8],

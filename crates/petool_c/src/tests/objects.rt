@@ -12,7 +12,7 @@ use pe_vectors::objects::O1;
 use std::alloc::Global;
 use std::process::Abort;
 
-/// For AMD64, a section of two relocations and a section of one, and two symbols.
+/// An object for AMD64: a section with two relocations, a section with one, and two symbols.
 const TWO_SECTIONS: &[u8; 170] = &[
     // the COFF header
     0x64, 0x86, 0x02, 0x00, 0x00, 0x00, 0x00, 0x00, 0x82, 0x00, 0x00, 0x00, 0x02, 0x00, 0x00, 0x00,
@@ -50,7 +50,7 @@ fn has(row: ObjectRelocationRow, address: u32, symbol: u32, kind: u32) -> bool {
     (row.address, row.symbol, row.kind) == (address, symbol, kind)
 }
 
-/// Two rows of the relocations of `TWO_SECTIONS` behind the skipped ones, and how many there are. Asserts the status.
+/// Two rows of the relocations of `TWO_SECTIONS` after the skipped ones, and how many there are. Asserts the status.
 fn two_behind(
     rt: &impl Abort,
     alloc: Global,

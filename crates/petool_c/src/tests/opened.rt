@@ -13,8 +13,8 @@ use pe_records_c::text::TextRecord;
 use std::alloc::Global;
 use std::process::Abort;
 
-/// An image of headers alone, with an export table at 0xc0, in 0xf4 bytes that stay for good: it exports RVA 0x10 as ordinal 7 and as
-/// the name `g`, and has 0x1000 bytes when it is laid out.
+/// An image of headers only, with an export table at 0xc0: it exports RVA 0x10 as ordinal 7 and by the name `g`, and has 0x1000
+/// bytes when it is laid out.
 const EXPORTER: &[u8; 0xf4] = &[
     0x4d, 0x5a, 0x00, 0x00, 0x00, 0x00, 0x00, 0x00, 0x00, 0x00, 0x00, 0x00, 0x00, 0x00, 0x00, 0x00,
     0x00, 0x00, 0x00, 0x00, 0x00, 0x00, 0x00, 0x00, 0x00, 0x00, 0x00, 0x00, 0x00, 0x00, 0x00, 0x00,
@@ -34,7 +34,7 @@ const EXPORTER: &[u8; 0xf4] = &[
     0x00, 0x00, 0x67, 0x00,
 ];
 
-/// Asserts that an image is closed, and that each call says so and sets nothing.
+/// Asserts that an image is closed: each call returns that status and sets nothing.
 fn assert_closed(rt: &impl Abort, alloc: Global, image: &mut ImageHandle) {
     let mut text = TextRecord { bytes: b"?" };
     let (mut target, mut buffer) = (NO_TARGET, [9; 2]);
@@ -55,7 +55,7 @@ fn assert_closed(rt: &impl Abort, alloc: Global, image: &mut ImageHandle) {
     assert_holds(rt, 2, offset == 9 && count == 9 && target.kind == 9);
 }
 
-/// What the name and the ordinal export, and what no other does.
+/// Asserts what the name and the ordinal export, and that no other exports anything.
 fn assert_look_ups(rt: &impl Abort, alloc: Global, image: &mut ImageHandle) {
     let mut target = NO_TARGET;
     let status = petool_image_export_by_name(alloc, image, b"h", &mut target);
@@ -77,7 +77,7 @@ fn assert_look_ups(rt: &impl Abort, alloc: Global, image: &mut ImageHandle) {
     );
 }
 
-/// The tables, in one row and in none.
+/// Asserts the tables, copied into one row and into none.
 fn assert_tables(rt: &impl Abort, alloc: Global, image: &mut ImageHandle) {
     let (mut rows, mut count) = ([NO_EXPORT], 9);
     let status = petool_image_exports(alloc, image, &mut [], &mut count);
@@ -93,7 +93,7 @@ fn assert_tables(rt: &impl Abort, alloc: Global, image: &mut ImageHandle) {
     assert_holds(rt, 24, status == 0 && count == 0);
 }
 
-/// What is at an RVA: in the headers, behind them, and past the image.
+/// Asserts what is at RVAs in the headers, after them, and past the image.
 fn assert_bytes(rt: &impl Abort, alloc: Global, image: &mut ImageHandle) {
     let (mut buffer, mut offset) = ([9; 2], 9);
     let mut text = TextRecord { bytes: b"?" };

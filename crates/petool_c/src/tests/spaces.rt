@@ -13,7 +13,7 @@ use pe_vectors::members::{A, B, C, Member, files_of};
 use std::alloc::Global;
 use std::process::Abort;
 
-/// What no call tells.
+/// A binding that no call reports.
 const NO_BINDING: BindingRow = BindingRow {
     image: 9,
     slot: 9,
@@ -30,7 +30,7 @@ fn entry<'a>(member: &Member, file: &'a [u8]) -> EntryRecord<'a> {
     }
 }
 
-/// One of these files; of none where it is missing.
+/// One of these files, or no bytes if it is missing.
 fn file_at(files: &[Vec<u8>], index: usize) -> &[u8] {
     match files.get(index) {
         Some(file) => file,
@@ -47,12 +47,12 @@ fn set_over(files: &[Vec<u8>]) -> [EntryRecord<'_>; 3] {
     ]
 }
 
-/// Whether a binding is that of the slot of C to ordinal 7 of B.
+/// Whether a binding is that of C's slot to ordinal 7 of B.
 fn is_bound(binding: &BindingRow) -> bool {
     (binding.image, binding.slot) == (2, 0x1030) && (binding.exporter, binding.rva) == (1, 0x1010)
 }
 
-/// Asserts what is told of the set, and of the set without A.
+/// Asserts the results for the set, and for the set without A.
 fn assert_judged(rt: &impl Abort, alloc: Global, set: &[EntryRecord; 3]) {
     let mut few: [BindingRow; 0] = [];
     let mut rows = [NO_BINDING; 2];
@@ -105,7 +105,7 @@ fn a_set_is_judged(rt: HostRuntime) {
     assert_judged(&rt, rt.alloc(), &set);
 }
 
-/// Asserts that four bytes stand at an address.
+/// Asserts the four bytes at an address.
 fn assert_bytes(rt: &impl Abort, alloc: Global, space: &mut Handle, address: u64, bytes: [u8; 4]) {
     let mut found = [0x5a; 4];
     let mut fault = UNTOLD;
@@ -148,7 +148,7 @@ fn assert_closed(rt: &impl Abort, alloc: Global, space: &mut Handle) {
     assert_holds(rt, 26, moved.fields == 9 && told(&fault) == told(&UNTOLD));
 }
 
-/// Asserts what is told of the images of the open space, and of its bindings.
+/// Asserts what is reported of the images of the open space, and of its bindings.
 fn assert_told(rt: &impl Abort, alloc: Global, space: &mut Handle) {
     let mut few: [BindingRow; 0] = [];
     let mut rows = [NO_BINDING; 2];

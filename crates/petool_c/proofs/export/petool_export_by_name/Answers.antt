@@ -1,4 +1,4 @@
--- What is told is what the image's exports say.
+-- The reported target is that of the image's exports.
 use Rattle.std.proofs.Common.{ap, subst, Err, Option, ◌∙◌}
 use Rattle.pe_tables.specs.Exports.{target_at}
 use Rattle.pe_tables.specs.Key.{Target, Name}

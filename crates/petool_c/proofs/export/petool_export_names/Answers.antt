@@ -1,4 +1,4 @@
--- The rows tell of the table that the image has.
+-- The rows are those of the image's table.
 use Rattle.std.proofs.Common.{ap, Err, ◌∙◌}
 use Rattle.pe_tables.specs.NameIndex.{export_view}
 use Rattle.pe_records_c.specs.ExportRows.{export_text, export_by_name}

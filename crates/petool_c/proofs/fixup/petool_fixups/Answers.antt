@@ -1,4 +1,4 @@
--- The rows tell of the table that the image has.
+-- The rows are those of the image's table.
 use Rattle.std.proofs.Common.{ap, Err, ◌∙◌}
 use Rattle.std.proofs.lemmas.List.{map-id}
 use Rattle.pe_records_c.specs.FixupRows.{fixup_row}

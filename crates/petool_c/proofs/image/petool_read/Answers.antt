@@ -1,4 +1,4 @@
--- What `petool_read` leaves: the filled bytes are those of the file's image.
+-- The filled bytes are those of the file's image.
 use Rattle.std.proofs.Common.{◌≡◌, ◌+◌, ◌≤◌, length, subst}
 use Rattle.pe_layout.specs.Image.{LaidOut, bytes_at}
 use Rattle.pe_records_c.proofs.Telling.{fault_told, none_refused}

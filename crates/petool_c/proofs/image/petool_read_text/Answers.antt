@@ -1,4 +1,4 @@
--- What `petool_read_text` answers: the text of the layout is that of the file's image.
+-- The string of the layout is that of the file's image.
 use Rattle.std.proofs.Common.{◌≡◌, None, Some, subst, sym}
 use Rattle.pe_layout.specs.Image.{LaidOut}
 use Rattle.pe_records_c.proofs.Telling.{fault_told, none_refused}

@@ -1,4 +1,4 @@
--- The rows tell of the table that the image has.
+-- The rows are those of the image's table.
 use Rattle.std.proofs.Common.{ap, Err, ◌∙◌}
 use Rattle.std.specs.Prelude.{map}
 use Rattle.pe_tables.specs.ImportView.{import_view}

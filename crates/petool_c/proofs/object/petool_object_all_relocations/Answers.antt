@@ -1,4 +1,4 @@
--- The rows tell of the relocations of the file's object, behind the skipped ones.
+-- The rows are those of the relocations of the file's object, after the skipped ones.
 use Rattle.std.proofs.Common.{List, ℕ, drop, subst}
 use Rattle.pe_records_c.specs.ObjectRows.{relocation_row, relocations_of}
 use Rattle.pe_records_c.specs.Rows.{TellsTable}

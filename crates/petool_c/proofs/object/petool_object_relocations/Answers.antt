@@ -1,4 +1,4 @@
--- What is told of the section is told of the file's object, and is no fault.
+-- What is reported of the section holds for the file's object, and its status is not that of a fault.
 use Rattle.std.proofs.Common.{List, ℕ, subst}
 use Rattle.std.specs.Prelude.{slice_get}
 use Rattle.coff_read.specs.Reading.{object_of}

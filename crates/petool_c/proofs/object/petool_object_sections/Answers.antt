@@ -1,4 +1,4 @@
--- The rows tell of the sections of the file's object.
+-- The rows are those of the sections of the file's object.
 use Rattle.std.proofs.Common.{List, ℕ, subst}
 use Rattle.coff_read.specs.Reading.{object_of}
 use Rattle.pe_records_c.specs.ObjectRows.{section_text, section_row}

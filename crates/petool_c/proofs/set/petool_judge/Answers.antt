@@ -1,4 +1,4 @@
--- The rows tell of the set's bindings, or its first error is told.
+-- The rows are those of the set's bindings, or its first error is reported.
 use Rattle.std.proofs.Common.{◌∙◌}
 use Rattle.std.proofs.lemmas.List.{map-id}
 use Rattle.pe_records_c.specs.SetRows.{binding_row}

@@ -1,4 +1,4 @@
--- No error, or the first one, which is told.
+-- No error, or the first one, which is reported.
 use Rattle.pe_records_c.proofs.Judging.{error_told, none_judged}
 use Rattle.petool_c.proofs.space.petool_space_map.Goals as goal
 

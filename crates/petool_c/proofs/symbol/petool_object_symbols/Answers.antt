@@ -1,4 +1,4 @@
--- The rows tell of the symbols of the file's object.
+-- The rows are those of the symbols of the file's object.
 use Rattle.std.proofs.Common.{List, ℕ, subst}
 use Rattle.pe_records_c.specs.SymbolRows.{symbol_row, symbol_text, symbols_of}
 use Rattle.pe_records_c.specs.Rows.{TellsTable}

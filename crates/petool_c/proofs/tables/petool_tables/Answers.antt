@@ -1,4 +1,4 @@
--- The rows tell of the tables of the file's image, or a refusal is told.
+-- The rows are those of the tables of the file's image, or a refusal is reported.
 use Rattle.std.proofs.Common.{◌∙◌, Err, length, ap}
 use Rattle.std.specs.Prelude.{map}
 use Rattle.pe_records_c.specs.ExportRows.{export_text, export_by_ordinal, export_by_name}
