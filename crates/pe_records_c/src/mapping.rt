@@ -12,7 +12,7 @@ use pe_set::{MapError, Policy};
 use pe_space::{MappedSpace, map};
 use std::alloc::Global;
 
-/// Maps the images of the first 257 entries.
+/// Maps the images of the first 257 entries, which decide the result.
 fn map_counted(
     alloc: Global,
     rows: &[EntryRecord],

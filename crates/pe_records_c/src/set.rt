@@ -66,7 +66,7 @@ impl<'a> Row<EntryRecord<'a>> for SetEntry<'a> {
     }
 }
 
-/// How many entries of a set are read: the last one has fault 41, since a set has at most 256.
+/// How many entries of a set are read at most: the last one has fault 41, since a set has at most 256.
 pub(crate) const COUNTED: usize = 257;
 
 /// A placeholder, which is overwritten.
