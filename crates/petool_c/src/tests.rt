@@ -5,7 +5,6 @@
 
 mod images;
 mod objects;
-mod opened;
 mod spaces;
 
 use pe_records_c::fault::FaultRecord;

@@ -24,20 +24,20 @@ use std::alloc::Global;
 use std::process::Abort;
 
 /// A target that no call reports.
-pub(super) const NO_TARGET: TargetRecord<'static> = TargetRecord {
+const NO_TARGET: TargetRecord<'static> = TargetRecord {
     kind: 9,
     value: 9,
     module: b"?",
     name: b"?",
 };
 
-pub(super) const NO_EXPORT: ExportRow<'static> = ExportRow {
+const NO_EXPORT: ExportRow<'static> = ExportRow {
     ordinal: 9,
     name: b"?",
     target: NO_TARGET,
 };
 
-pub(super) const NO_IMPORT: ImportRow<'static> = ImportRow {
+const NO_IMPORT: ImportRow<'static> = ImportRow {
     module: b"?",
     name: b"?",
     slot: 9,
@@ -45,7 +45,7 @@ pub(super) const NO_IMPORT: ImportRow<'static> = ImportRow {
     by_ordinal: false,
 };
 
-pub(super) const NO_FIXUP: FixupRow = FixupRow {
+const NO_FIXUP: FixupRow = FixupRow {
     entry: 9,
     field: 9,
     kind: 9,
