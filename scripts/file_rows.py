@@ -1,14 +1,17 @@
 #!/usr/bin/env python3
-"""Writes docs/FILES.md, a row for each source, the crates in docs/MAP.md and the laws in docs/PROVED.md: file_rows.py [--check]
+"""Writes docs/FILES.md, a row for each folder of sources, the crates in docs/MAP.md and the laws in docs/PROVED.md.
 
-A row has the comment that the file begins with, and the names that it declares for other files. That of a crate has what its first
-page says, and what it names in crates.txt; a law has its comment. With --check nothing is written: each file is compared with its
-row, and the three pages with what is written; the last line is 'N passed, M failed', and the status is 1 where something differs.
+file_rows.py [--check | --whole]. A row has the names of the folder's files. That of a crate has what its first page says, and what
+it names in crates.txt; a law has its comment. With --whole nothing is written, and a row is printed for each source, with the
+comment that it begins with and the names that it declares for other files. With --check nothing is written: each source has to
+begin with such a comment, and the three pages are compared with what is written; the last line is 'N passed, M failed', and the
+status is 1 where something is wrong.
 """
 
 import ast
 import pathlib
 import re
+import signal
 import sys
 
 sys.dont_write_bytecode = True
@@ -36,7 +39,9 @@ OWN = re.compile(r"^pub\(\w+\) (?:fn|struct|enum|trait|type|const|static) (\w+)"
 WITHOUT_ROW = {"lib.rt", "main.rt", "Lib.antt"}
 HEAD = """# Files
 
-Each source of the crates, the bindings and the scripts, with the comment that it begins with. `scripts/file_rows.py` writes this page. Each crate comes after those that it uses. The sentence below its name is the first of its `lib.rt` or `main.rt`; its `specs/Lib.antt` lists the modules of definitions, and those that it hands on. Names in parentheses are for the crate's own use. [MAP.md](MAP.md) says how the files work together.
+The folders of the crates, the bindings and the scripts, with the sources in each. Each crate comes after those that it uses; the sentence below its name is the first of its `lib.rt` or `main.rt`. [MAP.md](MAP.md) says what each folder of a crate holds, and how the files work together.
+
+Each source begins with a comment that says what it holds: `scripts/file_rows.py --whole` prints a row for each, with this comment and the names that the source declares, those for the crate's own use in parentheses. `scripts/file_rows.py` writes this page.
 """
 
 
@@ -66,33 +71,46 @@ def names_of(path):
 
 
 def row(path):
-    """The row of a file, in which a path is shown as it is below its folder."""
-    parts = path.relative_to(TOP).parts
-    shown = "/".join(parts[2:] if parts[0] == "crates" else parts[1:])
-    cells = [f"[{shown}](../{'/'.join(parts)})", first_paragraph(path), *([names_of(path)] if path.suffix in PUBLIC else [])]
-    return f"| {' | '.join(cells)} |"
+    """The row of a source: its path, its first comment and its names."""
+    names = names_of(path) if path.suffix in PUBLIC else ""
+    return f"| {path.relative_to(TOP)} | {first_paragraph(path)} | {names} |"
+
+
+def by_folder(paths):
+    """Files in order, those of a folder before those of the folders in it."""
+    return sorted(paths, key=lambda path: (path.parent, path.name))
 
 
 def files_of(crate):
     """The sources of a crate, and then its definitions."""
     folder = TOP / "crates" / crate
-    found = [*sorted((folder / "src").rglob("*.rt")), *sorted((folder / "specs").rglob("*.antt"))]
+    found = [*by_folder((folder / "src").rglob("*.rt")), *by_folder((folder / "specs").rglob("*.antt"))]
     return [path for path in found if path.name not in WITHOUT_ROW]
 
 
-def lemma_row(crate):
-    """The row that tells of a crate's lemmas, if it has any."""
-    modules = [path for path in sorted((TOP / "crates" / crate / "proofs").glob("*.antt")) if path.name not in WITHOUT_ROW]
-    told = " ".join(f"{path.stem}: {first_paragraph(path)}" for path in modules)
-    return [f"| [proofs](../crates/{crate}/proofs) | Modules of lemmas: {len(modules)}. {told} | |"] if modules else []
+def lemmas_of(crate):
+    """The modules of lemmas of a crate."""
+    return [path for path in sorted((TOP / "crates" / crate / "proofs").glob("*.antt")) if path.name not in WITHOUT_ROW]
 
 
-def edit_row(crate):
-    """The row that names the wrong bodies of a crate, if it has any."""
-    edits = sorted(path.stem for path in (TOP / "crates" / crate / "must-fail").glob("*.edit"))
-    told = ", ".join(f"`{it}`" for it in edits)
-    text = f"| [must-fail](../crates/{crate}/must-fail) | Wrong bodies that the prover refuses: {len(edits)}. | {told} |"
-    return [text] if edits else []
+def edits_of(crate):
+    """The wrong bodies of a crate."""
+    return sorted((TOP / "crates" / crate / "must-fail").glob("*.edit"))
+
+
+def folder_rows(paths):
+    """A row for each folder of these files, with their names."""
+    names = {}
+    for path in paths:
+        names.setdefault(path.parent.relative_to(TOP), []).append(f"`{path.name}`")
+    for folder, told in names.items():
+        shown = pathlib.PurePath(*folder.parts[2:]) if folder.parts[0] == "crates" else folder
+        yield f"| [{shown}](../{folder}) | {', '.join(told)} |"
+
+
+def count_row(crate, folder, files, what):
+    """The row that says how many files a folder of a crate has, if it has any."""
+    return [f"| [{folder}](../crates/{crate}/{folder}) | {what}: {len(files)} |"] if files else []
 
 
 def crates():
@@ -103,13 +121,14 @@ def crates():
 
 def others(folder):
     """The sources of a folder beside the crates."""
-    found = [path for path in sorted((TOP / folder).rglob("*")) if path.suffix in ENDINGS]
+    found = [path for path in by_folder((TOP / folder).rglob("*")) if path.suffix in ENDINGS]
     return [path for path in found if not MADE.intersection(path.relative_to(TOP).parts)]
 
 
-def files():
-    """Each file that has a row."""
-    return [path for found in [*map(files_of, crates()), *map(others, OTHERS)] for path in found]
+def sources():
+    """Each source that has to say what it holds."""
+    of_crates = [path for crate in crates() for path in [*files_of(crate), *lemmas_of(crate)]]
+    return [*of_crates, *(path for folder in OTHERS for path in others(folder))]
 
 
 def purpose(crate):
@@ -152,15 +171,19 @@ def filled(path, name, lines):
 
 
 def crate_part(crate):
-    """The heading of a crate, the first paragraph of its page, and its rows."""
+    """The heading of a crate, the first paragraph of its page, and a row for each of its folders."""
     yield from ("", f"## {crate}", "", purpose(crate))
-    rows = [*map(row, files_of(crate)), *lemma_row(crate), *edit_row(crate)]
+    rows = [
+        *folder_rows(files_of(crate)),
+        *count_row(crate, "proofs", lemmas_of(crate), "modules of lemmas"),
+        *count_row(crate, "must-fail", edits_of(crate), "wrong bodies that the prover refuses"),
+    ]
     if rows:
-        yield from ("", "| File | What it holds | Names |", "|---|---|---|", *rows)
+        yield from ("", "| Folder | Files |", "|---|---|", *rows)
 
 
 def other_part(folder):
-    yield from ("", f"## {folder}/", "", "| File | What it holds or does |", "|---|---|", *map(row, others(folder)))
+    yield from ("", f"## {folder}/", "", "| Folder | Files |", "|---|---|", *folder_rows(others(folder)))
 
 
 def page():
@@ -168,12 +191,11 @@ def page():
     return HEAD + "".join(f"{line}\n" for part in parts for line in part)
 
 
-def difference(path, lines):
-    """What differs between a file and its row among these lines of the page, or nothing."""
-    try:
-        return "" if row(path) in lines else f"{path.relative_to(TOP)}: {PAGE} has another row, or none"
-    except LookupError as error:
-        return str(error)
+def whole():
+    """The row of each source, and of each wrong body."""
+    yield from map(row, sources())
+    for path in [path for crate in crates() for path in edits_of(crate)]:
+        yield f"| {path.relative_to(TOP)} | A wrong body that the prover refuses. | |"
 
 
 #: What is written of each page.
@@ -184,7 +206,16 @@ PAGES = {
 }
 
 
-def whole_difference(path):
+def comment_fault(path):
+    """What is wrong with the comment that a source begins with, or nothing."""
+    try:
+        first_paragraph(path)
+    except LookupError as error:
+        return str(error)
+    return ""
+
+
+def page_fault(path):
     """What differs between a page and what is written of the files, or nothing."""
     try:
         return "" if PAGES[path]() == (TOP / path).read_text() else f"{path}: it is not what scripts/file_rows.py writes"
@@ -192,18 +223,29 @@ def whole_difference(path):
         return f"{path}: it cannot be written: {error}"
 
 
-def main(words):
-    if words != ["--check"]:
-        for path, write in PAGES.items():
-            (TOP / path).write_text(write())
-        return 0
-    lines = set((TOP / PAGE).read_text().splitlines())
-    found = [*(difference(path, lines) for path in files()), *map(whole_difference, PAGES)]
+def check():
+    found = [*map(comment_fault, sources()), *map(page_fault, PAGES)]
     for sentence in filter(None, found):
         print(sentence)
     failed = sum(map(bool, found))
     print(f"{len(found) - failed} passed, {failed} failed")
     return 0 if failed == 0 else 1
+
+
+def main(words):
+    if words == ["--check"]:
+        return check()
+    if words == ["--whole"]:
+        # a reader such as `head` may end before the rows do
+        signal.signal(signal.SIGPIPE, signal.SIG_DFL)
+        print(*whole(), sep="\n")
+        return 0
+    if words:
+        print("usage: file_rows.py [--check | --whole]", file=sys.stderr)
+        return 2
+    for path, write in PAGES.items():
+        (TOP / path).write_text(write())
+    return 0
 
 
 if __name__ == "__main__":

@@ -14,10 +14,11 @@ FILES = {
     "docs/PROVED.md": "# Proved\n\n<!-- from the laws of the crates -->\n<!-- end of the laws of the crates -->\n",
     "crates/low/src/laws.rt": "//! Laws.\n\n/// Bytes\n/// last.\npub fn bytes_last()\n{}\n",
     "crates/low/src/lib.rt": "//! Bytes of\n//! a file.\n//!\n//! More.\n\nmod view;\npub use view::View;\n",
+    "crates/low/src/view/first.rt": "//! The first byte.\n",
     "crates/low/src/view.rt": "//! [`View`]: one|another.\n\npub struct View {}\n\npub(crate) fn inside() {}\n\nfn own() {}\n",
     "crates/low/specs/Lib.antt": "pub mod View\n",
     "crates/low/specs/View.antt": "-- What a view\n-- shows.\nuse X\n\nabbrev pub bytes : N\n\n-- whether it is there\npub record IsHere : T where\n",
-    "crates/low/proofs/Lemmas.antt": "-- Lemmas on views.\n",
+    "crates/low/proofs/Lemmas.antt": "-- Lemmas on views.\n\npub view-ends : X\n",
     "crates/low/proofs/view/Answers.antt": "",
     "crates/low/must-fail/bytes_go_last.edit": "",
     "crates/low/must-fail/a_byte_is_lost.edit": "",
@@ -29,14 +30,38 @@ FILES = {
 }
 VIEW, SPEC, LEMMAS = "crates/low/src/view.rt", "crates/low/specs/View.antt", "crates/low/proofs/Lemmas.antt"
 ROWS = [
-    r"| [src/view.rt](../crates/low/src/view.rt) | `View`: one\|another. | `View` (`inside`) |",
-    "| [specs/View.antt](../crates/low/specs/View.antt) | What a view shows. | `bytes`, `IsHere` |",
-    "| [proofs](../crates/low/proofs) | Modules of lemmas: 1. Lemmas: Lemmas on views. | |",
-    "| [must-fail](../crates/low/must-fail) | Wrong bodies that the prover refuses: 2. | `a_byte_is_lost`, `bytes_go_last` |",
-    "| [rust/src/lib.rs](../bindings/rust/src/lib.rs) | All calls. |",
-    "| [c/calls.c](../bindings/c/calls.c) | Each call. |",
-    "| [c/calls.h](../bindings/c/calls.h) | What is shared. |",
+    "| crates/low/src/view.rt | `View`: one\\|another. | `View` (`inside`) |",
+    "| crates/low/specs/View.antt | What a view shows. | `bytes`, `IsHere` |",
+    "| crates/low/proofs/Lemmas.antt | Lemmas on views. | `view-ends` |",
+    "| crates/low/must-fail/a_byte_is_lost.edit | A wrong body that the prover refuses. | |",
+    "| bindings/rust/src/lib.rs | All calls. |  |",
+    "| bindings/c/calls.c | Each call. |  |",
+    "| bindings/c/calls.h | What is shared. |  |",
 ]
+FOLDERS = """
+## low
+
+Bytes of a file.
+
+| Folder | Files |
+|---|---|
+| [src](../crates/low/src) | `laws.rt`, `view.rt` |
+| [src/view](../crates/low/src/view) | `first.rt` |
+| [specs](../crates/low/specs) | `View.antt` |
+| [proofs](../crates/low/proofs) | modules of lemmas: 1 |
+| [must-fail](../crates/low/must-fail) | wrong bodies that the prover refuses: 2 |
+
+## high
+
+The program.
+
+## bindings/
+
+| Folder | Files |
+|---|---|
+| [bindings/c](../bindings/c) | `calls.c`, `calls.h` |
+| [bindings/rust/src](../bindings/rust/src) | `lib.rs` |
+"""
 CRATES = """<!-- from crates.txt -->
 | Crate | What it is for | Uses | Ported crates |
 |---|---|---|---|
@@ -57,17 +82,16 @@ MAP = "docs/MAP.md: it is not what scripts/file_rows.py writes"
 PROVED = "docs/PROVED.md: it is not what scripts/file_rows.py writes"
 #: What is changed: the file, its new text, or none where it is taken away, and what is then said.
 CHANGES = [
-    (VIEW, "//! Other bytes.\n\npub struct View {}\n", f"{VIEW}: docs/FILES.md has another row, or none"),
-    (VIEW, FILES[VIEW].replace("fn own", "pub fn own"), f"{VIEW}: docs/FILES.md has another row, or none"),
     (VIEW, "pub struct View {}\n", f"{VIEW}: no first line says what the file holds"),
     (SPEC, "use X\n", f"{SPEC}: no first line says what the file holds"),
-    (LEMMAS, "use X\n", f"docs/FILES.md: it cannot be written: {LEMMAS}: no first line"),
-    ("crates/low/src/more.rt", "//! More.\n", "crates/low/src/more.rt: docs/FILES.md has another row, or none"),
-    ("crates/low/specs/More.antt", "-- More.\n", "crates/low/specs/More.antt: docs/FILES.md has another row, or none"),
-    ("scripts/more.py", '"""More."""\n', "scripts/more.py: docs/FILES.md has another row, or none"),
+    (LEMMAS, "use X\n", f"{LEMMAS}: no first line says what the file holds"),
+    ("crates/low/src/more.rt", "//! More.\n", WHOLE),
+    ("crates/low/specs/More.antt", "-- More.\n", WHOLE),
+    ("scripts/more.py", '"""More."""\n', WHOLE),
     ("scripts/more.py", "import sys\n", "scripts/more.py: no first line says what the file holds"),
     ("bindings/c/calls.c", "int x;\n", "bindings/c/calls.c: no first line says what the file holds"),
-    ("bindings/rust/src/lib.rs", "//! No call.\n", "bindings/rust/src/lib.rs: docs/FILES.md has another row, or none"),
+    ("bindings/rust/src/more.rs", "//! No call.\n", WHOLE),
+    ("crates/low/proofs/More.antt", "-- More.\n", WHOLE),
     (VIEW, None, WHOLE),
     ("crates/low/must-fail/bytes_go_last.edit", None, WHOLE),
     ("crates/low/must-fail/bytes_go_first.edit", "", WHOLE),
@@ -100,26 +124,34 @@ class Rows(unittest.TestCase):
         (self.top / path).write_text(text)
 
     def run_script(self, *words):
-        ran = subprocess.run([sys.executable, self.top / "scripts/file_rows.py", *words], stdout=subprocess.PIPE, text=True)
+        command = [sys.executable, self.top / "scripts/file_rows.py", *words]
+        ran = subprocess.run(command, stdout=subprocess.PIPE, stderr=subprocess.STDOUT, text=True)
         return ran.returncode, ran.stdout
 
     def page(self):
         return (self.top / "docs/FILES.md").read_text()
 
+    def test_folders_have_the_names_of_their_files(self):
+        self.assertIn(FOLDERS, self.page())
+
     def test_rows_have_first_comments_and_names(self):
+        before = self.page()
+        status, output = self.run_script("--whole")
+        self.assertEqual((status, self.page()), (0, before))
         for row in ROWS:
-            self.assertIn(f"\n{row}\n", self.page())
+            self.assertIn(row, output.splitlines())
 
     def test_pages_have_the_crates_and_the_laws(self):
         self.assertEqual((self.top / "docs/MAP.md").read_text(), f"# Map\n\n{CRATES}More.\n")
         self.assertEqual((self.top / "docs/PROVED.md").read_text(), f"# Proved\n\n{LAWS}")
 
-    def test_crates_stand_behind_those_that_they_use(self):
-        self.assertIn("\n## low\n\nBytes of a file.\n", self.page())
-        self.assertLess(self.page().index("## low"), self.page().index("## high"))
+    def test_another_word_writes_nothing(self):
+        (self.top / "docs/FILES.md").write_text("old\n")
+        status, output = self.run_script("--rows")
+        self.assertEqual((status, output[:6], self.page()), (2, "usage:", "old\n"))
 
     def test_a_page_that_was_just_written_passes(self):
-        self.assertEqual(self.run_script("--check"), (0, "11 passed, 0 failed\n"))
+        self.assertEqual(self.run_script("--check"), (0, "13 passed, 0 failed\n"))
 
     def test_each_difference_is_said(self):
         for path, text, said in CHANGES:
@@ -134,9 +166,9 @@ class Rows(unittest.TestCase):
         self.assertEqual(self.run_script("--check")[0], 0)
 
     def test_a_row_too_many_is_said(self):
-        (self.top / "docs/FILES.md").write_text(self.page() + "| [src/gone.rt](../crates/low/src/gone.rt) | Gone. | |\n")
+        (self.top / "docs/FILES.md").write_text(self.page() + "| [gone](../gone) | `gone.py` |\n")
         status, output = self.run_script("--check")
-        self.assertEqual((status, output), (1, f"{WHOLE}\n10 passed, 1 failed\n"))
+        self.assertEqual((status, output), (1, f"{WHOLE}\n12 passed, 1 failed\n"))
 
 
 if __name__ == "__main__":
