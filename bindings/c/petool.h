@@ -171,7 +171,7 @@ typedef struct petool_export {
 
 typedef struct petool_import {
     petool_text module, name; /* name is empty for an import by ordinal */
-    uint32_t slot;            /* the RVA of its import address table entry (slot) */
+    uint32_t slot;            /* the RVA of its slot */
     uint16_t ordinal;         /* the ordinal of an import by ordinal; otherwise 0 */
     bool by_ordinal;
 } petool_import;

@@ -250,7 +250,7 @@ pub struct Import {
     pub module: Text,
     /// The name; empty for an import by ordinal.
     pub name: Text,
-    /// The RVA of its import address table entry (slot).
+    /// The RVA of its slot.
     pub slot: u32,
     /// The ordinal of an import by ordinal; otherwise 0.
     pub ordinal: u16,
