@@ -10,7 +10,7 @@ RESULTS = {"u32": "uint32_t", "int": "int", "nothing": "void"}
 
 LAYOUT = """\
 /* Compiles only where the records of petool.h are laid out as the library has them, on a machine of 64 bits.
- * scripts/describe.py writes this file. */
+ * describe/describe.py writes this file. */
 #include "petool.h"
 
 #ifdef __cplusplus

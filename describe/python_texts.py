@@ -10,7 +10,7 @@ NUMBERS = {"bool": "c_bool", "char": "c_char", "int": "c_int", "usize": "c_size_
 LETTERS = {"u8": "B", "u16": "H", "u32": "I", "u64": "Q", "bool": "?", "text": "PN"}
 
 HEAD = '''\
-"""The records and calls of the shared library, as petool.h declares them. scripts/describe.py writes this module."""
+"""The records and calls of the shared library, as petool.h declares them. describe/describe.py writes this module."""
 
 from ctypes import POINTER, Structure, c_bool, c_char, c_int, c_size_t, c_uint8, c_uint16, c_uint32, c_uint64, c_void_p
 from typing import Any, Dict, List, Tuple

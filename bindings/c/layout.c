@@ -1,5 +1,5 @@
 /* Compiles only where the records of petool.h are laid out as the library has them, on a machine of 64 bits.
- * scripts/describe.py writes this file. */
+ * describe/describe.py writes this file. */
 #include "petool.h"
 
 #ifdef __cplusplus

@@ -21,7 +21,7 @@ class Test(unittest.TestCase):
 # the part in C leaves out what a variable says
 MAKEFILE = "test:\n\t@[ -z \"$$LACKS\" ] || echo \"each: left out without $$LACKS\"; echo '1 passed, 0 failed'\n"
 SCRIPTS = (
-    "scripts/describe.py", "describe/changed_copies.py", "scripts/crates_svg.py", "scripts/file_rows.py", "scripts/docs_check.py",
+    "describe/describe.py", "scripts/crates_svg.py", "scripts/file_rows.py", "scripts/docs_check.py",
     "bindings/examples", "program",
 )
 
@@ -71,11 +71,11 @@ class LeftOut(unittest.TestCase):
 
     def test_where_nothing_is_missing_all_is_run(self):
         status, said = self.run_test()
-        self.assertEqual((status, said.splitlines()[-1], "left out" in said), (0, "13 passed, 0 failed", False), said)
+        self.assertEqual((status, said.splitlines()[-1], "left out" in said), (0, "12 passed, 0 failed", False), said)
 
     def test_what_may_be_missing_is_run_where_it_is_there(self):
         status, said = self.run_test("--without", "cargo", "--without", "program")
-        self.assertEqual((status, said.splitlines()[-1]), (0, "13 passed, 0 failed"), said)
+        self.assertEqual((status, said.splitlines()[-1]), (0, "12 passed, 0 failed"), said)
 
     def test_a_program_that_is_not_there(self):
         line = "what compares with the program: left out without program: there is no /none"
@@ -96,13 +96,13 @@ class LeftOut(unittest.TestCase):
         for lack in ("bash", "mypy"):
             with self.subTest(lack=lack):
                 status, said = self.run_test(SKIPS=f"left out without {lack}")
-                self.assertEqual((status, said.splitlines()[-1]), (1, "11 passed, 2 failed"), said)
+                self.assertEqual((status, said.splitlines()[-1]), (1, "10 passed, 2 failed"), said)
                 status, said = self.run_test("--without", lack, SKIPS=f"left out without {lack}")
                 self.assertEqual((status, said.count(f"skipped 'left out without {lack}'")), (0, 2), said)
 
     def test_a_test_in_python_that_is_skipped_for_another_reason(self):
         status, said = self.run_test(SKIPS="it is slow")
-        self.assertEqual((status, said.splitlines()[-1]), (1, "11 passed, 2 failed"), said)
+        self.assertEqual((status, said.splitlines()[-1]), (1, "10 passed, 2 failed"), said)
 
     def test_python_is_wanted(self):
         (self.tools / "python3").unlink()

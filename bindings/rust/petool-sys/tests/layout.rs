@@ -1,5 +1,5 @@
 //! Each record has the size and the places of fields that the library's have, on a machine of 64 bits; `layout.c`
-//! beside the header has the same numbers. scripts/describe.py writes this file.
+//! beside the header has the same numbers. describe/describe.py writes this file.
 
 #![cfg(target_pointer_width = "64")]
 

@@ -11,7 +11,6 @@ import sys
 
 TOP = pathlib.Path(__file__).resolve().parents[1]
 sys.dont_write_bytecode = True
-sys.path.insert(0, str(TOP / "describe"))
 
 import c_texts
 import fault_texts

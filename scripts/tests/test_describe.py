@@ -1,16 +1,13 @@
-#!/usr/bin/env python3
-"""Tests that scripts/describe.py --check finds each kind of difference: a file is changed in a copy, and has to be named.
-
-The last line is 'N passed, M failed'.
-"""
+"""Tests that describe/describe.py --check finds each kind of difference: a file is changed in a copy, and has to be named."""
 
 import pathlib
 import shutil
 import subprocess
 import sys
 import tempfile
+import unittest
 
-TOP = pathlib.Path(__file__).resolve().parents[1]
+TOP = pathlib.Path(__file__).resolve().parents[2]
 CRATES = ("pe_records_c", "pe_handle", "pe_opened", "petool_c", "pe_json")
 #: The crates that ask faults or have a table of them.
 FAULT_CRATES = (
@@ -38,7 +35,6 @@ COPIED = [
     "docs/JSON.md",
     "man/petool.h.3",
     "packaging/debian/libpetool0.symbols",
-    "scripts/describe.py",
     *(f"crates/{crate}/src" for crate in CRATES + FAULT_CRATES),
 ]
 
@@ -171,81 +167,80 @@ def copy_to(folder):
             shutil.copy(TOP / path, target)
 
 
-def check(folder):
-    """The status of the check, and what it says."""
-    words = [sys.executable, str(folder / "scripts/describe.py"), "--check"]
-    found = subprocess.run(words, capture_output=True, text=True)
-    return found.returncode, found.stdout + found.stderr
+class Describe(unittest.TestCase):
+    @classmethod
+    def setUpClass(cls):
+        cls.top = pathlib.Path(tempfile.mkdtemp())
+        cls.addClassCleanup(shutil.rmtree, cls.top)
+        copy_to(cls.top)
 
+    def run_script(self, *words):
+        """The status, and what is said."""
+        # from another folder than that of the copy
+        run = subprocess.run([sys.executable, self.top / "describe/describe.py", *words], capture_output=True, cwd="/", text=True)
+        return run.returncode, run.stdout + run.stderr
 
-def names_change(folder, path, old, new, named):
-    """Whether the check ends with status 1 and names what it should, once one place of a file is changed."""
-    file = folder / path
-    text = file.read_text()
-    if old not in text:
-        print(f"{path}: {old!r} does not stand there")
-        return False
-    file.write_text(text.replace(old, new, 1))
-    status, said = check(folder)
-    file.write_text(text)
-    if status == 1 and named in said and "Traceback" not in said:
-        return True
-    print(f"{path}: {old!r} as {new!r}: status {status}, {said!r}")
-    return False
+    def changed(self, path, old, new):
+        """Changes one place of a file until the test ends, and returns the file."""
+        file = self.top / path
+        text = file.read_bytes()
+        self.assertIn(old.encode(), text, path)
+        file.write_bytes(text.replace(old.encode(), new.encode(), 1))
+        self.addCleanup(file.write_bytes, text)
+        return file
 
+    def assert_refused(self, named):
+        status, said = self.run_script("--check")
+        self.assertEqual((status, named in said, "Traceback" in said), (1, True, False), said)
+        self.assertRegex(said, r"\n\d+ passed, [1-9]\d* failed\n\Z")
 
-def writes_back(folder, path, old, new):
-    """Whether a file in which one place is changed is written as it was."""
-    file = folder / path
-    text = file.read_bytes()
-    file.write_bytes(text.replace(old.encode(), new.encode(), 1))
-    words = [sys.executable, str(folder / "scripts/describe.py")]
-    said = subprocess.run(words, capture_output=True, text=True).stdout
-    written = file.read_bytes()
-    file.write_bytes(text)
-    if said == f"{path}: written\n" and written == text:
-        return True
-    print(f"{path}: {old!r} as {new!r} is not written back: {said!r}")
-    return False
+    def assert_named(self, path, old, new, named):
+        """That the check names what it should, once one place of a file is changed."""
+        with self.subTest(path=path, old=old, new=new):
+            self.changed(path, old, new)
+            self.assert_refused(named)
+        self.doCleanups()
 
+    def test_the_repository_agrees(self):
+        status, said = self.run_script("--check")
+        self.assertEqual(status, 0, said)
+        self.assertRegex(said, r"\A\d+ passed, 0 failed\n\Z")
 
-def names_empty(folder, crate):
-    """Whether the check fails where the sources of a crate are not found."""
-    source = folder / "crates" / crate / "src"
-    source.rename(source.with_name("moved"))
-    status, said = check(folder)
-    source.with_name("moved").rename(source)
-    if status == 1 and "crates" in said and "Traceback" not in said:
-        return True
-    print(f"{crate} without sources: status {status}, {said!r}")
-    return False
+    def test_a_file_that_differs_is_named(self):
+        for path, old, new in WRITTEN + COMPARED:
+            self.assert_named(path, old, new, path)
 
+    def test_a_table_of_faults_that_differs_is_named(self):
+        for path, old, new in FAULTS_WRITTEN + FAULTS_PARTS:
+            self.assert_named(path, old, new, path)
 
-def results(folder):
-    """Whether each case holds: the copy agrees as it is, each change is found, and the copy agrees at the end."""
-    yield check(folder)[0] == 0
-    for path, old, new in WRITTEN + COMPARED + FAULTS_WRITTEN + FAULTS_PARTS:
-        yield names_change(folder, path, old, new, path)
-    for old, new, named in DESCRIBED:
-        yield names_change(folder, "describe/records.txt", old, new, named)
-    for old, new, named in FAULTS_DESCRIBED:
-        yield names_change(folder, "describe/faults.txt", old, new, named)
-    for path, old, new in FAULTS_WRITTEN:
-        if not old.startswith("static"):
-            yield writes_back(folder, path, old, new)
-    for crate in CRATES + FAULT_CRATES:
-        yield names_empty(folder, crate)
-    yield check(folder)[0] == 0
+    def test_another_description_of_records_is_named(self):
+        for old, new, named in DESCRIBED:
+            self.assert_named("describe/records.txt", old, new, named)
 
+    def test_another_description_of_faults_is_named(self):
+        for old, new, named in FAULTS_DESCRIBED:
+            self.assert_named("describe/faults.txt", old, new, named)
 
-def main():
-    with tempfile.TemporaryDirectory() as name:
-        folder = pathlib.Path(name)
-        copy_to(folder)
-        held = list(results(folder))
-    print(f"{held.count(True)} passed, {held.count(False)} failed")
-    return 0 if all(held) else 1
+    def test_a_table_of_faults_is_written_back(self):
+        for path, old, new in FAULTS_WRITTEN:
+            if not old.startswith("static"):
+                with self.subTest(path=path, old=old, new=new):
+                    before = (self.top / path).read_bytes()
+                    file = self.changed(path, old, new)
+                    self.assertEqual(self.run_script(), (0, f"{path}: written\n"))
+                    self.assertEqual(file.read_bytes(), before)
+                self.doCleanups()
+
+    def test_a_crate_without_sources_is_found(self):
+        for crate in CRATES + FAULT_CRATES:
+            with self.subTest(crate=crate):
+                source = self.top / "crates" / crate / "src"
+                source.rename(source.with_name("moved"))
+                self.addCleanup(source.with_name("moved").rename, source)
+                self.assert_refused("crates")
+            self.doCleanups()
 
 
 if __name__ == "__main__":
-    sys.exit(main())
+    unittest.main()
