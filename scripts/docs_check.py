@@ -56,6 +56,7 @@ VERSIONS = {
     "bindings/python/pyproject.toml": r'^version = "(.+)"$',
     "bindings/rust/petool-sys/Cargo.toml": r'^version = "(\d+\.\d+)\.\d+"$',
     "bindings/rust/petool/Cargo.toml": r'^version = "(\d+\.\d+)\.\d+"$',
+    "docs/CHANGES.md": r"\A# Changes\n\n## (\S+)$",
     "packaging/debian/changelog": r"\Apetool \((.+)-\d+\)",
     "man/petool.1": r'^\.TH .* "petool (\S+)"',
     "man/petool.h.3": r'^\.TH .* "libpetool (\S+)"',

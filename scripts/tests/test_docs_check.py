@@ -59,6 +59,7 @@ VERSIONS = [
     ("bindings/python/pyproject.toml", 'version = "1.0"', 'version = "1.1"', "bindings/python/pyproject.toml: the version is 1.1"),
     ("bindings/rust/petool/Cargo.toml", '"1.0.0"', '"1.1.0"', "bindings/rust/petool/Cargo.toml: the version is 1.1"),
     ("bindings/rust/petool-sys/Cargo.toml", '"1.0.0"', '"1"', "bindings/rust/petool-sys/Cargo.toml: the version is missing"),
+    ("docs/CHANGES.md", "## 1.0\n", "## 1.1\n", "docs/CHANGES.md: the version is 1.1, and that of VERSION 1.0"),
     ("packaging/debian/changelog", "petool (1.0-1)", "petool (1.1-1)", "packaging/debian/changelog: the version is 1.1"),
     ("man/petool.1", "petool 1.0", "petool 1.1", "man/petool.1: the version is 1.1"),
     ("man/petool.h.3", "libpetool 1.0", "libpetool 1.1", "man/petool.h.3: the version is 1.1"),
