@@ -30,7 +30,7 @@ SOURCES := crates.txt $(shell find crates/*/src crates/*/specs crates/*/proofs)
 SHELLS := bash zsh fish
 # the pages that are installed, in folders as here, so that their links hold; a link to what is not installed leaves its words
 PAGES := README.md $(patsubst %,docs/%.md,C FAULTS FORMAT GUIDE JSON LIBRARIES PROVED)
-NOT_INSTALLED := (\.\./)?((docs/)?(DECISIONS|MAP|PERF|TESTS)\.md|(bindings|crates|describe)/)
+NOT_INSTALLED := (\.\./)?((docs/)?(CHANGES|DECISIONS|MAP|PERF|TESTS)\.md|(bindings|crates|describe)/)
 
 .DELETE_ON_ERROR:
 .PHONY: all petool install uninstall anew

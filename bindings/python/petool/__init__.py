@@ -1,4 +1,4 @@
-"""Reads, judges and moves PE images, and reads COFF objects, from files that may be hostile, with the proved calls of libpetool.
+"""Checks, reads and moves PE images, and reads COFF objects, from files that may be hostile, with the proved calls of libpetool.
 
     import petool
 
