@@ -1,5 +1,5 @@
 /*
- * petool.h: reads, judges and moves PE images, and reads COFF objects, from files that may be hostile.
+ * petool.h: reads, checks and moves PE images, and reads COFF objects, from files that may be hostile.
  *
  * RULES, which hold for every call
  *
@@ -9,10 +9,10 @@
  * Texts.    A petool_text points into the file, or to a string of this library. It does not end in a zero byte, and is valid as
  *           long as the file's bytes are. Unless it is empty, its offset in the file is `text.at - file`; an empty one may point
  *           anywhere.
- * Results.  Most calls return a status; the comment above a call says which statuses set its results. Everything else is left as
- *           it was. Only PETOOL_FAULT sets *fault: to the first fault, in the order of docs/FAULTS.md.
+ * Results.  Most calls return a status; the comment above a call says which statuses set its results. Everything else is left
+ *           unchanged. Only PETOOL_FAULT sets *fault: to the first fault, in the order of docs/FAULTS.md.
  * Rows.     A table is read into the caller's rows. *count is the number of rows that the table has, whether or not they fit. If
- *           they do not, the status is PETOOL_SMALL, and as many of the first rows are set as there is room for.
+ *           they do not, the status is PETOOL_SMALL, and the rows hold the first of them.
  *           Records that hold texts must be initialized before a call, by petool_exports_init and the like, or by an earlier call.
  * Pointers. A pointer is aligned as its type requires, and a result shares no byte with another argument.
  * Threads.  Calls keep nothing but open images and spaces, so any number of threads may call at once, even with the same file. Make
@@ -94,9 +94,9 @@ uint32_t petool_version(void);
 /* What is at the place of a fault, and which rule is broken: strings of this library. OK; or ABSENT if no fault has the number. */
 uint32_t petool_fault_words(uint16_t number, petool_text *subject, petool_text *rule);
 
-/* A fault as one line, for people: "section header at 0x138: the section's raw data extends past the end of the file". It is written
- * as by snprintf: cut to the room, in which it always ends in a zero byte; without room nothing is written. Returns the length of the
- * whole line without the zero byte, which is at most 256. */
+/* A fault as one line, for people: "section header at 0x138: the section's raw data extends past the end of the file". It is
+ * written as by snprintf: cut to the room, in which it always ends in a zero byte; without room nothing is written. Returns the
+ * length of the full line without the zero byte, which is at most 256. */
 int petool_fault_line(const petool_fault *fault, char *line, size_t room);
 
 /* ---- an image: its headers and its bytes ---- */
@@ -137,13 +137,13 @@ typedef struct petool_section {
 
 #define PETOOL_SECTIONS 96 /* no image has more */
 
-/* The headers, and as many of the sections as there is room for: number_of_sections says how many there are. OK if the file has
+/* The headers, and as many of the sections as fit into the rows: number_of_sections says how many there are. OK if the file has
  * none of faults 1 to 15, otherwise FAULT. */
 uint32_t petool_read_headers(const uint8_t *file, size_t len, petool_headers *headers, petool_section *sections, size_t room,
                              petool_fault *fault);
 
-/* The bytes from an RVA on, as the file lays them out: raw data, or 0. OK; FAULT, with one of 1 to 15; or ABSENT if they do not all
- * lie inside the image. */
+/* The bytes of the laid-out image from an RVA on: raw data, or 0. OK; FAULT, with one of 1 to 15; or ABSENT if they do not all lie
+ * inside the image. */
 uint32_t petool_read(const uint8_t *file, size_t len, uint32_t rva, uint8_t *buffer, size_t count, petool_fault *fault);
 
 /* The zero-terminated string at an RVA. OK; FAULT, with one of 1 to 15; or ABSENT. *text must be initialized before. */
@@ -231,8 +231,8 @@ uint32_t petool_tables(const uint8_t *file, size_t len, petool_export *exports, 
                        size_t name_room, petool_import *imports, size_t import_room, petool_fixup *fixups, size_t fixup_room,
                        petool_counts *counts, petool_fault *fault);
 
-/* What one name or one ordinal exports. As petool_exports, but with ABSENT instead of SMALL. Each call reads the whole table: to look
- * up many, open the image. *target must be initialized before. */
+/* What one name or one ordinal exports. As petool_exports, but with ABSENT instead of SMALL. Each call reads the whole table: to
+ * look up many, open the image. *target must be initialized before. */
 uint32_t petool_export_by_name(const uint8_t *file, size_t len, const uint8_t *name, size_t name_len, petool_target *target,
                                petool_fault *fault);
 uint32_t petool_export_by_ordinal(const uint8_t *file, size_t len, uint32_t ordinal, petool_target *target, petool_fault *fault);
@@ -255,9 +255,9 @@ typedef struct petool_image {
 
 #define PETOOL_IMAGE_CLOSED {NULL, false}
 
-/* Judges a file as petool_check does, and keeps what its tables hold, so that no later call reads them again. An open image is
- * closed first. OK, and then the image is open; otherwise it is closed: FAULT, with the first of 1 to 38; or MEMORY, but not if the
- * file has one of faults 1 to 15. */
+/* Checks a file as petool_check does, and keeps the contents of its tables, so that no later call reads them again. An open image
+ * is closed first. OK, and then the image is open; otherwise it is closed: FAULT, with the first of 1 to 38; or MEMORY, but not if
+ * the file has one of faults 1 to 15. */
 uint32_t petool_image_open(petool_image *image, const uint8_t *file, size_t len, petool_fault *fault);
 
 /* Makes `other` another struct of the same image; if it is open, it is closed first. Each must be closed, and the last that is
@@ -304,9 +304,9 @@ typedef struct petool_binding {
 } petool_binding;
 /* end of describe/records.txt */
 
-/* Judges a set, and returns what each import is bound to. With `known`, an import from a module that is not in the set is not a
- * fault. OK; SMALL; FAULT, with the first of the set, and for 50 the length of the cycle of forwarders in *cycle; or MEMORY, but not
- * if a name has a fault (41, 42), nor for a set without entries. */
+/* Checks a set, and returns what each import is bound to. With `known`, an import from a module that is not in the set is not a
+ * fault. OK; SMALL; FAULT, with the first of the set, and for 50 the length of the cycle of forwarders in *cycle; or MEMORY, but
+ * not if a name has a fault (41, 42), nor for a set without entries. */
 uint32_t petool_judge(const petool_entry *set, size_t entries, bool known, petool_binding *rows, size_t room, size_t *count,
                       uint32_t *cycle, petool_fault *fault);
 
@@ -330,13 +330,14 @@ typedef struct petool_space {
 /* Maps a set: each image at its base, with its fields relocated and its imports bound. An open space is closed first. With
  * `known`, an import from a module that is not in the set is not a fault, and its slot keeps its bytes from the file.
  * OK, and then the space is open; otherwise it is closed: FAULT, with the first of the set, and for 50 the length of the cycle of
- * forwarders in *cycle; or MEMORY, but not if a name has a fault (41, 42). The files may be freed: the space holds its own bytes. */
+ * forwarders in *cycle; or MEMORY, but not if a name has a fault (41, 42). The files may be freed: the space holds its own
+ * bytes. */
 uint32_t petool_space_map(petool_space *space, const petool_entry *set, size_t entries, bool known, uint32_t *cycle,
                           petool_fault *fault);
 void petool_space_close(petool_space *space);
 
-/* The bytes from an address on. OK; FAULT 54 if they do not all lie in one image, which leaves the buffer as it was, but never for 0
- * bytes; or CLOSED. */
+/* The bytes from an address on. OK; FAULT 54 if they do not all lie in one image, which leaves the buffer unchanged, but never for
+ * 0 bytes; or CLOSED. */
 uint32_t petool_space_read(petool_space *space, uint64_t address, uint8_t *buffer, size_t len, petool_fault *fault);
 
 /* from describe/records.txt: moved */
@@ -420,13 +421,13 @@ static inline void petool_object_symbols_init(petool_object_symbol *rows, size_t
 /* OK if the object has none of faults 61 to 72, otherwise FAULT. Allocates nothing. */
 uint32_t petool_object_check(const uint8_t *file, size_t len, petool_fault *fault);
 
-/* The COFF file header, and as many of the section headers as there is room for, each field as the file has it: number_of_sections
+/* The COFF file header, and as many of the section headers as fit into the rows, each field as the file has it: number_of_sections
  * says how many there are. OK if the object has none of faults 61 to 72, otherwise FAULT. Allocates nothing. */
 uint32_t petool_object_headers(const uint8_t *file, size_t len, petool_object_header *header, petool_section_header *sections,
                                size_t room, petool_fault *fault);
 
-/* Its sections, and its symbols. OK; SMALL; or FAULT, with one of 61 to 72. They allocate memory to remember where names end; without
- * it, names are searched again. */
+/* Its sections, and its symbols. OK; SMALL; or FAULT, with one of 61 to 72. They allocate memory to remember where names end;
+ * without it, names are searched again. */
 uint32_t petool_object_sections(const uint8_t *file, size_t len, petool_object_section *rows, size_t room, size_t *count,
                                 petool_fault *fault);
 
@@ -438,11 +439,12 @@ uint32_t petool_object_symbols(const uint8_t *file, size_t len, petool_object_sy
 uint32_t petool_object_relocations(const uint8_t *file, size_t len, size_t section, petool_object_relocation *rows, size_t room,
                                    size_t *count, petool_fault *fault);
 
-/* The relocations of all sections, section by section, without the first `skipped` of them; the sections' rows say how many each has.
- * OK; SMALL; or FAULT, with one of 61 to 72; memory as for the sections. *count is the number of those after the skipped ones, and 0
- * past the last. Each call judges the whole object, then takes a step for each section, whose name is searched as by
+/* The relocations of all sections, section by section, without the first `skipped` of them; the sections' rows say how many each
+ * has. OK; SMALL; or FAULT, with one of 61 to 72; memory as for the sections. *count is the number of those after the skipped ones,
+ * and 0 past the last. Each call checks the whole object, then takes a step for each section, whose name is searched as by
  * petool_object_sections, and one for each row that it fills. So to get all relocations, call this once, and not
- * petool_object_relocations for each section; with fewer rows, read in windows: skip 0, room, 2 * room, .. until a call returns OK. */
+ * petool_object_relocations for each section; with fewer rows, read in windows: skip 0, room, 2 * room, .. until a call returns
+ * OK. */
 uint32_t petool_object_all_relocations(const uint8_t *file, size_t len, size_t skipped, petool_object_relocation *rows, size_t room,
                                        size_t *count, petool_fault *fault);
 

@@ -20,7 +20,7 @@ DIRECTORIES = ["IMAGE_DIRECTORY_ENTRY_EXPORT", "IMAGE_DIRECTORY_ENTRY_IMPORT", "
 
 
 def target_of(target):
-    """An RVA, or a forwarder's text."""
+    """An RVA, or a forwarder's string."""
     if isinstance(target, petool.Rva):
         return target.rva
     key = b"#%d" % target.key if isinstance(target.key, int) else target.key
@@ -39,7 +39,7 @@ def ours(data):
 
 
 def theirs(data):
-    # pefile stops at limits of its own where it is not told otherwise
+    # pefile has lower limits by default
     pe = pefile.PE(data=data, fast_load=True, max_symbol_exports=1 << 20, max_repeated_symbol=1 << 20)
     pe.parse_data_directories([pefile.DIRECTORY_ENTRY[it] for it in DIRECTORIES])
     base = pe.OPTIONAL_HEADER.ImageBase

@@ -29,13 +29,13 @@ static void print_rows(const petool_export *rows, size_t count)
     }
 }
 
-/* Lists the exports of a file's bytes; the exit status. */
+/* Lists the exports of a file's bytes; returns the exit status. */
 static int list(const char *path, petool_text file)
 {
     petool_fault fault = {0, 0, 0, 0};
     petool_export none, *rows;
     size_t count = 0;
-    /* no row: the call counts them */
+    /* without rows the call only counts them */
     uint32_t status = petool_export_names(file.at, file.len, &none, 0, &count, &fault);
     if (status != PETOOL_OK && status != PETOOL_SMALL)
         return refused(path, status, &fault);

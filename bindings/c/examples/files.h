@@ -1,4 +1,4 @@
-/* What the examples share: the bytes of files, names in paths, and what is told of a refusal. */
+/* What the examples share: the bytes of files, names in paths, and reports of refusals. */
 #ifndef FILES_H
 #define FILES_H
 
@@ -9,7 +9,7 @@
 /* exit statuses, which are those of the program petool */
 enum { REFUSED = 1, BAD_WORDS = 2, DEVICE_FAILED = 3, NO_MEMORY = 4 };
 
-/* Reads what is left of an open file. Where it cannot, errno says why. */
+/* Reads the rest of an open file. If it fails, errno says why. */
 static inline bool read_open(FILE *file, petool_text *bytes)
 {
     uint8_t *all = NULL;
@@ -36,7 +36,7 @@ static inline bool read_open(FILE *file, petool_text *bytes)
     return true;
 }
 
-/* Reads all bytes of a file, which are given back by free_bytes. Where it cannot, that is told on standard error. */
+/* Reads all bytes of a file, which free_bytes frees. A failure is reported on standard error. */
 static inline bool read_file(const char *path, petool_text *bytes)
 {
     FILE *file = fopen(path, "rb");
@@ -48,21 +48,21 @@ static inline bool read_file(const char *path, petool_text *bytes)
     return is_read;
 }
 
-/* Gives back what read_file has read; nothing where it has read nothing. */
+/* Frees what read_file has read, if anything. */
 static inline void free_bytes(petool_text bytes)
 {
     if (bytes.at != petool_no_bytes)
         free((void *)(uintptr_t)bytes.at);
 }
 
-/* What stands behind the last slash of a path. */
+/* What comes after the last slash of a path. */
 static inline const char *name_in(const char *path)
 {
     const char *slash = strrchr(path, '/');
     return slash == NULL ? path : slash + 1;
 }
 
-/* The path of a name in a folder, to be freed; NULL where memory is refused. */
+/* The path of a name in a folder, to be freed; NULL if out of memory. */
 static inline char *path_in(const char *folder, const char *name)
 {
     size_t room = strlen(folder) + strlen(name) + 2;
@@ -77,7 +77,7 @@ static inline void print_text(petool_text text)
     fwrite(text.at, 1, text.len, stdout);
 }
 
-/* Tells on standard error which fault a file has, or that memory was refused; the exit status for it. */
+/* Reports on standard error which fault a file has, or that memory ran out; returns the exit status. */
 static inline int refused(const char *name, uint32_t status, const petool_fault *fault)
 {
     char line[200];
@@ -90,14 +90,14 @@ static inline int refused(const char *name, uint32_t status, const petool_fault 
     return REFUSED;
 }
 
-/* The same of a set, of which the fault names an image. */
+/* The same for a set, whose fault names an image. */
 static inline int set_refused(const petool_entry *set, size_t entries, uint32_t status, const petool_fault *fault)
 {
     bool has_image = status == PETOOL_FAULT && fault->image < entries;
     return refused(has_image ? (const char *)set[fault->image].name.at : "the set", status, fault);
 }
 
-/* An entry of a set, whose file is read: whether it could. */
+/* Makes an entry of a set, and reads its file: false if that fails. */
 static inline bool read_entry(const char *path, uint64_t base, petool_entry *entry)
 {
     petool_text none = PETOOL_NONE;
@@ -114,7 +114,7 @@ static inline void free_entries(const petool_entry *set, size_t entries)
         free_bytes(set[i].file);
 }
 
-/* Reads an address, which is hexadecimal and ends at a character or at the end of the word: what stands behind it, or NULL. */
+/* Reads a hexadecimal address at the beginning of a word: the rest of the word, or NULL if it is missing or too large. */
 static inline const char *read_address(const char *word, uint64_t *address)
 {
     char *end;
@@ -125,20 +125,20 @@ static inline const char *read_address(const char *word, uint64_t *address)
     return errno == 0 ? end : NULL;
 }
 
-/* Whether the one word asks for the usage. */
+/* Whether the only argument is --help. */
 static inline bool asks_for_help(int argc, char **argv)
 {
     return argc == 2 && strcmp(argv[1], "--help") == 0;
 }
 
-/* Prints the usage, which was asked for, or tells it of words that are wrong; the exit status. */
+/* Prints the usage: as requested, or on standard error for wrong arguments; returns the exit status. */
 static inline int tell_usage(const char *usage, bool is_asked)
 {
     fputs(usage, is_asked ? stdout : stderr);
     return is_asked ? 0 : BAD_WORDS;
 }
 
-/* Whether all that was printed has been written. */
+/* Whether everything printed has been written; if not, that is reported. */
 static inline bool is_printed(void)
 {
     bool is_written = fflush(stdout) == 0 && !ferror(stdout);

@@ -11,7 +11,7 @@
 #include <strings.h>
 #include <sys/stat.h>
 
-/* a search that passes more forwarders is given up */
+/* a search that follows more forwarders is given up */
 #define MOST_FORWARDERS 32
 
 static const char usage[] =
@@ -19,7 +19,7 @@ static const char usage[] =
     "Shows who exports what a program imports: follows its imports, and those of each DLL of a folder that they lead to.\n"
     "A DLL that is refused is reported on standard error, and counts as missing.\n";
 
-/* An image: the program, or a file of the folder, which is read when it is first asked for. It stays open as long as its file. */
+/* An image: the program, or a file of the folder, which is read when it is first needed. Its file is kept while it is open. */
 typedef struct module {
     char *path;
     petool_text file;
@@ -48,7 +48,7 @@ typedef struct search {
 static uint32_t read_imports(module *module)
 {
     petool_import none;
-    /* no row: the call counts */
+    /* without rows the call only counts */
     uint32_t status = petool_image_imports(&module->image, &none, 0, &module->import_count);
     if (status != PETOOL_SMALL)
         return status;
@@ -59,7 +59,7 @@ static uint32_t read_imports(module *module)
     return petool_image_imports(&module->image, module->imports, module->import_count, &module->import_count);
 }
 
-/* Reads and opens an image, where that was not tried before; the exit status. */
+/* Reads and opens an image, unless that was tried before; returns the exit status. */
 static int open_module(module *module)
 {
     petool_fault fault = {0, 0, 0, 0};
@@ -104,7 +104,7 @@ static bool is_file(const char *path)
     return stat(path, &found) == 0 && S_ISREG(found.st_mode);
 }
 
-/* Adds what a folder has under a name to its files, where it is one; there are enough rows. Whether there is memory. */
+/* Adds the entry of a folder to its files, if it is a file; there are enough rows. False if out of memory. */
 static bool add_module(folder *files, const char *folder_path, const char *name)
 {
     char *path = path_in(folder_path, name);
@@ -117,7 +117,7 @@ static bool add_module(folder *files, const char *folder_path, const char *name)
     return true;
 }
 
-/* Lists the files of a folder, in the order of their names; the exit status. */
+/* Lists the files of a folder, in the order of their names; returns the exit status. */
 static int list_folder(folder *files, const char *path)
 {
     struct dirent **found = NULL;
@@ -161,7 +161,7 @@ static bool is_named(const module *image, petool_text name)
         && (len == name.len || strcasecmp(file_name + name.len, ".dll") == 0);
 }
 
-/* The image of a module; NULL where the folder has none. */
+/* The image of a module; NULL if the folder has none. */
 static module *image_of(folder *files, petool_text name)
 {
     size_t i;
@@ -205,7 +205,7 @@ static void print_import(const char *importer, const search *wanted)
     }
 }
 
-/* What an image exports of what is searched for: whether there is such an export. */
+/* What an image exports under the searched name or ordinal: whether there is such an export. */
 static bool find_export(module *module, const search *wanted, petool_target *target)
 {
     if (wanted->by_ordinal)
@@ -220,7 +220,7 @@ static void print_end(petool_text name, const char *found)
     printf(" %s\n", found);
 }
 
-/* Prints where a search ends, and what it finds there; the image there, or NULL. */
+/* Prints where a search ends, and what it finds there; returns the image there, or NULL. */
 static module *search_exporter(folder *files, search wanted)
 {
     petool_target target;
@@ -247,7 +247,7 @@ static module *search_exporter(folder *files, search wanted)
     return image_of(files, wanted.module);
 }
 
-/* Prints a line for each import of an image, and adds the images that are met for the first time to those that wait. */
+/* Prints a line for each import of an image, and adds the images found for the first time to those that wait. */
 static size_t follow(folder *files, const module *image, module **waiting, size_t count)
 {
     size_t i;
@@ -265,7 +265,7 @@ static size_t follow(folder *files, const module *image, module **waiting, size_
     return count;
 }
 
-/* Follows the imports of a program; the exit status. */
+/* Follows the imports of a program; returns the exit status. */
 static int close_over(folder *files, const module *program)
 {
     /* each image of the folder waits at most once */

@@ -1,7 +1,7 @@
 /*
  * Maps images into a space, reads bound slots, moves the image in the middle and reads them again: map FILE...
  *
- * The images stand behind one another from 0x10000000 on. An import from a module that is none of them leaves its slot as it is.
+ * The images are mapped one after another from 0x10000000 on. The slot of an import from any other module is left unchanged.
  */
 #include "files.h"
 
@@ -23,7 +23,7 @@ static void show_images(petool_space *space, size_t images)
     }
 }
 
-/* The first bound slots, with the bytes that stand there. */
+/* The first bound slots, with their bytes. */
 static void show_slots(petool_space *space)
 {
     petool_binding rows[8];
@@ -45,7 +45,7 @@ static void show_slots(petool_space *space)
     printf("%zu slots are bound\n", count);
 }
 
-/* Puts images behind one another; the address behind the last one, or 0 where a file is none of an image. */
+/* Places images one after another; returns the address after the last one, or 0 if a file is not an image. */
 static uint64_t place(petool_entry *set, size_t images, petool_fault *fault)
 {
     uint64_t base = 0x10000000;
@@ -63,7 +63,7 @@ static uint64_t place(petool_entry *set, size_t images, petool_fault *fault)
     return base;
 }
 
-/* Tells of a space, moves an image in it behind all others, and tells of it again. */
+/* Shows a space, moves an image in it past all others, and shows its slots again. */
 static uint32_t show_move(petool_space *space, size_t images, uint64_t behind, petool_fault *fault)
 {
     petool_moved moved = {0, 0};
@@ -93,7 +93,7 @@ static int run(petool_entry *set, size_t images)
     return status == PETOOL_OK ? 0 : set_refused(set, images, status, &fault);
 }
 
-/* Reads a set of so many files, and maps it; the exit status. */
+/* Reads the files of a set, and maps it; returns the exit status. */
 static int map(char **paths, size_t images)
 {
     petool_entry *set = (petool_entry *)malloc(images * sizeof *set);

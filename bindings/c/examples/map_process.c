@@ -14,7 +14,7 @@ static const char usage[] =
     "base to the highest end.\n\n"
     "  --known  leave slots of modules that are not among the files\n";
 
-/* Reads an entry of a word BASE=FILE; the exit status. */
+/* Reads an entry from a word BASE=FILE; returns the exit status. */
 static int read_word(const char *word, petool_entry *entry)
 {
     uint64_t base = 0;
@@ -36,14 +36,14 @@ static uint64_t lowest_base(const petool_entry *set, size_t images)
     return lowest;
 }
 
-/* Tells that a file cannot be written, for which errno says why; the exit status. */
+/* Reports that a file cannot be written, with the reason from errno; returns the exit status. */
 static int unwritten(const char *path)
 {
     perror(path);
     return DEVICE_FAILED;
 }
 
-/* Writes the bytes of a space from an address on, which all lie in one image; the exit status. */
+/* Writes the bytes of a space from an address on, which all lie in one image; returns the exit status. */
 static int write_bytes(petool_space *space, uint64_t address, uint32_t size, const char *path, FILE *out)
 {
     static uint8_t part[0x10000];
@@ -61,7 +61,7 @@ static int write_bytes(petool_space *space, uint64_t address, uint32_t size, con
     return 0;
 }
 
-/* Writes each image at its place in an open file, with a line for each; the exit status. */
+/* Writes each image at its place in an open file, with a line for each; returns the exit status. */
 static int write_images(petool_space *space, const petool_entry *set, size_t images, const char *path, FILE *out)
 {
     uint64_t lowest = lowest_base(set, images);
@@ -82,7 +82,7 @@ static int write_images(petool_space *space, const petool_entry *set, size_t ima
     return 0;
 }
 
-/* Writes a space to a file; the exit status. */
+/* Writes a space to a file; returns the exit status. */
 static int write_space(petool_space *space, const petool_entry *set, size_t images, const char *path)
 {
     petool_binding none = {0, 0, 0, 0};
@@ -111,7 +111,7 @@ static int map_set(const petool_entry *set, size_t images, bool known, const cha
     return answer;
 }
 
-/* Reads the set of so many words, and maps it; the exit status. */
+/* Reads a set from words BASE=FILE, and maps it; returns the exit status. */
 static int map_words(char **words, size_t count, bool known, const char *path)
 {
     petool_entry *set = (petool_entry *)malloc(count * sizeof *set);

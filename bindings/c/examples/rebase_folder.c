@@ -1,4 +1,4 @@
-/* Rebases the DLLs of a folder to bases that are apart, and writes them to another folder: rebase_folder [--base HEX] FOLDER OUT */
+/* Gives the DLLs of a folder bases that do not overlap, writing to another folder: rebase_folder [--base HEX] FOLDER OUT */
 #define _POSIX_C_SOURCE 200809L
 #include "files.h"
 
@@ -27,7 +27,7 @@ static int by_name(const struct dirent **one, const struct dirent **other)
     return strcmp((*one)->d_name, (*other)->d_name);
 }
 
-/* Writes a file: whether it could. Where not, that is told on standard error. */
+/* Writes a file: whether it could. A failure is reported on standard error. */
 static bool write_file(const char *path, const uint8_t *bytes, size_t len)
 {
     FILE *file = fopen(path, "wb");
@@ -39,7 +39,7 @@ static bool write_file(const char *path, const uint8_t *bytes, size_t len)
     return is_written;
 }
 
-/* Tells of an image that is refused, which is no failure of this program. */
+/* Reports an image that is refused, which is not a failure of this program. */
 static void tell_fault(const char *name, const petool_fault *fault)
 {
     char line[200];
@@ -47,7 +47,7 @@ static void tell_fault(const char *name, const petool_fault *fault)
     printf("%s: fault %u: %s\n", name, (unsigned)fault->number, line);
 }
 
-/* The next base behind an image that stands at a base. Where the address space ends it is the last address, where none can stand. */
+/* The next base after an image at a base; past the end of the address space the last address, at which no image can be. */
 static uint64_t behind(petool_text file, uint64_t base)
 {
     petool_headers headers;
@@ -60,7 +60,7 @@ static uint64_t behind(petool_text file, uint64_t base)
     return size > UINT64_MAX - base ? UINT64_MAX : base + size;
 }
 
-/* Writes the file of an image for a base, which then is the one behind it; the exit status. */
+/* Writes the file of an image for a base, and sets the base to the next one; returns the exit status. */
 static int rebase(petool_text file, const char *name, const char *out, uint64_t *base)
 {
     petool_fault fault = {0, 0, 0, 0};
@@ -83,7 +83,7 @@ static int rebase(petool_text file, const char *name, const char *out, uint64_t 
     return answer;
 }
 
-/* Reads an image of a folder, and writes it to the other one; the exit status. */
+/* Reads an image of a folder, and writes it to the other one; returns the exit status. */
 static int rebase_named(const char *folder, const char *out_folder, const char *name, uint64_t *base)
 {
     petool_text file = PETOOL_NONE;
@@ -99,7 +99,7 @@ static int rebase_named(const char *folder, const char *out_folder, const char *
     return status;
 }
 
-/* Goes through a folder, up to the first file that cannot be read or written; the exit status. */
+/* Goes through a folder, up to the first file that cannot be read or written; returns the exit status. */
 static int rebase_folder(const char *folder, const char *out_folder, uint64_t base)
 {
     struct dirent **found = NULL;

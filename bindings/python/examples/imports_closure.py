@@ -11,7 +11,7 @@ from typing import Dict, Iterator, Optional, Tuple, Union
 
 import petool
 
-# a search that passes more forwarders is given up
+# a search that follows more forwarders is given up
 MOST_FORWARDERS = 32
 
 
@@ -26,13 +26,13 @@ def shown(key: Union[bytes, int]) -> str:
 
 
 def told(path: pathlib.Path, error: OSError) -> int:
-    """Tells why a file or a folder cannot be read; the exit status."""
+    """Reports why a file or a folder cannot be read, and returns the exit status."""
     print(f"{path}: {error.strerror}", file=sys.stderr)
     return 3
 
 
 def opened(path: pathlib.Path) -> Tuple[Optional[petool.Image], int]:
-    """The image of a file, or None where it is refused or cannot be read, which is told; and the exit status for it."""
+    """The image of a file and 0; or None, if it is refused or cannot be read, which is reported, and the exit status for it."""
     try:
         return petool.open(path), 0
     except petool.FormatFault as fault:
@@ -43,7 +43,7 @@ def opened(path: pathlib.Path) -> Tuple[Optional[petool.Image], int]:
 
 
 class Folder:
-    """The images of a folder, each read when it is first asked for."""
+    """The images of a folder, each read when it is first needed."""
 
     def __init__(self, folder: pathlib.Path) -> None:
         paths = sorted(folder.iterdir(), reverse=True)
@@ -53,7 +53,7 @@ class Folder:
         self.status = 0  # the worst exit status so far
 
     def image(self, module: str) -> Optional[petool.Image]:
-        """The image of a module, or None where the folder has no such file, or its file is refused."""
+        """The image of a module, or None if the folder has no such file, or its file is refused."""
         if module not in self.images and module in self.paths:
             self.images[module], status = opened(self.paths[module])
             self.status = max(self.status, status)
@@ -74,7 +74,7 @@ class Folder:
         return module, "too many forwarders"
 
     def follow(self, name: str, image: petool.Image) -> Iterator[str]:
-        """Prints a line for each import of an image, and gives the modules to which they lead."""
+        """Prints a line for each import of an image, and yields the modules to which they lead."""
         for it in image.imports:
             module, found = self.exporter(module_of(it.module), it.key)
             print(f"{name}: {it.module.decode('utf-8', 'replace')} {shown(it.key)} -> {module} {found}")
@@ -82,7 +82,7 @@ class Folder:
 
 
 def close_over(folder: Folder, name: str, program: petool.Image) -> int:
-    """Follows the imports of a program; the exit status."""
+    """Follows the imports of a program, and returns the exit status."""
     waiting, met = [(name, program)], set()
     while waiting:
         for module in folder.follow(*waiting.pop()):

@@ -10,7 +10,7 @@ import petool
 
 
 def entry_of(word: str) -> Tuple[str, bytes, int]:
-    """The module's name, the bytes and the base of a word BASE=FILE, whose base is hexadecimal."""
+    """The module's name, the bytes and the base from a word BASE=FILE, whose base is hexadecimal."""
     digits, name = word.split("=", 1)
     path, base = pathlib.Path(name), int(digits, 16)
     if not 0 <= base < 1 << 64:
@@ -47,6 +47,6 @@ def main() -> int:
 if __name__ == "__main__":
     try:
         sys.exit(main())
-    except (OSError, ValueError) as error:  # the second where no file has an offset so high
+    except (OSError, ValueError) as error:  # the second if an offset is too high for a file
         print(f"map_process: {error}", file=sys.stderr)
         sys.exit(3)

@@ -12,7 +12,7 @@ import petool
 
 # bases are multiples of this
 UNIT = 0x10000
-# no image can stand there
+# no image can be there
 LAST_ADDRESS = 2**64 - 1
 
 

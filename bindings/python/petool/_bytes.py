@@ -17,7 +17,7 @@ Row = TypeVar("Row")
 
 
 class _PyBuffer(ctypes.Structure):
-    """Py_buffer, of which `buf` alone is read."""
+    """Py_buffer, of which only `buf` is read."""
 
     _fields_ = [
         ("buf", ctypes.c_void_p),
@@ -40,8 +40,8 @@ _release_buffer.restype = None
 def address_of(view: memoryview) -> int:
     """Where the bytes of a view are, for as long as the view is not released: it holds the buffer.
 
-    ctypes' own from_buffer wants bytes that may be written, so Python is asked itself: this takes `bytes` and a read-only
-    mmap too, and copies nothing.
+    from_buffer of ctypes needs writable bytes, so this calls Python itself, which also takes `bytes` and a read-only mmap,
+    and copies nothing.
     """
     buffer = _PyBuffer()
     _get_buffer(view, ctypes.byref(buffer), 0)
@@ -71,14 +71,14 @@ class FileBytes:
         self.length = len(self._view)
 
     def hold(self) -> memoryview:
-        """A hold of the bytes for one call: until it is dropped they stay where they are, even if another thread calls close()."""
+        """Keeps the bytes in place for one call: until it is released they do not move, even if another thread calls close()."""
         try:
             return self._view[:]
         except ValueError:
             raise ValueError("it is closed") from None
 
     def text(self, at: int, length: int) -> bytes:
-        """The bytes of a text that a call filled: one that is not empty lies in the file."""
+        """The bytes of a string that a call returned: unless it is empty, it lies in the file."""
         if length == 0:
             return b""
         start = at - self.address
@@ -89,7 +89,7 @@ class FileBytes:
 
 
 def unsigned(value: int, bits: int, what: str) -> int:
-    """The number, which ctypes would cut to its width without a word. OverflowError where it does not fit."""
+    """The number, which ctypes would truncate silently. OverflowError if it does not fit."""
     number = operator.index(value)
     if not 0 <= number < 1 << bits:
         raise OverflowError(f"{what} is not a number of {bits} bits")
@@ -111,7 +111,7 @@ LAYOUTS = {name: RowLayout(form) for name, form in _records.FORMS.items()}
 
 
 def read_rows(layout: RowLayout, room: int, call: Callable[[int, int, Any], int]) -> memoryview:
-    """The rows that a call fills, read with a second call where there are more of them than `room`."""
+    """The rows that a call fills, read with a second call if there are more of them than `room`."""
     while True:
         # Python's allocator aligns to 16 bytes, which is enough for each row
         rows = memoryview(bytearray(layout.blank * max(room, 1)))
@@ -122,7 +122,7 @@ def read_rows(layout: RowLayout, room: int, call: Callable[[int, int, Any], int]
 
 
 def first_rows(layout: RowLayout, room: int, call: Callable[[int, int, Any], int]) -> memoryview:
-    """The rows that a call fills, so many of them at most."""
+    """The first rows of a table, at most `room` of them."""
     rows = memoryview(bytearray(layout.blank * room))
     count = ctypes.c_size_t()
     call(address_of(rows), room, ctypes.byref(count))
@@ -130,7 +130,7 @@ def first_rows(layout: RowLayout, room: int, call: Callable[[int, int, Any], int
 
 
 class Rows(AbstractSequence, Generic[Row]):  # type: ignore[type-arg]
-    """A sequence over rows as the library filled them: an item is made of its row whenever it is asked for."""
+    """A sequence over rows as the library filled them: an item is made from its row at each access."""
 
     __slots__ = ("_rows", "_layout", "_make")
 
@@ -154,7 +154,7 @@ class Rows(AbstractSequence, Generic[Row]):  # type: ignore[type-arg]
         return self._make(*self._layout.struct.unpack_from(self._rows, index * self._layout.size))
 
     def values(self) -> Iterator[Tuple[int, ...]]:
-        """The numbers of each row: nothing is made of them, and no text is copied."""
+        """The numbers of each row: no item is made, and no string is copied."""
         return self._layout.struct.iter_unpack(self._rows)
 
     def __iter__(self) -> Iterator[Row]:

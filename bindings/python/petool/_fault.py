@@ -28,7 +28,7 @@ def _words(number: int) -> Tuple[str, str]:
     subject, rule = _library.no_text(), _library.no_text()
     if library.petool_fault_words(number, ctypes.byref(subject), ctypes.byref(rule)) != _library.OK:
         return "place", "no fault has this number"
-    # these texts are the library's own, and live as long as it does
+    # these strings belong to the library, and live as long as it does
     return tuple(ctypes.string_at(text.at, text.len).decode() for text in (subject, rule))  # type: ignore[return-value]
 
 

@@ -1,4 +1,4 @@
-"""What is read of a file's bytes, and lets them go."""
+"""What is read from a file's bytes, and releases them."""
 
 from __future__ import annotations
 
@@ -11,7 +11,7 @@ Kind = TypeVar("Kind", bound="OfFile")
 
 
 class OfFile:
-    """What is read of a file's bytes, which it holds until close(), or until the end of a `with`."""
+    """What is read from a file's bytes, which it holds until close(), or until the end of a `with`."""
 
     def __init__(self, data: Buffer) -> None:
         self._file = FileBytes(data)
@@ -22,7 +22,7 @@ class OfFile:
             return ask(function, self._file.address, self._file.length, *arguments)
 
     def close(self) -> None:
-        """Lets the bytes go. What was taken of them before stays, but for sequences whose rows have texts."""
+        """Releases the bytes. Results of earlier calls stay valid, except sequences whose rows have strings."""
         self._file.close()
 
     def __enter__(self: Kind) -> Kind:

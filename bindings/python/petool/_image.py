@@ -189,8 +189,8 @@ class Exports(AbstractMapping):  # type: ignore[type-arg]
 
     KeyError if nothing is exported under a key. Its keys are the names, in the order of the name pointer table, and then the
     ordinals, in the order of the export address table, so ``len()`` counts both. The first look-up makes a dict of where each key
-    is, and an RVA that was found is kept. The names of a crafted file may share strings, and be longer together than the file: then no
-    name is copied, and each that is looked up is a call of the library, which reads the table.
+    is, and an RVA that was found is kept. The names of a crafted file may share strings, and be longer together than the file:
+    then no name is copied, and each that is looked up is a call of the library, which reads the table.
     """
 
     def __init__(self, file: FileBytes, names: memoryview, ordinals: memoryview, look_up: Callable[[bytes], Optional[Target]]) -> None:
@@ -245,7 +245,7 @@ class Exports(AbstractMapping):  # type: ignore[type-arg]
             found = self._by_name(wanted) if isinstance(wanted, bytes) else self._by_ordinal(wanted)
             if found is None:
                 raise KeyError(key)
-            # no copy of a string is kept that others may share
+            # no copy is kept of a string that others may share
             if isinstance(found, Rva) and not (isinstance(wanted, bytes) and self._share_strings()):
                 self._found[wanted] = found
         return found
@@ -264,7 +264,7 @@ class Exports(AbstractMapping):  # type: ignore[type-arg]
 class Image(OfFile):
     """One image, from the bytes of its file. FormatFault if it has one of the image faults of docs/FAULTS.md.
 
-    With ``check=False`` only the headers and sections are judged (1 to 15), and each table when it is first read. Nothing is
+    With ``check=False`` only the headers and sections are checked (1 to 15), and each table when it is first read. Nothing is
     copied, and nobody may change the bytes while the image is open; a bytearray cannot be resized until ``close()``. After that
     each use raises ValueError. Any number of threads may use one image.
     """
@@ -282,7 +282,7 @@ class Image(OfFile):
             raise
 
     def _judge(self) -> _records.Counts:
-        """Judges the whole image, and counts the rows of its tables at the same time."""
+        """Checks the whole image, and counts the rows of its tables at the same time."""
         counts = _records.Counts()
         self._ask(library.petool_tables, *((_library.NO_BYTES, 0) * 4), byref(counts))
         return counts
@@ -313,7 +313,7 @@ class Image(OfFile):
         return self._exports
 
     def _look_up(self, name: bytes) -> Optional[Target]:
-        """What a name exports, by the library, which reads the table for it."""
+        """What a name exports, looked up by the library, which reads the table for it."""
         held, found = FileBytes(name), _records.Target(0, 0, _library.no_text(), _library.no_text())
         if self._ask(library.petool_export_by_name, held.address, held.length, byref(found)) == _library.ABSENT:
             return None
@@ -339,7 +339,7 @@ class Image(OfFile):
         return self._fixup_rows
 
     def fixup_array(self) -> memoryview:
-        """The base relocations as numbers of format ``I``: entry, field and kind of each, one after the other.
+        """The base relocations as numbers of format ``I``: entry, field and kind of each, in sequence.
 
         So ``struct.iter_unpack("III", array)`` goes through them, ``array[1::3]`` has all fields, and
         ``numpy.frombuffer(array, "u4").reshape(-1, 3)`` is a table of them. It may be kept after the image is closed.
@@ -347,8 +347,8 @@ class Image(OfFile):
         return self._fixups().cast("I")
 
     def read(self, rva: int, count: int) -> bytes:
-        """The bytes from an RVA on, as the file lays them out. IndexError if they do not all lie in the image."""
-        # asked before there is room for them, since a count may be any number
+        """The bytes of the laid-out image from an RVA on. IndexError if they do not all lie in the image."""
+        # checked before the buffer is allocated, since a count may be any number
         if count < 0 or rva < 0 or rva + count > self._headers.size_of_image:
             raise IndexError("the bytes pass the image")
         buffer = bytearray(count)
@@ -356,7 +356,7 @@ class Image(OfFile):
         return bytes(buffer)
 
     def read_into(self, rva: int, buffer: Union[bytearray, memoryview]) -> None:
-        """Fills a buffer with the bytes from an RVA on. IndexError, with the buffer as it was, if they do not all lie in it."""
+        """Fills a buffer with the bytes from an RVA on. IndexError, with the buffer unchanged, if not all are in the image."""
         view = writable(buffer)
         if not 0 <= rva < 1 << 32:
             raise IndexError("the bytes pass the image")
@@ -384,7 +384,7 @@ class Image(OfFile):
 
 
 def writable(buffer: Any) -> memoryview:
-    """A view of a buffer that may be written, else TypeError."""
+    """A view of a writable buffer, else TypeError."""
     view = view_of(buffer)
     if view.readonly and len(view):
         raise TypeError("the buffer may not be written")
@@ -404,10 +404,10 @@ def check(data: Buffer) -> Optional[FormatFault]:
 
 
 def open(path: Union[str, "os.PathLike[str]"], *, check: bool = True) -> Image:
-    """The image of a file, which is mapped and not read: it may not be changed or cut while the image is open."""
+    """The image of a file, which is mapped and not read: it may not be changed or truncated while the image is open."""
     descriptor = os.open(path, os.O_RDONLY | getattr(os, "O_CLOEXEC", 0))
     try:
-        # no file without bytes can be mapped
+        # an empty file cannot be mapped
         empty = os.fstat(descriptor).st_size == 0
         data: Buffer = b"" if empty else mmap.mmap(descriptor, 0, access=mmap.ACCESS_READ)
     finally:

@@ -16,13 +16,13 @@ OK, FAULT, MEMORY, ABSENT, SMALL, ARGUMENT, CLOSED = range(7)
 #: No image has more sections.
 MOST_SECTIONS = 96
 
-# what a pointer leads to where there is nothing: none may be NULL
+# where the pointer of an empty string points: none may be NULL
 _no_bytes = (ctypes.c_uint8 * 8)()
 NO_BYTES = ctypes.addressof(_no_bytes)
 
 
 def no_text() -> Text:
-    """A text before a call sets it."""
+    """An empty string, for a call to set."""
     return Text(NO_BYTES, 0)
 
 
@@ -45,7 +45,7 @@ def is_known(version: int) -> bool:
 def _open(path: str) -> ctypes.CDLL:
     try:
         opened = ctypes.CDLL(path)
-        # of another version a call may be missing, so this one is asked first
+        # another version may lack a call, so this one is called first
         opened.petool_version.restype = ctypes.c_uint32
         found = opened.petool_version()
     except (OSError, AttributeError) as error:

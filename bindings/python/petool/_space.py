@@ -17,7 +17,7 @@ from ._library import library
 #: The name of a module, all bytes of its file, and its base.
 SetEntry = Tuple[Union[str, bytes], Buffer, int]
 
-# how many bindings there is room for before they are counted
+# room for this many bindings, before they are counted
 _GUESS = 4096
 
 
@@ -50,7 +50,7 @@ class Standing(NamedTuple):
 
 
 def judge(images: Sequence[SetEntry], known: bool = False) -> List[Binding]:
-    """Judges a set, and returns what each import is bound to. FormatFault of an image or set fault (docs/FAULTS.md).
+    """Checks a set, and returns what each import is bound to. FormatFault of an image or set fault (docs/FAULTS.md).
 
     With ``known``, an import from a module that is not in the set is not a fault.
     """
@@ -84,13 +84,13 @@ class Space:
         """The bytes from an address on. FormatFault 54 if they do not all lie in one image."""
         if count < 0:
             raise ValueError("the count is negative")
-        # where no image has so many bytes, one byte too many meets the same fault
+        # a count larger than any image gives the same fault as one byte more than the largest
         buffer = bytearray(min(count, self._largest + 1))
         self.read_into(address, buffer)
         return bytes(buffer)
 
     def read_into(self, address: int, buffer: Union[bytearray, memoryview]) -> None:
-        """Fills a buffer with the bytes from an address on. FormatFault 54, and then the buffer is left as it was."""
+        """Fills a buffer with the bytes from an address on. FormatFault 54, and then the buffer is unchanged."""
         view = writable(buffer)
         at = unsigned(address, 64, "an address")
         with self._lock:
@@ -99,7 +99,7 @@ class Space:
     def move(self, image: int, base: int) -> Moved:
         """Moves an image: relocates its fields, and binds again the slots whose exports are in it.
 
-        IndexError where there is no such image. FormatFault of 44 to 47, and then nothing is changed.
+        IndexError if there is no such image. FormatFault of 44 to 47, and then nothing is changed.
         """
         if not 0 <= image < self._count:
             raise IndexError("there is no image with this index")
@@ -143,7 +143,7 @@ class Space:
         self.close()
 
     def __del__(self) -> None:
-        # there is nothing to close where __init__ did not come so far
+        # nothing to close if __init__ did not get so far
         if hasattr(self, "_space"):
             self.close()
 

@@ -478,13 +478,13 @@ impl ObjectSymbol {
 // end of describe/records.txt
 
 impl Text {
-    /// An empty text.
+    /// An empty string.
     pub const NONE: Text = Text {
         at: NO_BYTES.as_ptr(),
         len: 0,
     };
 
-    /// The text of these bytes, which live as long as it is used.
+    /// A string of these bytes, which must live as long as it is used.
     pub const fn of(bytes: &[u8]) -> Text {
         Text {
             at: bytes.as_ptr(),
@@ -509,7 +509,7 @@ impl Space {
     };
 }
 
-#[allow(missing_docs)] // petool.h says of each call what it answers
+#[allow(missing_docs)] // petool.h says what each call returns
 extern "C" {
     // from describe/records.txt: calls
 

@@ -16,10 +16,10 @@ const USAGE: &str = "usage: imports_closure PROGRAM FOLDER
 Shows who exports what a program imports: follows its imports, and those of each DLL of a folder that they lead to.
 A DLL that is refused is reported on standard error, and counts as missing.";
 
-/// A search that passes more forwarders is given up.
+/// A search that follows more forwarders is given up.
 const MOST_FORWARDERS: usize = 32;
 
-/// The program, or a file of the folder: its bytes are read when it is first asked for.
+/// The program, or a file of the folder: its bytes are read when they are first needed.
 struct File {
     path: PathBuf,
     bytes: OnceCell<Vec<u8>>,
@@ -35,7 +35,7 @@ impl File {
         self.path.file_name().unwrap_or_default().to_string_lossy().into_owned()
     }
 
-    /// The image of the file; where it cannot be read or is refused, which is told, the exit status for it.
+    /// The image of the file; if it cannot be read or is refused, that is reported, and the error is the exit status.
     fn image(&self) -> Result<Image<'_>, i32> {
         let bytes = fs::read(&self.path).map_err(|error| self.tell(3, &error))?;
         Image::new(self.bytes.get_or_init(|| bytes)).map_err(|error| match error {
@@ -44,21 +44,21 @@ impl File {
         })
     }
 
-    /// Tells what is wrong with the file; the exit status for it.
+    /// Reports what is wrong with the file; returns the exit status.
     fn tell(&self, status: i32, wrong: &dyn Display) -> i32 {
         eprintln!("{}: {wrong}", self.path.display());
         status
     }
 }
 
-/// The images of a folder, each read when it is first asked for. They are found by their names in lower case.
+/// The images of a folder, each read when it is first needed. They are found by their names in lower case.
 struct Folder<'a> {
     files: &'a BTreeMap<String, File>,
     images: BTreeMap<&'a str, Result<Image<'a>, i32>>,
 }
 
 impl<'a> Folder<'a> {
-    /// The image of a module, with its key; `None` where the folder has no such file, or its file is refused.
+    /// The image of a module, with its key; `None` if the folder has no such file, or its file is refused.
     fn image(&mut self, module: &str) -> Option<(&'a str, Image<'a>)> {
         let (module, file) = self.files.get_key_value(module)?;
         let image = self.images.entry(module).or_insert_with(|| file.image());
@@ -84,7 +84,7 @@ impl<'a> Folder<'a> {
         Ok((module, "too many forwarders".into()))
     }
 
-    /// Prints a line for each import of an image; the modules to which they lead.
+    /// Prints a line for each import of an image; returns the modules to which they lead.
     fn follow(&mut self, name: &str, tables: &Tables<'a>) -> Result<Vec<String>, OutOfMemory> {
         let mut modules = Vec::new();
         for import in tables.imports() {
@@ -96,7 +96,7 @@ impl<'a> Folder<'a> {
         Ok(modules)
     }
 
-    /// The worst exit status of the files that were asked for.
+    /// The worst exit status of the files that were needed.
     fn status(&self) -> i32 {
         let statuses = self.images.values().filter_map(|image| image.as_ref().err());
         statuses.max().copied().unwrap_or(0)
@@ -137,7 +137,7 @@ fn files_of(folder: &Path) -> io::Result<BTreeMap<String, File>> {
     Ok(files.map(|file| (file.name().to_lowercase(), file)).collect())
 }
 
-/// The exit status.
+/// Follows the imports of a program; returns the exit status.
 fn run(program: &Path, folder: &Path) -> Result<i32, Box<dyn Error>> {
     let program = File::of(program.into());
     let image = match program.image() {

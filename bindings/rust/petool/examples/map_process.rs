@@ -17,7 +17,7 @@ base to the highest end.
 
   --known  leave slots of modules that are not among the files";
 
-/// A file that is to stand at a base.
+/// A file, and the base at which it is mapped.
 struct Module {
     name: String,
     bytes: Vec<u8>,
@@ -25,7 +25,7 @@ struct Module {
 }
 
 impl Module {
-    /// The module of a word `BASE=FILE`; where there is none, which is told, the exit status for it.
+    /// The module of a word `BASE=FILE`; a failure is reported, and the error is the exit status.
     fn of(word: &str) -> Result<Module, i32> {
         let (base, path) = parsed(word).ok_or_else(|| tell(2, &format!("{word} is not BASE=FILE")))?;
         Ok(Module {
@@ -44,14 +44,14 @@ impl Module {
     }
 }
 
-/// The base and the path of a word `BASE=FILE`.
+/// The base and the path in a word `BASE=FILE`.
 fn parsed(word: &str) -> Option<(u64, &Path)> {
     let (base, path) = word.split_once('=')?;
     let base = u64::from_str_radix(base.trim_start_matches("0x"), 16).ok()?;
     Some((base, path.as_ref()))
 }
 
-/// Tells what is wrong; the exit status for it.
+/// Reports what is wrong; returns the exit status.
 fn tell(status: i32, wrong: &dyn Display) -> i32 {
     eprintln!("map_process: {wrong}");
     status
@@ -77,7 +77,7 @@ fn write(space: &mut Space, modules: &[Module], out: &Path) -> Result<(), Box<dy
     Ok(())
 }
 
-/// Tells why a set is refused; the exit status for it.
+/// Reports why a set is refused; returns the exit status.
 fn refused(modules: &[Module], error: SetError) -> i32 {
     match error {
         SetError::Fault(fault) | SetError::Cycle { fault, .. } => {
@@ -91,7 +91,7 @@ fn refused(modules: &[Module], error: SetError) -> i32 {
     }
 }
 
-/// The exit status.
+/// Maps the files that words name, and writes them; returns the exit status.
 fn run(policy: Policy, out: &Path, words: &[String]) -> Result<i32, Box<dyn Error>> {
     let modules = words.iter().map(|word| Module::of(word));
     let modules = match modules.collect::<Result<Vec<_>, _>>() {

@@ -1,5 +1,5 @@
-//! Rebases the DLLs of a folder to bases that are apart, in the order of their names, and writes them to another folder:
-//! `rebase_folder [--base HEX] FOLDER OUT`.
+//! Rebases the DLLs of a folder to bases that do not overlap, in the order of their names, and writes them to another
+//! folder: `rebase_folder [--base HEX] FOLDER OUT`.
 //!
 //! A DLL that is refused is reported, and left out.
 
@@ -18,7 +18,7 @@ A DLL that is refused is reported, and left out.
 
 /// Bases are multiples of this.
 const UNIT: u64 = 0x10000;
-/// Where the first image stands.
+/// The base of the first image.
 const FIRST: u64 = 0x1000_0000;
 
 fn dlls_of(folder: &Path) -> io::Result<Vec<PathBuf>> {
@@ -33,7 +33,7 @@ fn is_dll(name: &OsStr) -> bool {
     name.to_string_lossy().to_lowercase().ends_with(".dll")
 }
 
-/// Makes a folder, in one that stands, where it does not stand already.
+/// Makes a folder, whose parent exists, unless it exists already.
 fn make_folder(path: &Path) -> io::Result<()> {
     match fs::create_dir(path) {
         Err(error) if error.kind() == io::ErrorKind::AlreadyExists => Ok(()),
@@ -57,7 +57,7 @@ fn run(folder: &Path, out: &Path, first: u64) -> Result<(), Box<dyn Error>> {
             Ok((moved, size)) => {
                 fs::write(out.join(name), moved)?;
                 println!("{shown}: {base:#x}");
-                // at the last address, where the address space ends, no image can stand
+                // no image can be at the last address, where the address space ends
                 base = base.saturating_add(size.div_ceil(UNIT) * UNIT);
             }
             Err(petool::Error::Fault(fault)) => println!("{shown}: fault {}: {fault}", fault.number),
@@ -67,7 +67,7 @@ fn run(folder: &Path, out: &Path, first: u64) -> Result<(), Box<dyn Error>> {
     Ok(())
 }
 
-/// The first base and the two folders that words name.
+/// The first base and the two folders from the arguments.
 fn parsed(words: &[String]) -> Option<(u64, &String, &String)> {
     match words {
         [option, base, folder, out] if option == "--base" => {

@@ -53,16 +53,16 @@ impl Fault {
 
     fn words(&self) -> (&'static str, &'static str) {
         let (mut subject, mut rule) = (sys::Text::NONE, sys::Text::NONE);
-        // SAFETY: both texts are set, and stand apart
+        // SAFETY: both texts are initialized, and do not overlap
         let status = unsafe { sys::petool_fault_words(self.number, &mut subject, &mut rule) };
         if status != sys::PETOOL_OK {
             return ("place", "no fault has this number");
         }
-        // SAFETY: with this status both are texts of the library, which live for ever
+        // SAFETY: with this status both are strings of the library, which live for ever
         unsafe { (library_text(subject), library_text(rule)) }
     }
 
-    /// The fault as a call takes it.
+    /// The fault as the record that calls take.
     fn raw(&self) -> sys::Fault {
         let (place, at) = match self.place {
             Place::File(at) => (sys::PETOOL_PLACE_FILE, at),
@@ -103,7 +103,7 @@ const LINE: usize = 257;
 ///
 /// The text is a string of the library, and not of a file.
 unsafe fn library_text(text: sys::Text) -> &'static str {
-    // SAFETY: the text lives for ever, and nobody writes to it; its pointer is not null, also where it is empty
+    // SAFETY: the string lives for ever, and nobody writes to it; its pointer is not null, even if it is empty
     let bytes: &'static [u8] = unsafe { slice::from_raw_parts(text.at, text.len) };
     std::str::from_utf8(bytes).unwrap_or("")
 }
@@ -111,7 +111,7 @@ unsafe fn library_text(text: sys::Text) -> &'static str {
 impl fmt::Display for Fault {
     fn fmt(&self, out: &mut fmt::Formatter<'_>) -> fmt::Result {
         let mut line = [0; LINE];
-        // SAFETY: the record is set, and the line stands apart and has the room that is told
+        // SAFETY: the record is set, does not overlap the line, and the line has the given room
         let whole = unsafe { sys::petool_fault_line(&self.raw(), line.as_mut_ptr().cast(), line.len()) };
         let text = usize::try_from(whole).ok().and_then(|len| line.get(..len));
         out.write_str(text.and_then(|text| std::str::from_utf8(text).ok()).unwrap_or(""))

@@ -17,7 +17,7 @@ impl Section {
         self.name.get(..filled).unwrap_or(&[])
     }
 
-    /// Whether a byte of the image is one of this section.
+    /// Whether the byte at this RVA belongs to the section.
     pub fn contains(&self, rva: u32) -> bool {
         rva >= self.rva && rva - self.rva < self.extent
     }
@@ -80,7 +80,7 @@ impl Headers {
             .unwrap_or(&self.sections)
     }
 
-    /// The section that has this byte of the image.
+    /// The section to which the byte at this RVA belongs.
     pub fn section_at(&self, rva: u32) -> Option<&Section> {
         self.sections().iter().find(|section| section.contains(rva))
     }

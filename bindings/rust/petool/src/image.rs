@@ -6,8 +6,8 @@ use petool_sys as sys;
 
 /// A file with none of the image faults of docs/FAULTS.md.
 ///
-/// It is judged once, when it is made. After that only [`Image::rebased`] returns a fault, and only calls that read tables
-/// or rebase may be out of memory.
+/// It is checked once, when it is made. After that only [`Image::rebased`] returns a fault, and only calls that read
+/// tables or rebase may be out of memory.
 #[derive(Clone, Debug)]
 pub struct Image<'a> {
     file: &'a [u8],
@@ -16,13 +16,13 @@ pub struct Image<'a> {
 }
 
 impl<'a> Image<'a> {
-    /// Judges a file: headers, sections, exports, imports and base relocations. The rows of its tables are counted at
+    /// Checks a file: headers, sections, exports, imports and base relocations. The rows of its tables are counted at
     /// the same time.
     pub fn new(file: &'a [u8]) -> Result<Image<'a>, Error> {
         let mut tables = Tables::empty(file);
         let (mut counts, mut fault) = (sys::Counts::default(), sys::Fault::default());
         match tables.fill(&mut counts, &mut fault) {
-            // there is no room for rows, so only an image without tables is read at once
+            // there is no room for rows, so the status is OK only for an image without tables
             sys::PETOOL_OK | sys::PETOOL_SMALL => Ok(Image {
                 file,
                 headers: Headers::read(file)?,
@@ -47,8 +47,8 @@ impl<'a> Image<'a> {
         self.headers.sections()
     }
 
-    /// Fills the buffer with the bytes from an RVA on, as the file lays them out: raw data, or 0. It is `None`, and the
-    /// buffer is left as it was, if they do not all lie inside the image.
+    /// Fills the buffer with the bytes of the laid-out image from an RVA on: raw data, or 0. It is `None`, and the
+    /// buffer is unchanged, if they do not all lie inside the image.
     ///
     /// ```
     /// let file: &[u8] = include_bytes!("../../../../crates/test_cases/data/v1.dll");
@@ -78,7 +78,7 @@ impl<'a> Image<'a> {
     /// The zero-terminated string at an RVA, without its zero byte; `None` if there is none.
     pub fn text(&self, rva: u32) -> Option<&'a [u8]> {
         let (mut text, mut fault) = (sys::Text::NONE, sys::Fault::default());
-        // SAFETY: the file is all of a slice, which nobody writes to; the text is set
+        // SAFETY: the file is all of a slice, which nobody writes to; the text is initialized
         let status = unsafe { sys::petool_read_text(self.file.as_ptr(), self.file.len(), rva, &mut text, &mut fault) };
         (status == sys::PETOOL_OK).then(|| text_of(self.file, text))
     }
@@ -96,10 +96,11 @@ impl<'a> Image<'a> {
         Tables::of(self.file, self.counts)
     }
 
-    /// What a name exports. Each call reads the export table: to look up many names, use an [`OpenImage`](crate::OpenImage).
+    /// What a name exports. Each call reads the export table: to look up many names, use an
+    /// [`OpenImage`](crate::OpenImage).
     pub fn export_by_name(&self, name: &[u8]) -> Result<Option<Target<'a>>, OutOfMemory> {
         let (mut target, mut fault) = (sys::Target::NONE, sys::Fault::default());
-        // SAFETY: the file and the name are all of slices, which nobody writes to; the target's texts are set
+        // SAFETY: the file and the name are all of slices, which nobody writes to; the target's texts are initialized
         let status = unsafe {
             sys::petool_export_by_name(
                 self.file.as_ptr(),
@@ -116,7 +117,7 @@ impl<'a> Image<'a> {
     /// What an ordinal exports, as [`Image::export_by_name`].
     pub fn export_by_ordinal(&self, ordinal: u32) -> Result<Option<Target<'a>>, OutOfMemory> {
         let (mut target, mut fault) = (sys::Target::NONE, sys::Fault::default());
-        // SAFETY: the file is all of a slice, which nobody writes to; the target's texts are set
+        // SAFETY: the file is all of a slice, which nobody writes to; the target's texts are initialized
         let status = unsafe {
             sys::petool_export_by_ordinal(self.file.as_ptr(), self.file.len(), ordinal, &mut target, &mut fault)
         };

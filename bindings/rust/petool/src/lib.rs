@@ -1,9 +1,9 @@
-//! Reads, judges and moves PE images, and reads COFF objects, from files that may be hostile, with the proved calls of
+//! Reads, checks and moves PE images, and reads COFF objects, from files that may be hostile, with the proved calls of
 //! libpetool.
 //!
-//! An [`Image`] is a file without a fault: it is judged once, and then read. An [`OpenImage`] keeps what its tables hold,
-//! for many look-ups. [`Headers`] reads headers and sections only. [`judge`] returns what the imports of a set of images
-//! are bound to, a [`Space`] maps a set and moves its images, and an [`Object`] is a COFF object.
+//! An [`Image`] is a file without a fault: it is checked once, and then read. An [`OpenImage`] keeps the contents of
+//! its tables, for many look-ups. [`Headers`] reads headers and sections only. [`judge`] returns what the imports of a
+//! set of images are bound to, a [`Space`] maps a set and moves its images, and an [`Object`] is a COFF object.
 //!
 //! ```
 //! use petool::{Error, Image};
@@ -22,7 +22,7 @@
 //! # Ok::<(), Error>(())
 //! ```
 //!
-//! A file is borrowed as its bytes, and every name that a call returns is a part of it: nothing is copied. No call
+//! A file is borrowed as its bytes, and every name that a call returns is a slice of it: nothing is copied. No call
 //! panics, whatever the file holds. A status that the header does not allow counts as out of memory, or as absent if a
 //! call has no such error: never as success.
 #![deny(missing_docs, unsafe_op_in_unsafe_fn)]

@@ -132,7 +132,7 @@ impl<'a> Object<'a> {
         }
     }
 
-    /// Judges a file, without allocating. A status that the header does not allow is shown as fault 0, which does not
+    /// Checks a file, without allocating. A status that the header does not allow is shown as fault 0, which does not
     /// exist.
     pub fn new(file: &'a [u8]) -> Result<Object<'a>, Fault> {
         let mut fault = sys::Fault::default();
@@ -224,7 +224,7 @@ impl<'a> Object<'a> {
         Ok(starts)
     }
 
-    /// The relocations of all sections after so many, as many as there is room for.
+    /// The relocations of all sections after the first `skipped` ones, in `room` rows.
     fn relocations_from(&self, skipped: usize, room: usize) -> Result<Vec<Relocation>, OutOfMemory> {
         let mut rows = room_of(Relocation::default(), room)?;
         let (mut count, mut fault) = (0, sys::Fault::default());

@@ -4,9 +4,9 @@ use crate::rows::text_of;
 use crate::{Error, OutOfMemory, Target};
 use petool_sys as sys;
 
-/// An image that is kept open: what its tables hold is kept, so that no look-up reads them again.
+/// An image that is kept open, with the contents of its tables, so that no look-up reads them again.
 ///
-/// One call at a time may use it: it is `Send` and not `Sync`. Another thread gets an [`OpenImage::shared`] one of its own.
+/// One call at a time may use it: it is `Send` and not `Sync`. Another thread gets its own by [`OpenImage::shared`].
 ///
 /// ```compile_fail,E0277
 /// fn share<T: Sync>() {}
@@ -39,12 +39,12 @@ pub struct OpenImage<'a> {
     file: &'a [u8],
 }
 
-// SAFETY: an open image goes to one call at a time of any thread, which owning it or `&mut` gives; what it shares with
-// others is only read, and counted by the library
+// SAFETY: one call at a time of any thread may use an open image, which owning it or `&mut` ensures; what it shares
+// with others is only read, and counted by the library
 unsafe impl Send for OpenImage<'_> {}
 
 impl<'a> OpenImage<'a> {
-    /// Judges a file as [`Image::new`](crate::Image::new) does, and keeps what its tables hold.
+    /// Checks a file as [`Image::new`](crate::Image::new) does, and keeps the contents of its tables.
     pub fn new(file: &'a [u8]) -> Result<OpenImage<'a>, Error> {
         let mut image = OpenImage {
             raw: sys::Image::CLOSED,
@@ -64,7 +64,7 @@ impl<'a> OpenImage<'a> {
         self.file
     }
 
-    /// The same image for another thread. The memory goes back when the last of them is dropped.
+    /// The same image for another thread. The memory is freed when the last of them is dropped.
     pub fn shared(&mut self) -> Result<OpenImage<'a>, OutOfMemory> {
         let mut other = OpenImage {
             raw: sys::Image::CLOSED,
@@ -81,7 +81,7 @@ impl<'a> OpenImage<'a> {
     /// What a name exports.
     pub fn export_by_name(&mut self, name: &[u8]) -> Option<Target<'a>> {
         let mut target = sys::Target::NONE;
-        // SAFETY: the image is open; the name is all of a slice; the target's texts are set
+        // SAFETY: the image is open; the name is all of a slice; the target's texts are initialized
         let status = unsafe { sys::petool_image_export_by_name(&mut self.raw, name.as_ptr(), name.len(), &mut target) };
         (status == sys::PETOOL_OK).then(|| Target::of(self.file, target))
     }
@@ -89,7 +89,7 @@ impl<'a> OpenImage<'a> {
     /// What an ordinal exports.
     pub fn export_by_ordinal(&mut self, ordinal: u32) -> Option<Target<'a>> {
         let mut target = sys::Target::NONE;
-        // SAFETY: the image is open; the target's texts are set
+        // SAFETY: the image is open; the target's texts are initialized
         let status = unsafe { sys::petool_image_export_by_ordinal(&mut self.raw, ordinal, &mut target) };
         (status == sys::PETOOL_OK).then(|| Target::of(self.file, target))
     }
@@ -104,7 +104,7 @@ impl<'a> OpenImage<'a> {
     /// The zero-terminated string at an RVA, without its zero byte; `None` if there is none.
     pub fn text(&mut self, rva: u32) -> Option<&'a [u8]> {
         let mut text = sys::Text::NONE;
-        // SAFETY: the image is open; the text is set
+        // SAFETY: the image is open; the text is initialized
         let status = unsafe { sys::petool_image_read_text(&mut self.raw, rva, &mut text) };
         (status == sys::PETOOL_OK).then(|| text_of(self.file, text))
     }

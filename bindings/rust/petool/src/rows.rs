@@ -3,15 +3,15 @@
 use crate::OutOfMemory;
 use petool_sys as sys;
 
-/// The bytes of a text that a call found in this file. They are cut out of the file, so no pointer is followed; a text
-/// that is not in the file would be an empty one.
+/// The bytes of a string that a call found in this file. They are sliced from the file, so no pointer is followed; a
+/// string outside the file would be an empty one.
 pub(crate) fn text_of(file: &[u8], text: sys::Text) -> &[u8] {
     let offset = (text.at as usize).wrapping_sub(file.as_ptr() as usize);
     let from = file.get(offset..).unwrap_or(&[]);
     from.get(..text.len).unwrap_or(&[])
 }
 
-/// Room for this many rows, each of them set.
+/// This many rows, each of them initialized.
 pub(crate) fn room_of<Row: Copy>(blank: Row, count: usize) -> Result<Vec<Row>, OutOfMemory> {
     let mut rows = Vec::new();
     rows.try_reserve_exact(count).map_err(|_| OutOfMemory)?;
@@ -19,8 +19,8 @@ pub(crate) fn room_of<Row: Copy>(blank: Row, count: usize) -> Result<Vec<Row>, O
     Ok(rows)
 }
 
-/// All rows of a table, or the status with which it was not read. The call gets rows, which are all set, and a count to
-/// fill: once with the room that is guessed, and once more with the room that it then reports.
+/// All rows of a table, or the status of the failure. The call gets rows, which are all initialized, and a count to
+/// set: once with the guessed room, and once more with the room that it then reports.
 pub(crate) fn read_rows<Row: Copy>(
     guess: usize,
     blank: Row,

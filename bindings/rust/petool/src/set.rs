@@ -30,7 +30,7 @@ impl Policy {
     }
 }
 
-/// The entries as calls take them. Their texts are borrowed: the list may not outlive the entries.
+/// The entries as records of calls. Their texts are borrowed: the list may not outlive the entries.
 pub(crate) fn raw_entries(set: &[Entry<'_>]) -> Result<Vec<sys::Entry>, OutOfMemory> {
     let blank = sys::Entry {
         name: sys::Text::NONE,
@@ -48,10 +48,10 @@ pub(crate) fn raw_entries(set: &[Entry<'_>]) -> Result<Vec<sys::Entry>, OutOfMem
     Ok(raw)
 }
 
-/// How many bindings are read without judging the set a second time.
+/// How many bindings are read without checking the set a second time.
 const GUESS: usize = 1024;
 
-/// Judges a set of at most 256 images, and returns what each import is bound to.
+/// Checks a set of at most 256 images, and returns what each import is bound to.
 ///
 /// ```
 /// use petool::{judge, Entry, Policy};

@@ -33,7 +33,7 @@ pub struct Space {
     raw: sys::Space,
 }
 
-// SAFETY: an open space goes to one call at a time of any thread, which owning it or `&mut` gives; it has no other
+// SAFETY: one call at a time of any thread may use an open space, which owning it or `&mut` ensures; it has no other
 // state
 unsafe impl Send for Space {}
 
@@ -46,7 +46,7 @@ pub struct Placed {
     pub size: u32,
 }
 
-/// The faults of a window and of an index, as which a status counts that the header does not allow.
+/// The faults of a window and of an index; a status that the header does not allow counts as these.
 const NO_WINDOW: u16 = 54;
 const NO_IMAGE: u16 = 55;
 
@@ -76,7 +76,7 @@ impl Space {
     }
 
     /// Fills the buffer with the bytes from an address on. If they do not all lie in one image, the error is fault 54,
-    /// and the buffer is left as it was.
+    /// and the buffer is unchanged.
     pub fn read(&mut self, address: u64, buffer: &mut [u8]) -> Result<(), Fault> {
         let mut fault = sys::Fault {
             number: NO_WINDOW,

@@ -91,7 +91,7 @@ pub struct Tables<'a> {
     fixups: Vec<Fixup>,
 }
 
-// SAFETY: the pointers in the rows are places in the file, which is borrowed, and are never followed
+// SAFETY: the pointers in the rows point into the file, which is borrowed, and are never followed
 unsafe impl Send for Tables<'_> {}
 // SAFETY: as above; and nothing is changed through a shared reference
 unsafe impl Sync for Tables<'_> {}
@@ -108,7 +108,7 @@ impl<'a> Tables<'a> {
         }
     }
 
-    /// The tables of a file that was judged, and has this many rows.
+    /// The tables of a file that was checked, and has this many rows.
     pub(crate) fn of(file: &'a [u8], mut counts: sys::Counts) -> Result<Tables<'a>, OutOfMemory> {
         let mut tables = Tables {
             file,
@@ -123,7 +123,7 @@ impl<'a> Tables<'a> {
         }
     }
 
-    /// Reads all tables into the rows that there are: a status of `petool_tables`, with the faults of `petool_check`.
+    /// Reads all tables into the rows: a status of `petool_tables`, with the faults of `petool_check`.
     pub(crate) fn fill(&mut self, counts: &mut sys::Counts, fault: &mut sys::Fault) -> u32 {
         // SAFETY: the file is all of a slice, which nobody writes to; the rows are nobody else's, and all are set
         unsafe {
