@@ -6,7 +6,7 @@
 
 static bytes v1, v2, v3, va, vb, vc, vr;
 
-/* A fault that no call tells. */
+/* A fault that no call returns. */
 static const petool_fault UNTOLD = {0x7777, 0x8888, 0x99999999, 0xaaaaaaaaaaaaaaaa};
 
 static int is_fault(petool_fault fault, unsigned number, unsigned place, uint64_t at)
@@ -36,7 +36,7 @@ static void check_judging(void)
     CHECK(is_fault(fault, 13, PETOOL_PLACE_FILE, 0x138));
 }
 
-/* The fields of vr.dll that have the width of 64 and 32 bits, in the order of the headers. */
+/* The fields of vr.dll of 64 and 32 bits, in the order of the headers. */
 static void check_wide_fields(const petool_headers *h)
 {
     CHECK(h->image_base == 0x3e3d3c3b3a390000);
@@ -118,11 +118,11 @@ static void check_headers(void)
     CHECK(petool_read_headers(vr.at, vr.len, &headers, one, 1, &fault) == PETOOL_OK);
     CHECK(headers.number_of_sections == 3 && one[0].rva == 0x20000);
 
-    /* PE32 has BaseOfData; no directory is past those that the file has */
+    /* PE32 has BaseOfData; directories that the file does not have are 0 */
     CHECK(petool_read_headers(v1.at, v1.len, &headers, sections, 0, &fault) == PETOOL_OK);
     CHECK(headers.magic == 0x10b && headers.image_base == 0x10000000 && headers.size_of_image == 0x3000);
 
-    /* nothing is told of a refused file */
+    /* a refused file leaves the headers unchanged */
     memset(&headers, 0x5a, sizeof headers);
     memset(&kept, 0x5a, sizeof kept);
     CHECK(petool_read_headers(vr.at, 63, &headers, sections, 4, &fault) == PETOOL_FAULT);

@@ -11,7 +11,7 @@
 
 static int passed, failed;
 
-/* Counts a check, and tells of one that does not hold. */
+/* Counts a check, and prints one that does not hold. */
 #define CHECK(holds)                                                  \
     do {                                                              \
         if (holds) {                                                  \
@@ -22,7 +22,7 @@ static int passed, failed;
         }                                                             \
     } while (0)
 
-/* The last line of a test. */
+/* Prints the last line of a test; returns its exit status. */
 static inline int told(void)
 {
     printf("%d passed, %d failed\n", passed, failed);
@@ -69,7 +69,7 @@ static inline petool_entry entry(const char *name, bytes file, uint64_t base)
     return made;
 }
 
-/* The set of va.dll, vb.dll and vc.dll, of which the slot of c.exe at RVA 0x1030 is bound to RVA 0x1010 of b.dll. */
+/* The set of va.dll, vb.dll and vc.dll: the slot of c.exe at RVA 0x1030 is bound to RVA 0x1010 of b.dll. */
 static inline void set_abc(petool_entry set[3], bytes va, bytes vb, bytes vc)
 {
     set[0] = entry("a.dll", va, 0x10000000);

@@ -1,6 +1,6 @@
 /*
- * Files that were cut and changed: every prefix of each small file, and each of its bytes with another value. Every call answers,
- * reads no byte that is not the file's (each file is a block of its own), and agrees with the others about the file.
+ * Files that were cut and changed: every prefix of each small file, and each of its bytes with another value. Every call returns,
+ * reads no byte outside the file (each prefix is allocated in its exact size), and agrees with the others about the file.
  */
 #include "check.h"
 
@@ -8,7 +8,7 @@
 
 static unsigned long files, faults[100];
 
-/* Whether a status is one that a call on a file may have, and of a fault whether its number is one of these. */
+/* Whether a call on a file may return this status, and if it is PETOOL_FAULT this fault: its number is at most `last`. */
 static int is_answer(uint32_t status, const petool_fault *fault, unsigned last)
 {
     if (status == PETOOL_FAULT)
@@ -16,7 +16,7 @@ static int is_answer(uint32_t status, const petool_fault *fault, unsigned last)
     return status == PETOOL_OK || status == PETOOL_ABSENT || status == PETOOL_SMALL;
 }
 
-/* A judgement of headers and sections is that of petool_check, where it is of one of faults 1 to 15. */
+/* Whether a call that reads headers and sections returns the fault of petool_check, if that is one of 1 to 15, and else none. */
 static int agrees(uint32_t status, const petool_fault *fault, uint32_t judged, const petool_fault *first)
 {
     if (judged == PETOOL_FAULT && first->number <= 15)
@@ -58,7 +58,7 @@ static void ask_tables(const uint8_t *file, size_t len, uint32_t judged, const p
     petool_exports_init(names, ROWS);
     petool_imports_init(imports, ROWS);
     status = petool_tables(file, len, exports, ROWS, names, ROWS, imports, ROWS, fixups, ROWS, &counts, &fault);
-    /* all tables are wrong exactly where the file is */
+    /* petool_tables and petool_check return the same fault */
     right = is_answer(status, &fault, 38) && (status == PETOOL_FAULT) == (judged == PETOOL_FAULT)
         && (status != PETOOL_FAULT || memcmp(&fault, first, sizeof fault) == 0);
     status = petool_export_by_name(file, len, (const uint8_t *)"f", 1, &target, &fault);
@@ -72,7 +72,7 @@ static void ask_tables(const uint8_t *file, size_t len, uint32_t judged, const p
     CHECK(right);
 }
 
-/* An image is open exactly where the file has no fault, and a look-up then answers as the call over the file. */
+/* An image is open if and only if the file has no fault, and its look-ups return what the calls over the file do. */
 static void ask_opened(const uint8_t *file, size_t len, uint32_t judged, const petool_fault *first)
 {
     petool_image image = PETOOL_IMAGE_CLOSED;
@@ -136,7 +136,7 @@ static void ask(const uint8_t *file, size_t len)
     ask_opened(file, len, judged, &first);
     ask_spaces(file, len);
     status = petool_rebase(file, len, 0x20000000, out, len, &fault);
-    /* a rebase asks nothing of exports, of which faults 16 to 22 tell */
+    /* petool_rebase does not read exports, which have faults 16 to 22 */
     CHECK(is_answer(status, &fault, 52));
     CHECK(judged != PETOOL_FAULT || (first.number >= 16 && first.number <= 22) || memcmp(&fault, &first, sizeof fault) == 0);
     status = petool_object_check(file, len, &fault);
@@ -146,7 +146,7 @@ static void ask(const uint8_t *file, size_t len)
     faults[judged == PETOOL_FAULT ? first.number : 0]++;
 }
 
-/* Every prefix of a file, in a block of just its size, and the file with each byte changed in three ways. */
+/* Every prefix of a file, allocated in its exact size, and the file with each byte changed in three ways. */
 static void change(const char *folder, const char *name)
 {
     static const uint8_t masks[3] = {0xff, 0x01, 0x80};

@@ -1,6 +1,6 @@
 /*
- * Each growth of each call refused in turn: the call answers that it wants memory, leaves what it fills as it was, and gives all of its
- * memory back. The linker puts the functions below in the place of malloc, realloc and free.
+ * Each allocation of each call fails in turn: the call returns that it is out of memory, leaves its results unchanged, and frees
+ * all of its memory. The linker replaces malloc, realloc and free with the functions below.
  */
 #include "check.h"
 
@@ -11,7 +11,7 @@ void *__wrap_malloc(size_t size);
 void *__wrap_realloc(void *at, size_t size);
 void __wrap_free(void *at);
 
-/* how many growths were asked for, after how many they are refused (never, if negative), and how many blocks live */
+/* how many allocations were requested, how many succeed before all fail (all, if negative), and how many blocks are in use */
 static long asked, room = -1, living;
 
 static int is_refused(void)
@@ -166,7 +166,7 @@ static uint32_t map_over(void)
     return status;
 }
 
-/* Runs a call with room for ever more growths, until it wants no more. */
+/* Runs a call with each of its allocations failing in turn. */
 static void refuse_each(const char *name, uint32_t (*call)(void))
 {
     long before = living, all, k;
@@ -186,7 +186,7 @@ static void refuse_each(const char *name, uint32_t (*call)(void))
     printf("%s: each of %ld growths refused\n", name, all);
 }
 
-/* The calls of an open image ask for no memory, nor does sharing a closed one. */
+/* The calls of an open image allocate nothing, nor does sharing a closed one. */
 static void check_opened(void)
 {
     petool_image other = PETOOL_IMAGE_CLOSED;

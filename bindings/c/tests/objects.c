@@ -1,5 +1,5 @@
-/* Objects: each call on its good path and in each of its statuses. The values are those of o1.obj, two.obj and an object that
- * stands here, made by hand. */
+/* Objects: each call on its good path and in each of its statuses. The values are those of o1.obj, two.obj and the objects
+ * below, made by hand. */
 #include "check.h"
 
 static bytes o1, two;
@@ -17,7 +17,7 @@ static void check_judging(void)
     CHECK(fault.number == 61 && fault.place == PETOOL_PLACE_FILE && fault.at == 19);
 }
 
-/* An object whose headers have no byte twice but 0, so that each tells its field and its place in it. It has no symbols and no
+/* An object whose headers have no byte twice but 0, so that each value shows which bytes were read. It has no symbols and no
  * relocations, and its section's bytes are not in the file. */
 static uint8_t headers_bytes[] = {
     /* the COFF header, with an optional header of two bytes */
@@ -93,7 +93,7 @@ static void check_relocations(void)
 
 /* An object of three sections, which have two relocations, none and three, and one symbol. */
 static uint8_t three_bytes[] = {
-    /* the COFF header: the symbol table stands at 190 */
+    /* the COFF header: the symbol table is at 190 */
     0x64, 0x86, 3, 0, 0, 0, 0, 0, 190, 0, 0, 0, 1, 0, 0, 0, 0, 0, 0, 0,
     /* 20: two relocations, at 140 */
     '.', 'a', 0, 0, 0, 0, 0, 0, 0, 0, 0, 0, 0, 0, 0, 0, 0, 0, 0, 0, 0, 0, 0, 0, 140, 0, 0, 0, 0, 0, 0, 0, 2, 0, 0, 0, 0x20, 0, 0, 0x60,
@@ -113,7 +113,7 @@ static uint8_t three_bytes[] = {
     4, 0, 0, 0,
 };
 
-/* the relocations of all sections, asked section by section */
+/* the relocations of all sections, read section by section */
 static size_t section_by_section(bytes object, petool_object_relocation *rows, size_t room)
 {
     petool_fault fault = {0, 0, 0, 0};
@@ -128,7 +128,7 @@ static size_t section_by_section(bytes object, petool_object_relocation *rows, s
     }
 }
 
-/* the relocations of all sections, read by windows of so many rows; no row behind a window is written */
+/* the relocations of all sections, read in windows of `room` rows; no row after a window is written */
 static size_t by_windows(bytes object, size_t room, petool_object_relocation *all)
 {
     petool_fault fault = {0, 0, 0, 0};

@@ -1,6 +1,6 @@
 /*
- * Images that are kept open: each call answers as the call over the file's bytes does, in each of its statuses; closed structs, refused
- * files, and structs that share an image. Some values are those of the files, which were made by hand from the format.
+ * Images that are kept open: each call returns what the call over the file's bytes does, in each of its statuses; closed structs,
+ * refused files, and structs that share an image. Some values are those of the files, which were made by hand from the format.
  */
 #include "check.h"
 
@@ -10,7 +10,7 @@ static const char *const names[9] = {"v1.dll", "v2.dll", "v3.dll", "va.dll", "vb
 static bytes files[9];
 static const bytes *const va = &files[3], *const vb = &files[4], *const vr = &files[8];
 
-/* A fault that no call tells. */
+/* A fault that no call returns. */
 static const petool_fault UNTOLD = {0x7777, 0x8888, 0x99999999, 0xaaaaaaaaaaaaaaaa};
 
 static int is_fault(const petool_fault *one, const petool_fault *other)
@@ -28,7 +28,7 @@ static petool_image opened(const bytes *file)
     return image;
 }
 
-/* Whether two texts are the same bytes of one file, or both empty. */
+/* Whether two strings are the same bytes of one file, or both empty. */
 static int is_same_text(petool_text one, petool_text other)
 {
     return one.len == other.len && (one.len == 0 || one.at == other.at);
@@ -66,7 +66,7 @@ static int are_same_fixups(const petool_fixup *one, const petool_fixup *other)
     return right;
 }
 
-/* The tables of an image, in so many rows. */
+/* The tables of an image, read into `room` rows each. */
 static void check_tables(petool_image *image, const bytes *file, size_t room)
 {
     petool_export exports[ROWS], same_exports[ROWS];
@@ -89,7 +89,7 @@ static void check_tables(petool_image *image, const bytes *file, size_t room)
     CHECK(image->is_open && is_fault(&fault, &UNTOLD));
 }
 
-/* What a name exports; the status. */
+/* Checks what a name exports; returns the status. */
 static uint32_t check_name(petool_image *image, const bytes *file, const uint8_t *name, size_t len)
 {
     petool_target target, same_target;
@@ -101,7 +101,7 @@ static uint32_t check_name(petool_image *image, const bytes *file, const uint8_t
     return status;
 }
 
-/* What an ordinal exports; the status. */
+/* Checks what an ordinal exports; returns the status. */
 static uint32_t check_ordinal(petool_image *image, const bytes *file, uint32_t ordinal)
 {
     petool_target target, same_target;
@@ -113,7 +113,7 @@ static uint32_t check_ordinal(petool_image *image, const bytes *file, uint32_t o
     return status;
 }
 
-/* Each name and ordinal of an image, and some that it lacks: one more or one less, and a name that was cut or has another byte. */
+/* Each name and ordinal of an image, and some that it lacks: ordinals before and after, and names that were cut or changed. */
 static void check_look_ups(petool_image *image, const bytes *file)
 {
     petool_export rows[ROWS];
@@ -159,7 +159,7 @@ static void check_rva(petool_image *image, const bytes *file, uint32_t rva)
     CHECK(offset == same_offset);
 }
 
-/* Each call over each file as the call over its bytes answers. */
+/* Each call on an open image of a file, and the call over its bytes. */
 static void check_file(const bytes *file)
 {
     static const uint32_t places[12] = {0, 0x3c, 0x1ff, 0x1000, 0x1010, 0x1030, 0x1ffc, 0x2fff, 0x20010, 0x30123, 0x41000, 0xffffffff};
@@ -191,7 +191,7 @@ static void check_values(void)
     CHECK(petool_image_export_by_ordinal(&image, 6, &target) == PETOOL_ABSENT && target.value == 5);
     CHECK(petool_image_export_by_name(&image, (const uint8_t *)"g", 1, &target) == PETOOL_OK && target.value == 0x1010);
 
-    /* opened once more, it is another image: the first one is closed by it */
+    /* opening it again closes the first image */
     CHECK(petool_image_open(&image, vr->at, vr->len, &fault) == PETOOL_OK && image.is_open);
     CHECK(petool_image_export_by_name(&image, (const uint8_t *)"g", 1, &target) == PETOOL_ABSENT);
     CHECK(petool_image_export_by_name(&image, (const uint8_t *)"plain", 5, &target) == PETOOL_OK);
@@ -202,7 +202,7 @@ static void check_values(void)
     petool_image_close(&image);
 }
 
-/* A closed image answers nothing else, and what a call sets is left as it was. */
+/* Each call returns that the image is closed, and leaves its results unchanged. */
 static void check_closed(petool_image *image)
 {
     petool_export export_row;
@@ -229,7 +229,7 @@ static void check_closed(petool_image *image)
     CHECK(count == 99 && !image->is_open);
 }
 
-/* A file with a fault, cut at each length: the image is closed, also where another was open, and the fault is that of a check. */
+/* A file cut at many lengths: with a fault the image is closed, even if another was open, and the fault is that of petool_check. */
 static void check_refused(void)
 {
     petool_image image = PETOOL_IMAGE_CLOSED;
@@ -250,7 +250,7 @@ static void check_refused(void)
     check_closed(&image);
 }
 
-/* Structs that share an image: each answers until it is closed itself, in any order, and moved to another place too. */
+/* Structs that share an image: each works until it is closed itself, in any order, and after a move in memory. */
 static void check_shared(void)
 {
     petool_image image = opened(vb), other = PETOOL_IMAGE_CLOSED, third = opened(vr), moved;
@@ -258,7 +258,7 @@ static void check_shared(void)
     CHECK(check_name(&image, vb, (const uint8_t *)"g", 1) == PETOOL_OK);
     CHECK(check_name(&other, vb, (const uint8_t *)"g", 1) == PETOOL_OK);
 
-    /* one that is open is closed first */
+    /* an open `other` is closed first */
     CHECK(petool_image_share(&other, &third) == PETOOL_OK && third.is_open);
     CHECK(check_name(&third, vb, (const uint8_t *)"g", 1) == PETOOL_OK);
     petool_image_close(&image);
@@ -268,7 +268,7 @@ static void check_shared(void)
     petool_image_close(&other);
     CHECK(check_name(&moved, vb, (const uint8_t *)"g", 1) == PETOOL_OK);
 
-    /* of a closed one the other is closed */
+    /* sharing a closed image leaves `other` closed */
     CHECK(petool_image_share(&image, &moved) == PETOOL_OK);
     check_closed(&moved);
     check_closed(&image);

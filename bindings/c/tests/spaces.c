@@ -1,6 +1,6 @@
 /*
- * Sets and spaces: each call on its good path and in each of its statuses. Of va.dll, vb.dll and vc.dll, at the bases below, one slot
- * is bound: that of c.exe at RVA 0x1030, to ordinal 7 of b.dll, which is its RVA 0x1010, by way of a forwarder of a.dll.
+ * Sets and spaces: each call on its good path and in each of its statuses. Of va.dll, vb.dll and vc.dll, at the bases below, one
+ * slot is bound: that of c.exe at RVA 0x1030, to ordinal 7 of b.dll, which is its RVA 0x1010, by way of a forwarder of a.dll.
  */
 #include "check.h"
 
@@ -24,7 +24,7 @@ static void check_judging(void)
     CHECK(count == 1 && is_bound(rows[0]) && rows[1].slot == 0 && cycle == 77 && fault.number == 0);
     CHECK(petool_judge(abc, 3, false, rows, 0, &count, &cycle, &fault) == PETOOL_SMALL && count == 1);
 
-    /* no image is a.dll: a fault, or a slot that is left as it stands */
+    /* without a.dll: a fault, or a slot that is left unchanged */
     wrong[0] = abc[1];
     wrong[1] = abc[2];
     count = 99;
@@ -39,7 +39,7 @@ static void check_judging(void)
     CHECK(fault.number == 44 && fault.image == 0 && fault.place == PETOOL_PLACE_ADDRESS && fault.at == 0x20000001);
 }
 
-/* Asserts that a set of a.dll and c.exe is refused at the slot of c.exe by this fault, and how long its cycle is told to be. */
+/* Asserts that a set of a.dll and c.exe is refused at the slot of c.exe by this fault, with this length of a cycle. */
 static void check_refused(bytes a, unsigned number, uint32_t length)
 {
     petool_space space = PETOOL_SPACE_CLOSED;
@@ -59,7 +59,7 @@ static void check_refused(bytes a, unsigned number, uint32_t length)
     CHECK(fault.number == number && cycle == length && count == 99);
 }
 
-/* The forwarder of va.dll leads to `b`, which the set lacks; with another text it leads to itself. */
+/* The forwarder of va.dll leads to `b`, which is not in the set; with another string it leads to itself. */
 static void check_searches(void)
 {
     size_t at = 0;
@@ -91,7 +91,7 @@ static void check_reading(petool_space *space)
     CHECK(count == 1 && is_bound(rows[0]) && rows[1].slot == 0);
     CHECK(petool_space_bindings(space, rows, 0, &count) == PETOOL_SMALL && count == 1);
 
-    /* past the image's last byte, and where no image is */
+    /* past the image's last byte, and outside all images */
     CHECK(petool_space_read(space, 0x402fff, slot, 1, &fault) == PETOOL_OK && slot[0] == 0);
     slot[0] = 0x5a;
     CHECK(petool_space_read(space, 0x402fff, slot, 2, &fault) == PETOOL_FAULT);
@@ -100,7 +100,7 @@ static void check_reading(petool_space *space)
     CHECK(petool_space_read(space, 0x403000, slot, 1, &fault) == PETOOL_FAULT && fault.number == 54 && fault.image == 65535);
 }
 
-/* Moves of b.dll: the slot that ends in it follows, and a refused move changes nothing. */
+/* Moves of b.dll: the slot that is bound to it follows, and a refused move changes nothing. */
 static void check_moves(petool_space *space)
 {
     petool_moved moved = {77, 77};
@@ -157,7 +157,7 @@ static void check_space(void)
     check_reading(&space);
     check_moves(&space);
 
-    /* mapped once more, it is another space: the first one is closed by it. The field of v2.dll holds the address of its RVA 0x1008 */
+    /* mapping again closes the first space. The field of v2.dll holds the address of its RVA 0x1008 */
     moving[0] = entry("v2.dll", v2, 0x20000000);
     CHECK(petool_space_map(&space, moving, 1, false, &cycle, &fault) == PETOOL_OK && space.is_open);
     CHECK(petool_space_read(&space, 0x20001008, field, 4, &fault) == PETOOL_OK);

@@ -1,4 +1,4 @@
-/* Eight threads call at once, over one file, each with its own struct of one open image and its own space: all get the same answers. */
+/* Eight threads call at once, over one file, each with its own struct of one open image and its own space: all get the same results. */
 #include "check.h"
 
 #include <pthread.h>
@@ -64,7 +64,7 @@ int main(int argc, char **argv)
         works[i].wrong = 0;
         CHECK(petool_image_share(&image, &works[i].image) == PETOOL_OK);
     }
-    /* the threads' structs keep the image, and the last of them that is closed gives it back */
+    /* the threads' structs keep the image, and closing the last of them frees it */
     petool_image_close(&image);
     for (i = 0; i < 8; i++)
         CHECK(pthread_create(&threads[i], NULL, run, &works[i]) == 0);

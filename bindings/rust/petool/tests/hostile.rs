@@ -1,6 +1,6 @@
-//! Files that were cut and changed: every call answers, and the fault is that which the program prints.
+//! Files that were cut and changed: every call returns, and the fault is that which the program prints.
 //!
-//! The program is the one that the variable PETOOL_PROGRAM names; without it this part is left out, and that is told.
+//! The program is the one that the variable PETOOL_PROGRAM names; without it this part is left out, which is printed.
 
 use petool::{judge, Entry, Error, Fault, Headers, Image, Object, Policy, Space};
 use std::env;
@@ -34,7 +34,7 @@ impl Numbers {
     }
 }
 
-/// A small file that was cut, or changed in up to four bytes; half of these stand in the headers.
+/// A small file that was cut, or changed in up to four bytes, half of which are chosen from the headers.
 fn changed(numbers: &mut Numbers) -> Vec<u8> {
     let mut file = SMALL[numbers.below(SMALL.len())].to_vec();
     if numbers.below(4) == 0 {
@@ -109,7 +109,7 @@ fn ask_space(file: &[u8], judged: Option<Fault>) {
     }
 }
 
-/// The fault of a file, where one stands, after every call was made of it.
+/// Makes every call on a file; returns its fault, if it has one.
 fn ask(file: &[u8]) -> Option<Fault> {
     let judged = match Image::new(file) {
         Ok(image) => {
@@ -143,14 +143,14 @@ fn ask(file: &[u8]) -> Option<Fault> {
     judged
 }
 
-/// What the program prints of a fault.
+/// What the program prints for a fault.
 fn printed(judged: Option<Fault>) -> String {
     judged.map_or("accepted".into(), |fault| {
         format!("fault {} image {} {}", fault.number, fault.image, fault.place)
     })
 }
 
-/// What the program prints of each of these files, without their names; `accepted` stands for the whole line.
+/// What the program prints for each of these files, without their names; of an accepted file only `accepted`.
 fn told_by(program: &str, paths: &[PathBuf]) -> Vec<String> {
     let output = Command::new(program).arg("check").args(paths).output().unwrap();
     let text = String::from_utf8(output.stdout).unwrap();
@@ -165,7 +165,7 @@ fn told_by(program: &str, paths: &[PathBuf]) -> Vec<String> {
     lines.collect()
 }
 
-/// The files, in a folder that goes with this value.
+/// The files, in a folder that is removed with this value.
 struct Folder(PathBuf);
 
 impl Folder {

@@ -85,7 +85,7 @@ fn relocations_have_the_values_of_the_file() {
     assert_eq!(Object::new(TWO).unwrap().relocations(0), Ok(Some(vec![])));
 }
 
-/// An object of sections with so many relocations each. The address of a relocation is its index among those of all.
+/// An object of sections with these counts of relocations. A relocation's address is its index among those of all.
 fn object_with(counts: &[u16]) -> Vec<u8> {
     let all: usize = counts.iter().map(|count| usize::from(*count)).sum();
     let mut at = 20 + 40 * counts.len();

@@ -41,7 +41,7 @@ fn fault_of(set: &[Entry<'_>]) -> Fault {
 fn a_judgement_tells_what_imports_are_bound_to() {
     assert_eq!(judge(&[A, B, C], Policy::Strict), Ok(vec![BOUND]));
     assert_eq!(judge(&[], Policy::Strict), Ok(vec![]));
-    // no image is a.dll: a fault, or a slot that is left as it stands
+    // without a.dll: a fault, or a slot that is left unchanged
     assert_eq!(
         fault_of(&[B, C]),
         Fault {
@@ -117,7 +117,7 @@ fn a_set_is_refused_by_its_first_fault() {
 
 #[test]
 fn a_cycle_of_forwarders_has_a_length() {
-    // the text of the forwarder is that of ordinal 1 of a.dll, which is the forwarder
+    // the forwarder's string names ordinal 1 of a.dll, which is the forwarder itself
     let mut around = VA.to_vec();
     around[0x260..0x264].copy_from_slice(b"a.#1");
     let set = [Entry { file: &around, ..A }, C];
@@ -151,7 +151,7 @@ fn a_space_shows_bound_slots_and_images() {
         )
     );
     assert_eq!(space.bindings(), Ok(vec![BOUND]));
-    // past the image's last byte, and where no image is
+    // past the image's last byte, and outside all images
     let mut two = [0x5a; 2];
     let fault = Fault {
         number: 54,
