@@ -1,4 +1,4 @@
-/* Eight threads call at once, over one file, each with its own struct of one open image and its own space: all get the same results. */
+/* Eight threads call at once over one file, each with its own struct of one open image and its own space, with the same results. */
 #include "check.h"
 
 #include <pthread.h>

@@ -1,4 +1,4 @@
-"""The tests of petool: `python3 -m unittest` in the folder above, with PETOOL_LIBRARY. Data are the small files of the repository."""
+"""The tests of petool: `python3 -m unittest` in the folder above, with PETOOL_LIBRARY. They read small files of the repository."""
 
 import importlib.util
 import pathlib
@@ -12,7 +12,7 @@ DATA = TOP / "crates" / "test_cases" / "data"
 
 _found = importlib.util.spec_from_file_location("crafted", TOP / "scripts" / "crafted.py")
 assert _found and _found.loader
-#: The script that makes files which were made to be dear.
+#: The script that makes files crafted to be expensive.
 crafted = importlib.util.module_from_spec(_found)
 _found.loader.exec_module(crafted)
 

@@ -1,4 +1,4 @@
-"""Cases that stand as data: a line of a list is a case, and the file of answers says what each comes to, behind `== ` and the line."""
+"""Cases as data: a line of a list is a case, and the file of answers has the result of each, after `== ` and the line."""
 
 from __future__ import annotations
 
@@ -23,14 +23,14 @@ def cases(name: str) -> Iterator[Tuple[str, str]]:
 
 
 def module_name(text: str) -> bytes:
-    r"""The bytes of a text in which \x and two hexadecimal digits stand for a byte."""
+    r"""The bytes of a string in which \x and two hexadecimal digits are one byte."""
     parts = text.split("\\x")
     return parts[0].encode() + b"".join(bytes.fromhex(part[:2]) + part[2:].encode() for part in parts[1:])
 
 
 class SetOfWords:
-    """The set that words make: `10000000=a.dll=v1.dll` puts the file v1.dll into it, as the module a.dll at a base, and the changes
-    behind it are of that file."""
+    """The set that words describe: `10000000=a.dll=v1.dll` adds the file v1.dll to it, as the module a.dll at a base, and the words
+    after it change that file."""
 
     def __init__(self, words: str) -> None:
         self.known = False
@@ -53,7 +53,7 @@ class SetOfWords:
 
 
 def write_set(folder: str, members: Sequence[Tuple[bytes, bytes, int]]) -> List[bytes]:
-    """Writes the files of a set into folders of their own, and gives the words by which `map` takes them."""
+    """Writes each file of a set into its own folder, and returns the words that name the files for `map`."""
     words = []
     for index, (name, file, base) in enumerate(members):
         place = pathlib.Path(folder, str(index))
@@ -66,5 +66,5 @@ def write_set(folder: str, members: Sequence[Tuple[bytes, bytes, int]]) -> List[
 
 
 def run(words: Sequence[object], **options: object) -> "subprocess.CompletedProcess[bytes]":
-    """Runs a program, and keeps what it prints on both outputs."""
+    """Runs a program, and captures both of its outputs."""
     return subprocess.run(list(words), stdout=subprocess.PIPE, stderr=subprocess.PIPE, **options)  # type: ignore[call-overload,no-any-return]

@@ -1,5 +1,5 @@
-"""Files that tests make: the small files with bytes written over them, and libraries, programs and objects put together field by
-field. None of it is read by petool's own code."""
+"""Files that tests make: the small files with bytes written over them, and libraries, programs and objects built field by field.
+No code of petool is used for it."""
 
 from __future__ import annotations
 
@@ -13,7 +13,7 @@ Piece = Tuple[int, bytes]
 
 
 def put(file: bytearray, *pieces: Piece) -> bytearray:
-    """Writes bytes over a file; they have to lie in it."""
+    """Writes bytes over a file, which must hold them all."""
     for offset, written in pieces:
         if offset + len(written) > len(file):
             raise ValueError(f"the bytes at {offset:#x} pass the file")
@@ -22,7 +22,7 @@ def put(file: bytearray, *pieces: Piece) -> bytearray:
 
 
 def changed(name: str, *pieces: Piece, size: Optional[int] = 0x600) -> bytes:
-    """A small file, cut or filled up with zeros to so many bytes, with pieces written over it."""
+    """A small file, cut or padded with zeros to `size` bytes, with pieces written over it."""
     file = bytearray(data(name))
     if size is not None:
         file = file[:size].ljust(size, b"\0")
@@ -30,7 +30,7 @@ def changed(name: str, *pieces: Piece, size: Optional[int] = 0x600) -> bytes:
 
 
 def edit(file: bytearray, word: str) -> bytearray:
-    """Changes a file as a word says: `len=400` cuts it, or fills it up with zeros, to 0x400 bytes; `0x3c=ff00` writes bytes over it."""
+    """Changes a file as a word says: `len=400` cuts it, or pads it with zeros, to 0x400 bytes; `0x3c=ff00` writes bytes over it."""
     place, digits = word.split("=")
     if place == "len":
         return file[: int(digits, 16)].ljust(int(digits, 16), b"\0")
@@ -59,12 +59,12 @@ def with_data(pieces: Iterable[Piece], section: bytes) -> bytes:
 
 # ---- forwarders ----
 
-#: The RVA for which an ordinal of a library stands that is no forwarder: its headers have it.
+#: The RVA that an ordinal of a library exports if it is not a forwarder: one in its headers.
 EXPORT = 0x10
 
 
 def library(texts: Sequence[bytes]) -> bytes:
-    """A library whose ordinals count from 0: each stands for the forwarder of its text, or, where that is empty, for EXPORT."""
+    """A library whose ordinals count from 0: each is a forwarder with its string, or, if that is empty, exports EXPORT."""
     addresses, rva = [], 0x1028 + 4 * len(texts)
     for text in texts:
         addresses.append(rva if text else EXPORT)
@@ -78,12 +78,12 @@ def library(texts: Sequence[bytes]) -> bytes:
 
 
 def chain(nexts: int, last: bytes, module: bytes = b"f") -> bytes:
-    """The library `f.dll` of which so many ordinals lead to the next one each; the last has this text."""
+    """The library `f.dll` with `nexts` ordinals that each lead to the next one; the last one has this string."""
     return library([b"%s.#%d" % (module, index + 1) for index in range(nexts)] + [last])
 
 
 def looped(tail: int, length: int) -> bytes:
-    """The library `f.dll` whose ordinals below tail + length lead to the next one each, and the last back to the first behind the
+    """The library `f.dll` whose ordinals below tail + length each lead to the next one, and the last back to the first after the
     tail."""
     return chain(tail + length - 1, b"f.#%d" % tail)
 

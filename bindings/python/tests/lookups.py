@@ -1,4 +1,4 @@
-"""The calls that look up one export, by its name or its ordinal, in the table itself: the package makes a dict of rows instead."""
+"""The calls that look up one export, by its name or its ordinal, in the table itself: the package uses a dict of rows instead."""
 
 import ctypes
 from typing import Optional, Union
@@ -10,7 +10,7 @@ from petool._library import library
 
 
 def look_up(data: bytes, key: Union[bytes, int]) -> Optional[petool.Target]:
-    """What a name or an ordinal exports; None where it exports nothing."""
+    """What a name or an ordinal exports; None if it exports nothing."""
     file, fault = FileBytes(data), _records.Fault()
     target = _records.Target(0, 0, _library.no_text(), _library.no_text())
     results = ctypes.byref(target), ctypes.byref(fault)

@@ -1,4 +1,4 @@
-/* Refuses the growth of memory whose number, counted from 0, the environment has as REFUSED. A test loads this before the C library. */
+/* Fails the allocation whose number, counted from 0, is REFUSED in the environment. A test loads this before the C library. */
 #define _GNU_SOURCE
 #include <dlfcn.h>
 #include <stdbool.h>

@@ -1,5 +1,5 @@
-"""What all that judge a set answer of it: the call `judge`, a space in memory, and the program's `map`, which leaves the bytes in their
-files."""
+"""The results for a set of all that check it: the call `judge`, a space in memory, and the program's `map`, which leaves the bytes
+in their files."""
 
 import os
 import tempfile
@@ -21,7 +21,7 @@ class Answers(unittest.TestCase):
     """Tests of sets, whose entries are (name, file, base)."""
 
     def mapped_by_program(self, set_, known, *options):
-        """The lines and the status of the program; None where there is no program."""
+        """The lines and the status of the program; None without the program."""
         if not PROGRAM:
             return None
         with tempfile.TemporaryDirectory() as folder:
@@ -30,7 +30,7 @@ class Answers(unittest.TestCase):
         return done.stdout.decode().splitlines(), done.returncode
 
     def assert_refused(self, set_, known, number, image, at, cycle=None):
-        """Asserts the fault of a set, at an RVA, by all that judge it; of a cycle its length."""
+        """Asserts the fault of a set, at an RVA, by all that check it, and the length of a cycle."""
         for call in (petool.judge, petool.Space):
             with self.assertRaises(petool.FormatFault) as caught:
                 call(set_, known=known)

@@ -1,4 +1,4 @@
-"""What files cost that were made to be dear: instructions, which valgrind counts, at one size and at four times that."""
+"""What files cost that were crafted to be expensive: instructions, which valgrind counts, at one size and at four times that."""
 
 import os
 import pathlib
@@ -15,7 +15,7 @@ BENCHMARK = os.environ.get("PETOOL_BENCHMARK")
 #: The folder in which the library and its examples in C were built.
 EXAMPLES = pathlib.Path(os.environ.get("PETOOL_LIBRARY", "")).parent
 
-#: The size of the smaller files, and how many times as much one of four times that may cost.
+#: The size of the smaller files, and how many times as much a file of four times that size may cost.
 SIZE, MOST = 40_000, 5
 
 

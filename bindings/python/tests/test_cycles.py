@@ -1,5 +1,5 @@
-"""Forwarders without a limit: chains of any length end, and a set is refused exactly where the search for an import runs in a cycle,
-by its length."""
+"""Forwarders without a limit: chains of any length end, and a set is refused if and only if the search for an import runs into a
+cycle, with its length."""
 
 import unittest
 
@@ -9,7 +9,7 @@ from .set_answers import Answers
 #: The hops before a cycle, and its length.
 CYCLES = [(0, 1), (0, 2), (0, 34), (32, 34), (65, 1), (1000, 1), (1000, 3)]
 
-#: The ordinals that three programs import of one chain, each search before or behind where one before it began.
+#: The ordinals of one chain that three programs import: each search begins before, at or after the beginning of an earlier one.
 SHARED = [(0, 1, 2), (2, 1, 0), (1, 1, 1), (1, 0, 4)]
 
 EXPORT_AT_20000000 = bytes.fromhex("10000020")
@@ -23,14 +23,14 @@ def with_program(exporter, importer):
 
 
 def with_programs(exporter, ordinals):
-    """The set of `f.dll` and of three programs, at 0x400000, 0x500000 and 0x600000, that import these ordinals of it."""
+    """The set of `f.dll` and three programs, at 0x400000, 0x500000 and 0x600000, that import these ordinals from it."""
     programs = [(name, program(it), base) for name, it, base in zip(NAMES, ordinals, (0x400000, 0x500000, 0x600000))]
     return [("f.dll", exporter, 0x20000000), *programs]
 
 
 class Forwarders(Answers):
     def assert_cycle(self, set_, image, slot, length):
-        """Asserts that the import of an image runs into a cycle, whatever becomes of modules that are not in the set."""
+        """Asserts that the import of an image leads into a cycle, with and without `known`."""
         for known in (False, True):
             self.assert_refused(set_, known, 50, image, slot, length)
 
@@ -39,7 +39,7 @@ class Forwarders(Answers):
         self.assert_cycle(set_, 1, 0x1030, length)
 
     def assert_bound(self, exporter, ordinal, expected):
-        """Asserts what the slot of a program that imports an ordinal of a library holds."""
+        """Asserts the contents of the slot of a program that imports an ordinal from a library."""
         for known in (False, True):
             self.assert_slots(with_program(exporter, program(ordinal)), known, SLOTS[:1], expected)
 
@@ -54,7 +54,7 @@ class Forwarders(Answers):
                 self.assert_looped(ordinal, 3, 5)
 
     def test_the_last_forwarder_of_a_chain_may_lead_back(self):
-        # entry 65 is 0x1408, where a forwarder to ordinal 33 stands
+        # entry 65 is 0x1408, the RVA of a forwarder to ordinal 33
         exporter = changed("f65.dll", (0x34C, b"\x08\x14"), (0x608, b"f.#33"), size=None)
         self.assert_cycle(with_program(exporter, program(1)), 1, 0x1030, 34)
 
@@ -74,7 +74,7 @@ class Forwarders(Answers):
         for index in range(255):
             text = b"s.#7" if index == 254 else b"%03d.#0" % (index + 1)
             set_.append((f"{index:03}.dll", library([text]), 0x1000000 + 0x10000 * index))
-        # VS, whose ordinal 7, which it imports itself, forwards to the first of them
+        # VS imports its own ordinal 7, which is a forwarder to the first of them
         own = changed("vs.dll", (0x250, b"\x70"), (0x270, b"000.#0\0"), size=None)
         self.assert_cycle([*set_, ("s.dll", own, 0x20000000)], 255, 0x2030, 256)
 
@@ -94,7 +94,7 @@ class Forwarders(Answers):
                     self.assert_slots(with_programs(chain(4, last), ordinals), True, SLOTS, expected)
 
     def test_a_cycle_behind_searches_that_end_is_told(self):
-        # 0 and 1 lead to an export, 3 to 5 lead round
+        # 0 and 1 lead to an export, 3 to 5 form a cycle
         exporter = library([b"f.#1", b"F.#2", b"", b"f.#4", b"f.#5", b"f.#3"])
         self.assert_cycle(with_programs(exporter, (0, 1, 4)), 3, 0x1030, 3)
 

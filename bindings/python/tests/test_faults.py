@@ -1,4 +1,4 @@
-"""Faults in words: the line of libpetool beside one that is put together here, at each kind of place."""
+"""Faults in words: the line of libpetool, compared with one that is put together here, at each kind of place."""
 
 import ctypes
 import re
@@ -22,7 +22,7 @@ def described():
 
 
 def line_in(room, number, place, at):
-    """What the call returns, and what it leaves of a buffer of 'Z'."""
+    """What the call returns, and what it writes into a buffer of 'Z'."""
     fault = _records.Fault(number, 0, place, at)
     buffer = ctypes.create_string_buffer(b"Z" * room, room) if room else ctypes.create_string_buffer(1)
     return library.petool_fault_line(ctypes.byref(fault), buffer, room), buffer.raw[:room]

@@ -1,4 +1,4 @@
-"""The headers of images: each field is read from its place, and the sections take what they say of the image and of the file."""
+"""The headers of images: each field is read from its place, also of the section headers."""
 
 import json
 import os
@@ -16,7 +16,7 @@ from .files import changed, put
 PROGRAM = os.environ.get("PETOOL_PROGRAM")
 SMALL_FILES = ["v1.dll", "v2.dll", "v3.dll", "va.dll", "vb.dll", "vc.dll", "vd.dll", "vs.dll", "vr.dll"]
 
-#: The fields of the COFF header behind the signature, in the format's order: offset, width.
+#: The fields of the COFF file header after the signature, in the format's order: offset, width.
 COFF = {
     "machine": (0, 2),
     "number_of_sections": (2, 2),
@@ -27,7 +27,7 @@ COFF = {
     "characteristics": (18, 2),
 }
 
-#: The optional header of PE32 behind Magic, in the format's order.
+#: The optional header of PE32 after Magic, in the format's order.
 PE32 = {
     "major_linker_version": (2, 1),
     "minor_linker_version": (3, 1),
@@ -60,7 +60,7 @@ PE32 = {
     "number_of_rva_and_sizes": (92, 4),
 }
 
-#: The fields of PE32+ that stand elsewhere, or are wider. BaseOfData, which it does not have, is a field of no bytes.
+#: The fields of PE32+, some at other offsets or wider. BaseOfData, which it does not have, is a field of no bytes.
 PE32_PLUS = {
     **PE32,
     "base_of_data": (24, 0),
@@ -73,7 +73,7 @@ PE32_PLUS = {
     "number_of_rva_and_sizes": (108, 4),
 }
 
-#: A section header behind its name, in the format's order.
+#: A section header after its name, in the format's order.
 SECTION = {
     "virtual_size": (8, 4),
     "virtual_address": (12, 4),
@@ -86,8 +86,8 @@ SECTION = {
     "characteristics": (36, 4),
 }
 
-#: What the headers of a file of distinct bytes need in either form: two sections, sizes. The sections, which the calls judge too, are
-#: those of a file without raw data, at the places of the headers' fields that no test of a section asks.
+#: What the headers of a file of distinct bytes need in PE32 and PE32+: two sections, sizes. The calls check the sections too, so
+#: these have no raw data; the fields that the checks do not read keep their distinct bytes.
 ACCEPTED = [
     (0x00, b"\x4d\x5a"),
     (0x3C, b"\x40\x00\x00\x00"),
@@ -97,7 +97,7 @@ ACCEPTED = [
     (0x94, b"\xa1\x03\x00\x00"),
 ]
 
-#: What makes such a file one of PE32, and one of PE32+.
+#: What makes such a file PE32, and PE32+.
 FORMS = [[(0x54, b"\xe0\x00"), (0x58, b"\x0b\x01")], [(0x54, b"\xf0\x00"), (0x58, b"\x0b\x02")]]
 
 #: The sections of such a file by VirtualSize and VirtualAddress; the file holds none of their bytes, since PointerToRawData is 0.
@@ -121,12 +121,12 @@ def number(header, field):
 
 
 def distinct_file(form, *pieces):
-    """A file in which the bytes near each other differ, with headers of one form."""
+    """A file in which nearby bytes differ, with headers of PE32 (form 0) or PE32+ (1)."""
     return bytes(put(bytearray(data("distinct.bin")), *ACCEPTED, *FORMS[form], *pieces))
 
 
 def placed_sections(form):
-    """What places the two sections of such a file. All other bytes of their headers stay distinct."""
+    """The pieces that place the two sections of such a file. All other bytes of their headers stay distinct."""
     table = 0x40 + 24 + (0xE0, 0xF0)[form]
     for index, (virtual_size, virtual_address) in enumerate(PLACED):
         yield table + 40 * index + 8, struct.pack("<II", virtual_size, virtual_address)
@@ -135,7 +135,7 @@ def placed_sections(form):
 
 class Headers(unittest.TestCase):
     def read(self, file):
-        """The headers and the sections, and those of the program where there is one."""
+        """The headers and the sections."""
         with petool.Image(file, check=False) as image:
             return image.headers, image.sections
 
@@ -179,7 +179,7 @@ class Headers(unittest.TestCase):
                 self.assertEqual(headers.magic, magic)
 
     def assert_named(self, file, coff, optional, section):
-        """Asserts values one by one: those of the headers that are not named are 0, as are those of the section behind the first."""
+        """Asserts the fields of the headers, of which those not named are 0, and some fields of the last section."""
         headers, sections = self.read(file)
         for name in COFF:
             self.assertEqual(getattr(headers, name), coff.get(name, 0), name)
@@ -210,7 +210,7 @@ class Headers(unittest.TestCase):
         self.assertEqual(len(headers.directories), 16)
 
     def test_ninety_six_sections_are_read(self):
-        # sections without bytes of the image behind one another, of which the last has a name
+        # consecutive empty sections, of which the last has a name
         pieces = [(0x46, b"\x60"), (0x94, b"\x38\x10"), (0x1010, b".last")]
         file = bytearray(changed("v1.dll", *pieces, size=0x1200))
         for index in range(96):
@@ -223,7 +223,7 @@ class Headers(unittest.TestCase):
 
     def test_the_signature_may_stand_anywhere(self):
         v1 = data("v1.dll")
-        # up to 0x18 the field at 0x3c is one with fields of the optional header
+        # up to 0x18 the field at 0x3c overlaps fields of the optional header
         for pe_offset in (2, 4, 5, 0x18, 0x41, 0xE0):
             with self.subTest(hex(pe_offset)):
                 file = bytearray(0x410)
@@ -233,8 +233,7 @@ class Headers(unittest.TestCase):
 
 @unittest.skipUnless(PROGRAM, "left out without program: PETOOL_PROGRAM names none")
 class FieldsOfSections(unittest.TestCase):
-    """The fields of section headers that the calls do not tell, and BaseOfData of PE32 alone: as the program's lines of JSON have
-    them."""
+    """The fields of section headers that the calls do not return, and BaseOfData, of PE32 only: by the program's lines of JSON."""
 
     def line_of(self, file):
         with tempfile.TemporaryDirectory() as folder:

@@ -1,4 +1,4 @@
-"""2,000 files that were cut and changed: each is judged, and all that it holds is read, without an exception but FormatFault."""
+"""2,000 files that were cut and changed: each is checked, and all its contents are read, with no exception but FormatFault."""
 
 import os
 import pathlib
@@ -16,7 +16,7 @@ PROGRAM = os.environ.get("PETOOL_PROGRAM")
 
 
 def changed(count):
-    """Files of which one in four is cut, and the others have other bytes in one to four places."""
+    """Files of which one in four is cut, and the others have one to four changed bytes."""
     chance = random.Random(7)
     for k in range(count):
         file = bytearray(data(NAMES[k % len(NAMES)]))
@@ -29,7 +29,7 @@ def changed(count):
 
 
 def read_all(file):
-    """Reads all of an image that is accepted; the number of its fault, or 0."""
+    """Reads all of an image, as far as it has no fault; returns the number of its fault, or 0."""
     for read in (lambda image: dict(image.exports), lambda image: list(image.imports), lambda image: list(image.fixups)):
         try:
             with petool.Image(file, check=False) as image:
@@ -46,7 +46,7 @@ def read_all(file):
 
 
 def map_it(file):
-    """Maps the file alone, and moves it."""
+    """Maps a set of this file only, and moves it; returns the number of its fault, or 0."""
     try:
         with petool.Space([("a.dll", file, 0x20000000)], known=True) as space:
             space.read(0x20000000, 16)

@@ -86,7 +86,7 @@ class Values(unittest.TestCase):
                 exports[key]
 
     def test_names_that_share_a_string_are_not_copied(self):
-        # 4,096 names, which have 260 MB together
+        # 4,096 names, of 260 MB together
         file = crafted.exports(list(range(4096)), b"a" * 65535 + b"\0", [16])
         with petool.Image(file) as image:
             exports = image.exports
@@ -98,12 +98,12 @@ class Values(unittest.TestCase):
             for key in (b"a" * 65536, b"a" * 61439, b"b", b"", "\udcff", 0, 2):
                 self.assertNotIn(key, exports)
             self.assertEqual((len(exports), exports[1], next(iter(exports))), (4097, Rva(16), b"a" * 65535))
-            # 200 of them have 13 MB
+            # 200 of them, of 13 MB
             self.assertEqual(set(itertools.islice(exports.values(), 200)), {Rva(16)})
             self.assertLess(tracemalloc.get_traced_memory()[1], 4 << 20)
 
     def test_forwarders_that_share_a_string_are_not_kept(self):
-        # 4,096 forwarders, each to the ordinal or name behind 32 KB of a module's name
+        # 4,096 forwarders, each with an ordinal or name after a module's name of 32 KB
         with petool.Image(dict(crafted.kinds(65536))["forwarders_ends"]()) as image:
             tracemalloc.start()
             self.addCleanup(tracemalloc.stop)

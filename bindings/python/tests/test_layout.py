@@ -1,4 +1,4 @@
-"""The laid-out image: its bytes, its texts, and where the file holds them."""
+"""The laid-out image: its bytes, its strings, and their file offsets."""
 
 import os
 import pathlib
@@ -14,15 +14,15 @@ from .files import changed, put
 PROGRAM = os.environ.get("PETOOL_PROGRAM")
 SMALL_FILES = ["v1.dll", "v2.dll", "v3.dll", "va.dll", "vb.dll", "vc.dll", "vd.dll", "vs.dll", "vr.dll"]
 
-#: What gives a file the largest SizeOfImage, 2^31.
+#: The largest SizeOfImage, 2^31.
 LARGEST = [(0x90, b"\x00\x00\x00\x80")]
 
-#: V1 changed, an RVA, the byte there or None, and what stands there: the section and the file offset, or None.
+#: V1 changed, an RVA, the byte there or None, and what `at` shows there: the section, and the file offset or None.
 BYTES = [
     ([], 0x100F, 0x0F, (".data", 0x20F)),
     # a byte past VirtualSize is zero, although the file has 0x10 there
     ([(0x210, b"\x10")], 0x1010, 0, ("no section", None)),
-    # a VirtualSize of 0 stands for SizeOfRawData
+    # if VirtualSize is 0, the section has SizeOfRawData bytes
     ([(0x140, b"\x00")], 0x11FF, 0xFF, (".data", 0x3FF)),
     ([(0x140, b"\x00")], 0x1200, 0, ("no section", None)),
     # the largest image ends at 2^31
@@ -30,7 +30,7 @@ BYTES = [
     (LARGEST, 0x80000000, None, ("outside", None)),
 ]
 
-#: V2 where `.data` has 0x300 bytes of the image, of which the file holds 0x200: an RVA, what stands there, and the file offset.
+#: V2 whose `.data` has 0x300 bytes in the image, of which the file holds 0x200: an RVA, what is there, and the file offset.
 PLACES = [
     (0, "headers", 0),
     (0x1FF, "headers", 0x1FF),
@@ -49,16 +49,16 @@ PLACES = [
     (0xFFFFFFFF, "outside", None),
 ]
 
-#: What V2 becomes where `.reloc` begins at the end of `.data`, and the headers' last byte is not zero.
+#: Changes of V2: `.reloc` begins at the end of `.data`, and the headers' last byte is not zero.
 TOUCHING = [(0x1FF, b"\x7f"), (0x16C, b"\x10\x10")]
 
-#: Texts of V1 with text at the end of the headers, and at the beginning and the end of `.data`.
+#: Strings of V1 with letters at the end of the headers, and at the beginning and the end of `.data`.
 TEXTS = [
     (0, b"MZ"),
     (0x138, b".data"),
     (0x13A, b"ata"),
     (0x13D, b""),
-    # no zero byte stands before the headers' end, though a gap follows
+    # no zero byte before the headers' end, though a gap follows
     (0x1FE, None),
     (0x1FF, None),
     # in a gap, whatever follows
@@ -76,7 +76,7 @@ TEXTS = [
     (0xFFFFFFFF, None),
 ]
 
-#: Texts of V1 where `.data` has 0x300 bytes, of which the file holds 0x200.
+#: Strings of V1 whose `.data` has 0x300 bytes, of which the file holds 0x200.
 ZERO_FILLED = [
     (0x10FE, b"\xfe\xff"),
     (0x11FC, b"\xfc\xfd\xfe\xff"),
@@ -86,18 +86,18 @@ ZERO_FILLED = [
     (0x1300, b""),
 ]
 
-#: A file changed, and its texts.
+#: A file changed, and its strings.
 NAMED = [
     ("v1.dll", [(0x1FE, b"ab"), (0x200, b"name\0"), (0x20E, b"xy")], TEXTS),
     ("v1.dll", [(0x140, b"\x00\x03")], ZERO_FILLED),
-    # a zero byte of the next piece ends no text, though no gap stands between
+    # a zero byte of the next section ends no string, even without a gap between
     ("v2.dll", TOUCHING, [(0x100E, None), (0x1010, b"")]),
     # a section without raw data is all zeros
     ("v1.dll", [(0x14C, b"\x00\x00")], [(0x1001, b"")]),
 ]
 
-#: A small image: headers up to 0x16e, then two sections that touch, an empty one, one without raw data, one whose raw bytes begin in
-#: the headers' last two, and an empty one at the image's end, 0x19a; gaps stand before, between and behind them.
+#: A small image: headers up to 0x16e, then two adjacent sections, an empty one, one without raw data, one whose raw data begins
+#: with the headers' last two bytes, and an empty one at the image's end, 0x19a; there are gaps before, between and after them.
 SMALL = [
     (0x00, b"\x4d\x5a"),
     (0x04, b"\x50\x45\x00\x00\x4c\x01\x06"),
@@ -120,7 +120,7 @@ def number(file, offset, width):
 
 
 def laid_out(file):
-    """The laid-out image of a file, by the rule: the headers, each section's raw bytes at its place, and zeros."""
+    """The laid-out image of a file, by the format: the headers, each section's raw data at its place, and zeros."""
     signature = number(file, 0x3C, 4)
     optional = signature + 24
     image = bytearray(number(file, optional + 56, 4))
@@ -141,7 +141,7 @@ def small():
 
 class Bytes(unittest.TestCase):
     def assert_bytes(self, file):
-        """Asserts that the byte at each RVA is the one that the rule lays there, and that none follows."""
+        """Asserts that the byte at each RVA is that of laid_out(), and that none follows."""
         expected = laid_out(file)
         with petool.Image(file, check=False) as image:
             size = image.headers.size_of_image
@@ -187,7 +187,7 @@ class Bytes(unittest.TestCase):
             self.assert_filled(image, expected, 0xFFFFFFFF, 2)
 
     def assert_filled(self, image, expected, rva, count):
-        """Asserts that a read gives the bytes of the image, and leaves the buffer where the range is not in it."""
+        """Asserts that a read fills the buffer with bytes of the image, or, if they are not all inside it, leaves it unchanged."""
         buffer = bytearray(b"\xee" * count)
         try:
             image.read_into(rva, buffer)
@@ -210,7 +210,7 @@ class Texts(unittest.TestCase):
 
 @unittest.skipUnless(PROGRAM, "left out without program: PETOOL_PROGRAM names none")
 class Places(unittest.TestCase):
-    """What stands at an RVA, by the program's `at`."""
+    """What is at an RVA, by the program's `at`."""
 
     def assert_place(self, file, rva, piece, offset):
         with tempfile.TemporaryDirectory() as folder:

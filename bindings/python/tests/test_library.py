@@ -24,7 +24,7 @@ def run(code, library):
 
 
 def wheel_maker():
-    """A Python that can make a wheel: this one, or the system's; else None."""
+    """A Python that can build a wheel: this one, or the system's; otherwise None."""
     for python in (sys.executable, "/usr/bin/python3"):
         words = [python, "-c", "import setuptools, wheel, pip"]
         if shutil.which(python) and subprocess.run(words, capture_output=True).returncode == 0:

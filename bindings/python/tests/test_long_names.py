@@ -1,12 +1,12 @@
-"""Modules with long names: each is found by its whole name, whatever others begin alike."""
+"""Modules with long names: each is found by its full name, even if others begin with the same letters."""
 
 import unittest
 
 from .files import changed, library
 from .set_answers import Answers
 
-#: SizeOfImage, the section's VirtualSize and SizeOfRawData, the RVA of the module's name, and the import, of VC with an import of
-#: ordinal 0 of a module whose name stands behind all else, in a section of 0x11400 bytes.
+#: Changes of VC to import ordinal 0 of a module whose name comes last in a section of 0x11400 bytes: SizeOfImage, the section's
+#: VirtualSize and SizeOfRawData, the RVA of the module's name, and the import.
 LONG = [
     (0x90, b"\x00\x40\x01"),
     (0x140, b"\x00\x14\x01"),
@@ -15,10 +15,10 @@ LONG = [
     (0x228, b"\x00\x00\x00\x80"),
 ]
 
-#: What the slot holds where the export at 0x20000000 is bound, and where nothing is.
+#: What the slot holds if it is bound to the export at 0x20000000, and if it is not bound.
 BOUND, UNBOUND = bytes.fromhex("10000020"), bytes.fromhex("38100000")
 
-#: The letters of a module's name and its ending, those of the name that an import names, and whether it is found.
+#: How many letters a module's name has and an import's module name has, the latter's ending, and whether the module is found.
 IMPORTS = [
     (69_996, 69_996, b".dll", True),
     (69_996, 69_996, b".DLL", True),
@@ -32,7 +32,7 @@ IMPORTS = [
     (1, 69_996, b".dll", False),
 ]
 
-#: The letters of a module's name, those of the name that a forwarder names, to which `.dll` is added, and whether it is found.
+#: How many letters a module's name has and a forwarder's has, to which `.dll` is added, and whether the module is found.
 FORWARDERS = [
     (69_996, 69_996, True),
     (69_996, 69_997, False),
@@ -43,21 +43,21 @@ FORWARDERS = [
 
 
 def importer_of(module):
-    """Such a file with this name of the module."""
+    """VC with an import from a module of this name."""
     file = changed("vc.dll", *LONG, size=None) + module
     return file.ljust(0x11600, b"\0")
 
 
 class LongNames(Answers):
     def mapped_by_program(self, set_, known, *options):
-        # no file's name has so many bytes
+        # file names have at most 255 bytes
         if any(len(name) > 255 for name, _, _ in set_):
             return None
         return super().mapped_by_program(set_, known, *options)
 
     def assert_found(self, set_, is_found):
-        """Asserts that the import of `c.exe`, the second image, is bound to the export of the image at 0x20000000, or that its module
-        is in no set."""
+        """Asserts that the import of `c.exe`, the second image, is bound to the export of the image at 0x20000000, or that its
+        module is not in the set."""
         if is_found:
             self.assert_slots(set_, False, [0x401030], BOUND)
         else:

@@ -1,4 +1,4 @@
-"""Long texts, of which many end alike: the forwarders and the names of exports that they are."""
+"""Long strings, of which many share their ends: as forwarders, and as names of exports."""
 
 import struct
 import unittest
@@ -8,13 +8,13 @@ import petool
 from .files import numbers, with_data
 from .lookups import look_up
 
-#: SizeOfImage 0x4000, and an export directory of 0x1000 bytes, all of the section.
+#: SizeOfImage 0x4000, and an export directory of 0x1000 bytes, the whole section.
 EXPORTS = [(0x91, b"\x40"), (0xB8, bytes.fromhex("00100000 0010"))]
 
-#: Where the first forwarder's text begins, behind seven addresses: 300 `a`, a dot, and 300 `b`.
+#: Where the first forwarder's string begins, after seven addresses: 300 `a`, a dot, and 300 `b`.
 NAMED = 0x1028 + 4 * 7
 
-#: Where the second one's begins: 300 `a`, a dot, `#`, 300 zeros in digits, and a seven.
+#: Where the second one's begins: 300 `a`, a dot, `#`, 300 digits zero, and a seven.
 NUMBERED = NAMED + 602
 
 FORWARDERS = b"a" * 300 + b"." + b"b" * 300 + b"\0" + b"a" * 300 + b".#" + b"0" * 300 + b"7" + b"\0"
@@ -22,19 +22,19 @@ FORWARDERS = b"a" * 300 + b"." + b"b" * 300 + b"\0" + b"a" * 300 + b".#" + b"0" 
 #: Where seven forwarders begin.
 ENDING_ALIKE = [NAMED + 100, NAMED, NAMED + 299, NUMBERED + 290, NUMBERED, NAMED + 50, NUMBERED + 1]
 
-#: The ordinal of each, how many `a` its module has, and the ordinal that it forwards to, if it is one; else it is 300 `b`.
+#: The ordinal of each, how many `a` its module's name has, and the ordinal that it forwards to; None for a name of 300 `b`.
 KEYS = [(1, 200, None), (2, 300, None), (3, 1, None), (4, 10, 7), (5, 300, 7), (6, 250, None), (7, 299, 7)]
 
-#: Five texts of names: 600 `a`, the same once more, and three that have one `b` among 600 bytes: the first, the last, the one in the
+#: Five strings for names: 600 `a`, the same again, and three of 600 bytes with one `b`: the first byte, the last, the one in the
 #: middle.
 NAME_TEXTS = b"\0".join(
     [b"a" * 600, b"a" * 600, b"b" + b"a" * 599, b"a" * 599 + b"b", b"a" * 300 + b"b" + b"a" * 299, b""]
 )
 
-#: Where names begin in these texts. Name k exports 0x10 + k, by an entry of its own.
+#: Where names begin in these strings. Name k exports 0x10 + k, through its own entry.
 STARTS = [300, 0, 601, 901, 1202, 1203, 1803, 2404, 2705, 345, 344, 945, 946, 1804]
 
-#: The names that stand first: the RVA of each, and its text.
+#: Each distinct name at its first place: the RVA that it exports, and its bytes.
 FIRST = [
     (0x10, b"a" * 300),
     (0x11, b"a" * 600),
@@ -48,7 +48,7 @@ FIRST = [
     (0x1D, b"a" * 598 + b"b"),
 ]
 
-#: Texts that no name has.
+#: Strings that are not names.
 NO_NAMES = [
     b"",
     b"a" * 254,
@@ -63,7 +63,7 @@ NO_NAMES = [
 
 
 def forwarders(addresses):
-    """The image whose export table has these addresses, and the two texts."""
+    """The image whose export table has these addresses, and the two strings."""
     table = numbers(0, 0, 0, 0, 1, 7, 0, 0x1028, 0, 0) + numbers(*addresses)
     return with_data(EXPORTS, table + FORWARDERS)
 

@@ -1,4 +1,4 @@
-"""COFF objects: what the calls read of them, and the shapes of auxiliary records, which the program tells."""
+"""COFF objects: what the calls read of them, and the forms of auxiliary records, which the program shows."""
 
 import json
 import os
@@ -24,7 +24,7 @@ O1_SYMBOLS = [
     petool.ObjectSymbol(b"", b"", 4, 7, petool.SECTION_ABSOLUTE, 0, 3),
 ]
 
-#: An object of two sections and three symbols, whose names are the text behind it, of 700 letters, and its last 400 letters: the
+#: An object of two sections and three symbols, whose names are the string after it, of 700 letters, and its last 400 letters: the
 #: header, the names of the sections, each symbol's name, value and section, and the size of the string table.
 SHARED = [
     (0, b"\x64\x86\x02\x00"),
@@ -37,7 +37,7 @@ SHARED = [
     (154, b"\xc1\x02"),
 ]
 
-#: The bytes of an auxiliary record, which differ.
+#: The bytes of an auxiliary record, all different.
 RECORD = bytes(range(0x81, 0x93))
 
 FUNCTION = {
@@ -61,7 +61,7 @@ DEFINITION = {
 }
 RAW = {"kind": "raw", "bytes_hex": RECORD.hex()}
 
-#: Class, type and section of a symbol, and the shape of its auxiliary record: every shape, and symbols that are nearly of it.
+#: Class, type and section of a symbol, and the form of its auxiliary record: each form, and symbols that narrowly miss it.
 SHAPES = [
     (2, 0x20, 1, FUNCTION),
     (2, 0x20, petool.SECTION_UNDEFINED, RAW),
@@ -77,7 +77,7 @@ SHAPES = [
     (104, 0, 1, RAW),
 ]
 
-#: The shapes of a symbol's two records.
+#: The forms of a symbol's two records.
 TWO_RECORDS = [{"kind": "file", "file_name": "a.c"}, {"kind": "file", "file_name": "/b.h"}]
 
 
@@ -115,7 +115,7 @@ class Rows(unittest.TestCase):
 @unittest.skipUnless(PROGRAM, "left out without program: PETOOL_PROGRAM names none")
 class Told(unittest.TestCase):
     def told(self, file, *words):
-        """What the program prints of an object."""
+        """What the program prints for an object."""
         with tempfile.TemporaryDirectory() as folder:
             pathlib.Path(folder, "a.obj").write_bytes(file)
             done = run([PROGRAM, *words, "a.obj"], cwd=folder)

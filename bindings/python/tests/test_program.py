@@ -1,5 +1,5 @@
-"""The program petool: what it prints, on which of its outputs, and its exit status, where files are missing, refused or cannot be read,
-and where an output is full or lost."""
+"""The program petool: what it prints, on which of its outputs, and its exit status, if files are missing, refused or unreadable,
+and if an output is full or closed."""
 
 import errno
 import os
@@ -19,7 +19,7 @@ PROGRAM = os.environ.get("PETOOL_PROGRAM")
 
 
 def image_of(size_of_optional_header, size_of_headers, *pieces):
-    """The file of a PE32 image that has headers alone, 0x1000 bytes of the image."""
+    """The file of a PE32 image of 0x1000 bytes that has only headers."""
     file = bytearray(size_of_headers)
     put(file, (0x00, b"MZ"), (0x3C, b"\x40"), (0x40, b"PE\0\0\x4c\x01"), (0x54, bytes([size_of_optional_header, 0, 2, 0x21])))
     put(file, (0x58, b"\x0b\x01"), (0x77, b"\x10\0\x10"), (0x7D, b"\x02"), (0x91, b"\x10"))
@@ -35,10 +35,10 @@ SIGNED = image_of(0x88, 0xE0, (0x98, b"\x34\x12"), (0xB4, b"\x05"), (0xD8, b"\xe
 #: The header of a section `.text`.
 TEXT_SECTION = [(0x46, b"\x01"), (0xB8, b".text"), (0xC0, b"\x10"), (0xDC, b"\x20\0\0\x60")]
 
-#: An image whose one section begins inside the headers.
+#: An image whose only section begins inside the headers.
 SECTION = image_of(0x60, 0xE0, *TEXT_SECTION, (0xC4, b"\x20"))
 
-#: An image whose one section has bytes of the headers as its raw data.
+#: An image whose only section has bytes of the headers as its raw data.
 SHARED = image_of(0x60, 0xE0, *TEXT_SECTION, (0xC5, b"\x01\0\0\x10"), (0xCC, b"\x10"))
 
 #: An image whose import table passes its end.
@@ -51,10 +51,10 @@ IMPORTING = [(0xB4, b"\x02"), (0xC1, b"\x01\0\0\x28"), (0x100, b"\x30\x01"), (0x
 #: An image that imports `Sleep` of `K.dll`.
 NAMED = image_of(0x70, 0x160, *IMPORTING, (0x130, b"\x50\x01"), (0x140, b"\x50\x01"))
 
-#: An image that imports what has the ordinal 7 in `K.dll`.
+#: An image that imports ordinal 7 of `K.dll`.
 NUMBERED = image_of(0x70, 0x160, *IMPORTING, (0x130, b"\x07\0\0\x80"), (0x140, b"\x07\0\0\x80"))
 
-#: A file of which each read fails.
+#: A file whose reads all fail.
 BROKEN = None
 
 CHECK, DUMP, OBJECT = ["check", "a.dll"], ["dump", "a.dll"], ["object", "a.dll"]
@@ -62,7 +62,7 @@ MAP, REBASE = ["map", "10000000=a.dll"], ["rebase", "20000000", "a.dll", "new.dl
 
 
 def told(number):
-    """The system's word for an error."""
+    """The system's message for an error."""
     return f"{os.strerror(number)} (os error {number})"
 
 
@@ -89,7 +89,7 @@ Usage: petool map [OPTIONS] <HEX=FILE>...
 For more information, try '--help'.
 """
 
-#: A page and a line of JSON of a file without bytes.
+#: Pages and a line of JSON of an empty file.
 EMPTY_PAGES = """\
 a.dll: refused: 0 bytes
 
@@ -130,14 +130,13 @@ Exit statuses:
 
 @dataclass(frozen=True)
 class Case:
-    """What the program does in a folder with the file `a.dll`, which is `A.DLL` too and stands on standard input, and with no
-    `b.dll`."""
+    """What the program does in a folder with the file `a.dll`, which is also `A.DLL` and standard input, and without `b.dll`."""
 
     words: Sequence[object] = ("check", "a.dll")
     file: Optional[bytes] = HEADERS
-    #: Whether `new.dll` takes what it is given, is full, or cannot be made.
+    #: Whether `new.dll` can be written, is full, or cannot be made.
     target: str = "cannot be made"
-    #: What standard output is: a file, a full device, or a pipe whose reader went away.
+    #: Whether standard output is open, full (a full device), or lost (a pipe that its reader has closed).
     output: str = "open"
     status: int = 0
     printed: str = ""
@@ -179,20 +178,20 @@ ENDS = [
     replace(FULL, words=["--help"]),
 ]
 
-#: The text of an object without sections and symbols.
+#: An object without sections and symbols, and its text.
 PLAIN_OBJECT = b"\x64\x86\0\0\x78\x56\x34\x12\0\0\0\0\0\0\0\0\0\0\x04\0"
 OBJECT_TEXT = "Machine 0x8664 AMD64\nTimeDateStamp 0x12345678\nCharacteristics 0x0004\nend\n"
 
 
 def of_most(value, reason="not a number of bytes, such as 65536 or 64K"):
-    """What is told of a value that `--most` of `dump` cannot have."""
+    """The error for a value that `--most` of `dump` cannot have."""
     return (
         f"error: invalid value '{value}' for '--most <BYTES>': {reason}\n\n"
         "Usage: petool dump [OPTIONS] <FILE>\n\nFor more information, try '--help'.\n"
     )
 
 
-#: Texts of which a part is asked for.
+#: Texts that --most limits.
 MOST = [
     replace(SILENT, words=["object", "--most", most, "a.dll"], file=PLAIN_OBJECT, status=5, printed=f"{part}\n(cut after {count} bytes)\n")
     for most, count, part in (
@@ -202,7 +201,7 @@ MOST = [
         ("72", 72, OBJECT_TEXT[:72]),
     )
 ] + [
-    # a text that is no longer is whole
+    # a text that is not longer is complete
     *(
         replace(SILENT, words=["object", "--most", most, "a.dll"], file=PLAIN_OBJECT, printed=OBJECT_TEXT)
         for most in ("73", "1K", "1M", "1G", "17179869183G", "18446744073709551615")
@@ -211,7 +210,7 @@ MOST = [
         replace(SILENT, words=["dump", "--most", most, "a.dll"], status=2, complained=of_most(most))
         for most in ("", "K", "1k", "0x10", "+1", "1KK", "17179869184G", "18446744073709551616")
     ),
-    # each file has its own, whether it is refused or not
+    # the limit is that of each file, whether it is refused or not
     replace(
         SILENT,
         words=["json", "--most", "10", "a.dll", "A.DLL"],
@@ -219,7 +218,7 @@ MOST = [
         status=5,
         printed=2 * '{"schema":\n(cut after 10 bytes)\n',
     ),
-    # the blank line between pages is of the second
+    # the blank line between pages belongs to the second
     replace(
         SILENT,
         words=["show", "--most", "5", "b.dll", "a.dll", "-"],
@@ -228,7 +227,7 @@ MOST = [
         printed="a.dll\n(cut after 5 bytes)\n\nstan\n(cut after 5 bytes)\n",
         complained=NO_SUCH_FILE,
     ),
-    # a fault is told where its line is whole, and an output that fails in any case
+    # a fault is reported if its line is complete, and an output that fails in any case
     replace(DUMP_REFUSED, words=["dump", "--most", "100", "a.dll"]),
     replace(FULL, words=["dump", "--most", "10", "a.dll"]),
     replace(SILENT, words=["dump", "--most", "10", "a.dll"], output="lost", status=3),
@@ -236,7 +235,7 @@ MOST = [
 
 #: Commands that show files, of which several may be named.
 VIEW_ENDS = [
-    # one that cannot be opened does not stop the others
+    # a file that cannot be opened does not stop the others
     replace(
         SILENT,
         words=["check", "a.dll", "b.dll", "A.DLL"],
@@ -254,11 +253,11 @@ VIEW_ENDS = [
     ),
     # an output that fails does
     replace(FULL, words=["check", "a.dll", "A.DLL"]),
-    # a page before which none was printed begins without a blank line
+    # the first page that is printed begins without a blank line
     replace(SILENT, words=["show", "b.dll", "a.dll", "-"], file=b"", status=3, printed=EMPTY_PAGES, complained=NO_SUCH_FILE),
     replace(SILENT, words=["json", "a.dll"], file=b"", status=1, printed=EMPTY_JSON),
     replace(SILENT, words=["json", "a.dll"], file=BROKEN, status=3, complained=READING_FAILED),
-    # a lost output ends the others, and a reader that went away is told of by the status alone
+    # an output that fails ends the command; if its reader has closed it, only the status shows that
     replace(FULL, words=["show", "a.dll", "b.dll"]),
     replace(SILENT, words=["json", "a.dll", "b.dll"], output="lost", status=3),
     replace(FULL, words=["at", "a.dll", "40"]),
@@ -283,9 +282,9 @@ MAP_ENDS = [
         printed='image 0 "a.dll" base 0x0000000010000000 size 0x00001000\n0x0000000010000000 4d 5a\nend\n',
     ),
     replace(SILENT, words=MAP, file=b"", status=1, printed="fault 2 image 0 file 0x00000000\n", complained=NO_BYTES),
-    # all words are judged before a file is opened
+    # all words are checked before a file is opened
     replace(SILENT, words=["map", "10000000=b.dll", "a.dll"], status=2, complained=NO_BASE),
-    # all files are read before one is judged
+    # all files are read before one is checked
     replace(SILENT, words=["map", "10000000=a.dll", "20000000=b.dll"], file=b"", status=3, complained=NO_SUCH_FILE),
     replace(SILENT, words=MAP, file=BROKEN, status=3, complained=READING_FAILED),
     replace(FULL, words=MAP),
@@ -299,7 +298,7 @@ REBASE_ENDS = [
         file=SIGNED,
         complained="petool: new.dll: CheckSum is now 0\npetool: new.dll: the certificate is that of the old file and no longer fits\n",
     ),
-    # a refused file leaves the target unmade
+    # for a refused file the target is not made
     replace(
         REBASED,
         words=["rebase", "20000001", "a.dll", "new.dll"],
@@ -331,31 +330,31 @@ REBASE_ENDS = [
         complained="petool: a.dll: is the input file\n",
         is_made=False,
     ),
-    # the line comes after the file
+    # the line is printed after the file is written
     replace(REBASED, output="full", status=3, printed="", complained=OUTPUT_IS_FULL),
 ]
 
-#: Words in place of files, the version, and readers that went away.
+#: `-` as a file, the version, and outputs that their readers have closed.
 DASHES = [
     replace(SILENT, words=["--version"], file=BROKEN, printed="petool 1.0\n"),
     replace(SILENT, words=["check", "-"], printed="accepted PE32 sections 0\n"),
     replace(
         SILENT, words=["map", "10000000=-"], printed='image 0 "-" base 0x0000000010000000 size 0x00001000\nend\n'
     ),
-    # a path, which is no file of the system
+    # here `-` is a path, at which there is no file
     replace(
         SILENT,
         words=["rebase", "20000000", "-", "new.dll"],
         status=3,
         complained=f"petool: -: cannot be opened: {told(errno.ENOENT)}\n",
     ),
-    # a reader of a pipe that went away
+    # a pipe that its reader has closed
     replace(SILENT, output="lost", status=3),
     replace(SILENT, words=["--help"], output="lost", status=3),
 ]
 
-#: The words, the file `a.dll`, and what stands on standard output and on standard error: a fault of the headers, of a section, of a
-#: table, of an object, and of a file to be written at another base.
+#: The words, the file `a.dll`, and what is printed on standard output and on standard error: a fault of the headers, of a section,
+#: of a table, of an object, and of a file to be written for another base.
 FILES = [
     (
         CHECK,
@@ -389,7 +388,7 @@ FILES = [
     ),
 ]
 
-#: A fault of a set, of a base, and of a window; the file that the fault names is the one that is told.
+#: A fault of a set, of a base, and of a window; the message names the file of the fault.
 SETS = [
     (
         ["map", "10000000=a.dll", "20000000=A.DLL"],
@@ -432,7 +431,7 @@ SETS = [
 ]
 
 #: An import that leads to a module without the export, or into a cycle of forwarders: the file that imports, the name of the other
-#: file, that file, and what is told.
+#: file, that file, and what is printed.
 FAILED_IMPORTS = [
     (
         NAMED,
@@ -460,8 +459,8 @@ FAILED_IMPORTS = [
 #: A library that exports something by ordinal 0; its ordinal 1 is a forwarder to itself.
 FORWARDING = library([b"", b"f.#1"])
 
-#: An import that fails of the second file, `b.dll`: that file, and what is told. The first file has an import at the same RVA, `F.DLL #0`,
-#: which leads to the third one, FORWARDING.
+#: A failing import of the second file, `b.dll`: that file, and what is printed. The first file has an import at the same RVA,
+#: `F.DLL #0`, which leads to the third file, FORWARDING.
 LATER_IMPORTS = [
     (
         bytes(put(bytearray(program(1)), (0x240, b"G"))),
@@ -514,10 +513,10 @@ KINDS = [
     ),
 ]
 
-#: Each byte from 1 to 127, of which a slash ends the name of a folder.
+#: The bytes from 1 to 127, as a path; the slash among them ends the name of a folder.
 EACH_BYTE = bytes(range(1, 128))
 
-#: The line of an empty file of that name, with the name as Python's `json` writes it that keeps what need not be escaped.
+#: The line of an empty file of that name, with only those characters of the name escaped that must be.
 NAMED_LINE = (
     r'{"schema":1,"file":"\u0001\u0002\u0003\u0004\u0005\u0006\u0007\b\t\n\u000b\f\r\u000e\u000f\u0010\u0011\u0012\u0013\u0014\u0015'
     r"\u0016\u0017\u0018\u0019\u001a\u001b\u001c\u001d\u001e\u001f !\"#$%&'()*+,-./0123456789:;<=>?@ABCDEFGHIJKLMNOPQRSTUVWXYZ[\\]^_"
@@ -539,12 +538,12 @@ class Ends(unittest.TestCase):
         self.target = self.folder / "new.dll"
 
     def lay_out(self, case):
-        """Makes the files of a case: a link to one that leads nowhere cannot be made."""
+        """Makes the files of a case; a target that cannot be made is a link into a missing folder."""
         for old in (self.folder / "a.dll", self.folder / "A.DLL", self.target):
             old.unlink(missing_ok=True)
         for name in ("a.dll", "A.DLL"):
             if case.file is BROKEN:
-                # no memory stands at address 0
+                # the process has no memory at address 0
                 (self.folder / name).symlink_to("/proc/self/mem")
             else:
                 (self.folder / name).write_bytes(case.file)
@@ -552,7 +551,7 @@ class Ends(unittest.TestCase):
             self.target.symlink_to("/dev/full" if case.target == "full" else "missing/new.dll")
 
     def run_case(self, case) -> Tuple[int, bytes, bytes]:
-        """Runs the program: its status and what is on its outputs."""
+        """Runs the program; returns its status and its outputs."""
         reader, writer = os.pipe() if case.output != "full" else (None, os.open("/dev/full", os.O_WRONLY))
         if case.output == "lost":
             os.close(reader)
@@ -614,7 +613,7 @@ class Ends(unittest.TestCase):
             self.assertIn(part, printed.decode())
 
     def assert_refused(self, cases):
-        """Asserts the whole text of a refusal, on both outputs."""
+        """Asserts both complete outputs for a refusal."""
         for words, file, printed, complained in cases:
             case = replace(SILENT, words=words, file=file, status=1, printed=printed, complained=complained)
             with self.subTest(words=words, printed=printed):
@@ -659,13 +658,13 @@ class Ends(unittest.TestCase):
         self.assertEqual((done.stdout.decode(), done.returncode), (NAMED_LINE, 1))
 
 
-#: The whole page of a file without bytes where it has colours: bold and red.
+#: The complete page of an empty file with colours: bold and red.
 RED_PAGE = (
     "\x1b[1;31ma.dll: refused: 0 bytes\x1b[0m\n\n"
     "\x1b[1;31mFault 2: end of the file at 0x0: the file has fewer than the 64 bytes of an MS-DOS header: it has 0\x1b[0m\n"
 )
 
-#: The rows of a page of HEADERS that are bold where it has colours: what the file is, and the heading of each table.
+#: The rows of a page of HEADERS that are bold if it has colours: what the file is, and the heading of each table.
 BOLD_ROWS = [
     "a.dll: accepted: PE32 library for I386, 184 bytes", "Sections (0)", "Tables (0)", "Exports (0)", "Imports (0)", "Base relocations (0)",
 ]  # fmt: skip
@@ -673,7 +672,7 @@ BOLD_ROWS = [
 
 @unittest.skipUnless(PROGRAM, "left out without program: PETOOL_PROGRAM names none")
 class Colours(unittest.TestCase):
-    """Pages have colours on a terminal, where NO_COLOR is not set, or empty."""
+    """Pages have colours on a terminal, if NO_COLOR is not set or empty."""
 
     def setUp(self):
         folder = tempfile.TemporaryDirectory()
@@ -681,7 +680,7 @@ class Colours(unittest.TestCase):
         self.folder = pathlib.Path(folder.name)
 
     def on_terminal(self, file, no_color, *words):
-        """The page of a file on a terminal that changes no byte."""
+        """The page of a file on a raw terminal, and the status."""
         (self.folder / "a.dll").write_bytes(file)
         environment = {name: value for name, value in os.environ.items() if name != "NO_COLOR"}
         if no_color is not None:
@@ -697,7 +696,7 @@ class Colours(unittest.TestCase):
 
     @staticmethod
     def part(terminal):
-        """What comes next on a terminal; nothing where all that wrote to it have closed it, of which Linux tells by an error."""
+        """The next bytes of a terminal; none once all writers have closed it, which Linux reports as an error."""
         try:
             return terminal.read(4096)
         except OSError as error:
@@ -706,7 +705,7 @@ class Colours(unittest.TestCase):
             return b""
 
     def plain(self, file):
-        """The page of a file where standard output is no terminal."""
+        """The page of a file if standard output is not a terminal."""
         (self.folder / "a.dll").write_bytes(file)
         return subprocess.run([PROGRAM, "show", "--all", "a.dll"], cwd=self.folder, stdout=subprocess.PIPE).stdout.decode()
 
@@ -731,8 +730,8 @@ class Colours(unittest.TestCase):
                 self.assertEqual(self.on_terminal(b"", no_color)[0], EMPTY_PAGES.partition("\n\nstandard")[0] + "\n")
 
 
-#: A command, what it prints where no growth of memory is refused, and what it tells where each is in turn: of the words, of a file,
-#: and, of `map`, of the set and its output. Some growths are tried in vain, and the command ends as if there were no need of them.
+#: A command, what it prints if no allocation fails, and the subjects of its errors if each fails in turn: none for the words, the
+#: file, and for `map` the set and its output. Without some allocations the command succeeds all the same.
 WANTS = [
     (CHECK, "accepted PE32 sections 0\n", ["", "a.dll: "]),
     (["show", "a.dll"], None, ["", "a.dll: "]),
@@ -746,7 +745,7 @@ WANTS = [
 @unittest.skipUnless(PROGRAM, "left out without program: PETOOL_PROGRAM names none")
 @unittest.skipUnless(shutil.which("cc"), "left out without cc")
 class Memory(unittest.TestCase):
-    """Want of memory: each growth that the program asks for is refused in turn."""
+    """Out of memory: each allocation of the program fails in turn."""
 
     def setUp(self):
         folder = tempfile.TemporaryDirectory()
@@ -758,13 +757,13 @@ class Memory(unittest.TestCase):
         (self.folder / "a.dll").write_bytes(HEADERS)
 
     def run_without(self, words, number):
-        """Runs the program without the growth of a number: its status, and what is on its outputs."""
+        """Runs the program with the allocation of this number failing; returns its status and its outputs."""
         environment = {**os.environ, "LD_PRELOAD": self.refuse, "REFUSED": str(number)}
         done = subprocess.run([PROGRAM, *words], cwd=self.folder, env=environment, capture_output=True, text=True)
         return done.returncode, done.stdout, done.stderr
 
     def told(self, words, printed):
-        """What is told where each growth is refused in turn, without repeats, as the growths come."""
+        """The errors if each allocation fails in turn, in order, without repeats."""
         told, in_vain = [], 0
         whole = self.run_without(words, -1)
         self.assertEqual((whole[0], whole[2]), (0, ""))
@@ -774,13 +773,13 @@ class Memory(unittest.TestCase):
             if status == 0:
                 self.assertEqual((output, complained), (whole[1], ""))
                 in_vain += 1
-                # no more than a few growths are tried in vain, and none behind the last
+                # the command does without only a few consecutive allocations, so 20 in a row mean that no more are made
                 if in_vain == 20:
                     return told
                 continue
             in_vain = 0
             self.assertEqual(status, 4)
-            # a line of JSON may have begun
+            # part of a line of JSON may have been printed
             self.assertTrue(output == "" or words[0] == "json" and whole[1].startswith(output), output)
             if told[-1:] != [complained]:
                 told.append(complained)

@@ -17,7 +17,7 @@ HALVES = [(0x75, b"\x80"), (0x408, b"\x08\x20\x0a\x10")]
 
 
 def mapped_bytes(file, base):
-    """All bytes of the image of a file at a base, which has 0x3000 of them."""
+    """All 0x3000 bytes of the image of a file at a base."""
     with petool.Space([("a.dll", file, base)]) as space:
         return space.read(base, 0x3000)
 

@@ -1,4 +1,4 @@
-"""The sources: what Python 3.9, the oldest that the package serves, takes of them, and their types."""
+"""The sources: they are valid in Python 3.9, the oldest that the package supports, and their types are right."""
 
 import ast
 import os
@@ -12,7 +12,7 @@ MYPY = ["mypy", "--python-version", ".".join(map(str, OLDEST)), "--cache-dir", o
 
 
 def has_mypy():
-    """Whether mypy runs, and knows the oldest Python: a later one does not, and a command of that name may only look for one."""
+    """Whether mypy runs and supports the oldest Python: later versions do not, and the command may be a wrapper without mypy."""
     try:
         return subprocess.run([*MYPY, "-c", "pass"], capture_output=True).returncode == 0
     except OSError:
@@ -29,7 +29,7 @@ class Source(unittest.TestCase):
 
     @unittest.skipUnless(has_mypy(), "left out without mypy: none is here that knows the oldest Python")
     def test_types(self):
-        # mypy knows which names of the standard library its Python has, so later ones are found too
+        # mypy knows the standard library of that Python, so it also finds names of later versions
         words = [*MYPY, "--strict", "petool", "examples"]
         environment = {**os.environ, "MYPYPATH": str(PACKAGE)}
         found = subprocess.run(words, cwd=PACKAGE, env=environment, capture_output=True, text=True)

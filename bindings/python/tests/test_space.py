@@ -19,7 +19,7 @@ def entries():
 
 
 def object_with(counts):
-    """An object of sections with so many relocations each. The address of a relocation is its index among those of all."""
+    """An object of sections with these counts of relocations. A relocation's address is its index among those of all."""
     at = 20 + 40 * len(counts)
     header = struct.pack("<HHIIIHH", 0x8664, len(counts), 0, at + 10 * sum(counts), 1, 0, 0)
     sections = []

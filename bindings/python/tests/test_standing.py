@@ -8,14 +8,14 @@ from petool import _library, _records
 
 from .files import changed
 
-#: Five images, by no order of their bases: image 3 ends where image 1 begins.
+#: Five images, whose bases are not in order: image 3 ends where image 1 begins.
 BASES = [0x50000000, 0x10000000, 0x90000000, 0x0FFE0000, 0x70000000]
 
-#: The image that fault 54 names where none holds the address.
+#: The image that fault 54 names if none holds the address.
 NONE = 0xFFFF
 
-#: What is asked of them where they stand at first: an address, how many bytes are asked from there on, and the image that refuses
-#: them; None where one holds them, with its index behind it. A read of no bytes asks nothing: that is asked in `test_calls`.
+#: Reads at the first bases: an address, a count of bytes, and the image of the fault; or None and the image that holds the bytes.
+#: Reads of no bytes are tested in `test_calls`.
 AT_FIRST = [
     (0x0FFDFFFF, 1, NONE, None),
     (0x0FFE0000, 1, None, 3),
@@ -30,7 +30,7 @@ AT_FIRST = [
     (0xFFFFFFFFFFFFFFFF, 1, NONE, None),
 ]
 
-#: What is asked once image 1 stands behind all others, image 3 right before image 0, and image 4 right behind it.
+#: Reads after the moves: image 1 is after all others, image 3 directly before image 0, and image 4 directly after it.
 MOVED = [
     (0x0FFE0000, 1, NONE, None),
     (0x10000000, 1, NONE, None),
@@ -42,8 +42,8 @@ MOVED = [
     (0xB001FFFF, 1, None, 1),
 ]
 
-#: An image, a base, and the fault of a move of it there, if it has one: moves one after the other. What stands at the new base counts,
-#: and where the image stood itself does not.
+#: Moves in sequence: an image, a base, and the fault of the move, if it has one. The new place may overlap the image's old place,
+#: but no other image.
 MOVES = [
     (3, 0x10000000, 47),
     (3, 0x10010000, 47),
@@ -61,7 +61,7 @@ MOVES = [
 
 
 def image_without_sections(mark):
-    """An image of 0x20000 bytes that has headers alone; the byte at 0x1ff tells it from the others."""
+    """An image of 0x20000 bytes that has only headers; the byte at 0x1ff differs from that of the others."""
     pieces = [(0x46, b"\0"), (0x90, b"\0\0\2\0"), (0x138, bytes(40)), (0x1FF, bytes([mark]))]
     return changed("v1.dll", *pieces, size=0x200)
 
@@ -93,7 +93,7 @@ class Standing(unittest.TestCase):
         self.assertEqual(buffer, b"\xee" * count)
 
     def move(self, image, base):
-        """The status of a move, the fault and what was moved: the call itself, which any number may be given."""
+        """The status of a move, the fault and what was moved: by the call itself, which takes any index."""
         moved, fault = _records.Moved(), _records.Fault()
         status = _library.library.petool_space_move(
             ctypes.byref(self.space._space), image, base, ctypes.byref(moved), ctypes.byref(fault)

@@ -15,16 +15,15 @@ from .lookups import look_up
 
 HIGH, LOW, BITS32, BITS64 = 1, 2, 3, 10
 
-#: V2, whose table at 0x2000 stands at the file offset 0x400, in cases of its directory and blocks: what is changed, the slots of its
-#: imports, and its base relocations by the RVA of the entry, the RVA of the field and the type, or the fault that stands by number and
-#: RVA.
+#: V2, whose table at 0x2000 is at the file offset 0x400, in cases of its directory and blocks: the changes, the slots of its
+#: imports, and its base relocations (the RVA of the entry, the RVA of the field and the type) or its fault (number and RVA).
 BLOCKS = [
     ([], [], [(0x2008, 0x1008, BITS32)]),
     # 34: the directory
     ([(0xE4, b"\xff\xff\xff\xff")], [], (34, 0x2000)),
     ([(0xE4, b"\x01\x10")], [], (34, 0x2000)),
     ([(0xE4, b"\x07")], [], []),
-    # after the block 8 bytes remain, with a BlockSize of 0
+    # 8 bytes remain after the block, with a BlockSize of 0
     ([(0xE4, b"\x14")], [], [(0x2008, 0x1008, BITS32)]),
     # 33: the block
     ([(0x404, b"\x08")], [], []),
@@ -61,7 +60,7 @@ PLACES = [
     ([(0x400, b"\xff\xff\xff\xff"), (0x408, b"\x01\x30")], [], (36, 0x2008)),
 ]
 
-#: 37: fields that meet.
+#: 37: fields that overlap.
 MEETING = [
     ([(0x40A, b"\x08\x30")], [], (37, 0x200A)),
     ([(0x40A, b"\x0b\x30")], [], (37, 0x200A)),
@@ -103,10 +102,10 @@ TWO_BLOCKS = [
         [],
         [(0x2008, 0x1008, BITS32), (0x2014, 0x0FFF, BITS64), (0x2016, 0x0FF7, BITS32)],
     ),
-    # fields that meet, both below an earlier one
+    # fields that overlap, both below an earlier one
     ([*TWO, (0x40C, bytes.fromhex("00000000 0c000000 ffaf fc3f"))], [], (37, 0x2016)),
     ([*TWO, (0x40C, bytes.fromhex("09100000 0c000000 0230 0000"))], [], (37, 0x2014)),
-    # one below two that ascend, and one above it
+    # a field below two ascending ones, and one above it
     (
         [*TWO, (0x40A, b"\x0c\x30"), (0x40C, bytes.fromhex("00100000 0c000000 0430 1030"))],
         [],
@@ -129,7 +128,7 @@ WIDE_SLOTS = [
     ([], [0x100F], (38, 0x2008)),
 ]
 
-#: VC, whose own slot is at 0x1030, with V2's section `.reloc`, its directory and the entry of a field at 0x1033.
+#: VC, which has a slot at 0x1030, with V2's section `.reloc`, its directory and the entry of a field at 0x1033.
 AN_IMPORT = [
     (
         [
@@ -149,11 +148,11 @@ AN_IMPORT = [
 #: V1 has no table.
 NO_TABLE = [([], [0x1000], [])]
 
-#: How many entries blocks have of which one meets something: a few, as many as are read at once, one fewer and one more, and some that are
-#: read in three parts.
+#: How many entries blocks have, of which one is special: a few, as many as are read at once, one fewer and one more, and as many as
+#: are read in three parts.
 ENTRIES = [1, 4, 255, 256, 257, 600]
 
-#: The last page of an image of 0x9000 bytes, in which each of these blocks is, and the field of the block before it, of 4 bytes.
+#: The last page of an image of 0x9000 bytes, which these blocks have, and the field of the block before, of 4 bytes.
 PAGE, EARLIER = 0x8000, 0x8FF0
 
 
@@ -168,8 +167,8 @@ def block(page, entries):
 
 
 def with_slots(slots, table):
-    """An image of 0x9000 bytes that imports ordinal 1 of `a.dll` into each of these slots and has this base relocation table, and the
-    table's RVA. The tables stand one behind the other at 0x1000: descriptors, an entry for each of them, the name, base relocations."""
+    """An image of 0x9000 bytes that imports ordinal 1 of `a.dll` into each of these slots and has this base relocation table, and
+    the table's RVA. From 0x1000 on it has descriptors, an entry for each of them, the name, and the base relocations."""
     lookups = 0x1000 + 20 * len(slots) + 20
     name = lookups + 8 * len(slots)
     descriptors = b"".join(numbers(lookups + 8 * k, 0, 0, name, slot) for k, slot in enumerate(slots))
@@ -179,9 +178,9 @@ def with_slots(slots, table):
 
 
 def long_block_cases(count, at):
-    """Cases of a block of so many entries, of which the one at this index meets something: the slots of imports, the block's page, the
-    numbers of entries that differ, and the fault of which entry stands, or None. The fields have 2 bytes and stand 6 apart, so
-    that a slot of 4 bytes just fits between two."""
+    """Cases of a block of `count` entries, of which the one at index `at` is special: the slots of imports, the block's page, the
+    entries that differ by their index, and the fault and its entry, or None. The fields have 2 bytes and are 6 apart, so that a
+    slot of 4 bytes just fits between two."""
     field = PAGE + 6 * at
     between = [field + 2]
     for slots in ([], between):
@@ -192,32 +191,32 @@ def long_block_cases(count, at):
         yield slots, PAGE, {at: entry_of(LOW, EARLIER - 1 - PAGE)}, (37, at)
         if at > 0:
             yield slots, PAGE, {at: entry_of(LOW, 6 * at - 5)}, (37, at)
-        # none: the last field that the image has room for, no field, and one of another type
+        # none: the last field inside the image, an entry without a field, and one of another type
         yield slots, PAGE, {at: entry_of(BITS32, 0xFFC)}, None
         yield slots, PAGE, {at: entry_of(0, 6 * at)}, None
         yield slots, PAGE, {at: entry_of(HIGH, 6 * at)}, None
     yield [], PAGE, {at: entry_of(BITS32, 6 * at)}, None
-    # 38: the last byte of a field, its first, all of it; slots that end and begin where it does meet nothing
+    # 38: a slot overlaps the last byte of a field, its first, all of it; adjacent slots do not overlap it
     for slot in (field + 1, field - 3, field - 1):
         yield [slot], PAGE, {}, (38, at)
     yield [field - 4, field + 2], PAGE, {}, None
-    # a slot among others, before and behind it
+    # a slot among others, before and after it
     yield [0x3000, field - 4, field, 0x8FF8], PAGE, {}, (38, at)
-    # the first entry that meets something counts
+    # the first entry with a fault counts
     if at > 0:
         yield [field], PAGE, {at - 1: entry_of(4, 0)}, (35, at - 1)
     if at + 1 < count:
         yield [field], PAGE, {at + 1: entry_of(4, 0)}, (38, at)
-    # a field of 8 bytes that begins with the last byte of its page, and slots in the page behind it
+    # a field of 8 bytes that begins at the last byte of its page, and slots in the next page
     yield [PAGE + 6], PAGE - 0x1000, {at: entry_of(BITS64, 0xFFF)}, (38, at)
     yield [PAGE + 7], PAGE - 0x1000, {at: entry_of(BITS64, 0xFFF)}, None
 
 
 def imports_at(slots, wide):
-    """What gives a file imports with these slots: VirtualSize 0x200 of its first section, in which a table at 0x1100 has a descriptor
-    for each, and the directory."""
+    """The changes that give a file imports with these slots: VirtualSize 0x200 of its first section, a table in it at 0x1100 with a
+    descriptor for each, and the directory."""
     table, lookups, name = 0x300, 0x380, 0x3F0
-    rva = 0xE00  # behind an offset
+    rva = 0xE00  # the RVA of a file offset, minus the offset
     descriptors = b"".join(numbers(lookups + rva + 16 * k, 0, 0, name + rva, slot) for k, slot in enumerate(slots))
     entry = struct.pack("<QQ", 1 << 63 | 1, 0) if wide else numbers(0x80000001, 0, 0, 0)
     return [
@@ -267,7 +266,7 @@ class Fixups(unittest.TestCase):
         self.assert_fixups("vc.dll", AN_IMPORT)
 
     def assert_long_block(self, count, slots, page, changes, met):
-        """Asserts what is read of a block of so many entries, behind one with an entry alone."""
+        """Asserts what is read of a block of `count` entries, after a block with one field."""
         entries = [changes.get(k, entry_of(LOW, 6 * k)) for k in range(count)]
         file, table = with_slots(slots, block(PAGE, [entry_of(BITS32, EARLIER - PAGE), 0]) + block(page, entries))
         first = table + 20
@@ -306,13 +305,13 @@ class Fixups(unittest.TestCase):
 #: The most entries that an export table has, and the most names.
 MOST = 65_536
 
-#: The first name, one in the middle and the last, and what each exports: an ordinal and an RVA, which fall.
+#: The first name, one in the middle and the last, with the ordinal and the RVA that each exports, which descend.
 FOUND = [(b"0000", 0x10000, 0x10FFFF), (b"1234", 0xEDCC, 0x10EDCB), (b"ffff", 1, 0x100000)]
 
 
 def largest_exports():
-    """The largest table: behind the directory's 40 bytes addresses, name pointers, entries, which fall, and texts of 5 bytes with their
-    zero, `0000` to `ffff`."""
+    """The largest table: after the directory's 40 bytes addresses, name pointers, descending ordinals, and strings of 5 bytes with
+    their zero, `0000` to `ffff`."""
     addresses = 0x1028
     pointers = addresses + 4 * MOST
     entries = pointers + 4 * MOST
@@ -339,7 +338,7 @@ class LargestExports(unittest.TestCase):
             self.assertEqual(exports.names()[0], petool.Export(b"0000", None, petool.Rva(0x10FFFF)))
 
     def bound(self, piece):
-        """What the import of the library is bound to, of VC changed by a piece; None where nothing is exported so."""
+        """What the import of VC, changed by a piece, is bound to in the library; None if the library has no such export."""
         importer = changed("vc.dll", (0x240, b"S.DLL\0"), piece, size=None)
         try:
             found = petool.judge([("s.dll", self.library, 0x20000000), ("c.exe", importer, 0x400000)])
@@ -351,7 +350,7 @@ class LargestExports(unittest.TestCase):
         return binding.rva
 
     def test_a_set_finds_each_of_65536_names(self):
-        # where names are sought for imports, an index that a set keeps guesses where they stand
+        # for imports of a set, names are looked up by an index that guesses their places
         self.library = largest_exports()
         for name, ordinal, rva in FOUND:
             self.assertEqual(self.bound((0x23A, name + b"\0")), rva)
@@ -366,8 +365,8 @@ MOST_IMPORTS = 1_048_576
 
 
 def many_imports(count):
-    """The image of 0x1000000 bytes with a table at 0x1000 that imports so many ordinals of one module, each ordinal 1: its lookup table
-    is at 0x1030."""
+    """The image of 0x1000000 bytes with a table at 0x1000 that imports ordinal 1 of one module `count` times: its lookup table is
+    at 0x1030."""
     head = numbers(0x1030, 0, 0, 0x1028, 0x800000, 0, 0, 0, 0, 0, 0x61, 0)
     table = head + numbers(0x80000001) * count + numbers(0)
     return with_data([(0x91, b"\x00\x00\x01"), (0xC1, b"\x10")], table)
@@ -397,7 +396,7 @@ COUNTS = [
 
 class Whole(unittest.TestCase):
     def counts(self, file):
-        """The counts of a whole reading, which has room for no row."""
+        """The counts of all tables, read without room for rows."""
         held, counts, fault = FileBytes(file), _records.Counts(), _records.Fault()
         rooms = (_library.NO_BYTES, 0) * 4
         status = _library.library.petool_tables(held.address, held.length, *rooms, ctypes.byref(counts), ctypes.byref(fault))

@@ -1,13 +1,13 @@
-"""The lists `texts` and `views` of `cases`: what the program prints of one file and of sets, and what the calls answer that judge
+"""The lists `texts` and `views` of `cases`: what the program prints for one file and for sets, and what the calls return that check
 headers and look up exports. The first word of a case says what is run:
 
-`check`, `dump` and `object` print that command's text of a file, which further words change; `tables` the lines of a dump's exports,
-imports and base relocations; `begins` the first line of an object's; `show`, with `--all` or without, `json`, and `at` with an RVA
-before the file, that command's; `refusal` the line of a page that tells the fault. `map` and words of a set print the set's report,
-with a window where there is one. `rebase` and a base print its line and how long the new file is, `rebased` also what differs in it.
-All of them print the status. `head` and `layout` print the first fault of a file's headers, and of its section table too; `find` and
-names or ordinals what they export. `faults` prints the words of each number, `kind` what first bytes show a file to be, and `names` the
-name of each value and flag.
+`check`, `dump` and `object` print that command's text of a file, which further words change; `tables` the lines of a dump's
+exports, imports and base relocations; `begins` the first line of an object's; `show`, with `--all` or without, `json`, and `at` with
+an RVA before the file, that command's; `refusal` the line of a page that shows the fault. `map` and words of a set print the set's
+report, with a window if there is one. `rebase` and a base print its line and the length of the new file, `rebased` also what differs
+in it. All of them print the status. `head` and `layout` print the first fault of a file's headers, and of its section table too;
+`find` and names or ordinals what they export. `faults` prints the words of each number, `kind` the kind of file that its first bytes
+show, and `names` the name of each value and flag.
 """
 
 import collections
@@ -58,7 +58,7 @@ class Cases(unittest.TestCase):
     maxDiff = None
 
     def each(self, kind, answer_of):
-        """Compares what each case of a kind comes to with its stored answer."""
+        """Compares the result of each case of a kind with its stored answer."""
         self.assertEqual(len(ALL[kind]), COUNTS[kind])
         for line, answer in ALL[kind]:
             with self.subTest(line[:200]):
@@ -71,7 +71,7 @@ class Lists(unittest.TestCase):
 
 
 class Calls(Cases):
-    """What the calls answer."""
+    """What the calls return."""
 
     @staticmethod
     def first_fault(words):
@@ -87,7 +87,7 @@ class Calls(Cases):
 
     def head(self, words):
         fault = self.first_fault(words)
-        # 13 to 15 come behind those of the headers
+        # 13 to 15, of the sections, come after those of the headers
         return fault_line(fault) if fault and fault.number <= 12 else "no fault"
 
     def test_the_first_fault_of_headers(self):
@@ -128,13 +128,13 @@ class Calls(Cases):
 
 
 def split_options(words):
-    """The options that words begin with, and the words behind them."""
+    """The options at the beginning of words, and the other words."""
     options = list(itertools.takewhile(lambda word: word.startswith("--"), words))
     return options, words[len(options) :]
 
 
 def difference(old, new):
-    """The bytes of a file where it differs from the one that it was made of, each run of them with its offset."""
+    """The bytes of a file that differ from those of the file that it was made from, each run of them with its offset."""
     places = [at for at in range(len(old)) if old[at] != new[at]]
     starts = [at for at in places if at - 1 not in places]
     ends = [at + 1 for at in places if at + 1 not in places]
@@ -151,20 +151,20 @@ class Program(Cases):
         self.folder = folder.name
 
     def lines(self, *words):
-        """The lines of standard output, and the status. Of a refusal alone something may stand on standard error."""
+        """The lines of standard output, and the status. Only a refusal may print something on standard error."""
         done = run([PROGRAM, *words], cwd=self.folder)
         if done.returncode == 0:
             self.assertEqual(done.stderr, b"")
-        # as the system has lines: characters of other languages that end one are bytes of a name
+        # split at newlines only: other characters that end lines in Unicode are part of a name
         return done.stdout.decode().split("\n")[:-1], done.returncode
 
     def write(self, words):
-        """Writes the file that words name and change, under its name."""
+        """Writes the file that words name and change; returns its name."""
         pathlib.Path(self.folder, words[0]).write_bytes(edited(words))
         return words[0]
 
     def of_file(self, *command, kept=lambda _number, _line: True):
-        """What a command prints of the file that words name and change: the lines that are kept, and the status."""
+        """What a command prints for the file that words name and change: the lines that are kept, and the status."""
 
         def answer(words):
             lines, status = self.lines(*command, self.write(words))
@@ -244,7 +244,7 @@ class Program(Cases):
         self.each("rebased", self.rebased)
 
     def told_kind(self, command, first):
-        """What a command tells on standard error that a file is which it does not read."""
+        """The kind of a file that a command does not read, as it reports it on standard error."""
         pathlib.Path(self.folder, "first").write_bytes(first)
         _, _, kind = run([PROGRAM, command, "first"], cwd=self.folder).stderr.decode().rstrip("\n").partition("; ")
         return kind or "nothing"
@@ -252,7 +252,7 @@ class Program(Cases):
     def kind(self, words):
         first = bytes.fromhex("".join(words))
         image, other = self.told_kind("object", first), self.told_kind("check", first)
-        # each command keeps silent of the kind that it reads
+        # each command reports no kind for files that it reads
         if "it is an image" in (image, other) or "it is a COFF object" in (image, other):
             self.assertEqual(sorted((image, other))[1], "nothing")
             return sorted((image, other))[0]
@@ -271,14 +271,14 @@ class Program(Cases):
         self.each("names", self.names)
 
     def lines_of(self, files):
-        """The lines of JSON of files of one length, which are written over one another and read 512 at a time."""
+        """The lines of JSON of files of one length, which are written over each other and read 512 at a time."""
         rows, count = [], 512
         with tempfile.TemporaryDirectory() as folder:
             paths = [os.path.join(folder, str(index)) for index in range(count)]
             for start in range(0, len(files), count):
                 part = files[start : start + count]
                 for path, file in zip(paths, part):
-                    # a file that is cut off first is slower to write by far
+                    # truncating a file first makes writing it far slower
                     with open(os.open(path, os.O_WRONLY | os.O_CREAT), "wb") as out:
                         out.write(file)
                 done = run([PROGRAM, "json", *paths[: len(part)]])
@@ -332,7 +332,7 @@ class Program(Cases):
                 yield f"class {value:#x} {symbol['storage_class_name']}"
 
     def types(self):
-        """The names of the types of relocations, for the machines of which they have names."""
+        """The names of the types of relocations, for the machines whose types have names."""
         for machine in (0x14C, 0x1C0, 0x1C4, 0x8664, 0xAA64):
             yield f"types of {machine:#x}"
             file = bytearray(data("o1.obj"))

@@ -1,4 +1,4 @@
-"""The types of the package, which type checkers read: each field of what is answered holds what its class says of it."""
+"""The types of the package, which type checkers read: each field of a result has the type that its class declares."""
 
 import typing
 import unittest
@@ -9,7 +9,7 @@ from . import data
 
 
 def holds(value, kind):
-    """Whether a value is of a type: one of a union, a tuple of one, or exactly it."""
+    """Whether a value has a type: one of a union, a tuple of it, or exactly it."""
     arguments = typing.get_args(kind)
     if typing.get_origin(kind) is typing.Union:
         return any(holds(value, it) for it in arguments)
@@ -19,7 +19,7 @@ def holds(value, kind):
 
 
 def rows_of_images():
-    """Of an image with forwarders and one with imports and base relocations: the headers and each row."""
+    """The headers and all rows of an image with forwarders, and of one with imports and base relocations."""
     for name in ("va.dll", "vr.dll"):
         with petool.Image(data(name)) as image:
             yield from (image.headers, *image.headers.directories, *image.sections, *image.imports, *image.fixups)
@@ -33,7 +33,7 @@ def rows_of_objects():
 
 class Types(unittest.TestCase):
     def assert_held(self, rows, classes):
-        """Each field holds its type, and no class is without a row."""
+        """Asserts that each field has its type, and that each class has a row."""
         met = set()
         for row in rows:
             met.add(type(row))
