@@ -1,4 +1,4 @@
-"""What C has of the description: the structs of petool.h, layout.c, and the names that the linker gives out."""
+"""What is written for C: the structs of petool.h, layout.c, and the names that the linker exports."""
 
 from typing import List
 
@@ -9,7 +9,7 @@ POINTERS = {"bytes": "const uint8_t *", "state": "void *"}
 RESULTS = {"u32": "uint32_t", "int": "int", "nothing": "void"}
 
 LAYOUT = """\
-/* Compiles only where the records of petool.h are laid out as the library has them, on a machine of 64 bits.
+/* Compiles only if the records of petool.h are laid out as in the library, on a 64-bit machine.
  * describe/describe.py writes this file. */
 #include "petool.h"
 
@@ -23,7 +23,7 @@ LAYOUT = """\
 
 
 def type_of(kind: str) -> str:
-    """A type in C, with the space or the star before what it is the type of."""
+    """A type in C, with the space or the star before the declared name."""
     return POINTERS.get(kind) or f"{NUMBERS.get(kind, f'petool_{kind}')} "
 
 
@@ -68,7 +68,7 @@ def structs(description: Description, what: str) -> List[str]:
 
 
 def layout(description: Description) -> str:
-    """layout.c: the size of each record and the place of each field."""
+    """layout.c: the size of each record and the offset of each field."""
     parts = [LAYOUT]
     for record in description.records.values():
         size, _, places = description.layout(record)
@@ -94,12 +94,12 @@ def prototype(call: Call) -> str:
 
 
 def linker_map(description: Description) -> str:
-    """petool.map: the version of the names that the shared library gives out."""
+    """petool.map: the version of the names that the shared library exports."""
     return f"{description.library.symbols} {{ global: petool_*; local: *; }};\n"
 
 
 def debian_symbols(description: Description) -> str:
-    """libpetool0.symbols: each name with the release that it came with."""
+    """libpetool0.symbols: each name with the release that introduced it."""
     library = description.library
     since = {call.name: call.since for call in description.calls}
     rows = {library.symbols: library.release, **since}

@@ -1,9 +1,9 @@
 #!/usr/bin/env python3
 """Writes what describe/records.txt and describe/faults.txt describe into the files that have it: describe.py [--check]
 
-With --check nothing is written: each such file is compared, and with it the sources that are not written, since proofs hang on
-them. A file that differs is named, with its first line that does; the last line is 'N passed, M failed', and the status is 1
-where something differs.
+With --check nothing is written: each such file is compared, and also the sources that are not written, since proofs depend on
+them. A file that differs is named, with its first line that does; the last line is 'N passed, M failed', and the status is 1 if
+something differs.
 """
 
 import pathlib
@@ -30,7 +30,7 @@ PACKAGE = "bindings/python/petool"
 JSON = "docs/JSON.md"
 FAULTS_PAGE = "docs/FAULTS.md"
 
-#: The files that are written whole.
+#: The files that are written completely.
 WHOLE = {
     "bindings/c/layout.c": c_texts.layout,
     "bindings/c/petool.map": c_texts.linker_map,
@@ -45,7 +45,7 @@ def rust_part(description, what):
     return ["", *{"records": rust_texts.records, "calls": rust_texts.calls}[what](description), ""]
 
 
-#: The files of which parts are written of the records, each between two comments.
+#: The files of which parts are written from the records, each between two comments.
 PARTS = {
     HEADER: c_texts.structs,
     RUST: rust_part,
@@ -56,7 +56,7 @@ PARTS = {
     JSON: page_texts.json_part,
     "docs/C.md": page_texts.c_part,
 }
-#: All files that are written, whole or in part.
+#: All files that are written, completely or in part.
 WRITTEN = [*WHOLE, *PARTS, FAULTS_PAGE, *fault_texts.TABLES]
 
 
@@ -65,7 +65,7 @@ def read(path):
 
 
 def described_by(path, form):
-    """What a description says. Mistake, with its path, where it has not its form."""
+    """What a description says. Mistake, with its path, if it is malformed."""
     try:
         return form(read(path))
     except Mistake as error:
@@ -79,7 +79,7 @@ def sources(*crates):
 
 
 def made(description, faults, path):
-    """What a file is to be that is written of a description. NoRegion or NoTable where a part of it cannot be."""
+    """The contents of a file, written from a description. NoRegion or NoTable if a part of it cannot be written."""
     if path in WHOLE:
         return WHOLE[path](description)
     if path in fault_texts.TABLES:
@@ -90,7 +90,7 @@ def made(description, faults, path):
 
 
 def difference(description, faults, path):
-    """Where a file differs from what it is to be, as a list of one sentence, or of none."""
+    """How a file differs from what the description gives, as a list of one sentence, or of none."""
     try:
         stands, wanted = read(path), made(description, faults, path)
     except (regions.NoRegion, fault_texts.NoTable) as error:
@@ -103,7 +103,7 @@ def difference(description, faults, path):
 
 
 def parts(description):
-    """What the parts of files have to be: each record in petool.h, each table in JSON.md, the fields of each class in Python."""
+    """The parts that files must have: each record in petool.h, each table in JSON.md, the fields of each class in Python."""
     records = description.records
     yield HEADER, list(records)
     yield JSON, [it.name for it in description.objects.values() if not it.kind_of and not it.is_in_words]
@@ -114,25 +114,25 @@ def parts(description):
 
 
 def misplaced(description):
-    """What stands in no part of a file, or in two, or is not described."""
+    """What is in no part of a file, or in two, or is not described."""
     for path, wanted in parts(description):
         yield from wrong_parts(path, regions.names(read(path), RECORDS), wanted)
 
 
 def wrong_parts(path, found, wanted):
-    """Which of the parts of a file that are wanted stand in it otherwise than once, and which are not described."""
+    """Which of the wanted parts a file does not have exactly once, and which of its parts are not described."""
     yield from (f"{path}: {it} stands in {found.count(it)} parts" for it in wanted if found.count(it) != 1)
     yield from (f"{path}: {it} is not described" for it in found if it not in wanted)
 
 
 def missing_sources(faults):
-    """The sources that are said to ask faults, and that are not there."""
+    """The sources that are described as testing faults, and do not exist."""
     named = [(it.number, path) for it in faults.by_number() for path in it.files()]
     return [f"{FAULTS}: fault {number}: there is no {path}" for number, path in named if not (TOP / path).is_file()]
 
 
 def comparisons(description, faults):
-    """Of each file that is written and each source that is compared what is wrong with it: nothing where it agrees."""
+    """What is wrong with each file that is written and each source that is compared: nothing if it agrees."""
     for path in WRITTEN:
         yield difference(description, faults, path)
     yield list(misplaced(description))

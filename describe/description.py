@@ -21,11 +21,11 @@ class Field:
     name: str
     type: str
     unit: str
-    keys: List[str]  #: OBJECT.KEY of each member that tells of it
+    keys: List[str]  #: OBJECT.KEY of each member with its value
     meaning: str
-    is_joined: bool  #: it stands on one line with the field before it in C
+    is_joined: bool  #: it is on one line with the field before it in C
     comment: Optional[str] = None  #: of the line in C; empty for none, None for the meaning
-    note: str = ""  #: beside the field in C
+    note: str = ""  #: after the field in C
     python: Tuple[str, str, str] = ("", "", "")  #: name, type and meaning, where they differ in Python
 
     def item(self) -> str:
@@ -57,7 +57,7 @@ class Record:
 
 @dataclass
 class Parameter:
-    """A parameter of a call: a value, or a reference to one or to a slice, whose length in C has a name of its own."""
+    """A parameter of a call: a value, or a reference to one or to a slice, whose length in C has its own name."""
 
     name: str
     type: str
@@ -75,8 +75,8 @@ class Call:
     parameters: List[Parameter]
     result: str
     since: str
-    faults: str = ""  #: which it may tell, in order
-    memory: str = ""  #: where it is taken
+    faults: str = ""  #: which it may return, in order
+    memory: str = ""  #: when it is allocated
 
 
 @dataclass
@@ -88,7 +88,7 @@ class Member:
     meaning: str
 
     def bases(self) -> List[str]:
-        """The keys without those that stand beside them."""
+        """The keys without their second ones."""
         return [key.partition("+")[0] for key in re.split(r", | or ", self.shown)]
 
     def keys(self) -> List[str]:
@@ -127,7 +127,7 @@ class Library:
 
 
 class Description:
-    """All that records.txt says. Mistake where a line is none of its forms, or names what is not there."""
+    """All that records.txt says. Mistake if a line has none of its forms, or names what does not exist."""
 
     def __init__(self, text: str) -> None:
         self.records: Dict[str, Record] = {}
@@ -250,7 +250,7 @@ class Description:
             self._object.members.append(Member(shown, kind, meaning))
 
     def _check(self) -> None:
-        """That each type is known, and that each key of a field is one of the object that it names."""
+        """Checks that each type is known, and that each key of a field is one of the object that it names."""
         if not (self.records and self.calls and self.objects):
             raise Mistake("it has no records, no calls or no objects")
         for record in self.records.values():
@@ -285,7 +285,7 @@ class Description:
         return -(-end // most) * most, most, places
 
     def has_text(self, record: Record) -> bool:
-        """Whether a text stands in a record, or in a record that is a part of it."""
+        """Whether a record has a text, or a record in it does."""
         items = [it.item() for it in record.fields]
         return "text" in items or any(self.has_text(self.records[it]) for it in items if it in self.records)
 
@@ -309,7 +309,7 @@ class Description:
 
 
 def _matched(form: str, text: str) -> Tuple[str, ...]:
-    """The parts of a text that has a form; Mistake where it has another."""
+    """The groups of a match; Mistake if the string does not match."""
     found = re.fullmatch(form, text)
     if found is None:
         raise Mistake("it has not the form of a call")
@@ -317,7 +317,7 @@ def _matched(form: str, text: str) -> Tuple[str, ...]:
 
 
 def _lines(text: str) -> List[Tuple[int, str]]:
-    """The lines that say something, each with its number; one that ends with a comma has the next one behind it."""
+    """The lines that are not empty or comments, each with its number; one that ends with a comma is joined with the next."""
     found: List[Tuple[int, str]] = []
     goes_on = False
     for number, line in enumerate(text.splitlines(), 1):

@@ -1,7 +1,7 @@
-"""What is written of the faults: the tables of docs/FAULTS.md, and the tables RULES and EXPLAINED of the sources.
+"""What is written from the faults: the tables of docs/FAULTS.md, and the tables RULES and EXPLAINED of the sources.
 
-These two stand in their sources without comments of their own, from `static NAME` to `];`, in the layout of `rt fmt`: a source
-that changes is proved anew, so one that agrees is left as it is to the byte.
+These two have no comments in their sources, from `static NAME` to `];`, and the layout of `rt fmt`: a source that changes must be
+proved again, so one that agrees stays the same to the byte.
 """
 
 import re
@@ -9,22 +9,22 @@ from typing import Callable, Dict, List, Tuple
 
 from faults import Fault, Faults
 
-#: How long a row is at most that stands on one line.
+#: The longest row that is put on one line.
 ONE_LINE = 60
 
 
 class NoTable(Exception):
-    """A source that does not have its table once."""
+    """A source does not have its table exactly once."""
 
 
 def _literal(text: str) -> str:
-    """A text as a literal of Rattle."""
+    """A string as a literal of Rattle."""
     escaped = text.replace("\\", "\\\\").replace('"', '\\"')
     return f'"{escaped}"'
 
 
 def _row(words: List[str]) -> List[str]:
-    """A row of a table: on one line where it is short, else with a line for each word."""
+    """A row of a table: on one line if it is short, otherwise with a line for each word."""
     line = ", ".join(words)
     return [f"    ({line}),"] if len(line) <= ONE_LINE else ["    (", *(f"        {word}," for word in words), "    ),"]
 
@@ -37,7 +37,7 @@ def _explained(it: Fault) -> Tuple[str, str]:
     return it.rows["explained"], it.rows["met by"]
 
 
-#: The table of each source: its name, the type of a row, and the texts in one.
+#: The table of each source: its name, the type of a row, and the strings in one.
 TABLES: Dict[str, Tuple[str, str, Callable[[Fault], Tuple[str, str]]]] = {
     "crates/pe_text/src/fault_text.rt": ("RULES", "(u16, &str, &str)", _rules),
     "crates/pe_program/src/explain.rt": ("EXPLAINED", "Explained", _explained),
@@ -45,7 +45,7 @@ TABLES: Dict[str, Tuple[str, str, Callable[[Fault], Tuple[str, str]]]] = {
 
 
 def source(faults: Faults, path: str, text: str) -> str:
-    """A source with its table written anew. NoTable where it does not have it once."""
+    """A source with a newly written table. NoTable if it does not have it exactly once."""
     name, kind, texts = TABLES[path]
     found = list(re.finditer(rf"^static {name}\b.*?^\];$", text, re.M | re.S))
     if len(found) != 1:
@@ -78,5 +78,5 @@ def part(faults: Faults, what: str) -> List[str]:
 
 
 def parts(faults: Faults) -> List[str]:
-    """What the parts of docs/FAULTS.md have to be."""
+    """The parts that docs/FAULTS.md must have."""
     return ["names", *faults.tables]

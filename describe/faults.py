@@ -6,14 +6,14 @@ from typing import Dict, List, Tuple
 
 from description import COLUMNS, Mistake
 
-#: The rows below a fault, in order; `image` stands where the fault chooses the image itself.
+#: The rows below a fault, in order; a fault has `image` if it chooses the image itself.
 ROWS = ("stands", "place", "image", "code", "explained", "met by")
 ROW = re.compile(rf"({'|'.join(ROWS)}) +(.+)")
 
 
 @dataclass
 class Fault:
-    """A rule of the format that may not hold."""
+    """A rule of the format that may be broken."""
 
     number: int
     subject: str
@@ -21,7 +21,7 @@ class Fault:
     rows: Dict[str, str] = field(default_factory=dict)
 
     def files(self) -> List[str]:
-        """The sources that ask it; one without a folder stands beside the one before it."""
+        """The sources that test it; one without a folder is in the folder of the one before it."""
         found, folder = [], "crates"
         for name in self.rows["code"].split(", "):
             found.append(f"crates/{name}" if "/" in name else f"{folder}/{name}")
@@ -46,7 +46,7 @@ class Name:
 
 
 class Faults:
-    """All that faults.txt says. Mistake where a line is none of its forms, or where a fault is not whole."""
+    """All that faults.txt says. Mistake if a line has none of its forms, or a fault is incomplete."""
 
     def __init__(self, text: str) -> None:
         self.tables: Dict[str, List[Fault]] = {}
@@ -100,7 +100,7 @@ class Faults:
         rows[found[1]] = found[2]
 
     def _check(self) -> None:
-        """That each fault has a number of its own and all rows, and each is in a range that has a name, and so are its bounds."""
+        """Checks that each fault has its own number, all rows and a range with a name, and that the bounds of ranges are faults."""
         numbers = [it.number for it in self.by_number()]
         twice = sorted({it for it in numbers if numbers.count(it) > 1})
         if not numbers or twice:

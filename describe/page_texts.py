@@ -1,4 +1,4 @@
-"""What the documents have of the description: the manual page's synopsis, the tables of JSON.md, the fields in C.md."""
+"""What is written for the documents: the manual page's synopsis, the tables of JSON.md, the fields in C.md."""
 
 import re
 from typing import Dict, List, Tuple
@@ -6,12 +6,12 @@ from typing import Dict, List, Tuple
 from c_texts import RESULTS, parameters, type_of
 from description import Call, Description, Member, Object
 
-#: How wide a line of the synopsis is at most, where a terminal has 80 columns and man indents by 7.
+#: The greatest width of a line of the synopsis, for a terminal of 80 columns, of which man uses 7 to indent.
 SYNOPSIS = 72
 
 
 def _words(call: Call) -> List[Tuple[str, str]]:
-    """What stands before each parameter's name, and the name; at last what ends the call."""
+    """What comes before each parameter's name, and the name; last, what ends the call."""
     head = f"{RESULTS[call.result]} {call.name}("
     if not call.parameters:
         return [(f"{head}void);", "")]
@@ -22,7 +22,7 @@ def _words(call: Call) -> List[Tuple[str, str]]:
 
 
 def _lines(words: List[Tuple[str, str]]) -> List[List[Tuple[str, str]]]:
-    """The words of a call in lines that fit, each behind a comma of the line before."""
+    """The words of a call in lines that fit, broken after commas."""
     lines, column = [[words[0]]], len("".join(words[0]))
     for before, name in words[1:]:
         width = len(before) + len(name) + (2 if name else 0)
@@ -62,7 +62,7 @@ def _table(found: Object) -> List[str]:
 
 
 def _listed(member: Member) -> str:
-    """A member in a sentence: its key, the one beside it, and what is to be said of it."""
+    """A member in a sentence: its key, its second key, and its meaning."""
     base, _, suffix = member.shown.partition("+")
     return f"`{base}`" + (f" with `{base}_{suffix}`" if suffix else "") + (f" ({member.meaning})" if member.meaning else "")
 
@@ -87,7 +87,7 @@ def json_part(description: Description, what: str) -> List[str]:
 
 
 def _calls_table(description: Description) -> List[str]:
-    """What the calls ask of a file, with those in one row that ask the same."""
+    """The faults and the memory of the calls; calls that have the same share a row."""
     rows: Dict[Tuple[str, str], List[str]] = {}
     for call in description.calls:
         if call.faults:
@@ -97,7 +97,7 @@ def _calls_table(description: Description) -> List[str]:
 
 
 def _fields_table(description: Description) -> List[str]:
-    """All fields with their units, and the keys that tell the same in JSON."""
+    """All fields with their units, and the keys with the same values in JSON."""
     lines = ["| Record | Field | Type | Unit | Meaning | In JSON |", "|---|---|---|---|---|---|"]
     for record in description.records.values():
         for it in record.fields:

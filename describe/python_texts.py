@@ -1,4 +1,4 @@
-"""What the package petool for Python has of the description: the module _records, and the fields of its row classes."""
+"""What is written for the Python package petool: the module _records, and the fields of its row classes."""
 
 from typing import List
 
@@ -16,7 +16,7 @@ from ctypes import POINTER, Structure, c_bool, c_char, c_int, c_size_t, c_uint8,
 from typing import Any, Dict, List, Tuple
 '''
 
-FORMS = "#: The layout of each row in the letters of `struct`: P and N are a text's pointer and length."
+FORMS = "#: The layout of each row in the letters of `struct`: P and N are a string's pointer and length."
 
 
 def _type(description: Description, it: Field) -> str:
@@ -43,7 +43,7 @@ def _form(description: Description, record: Record) -> str:
 
 
 def _parameters(description: Description, it: Parameter) -> List[str]:
-    """The types of a parameter; rows that Python reads by a form are bytes for ctypes."""
+    """The types of a parameter; rows that Python reads by `struct` are bytes for ctypes."""
     if not it.is_reference:
         return [NUMBERS[it.type]]
     record = description.records.get(it.type)
@@ -72,7 +72,7 @@ def records_module(description: Description) -> str:
     lines += ["", "", FORMS, "FORMS = {"]
     lines += [f'    "{record.name}": "{_form(description, record)}",' for record in records if record.is_row]
     lines.append("}")
-    lines += ["", "#: What each call answers, and what it takes.", "CALLS: Dict[str, Tuple[Any, List[Any]]] = {"]
+    lines += ["", "#: The result of each call, and its parameters.", "CALLS: Dict[str, Tuple[Any, List[Any]]] = {"]
     lines += [line for call in description.calls for line in _call(description, call)]
     return "\n".join([*lines, "}", ""])
 

@@ -1,7 +1,7 @@
 """Sources that are compared with the description and not written: the records and calls of the crates and the keys of pe_json,
-since proofs hang on them, and the prototypes of petool.h, which stand below what each call answers.
+since proofs depend on them, and the prototypes of petool.h, which follow comments that say what each call returns.
 
-Each comparison answers what differs, and nothing where a source agrees. A source in which nothing is found differs.
+Each comparison returns what differs, and nothing if a source agrees. A source in which nothing is found differs.
 """
 
 import pathlib
@@ -11,19 +11,19 @@ from typing import Dict, List, Set, Tuple
 from c_texts import prototype
 from description import Call, Description, Record
 
-#: What a text is made of: a record that is one slice has these fields in C.
+#: The fields in C of a record that is one slice.
 TEXT = [("at", "bytes"), ("len", "usize")]
-#: The functions of a source, with what stands up to the next one.
+#: The functions of a source, each up to the next one.
 FUNCTION = re.compile(r"^\s*(?:pub(?:\(crate\))? )?fn (\w+)(.*?)(?=^\s*(?:pub(?:\(crate\))? )?fn |\Z)", re.M | re.S)
 #: A key of JSON in Rattle, or where another list or kind of object begins.
 KEY = re.compile(
     r'begin_list\(\s*"(?P<list>\w+)"|\(\s*"kind",\s*Text\(\s*"(?P<kind>\w+)"|\.key\(\s*"(?P<own>\w+)"'
     r'|(?:number|wide)!\(\s*\w+,\s*(?P<field>\w+)\s*\)|\(\s*"(?P<first>\w+)",|"(?P<hex>\w+_hex)"'
 )
-#: A key in the texts of the beginning of a line, which are bytes.
+#: A key in the strings of the beginning of a line, which are bytes.
 TEXT_KEY = re.compile(r'(?:b|\\)"([a-z]\w*)(?:\\":|")')
 VALUES = {"true", "false"}
-#: What Rattle has for numbers of C whose names have no width.
+#: The types of Rattle for types of C without a width in their names.
 NUMBERS = {"char": "u8", "int": "i32"}
 
 
@@ -32,7 +32,7 @@ def _without_comments(text: str) -> str:
 
 
 def _type(kind: str, structs: Dict[str, str]) -> str:
-    """A type of Rattle in the words of the description."""
+    """A type of Rattle as the description names it."""
     array = re.fullmatch(r"\[(\w+); (\d+)\]", kind)
     if array:
         return f"{_type(array[1], structs)}[{array[2]}]"
@@ -43,14 +43,14 @@ def _type(kind: str, structs: Dict[str, str]) -> str:
 
 
 def _fields(body: str, structs: Dict[str, str]) -> List[Tuple[str, str]]:
-    """The fields of a struct that take room in it: a ghost field and the allocator of the whole program take none."""
+    """The fields of a struct that take space: ghost fields and the program's allocator take none."""
     rows = re.findall(r"^\s*(?:pub )?(?!ghost)(\w+): (.+?),?$", body, re.M)
     fields = [(name, _type(kind, structs)) for name, kind in rows if kind != "Global"]
     return TEXT if fields == [("bytes", "text")] else fields
 
 
 def structs_of(sources: Dict[str, str]) -> Dict[str, Tuple[str, str]]:
-    """Each struct that C has too: its file and what stands in its braces."""
+    """Each struct that C has too: its file and the contents of its braces."""
     form = re.compile(r"#\[repr\(C\)\]\s*(?:#\[[^\]]*\]\s*)*pub struct (\w+)(?:<[^>]*>)?\s*\{(.*?)^\}", re.M | re.S)
     return {found[1]: (file, found[2]) for file, text in sources.items() for found in form.finditer(_without_comments(text))}
 
@@ -94,7 +94,7 @@ def _shown(call: Call, description: Description) -> str:
 
 
 def _plain(parameters: str, result: str) -> str:
-    """The same of what a source has, whose allocator C does not see."""
+    """The same for a call of a source, without the allocator, which C does not have."""
     words = " ".join(parameters.split()).rstrip(", ")
     words = re.sub(r"<'\w+>|'\w+ ", "", words)
     return f"({re.sub(r'^alloc: Global(, )?', '', words)}) -> {result}"
@@ -116,7 +116,7 @@ def call_faults(description: Description, sources: Dict[str, str]) -> List[str]:
 
 
 def _keys_of(body: str, place: str) -> List[Tuple[str, str]]:
-    """The keys in a function's body, each with the place that it is at: the function, the list or the kind."""
+    """The keys in a function's body, each with its place: the function, the list or the kind."""
     found, inside = [], place
     for it in KEY.finditer(body):
         key = it["list"] or it["own"] or it["field"] or it["first"] or it["hex"]

@@ -1,4 +1,4 @@
-"""Parts of hand-written files that are written of a description: they stand between two comments, and the first names them.
+"""Parts of hand-written files that are written from a description: they lie between two comments, and the first names them.
 
     /* from describe/records.txt: fixup */
     ..
@@ -10,7 +10,7 @@ from typing import Callable, Iterator, List, Optional
 
 
 class NoRegion(Exception):
-    """A part that does not end, or of which nothing is described; or there is none."""
+    """A part does not end, or is not described; or there is none."""
 
 
 def _begins(line: str, source: str) -> Optional["re.Match[str]"]:
@@ -19,7 +19,7 @@ def _begins(line: str, source: str) -> Optional["re.Match[str]"]:
 
 
 def filled(text: str, source: str, render: Callable[[str], List[str]]) -> str:
-    """The file with each part of a description written anew; `render` makes the lines of the part that a comment names."""
+    """The file with each part of a description newly written; `render` makes the lines of the part that a comment names."""
     lines, written = iter(text.splitlines()), []
     for line in lines:
         written.append(line)
@@ -40,7 +40,7 @@ def _rendered(name: str, indent: str, render: Callable[[str], List[str]]) -> Lis
 
 
 def _end(lines: Iterator[str], source: str, name: str) -> str:
-    """The line that ends a part; what stands before it is left out."""
+    """The line that ends a part, after skipping the old lines."""
     for line in lines:
         if f"end of {source}" in line:
             return line
@@ -50,17 +50,17 @@ def _end(lines: Iterator[str], source: str, name: str) -> str:
 
 
 def parts(text: str, source: str) -> List[str]:
-    """The parts of a file that are written of a description, in order."""
+    """The parts of a file that are written from a description, in order."""
     return [found[2] for line in text.splitlines() if (found := _begins(line, source))]
 
 
 def names(text: str, source: str) -> List[str]:
-    """What these parts have: of `NAME, NAME` each, and of `kinds of NAME` the name."""
+    """The names in these parts: each of `NAME, NAME`, and NAME of `kinds of NAME`."""
     return [name.rpartition(" ")[2] for part in parts(text, source) for name in part.split(", ")]
 
 
 def wrapped(words: List[str], width: int, indent: str) -> List[str]:
-    """Words in lines of at most so many columns, each line behind the first with an indent."""
+    """Words in lines of at most `width` columns, with an indent after the first line."""
     lines = [words[0]]
     for word in words[1:]:
         if len(lines[-1]) + 1 + len(word) <= width:

@@ -1,4 +1,4 @@
-"""What the crate petool-sys has of the description: its records, its calls and the test of their layout."""
+"""What is written for the crate petool-sys: its records, its calls and the test of their layout."""
 
 import re
 from typing import List
@@ -11,8 +11,8 @@ WIDTH = 120
 ITEMS = {"bytes": "*const u8", "state": "*mut c_void", "char": "c_char", "int": "c_int"}
 
 LAYOUT = """\
-//! Each record has the size and the places of fields that the library's have, on a machine of 64 bits; `layout.c`
-//! beside the header has the same numbers. describe/describe.py writes this file.
+//! Each record has the size and the field offsets of the library's, on a 64-bit machine; `layout.c` next to the header
+//! has the same numbers. describe/describe.py writes this file.
 
 #![cfg(target_pointer_width = "64")]
 
@@ -33,7 +33,7 @@ VERSION = """\
 
 #[test]
 fn the_library_has_the_version_of_the_header() {
-    // SAFETY: the call takes nothing
+    // SAFETY: the call has no arguments
     assert_eq!(unsafe { petool_version() }, PETOOL_VERSION);
 }
 """
@@ -57,7 +57,7 @@ def _type(description: Description, it: Field) -> str:
 
 
 def _derived(description: Description, record: Record) -> str:
-    """What a record derives. One with a state is never copied, and one with pointers not compared."""
+    """What a record derives. One with a state is never copied, and one with pointers never compared."""
     if any(it.type == "state" for it in record.fields):
         return "Debug"
     if description.has_text(record) or any(it.type == "bytes" for it in record.fields):
@@ -81,7 +81,7 @@ def _blank(description: Description, it: Field) -> str:
 
 
 def _none(description: Description, record: Record) -> List[str]:
-    """The constant of a record with texts, none of which may be null before a call."""
+    """The constant of a record with texts, whose pointers may not be null before a call."""
     name = record.camel()
     fields = [f"        {it.name}: {_blank(description, it)}," for it in record.fields]
     about = "    /// Its value before a call sets it."
@@ -89,7 +89,7 @@ def _none(description: Description, record: Record) -> List[str]:
 
 
 def _filled(description: Description) -> List[str]:
-    """What calls fill, with the parts of it."""
+    """The types that calls fill, and those of their fields."""
     filled = {it.type for call in description.calls for it in call.parameters if it.is_mutable}
     parts = {it.type for name in filled if name in description.records for it in description.records[name].fields}
     return sorted(filled | parts)
@@ -115,7 +115,7 @@ def _parameters(description: Description, it: Parameter) -> List[str]:
 
 
 def _call(description: Description, call: Call) -> List[str]:
-    """A call, on one line where it fits, as rustfmt has it."""
+    """A call, on one line if it fits, as rustfmt has it."""
     words = [word for it in call.parameters for word in _parameters(description, it)]
     result = "" if RESULTS[call.result] == "void" else f" -> {ITEMS.get(call.result, call.result)}"
     line = f"pub fn {call.name}({', '.join(words)}){result};"

@@ -1,4 +1,4 @@
-/* Compiles only where the records of petool.h are laid out as the library has them, on a machine of 64 bits.
+/* Compiles only if the records of petool.h are laid out as in the library, on a 64-bit machine.
  * describe/describe.py writes this file. */
 #include "petool.h"
 

@@ -124,7 +124,7 @@ class SectionHeader(Structure):
     ]
 
 
-#: The layout of each row in the letters of `struct`: P and N are a text's pointer and length.
+#: The layout of each row in the letters of `struct`: P and N are a string's pointer and length.
 FORMS = {
     "export": "QPNIIPNPN",
     "import": "PNPNIH?x",
@@ -135,7 +135,7 @@ FORMS = {
     "object_symbol": "PNPNIIHHBxxx",
 }
 
-#: What each call answers, and what it takes.
+#: The result of each call, and its parameters.
 CALLS: Dict[str, Tuple[Any, List[Any]]] = {
     "petool_check": (c_uint32, [c_void_p, c_size_t, POINTER(Fault)]),
     "petool_read_headers": (

@@ -1,5 +1,5 @@
-//! Each record has the size and the places of fields that the library's have, on a machine of 64 bits; `layout.c`
-//! beside the header has the same numbers. describe/describe.py writes this file.
+//! Each record has the size and the field offsets of the library's, on a 64-bit machine; `layout.c` next to the header
+//! has the same numbers. describe/describe.py writes this file.
 
 #![cfg(target_pointer_width = "64")]
 
@@ -75,6 +75,6 @@ fn the_records_of_objects_are_laid_out_as_in_c() {
 
 #[test]
 fn the_library_has_the_version_of_the_header() {
-    // SAFETY: the call takes nothing
+    // SAFETY: the call has no arguments
     assert_eq!(unsafe { petool_version() }, PETOOL_VERSION);
 }
