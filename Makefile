@@ -1,14 +1,14 @@
 # Installs petool and libpetool, and builds what is missing by `rt`.
 #
-#   make [-j4] petool                      builds the program; with -j, crates are proved side by side
+#   make [-j4] petool                      builds the program; with -j, several crates are proved at a time
 #   make [-j4]                             builds the program and the library
 #   make install [PREFIX=..] [DESTDIR=..]  installs them, with man pages, completions and pages
 #   make uninstall [PREFIX=..] ..          removes what was installed
 #
-# LIBDIR and ZSHDIR name other folders for the library and for zsh's completion. What `rt ci` has left is taken where it is newer than
+# LIBDIR and ZSHDIR name other folders for the library and for zsh's completion. Results of `rt ci` are used if they are newer than
 # the sources. PROGRAM and CALLS may name a program and an archive of the calls that exist already.
 #
-# What `rt` builds stands in crates/*/out, and is kept by scripts/prove.py for other checkouts; all else is made in $(O), outside the
+# What `rt` builds is in crates/*/out, and scripts/prove.py keeps it for other checkouts; all else is made in $(O), outside the
 # repository.
 
 O ?= $(or $(TMPDIR),/tmp)/petool-build
@@ -25,10 +25,11 @@ INCLUDE := $(AT)/include
 SHARE := $(AT)/share
 
 PROGRAM := crates/petool/out/petool
-# folders too, whose times tell of a source that was removed
+# folders too, since their times change if a source is removed
 SOURCES := crates.txt $(shell find crates/*/src crates/*/specs crates/*/proofs)
 SHELLS := bash zsh fish
-# the pages that are installed, in folders as here, so that their links hold; a link to what is not installed leaves its words
+# the pages that are installed, in the same folders as here, so that their links work; a link to a page that is not installed
+# becomes plain words
 PAGES := README.md $(patsubst %,docs/%.md,C FAULTS FORMAT GUIDE JSON LIBRARIES PROVED)
 NOT_INSTALLED := (\.\./)?((docs/)?(CHANGES|DECISIONS|MAP|PERF|TESTS)\.md|(bindings|crates|describe)/)
 
@@ -39,17 +40,17 @@ all: $(PROGRAM) $(SHELLS:%=$(O)/completions.%)
 
 petool: $(PROGRAM)
 
-# how many crates are proved side by side: as many as `-j` says
+# how many crates are proved at a time: as many as `-j` says
 JOBS = $(or $(patsubst -j%,%,$(filter -j%,$(MAKEFLAGS))),$(if $(filter -j,$(MAKEFLAGS)),$(shell nproc),1))
-# the calls of the library too, unless the program alone is wanted
+# the calls of the library too, unless only the program is made
 WANTED := petool $(if $(filter petool,$(MAKECMDGOALS)),,petool_c)
 
-# it is touched, since sources that were only copied or checked out again are newer than what was proved of them
+# it is touched, since sources that were only copied or checked out again are newer than the program that was proved from them
 crates/petool/out/petool: $(SOURCES)
 	scripts/prove.py --jobs $(JOBS) $(WANTED)
 	touch $@
 
-# anew each time, since another checkout may have made them
+# made each time, since another checkout may have made the old ones
 $(O)/completions.%: $(PROGRAM) anew
 	mkdir -p $(O)
 	python3 scripts/completions.py $(PROGRAM) $* > $@
@@ -71,7 +72,7 @@ install: all
 	install -m 644 $(O)/completions.zsh $(ZSH)/_petool
 	install -m 644 $(O)/completions.fish $(SHARE)/fish/vendor_completions.d/petool.fish
 
-# what install has put there, but not the folders, which may be others' too
+# the installed files, but not the folders, which others may use too
 uninstall:
 	rm -f $(BIN)/petool $(INCLUDE)/petool.h $(LIB)/libpetool.a $(LIB)/libpetool.so.0 $(LIB)/libpetool.so \
 	    $(LIB)/pkgconfig/petool.pc $(SHARE)/man/man1/petool.1 $(SHARE)/man/man3/petool.h.3 \

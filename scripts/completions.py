@@ -1,7 +1,7 @@
 #!/usr/bin/env python3
-"""Prints what completes petool's words in a shell: completions.py PETOOL bash|zsh|fish
+"""Prints the script that completes petool's words in a shell: completions.py PETOOL bash|zsh|fish
 
-The commands, their options and what each does are read from the help of the program, so they are its own words.
+The commands, their options and their descriptions are read from the help of the program.
 """
 
 import re
@@ -22,7 +22,7 @@ class Option:
     does: str
 
     def takes_text(self):
-        """Whether it takes a value that is no file."""
+        """Whether it takes a value that is not a file."""
         return self.value in NO_FILES
 
 
@@ -101,7 +101,7 @@ complete -o filenames -F _petool petool
 
 
 def quoted(text):
-    """A text in single quotes, for zsh's descriptions and fish."""
+    """A string in single quotes, for zsh's descriptions and fish."""
     return text.replace("'", "'\\''")
 
 

@@ -1,8 +1,8 @@
 #!/usr/bin/env python3
-"""Makes images whose tables share their texts, and objects whose records share texts or relocations, or whose names collide:
-crafted.py FOLDER SIZE writes one file of each kind into the folder, and each set into a folder of its own.
+"""Makes images whose tables share their strings, and objects whose records share strings or relocations, or whose names collide:
+crafted.py FOLDER SIZE writes one file of each kind into the folder, and each set into its own folder.
 
-SIZE is the length of the shared text in bytes, 1048576 for the largest files that the format allows; the numbers of entries
+SIZE is the length of the shared string in bytes, 1048576 for the largest files that the format allows; the numbers of entries
 are in proportion. So a file of a SIZE four times as large is four times as large.
 """
 
@@ -31,8 +31,8 @@ def image(data, directories):
 
 
 def exports(names, texts, addresses, inside=False, entries_of=None):
-    """An export table: the offsets of its names in the texts, and its addresses, in the texts where they are inside. Each name has
-    the first address, unless the indexes of others are given."""
+    """An export table with the names at these offsets of the strings, and these addresses, which with `inside` are offsets of
+    forwarders in the strings. Each name has the first address, unless the indexes of others are given."""
     entries = BASE + 40
     pointers = entries + 4 * len(addresses)
     ordinals = pointers + 4 * len(names)
@@ -47,7 +47,7 @@ def exports(names, texts, addresses, inside=False, entries_of=None):
 
 
 def imports(modules, lookups, texts):
-    """An import table: for each module the offset of its name in the texts, and of its imports' names."""
+    """An import table: for each module the offset of its name in the strings, and of its imports' names."""
     descriptors = BASE
     tables = descriptors + 20 * (len(modules) + 1)
     slots = tables + 4 * sum(len(some) + 1 for some in lookups)
@@ -62,8 +62,8 @@ def imports(modules, lookups, texts):
 
 
 def coff_object(sections, symbols, texts, relocations=b""):
-    """An object of sections, each an 8-byte name and a count of relocations, which are the same for all; symbols of no name
-    but that at the string table's offset 4, each by its section's number; and these texts."""
+    """An object of sections, each an 8-byte name and a count of relocations, which all sections share; symbols by their section
+    numbers, all with the name at the string table's offset 4; and these strings."""
     behind = 20 + 40 * len(sections)
     coff = struct.pack("<HHIIIHH", 0x8664, len(sections), 0, behind + len(relocations), len(symbols), 0, 0)
     headers = b"".join(struct.pack("<8sIIIIIIHHI", name, 0, 0, 0, 0, behind, 0, count, 0, 0x60000020) for name, count in sections)
@@ -71,12 +71,12 @@ def coff_object(sections, symbols, texts, relocations=b""):
     return coff + headers + relocations + records + struct.pack("<I", 4 + len(texts)) + texts
 
 
-#: Behind 9 bytes of any name these end it so that std's hasher of fixed seed, FoldHasher, gives 0.
+#: If these bytes follow any 9 bytes, std's hasher with a fixed seed, FoldHasher, gives 0 for the name.
 COLLIDING = bytes.fromhex("157c4a7fb979379e")
 
 
 def named_object(names, texts):
-    """An object of symbols that are named by the offsets of their names in these texts, and of nothing else."""
+    """An object with only symbols, whose names have these offsets in the strings."""
     coff = struct.pack("<HHIIIHH", 0x8664, 0, 0, 20, len(names), 0, 0)
     records = b"".join(struct.pack("<IIIHHBB", 0, 4 + name, 0, 0, 0, 2, 0) for name in names)
     return coff + records + struct.pack("<I", 4 + len(texts)) + texts
@@ -89,8 +89,8 @@ def object_of_names(names):
 
 
 def object_kinds(size):
-    """The kinds of objects, by name: those that are refused are so by their last record. What shows the names of `shown_..` whole
-    writes a product of two sizes; `show` writes a beginning of each."""
+    """The kinds of objects, by name: those that are refused are refused for their last record. To show the names of `shown_..`
+    completely is to write the product of two sizes; `show` writes the beginning of each."""
     count = min(size // 16, 65534)
     text = b"a" * (size - 1) + b"\0"
     good, bad = struct.pack("<IIH", 0, 0, 4), struct.pack("<IIH", 0, 5, 4)
@@ -136,12 +136,12 @@ HINT = bytes(2)
 
 
 def importer(names, texts):
-    """A file that imports these names of the texts."""
+    """A file that imports these names of the strings."""
     return imports([0], [[len(EXPORTER) + name for name in names]], EXPORTER + HINT + texts)
 
 
 def forwarding(count, text):
-    """A module whose names are ends of a text, and all forwarded to one more name of it, and a file that imports them."""
+    """A module whose names are ends of a string, all forwarded to one more name of it, and a file that imports them."""
     count = min(count, 65535)
     strings = text + b"m.z\0z\0"
     forwarder, name = len(text), len(text) + 4
@@ -150,7 +150,7 @@ def forwarding(count, text):
 
 
 def importing(names, texts, count):
-    """A module that exports these names of the texts, and a file that imports them in turn, so many times in all."""
+    """A module that exports these names of the strings, and a file that imports them in turn, `count` times in all."""
     return exports(names, texts, [16]), importer([names[k % len(names)] for k in range(count)], texts)
 
 

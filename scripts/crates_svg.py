@@ -1,8 +1,8 @@
 #!/usr/bin/env python3
-"""Draws docs/crates.svg of crates.txt: crates_svg.py [--check]
+"""Draws docs/crates.svg from crates.txt: crates_svg.py [--check]
 
-Each crate is a block with its name and what its first page says that it is. A line leads down to each crate that it stands on, but
-for those on which another of these stands already. With --check nothing is written, and the status is 1 where the drawing differs.
+Each crate is a block with its name and the description from its first page. A line leads down to each crate that it uses, except
+those that another of these uses too. With --check nothing is written, and the status is 1 if the drawing differs.
 """
 
 import pathlib
@@ -13,7 +13,7 @@ from xml.sax.saxutils import escape
 
 TOP = pathlib.Path(__file__).resolve().parents[1]
 PICTURE = TOP / "docs" / "crates.svg"
-# a block and the room between two, in pixels; and how many columns and lines of a caption a block has room for
+# a block and the space between two, in pixels; and how many columns and lines of a caption fit into a block
 WIDTH, HEIGHT, GAP, RISE, MARGIN = 190, 84, 16, 34, 24
 COLUMNS, LINES = 30, 4
 COLOURS = {"coff": "#eef7ee", "test": "#f4f4f4", "petool": "#fdf6e3"}
@@ -37,17 +37,17 @@ def all_below(name, below):
 
 
 def direct(name, below):
-    """The crates that a crate stands on, without those that another of them stands on."""
+    """The crates that a crate uses, without those that another of them uses."""
     return [it for it in below[name] if not any(it in all_below(other, below) for other in below[name])]
 
 
 def level(name, below):
-    """How many crates stand below one another under a crate, at most."""
+    """The greatest number of levels of crates below a crate."""
     return 1 + max((level(it, below) for it in below[name]), default=-1)
 
 
 def rows_of(below):
-    """The crates by level, each row in the order in which its crates' own libraries stand in the rows below."""
+    """The crates by level, each row in the order of its crates' libraries in the rows below."""
     rows, place = [], {}
     for number in range(max(level(it, below) for it in below) + 1):
         row = [it for it in below if level(it, below) == number]
@@ -58,7 +58,7 @@ def rows_of(below):
 
 
 def caption(name):
-    """What the first page of a crate says that it is, as many of its clauses as a block has room for."""
+    """The description from the first page of a crate, as many of its clauses as fit into a block."""
     source = TOP / "crates" / name / "src"
     text = next(it for it in (source / "lib.rt", source / "main.rt") if it.is_file()).read_text()
     said = " ".join(line[4:] for line in re.match(r"(?:(?://!.*)?\n)*", text)[0].split("\n\n")[0].split("\n") if line.startswith("//! "))

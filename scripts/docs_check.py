@@ -1,15 +1,15 @@
 #!/usr/bin/env python3
-"""Compares pages with what they tell of, and says what differs: docs_check.py
+"""Compares pages with what they describe, and prints what differs: docs_check.py
 
 - PROVED.md: the public functions that have conditions, and the tests that it names; TESTS.md: the tests that it names
 - MAP.md: each file and each proof by hand that it names is there (its crates, and FILES.md, are compared by file_rows.py)
 - GUIDE.md and petool(1): the commands, options and arguments of the program that PETOOL_PROGRAM names, and README.md, which may
   leave out options; without that program this is left out
 - README.md and GUIDE.md: the test command of .ci/run
-- the versions of the program, of the library, of its bindings and of its package: that of the file VERSION
+- the versions of the program, the library, its bindings and its package: that of the file VERSION
 - PROVED.md and README.md: the ported crates of crates.txt, those of tests and of the benchmark apart
 
-Each sentence names the page and the thing; the last line is 'N passed, M failed', and the status is 1 where something differs.
+Each sentence names the page and the thing; the last line is 'N passed, M failed', and the status is 1 if something differs.
 """
 
 import os
@@ -27,9 +27,9 @@ TOP = pathlib.Path(__file__).resolve().parents[1]
 PROVED, TESTS, MAP = "docs/PROVED.md", "docs/TESTS.md", "docs/MAP.md"
 GUIDE, README, MAN = "docs/GUIDE.md", "README.md", "man/petool.1"
 RUN = ".ci/run"
-#: Folders of what is made, which no page tells of.
+#: Folders of what is made, which no page names.
 MADE = {".git", "out", "target", "__pycache__"}
-#: Where a test stands that a page names without a folder, by its ending, and the lists of cases that PROVED.md names by one word.
+#: The folders of tests that a page names without one, by their endings, and the lists of cases that PROVED.md names by one word.
 FOLDERS = {
     ".py": ["bindings/python/tests"],
     ".rt": ["crates/test_images/src/tests", "crates/test_calls/src/tests/files"],
@@ -42,15 +42,15 @@ LISTS = [
 ]
 #: What the program and the library are made of; all other crates are of tests and of the benchmark.
 MADE_OF = ("petool", "petool_c")
-#: Words beside the names of ported crates.
+#: Words between the names of ported crates.
 PLAIN_WORDS = set("and for views in the benchmark alone".split())
-#: What begins a trait, what belongs to a type, a function, or a condition.
+#: The beginning of a trait, an `impl`, a function, or a condition.
 ITEM = re.compile(
     r"^(?:(?P<kind>(?:pub )?trait|impl(?:<.*?>)?(?: .* for)?) (?P<owner>\w+)"
     r'|(?P<indent> *)(?P<before>(?:pub(?:\(\w+\))? )?(?:extern "C" )?)fn (?P<name>\w+)| *requires\b)',
     re.M,
 )
-#: Where the version is told besides the file VERSION; cargo wants a third number.
+#: Where the version is besides the file VERSION; cargo needs a third number.
 VERSIONS = {
     "crates/pe_words/src/commands.rt": r'^const VERSION: &str = "(.+)";$',
     "bindings/python/pyproject.toml": r'^version = "(.+)"$',
@@ -73,7 +73,7 @@ def read(path):
 
 
 def section(text, heading):
-    """What stands below a heading, up to the next one that is no lower. LookupError where there is no such heading."""
+    """The text below a heading, up to the next one of its level or a higher one. LookupError if there is no such heading."""
     _, found, below = text.partition(f"\n{heading}\n")
     if not found:
         raise LookupError(f"there is no heading {heading!r}")
@@ -87,7 +87,7 @@ def rows(text):
 
 
 def names(text):
-    """What stands in backticks."""
+    """The words in backticks."""
     return re.findall(r"`([^`]+)`", text)
 
 
@@ -98,7 +98,7 @@ def crates():
 
 
 def handed_out(crate):
-    """The modules that a crate hands out, and the names that it hands out of others."""
+    """The public modules of a crate, and the names that it exports from others."""
     text = re.sub(r"//.*", "", read(f"crates/{crate}/src/lib.rt"))
     uses = re.findall(r"^pub use ([^;]+);", text, re.M)
     named = {name for use in uses for name in re.findall(r"\w+(?=\s*(?:,|\}|$))", use)}
@@ -106,7 +106,7 @@ def handed_out(crate):
 
 
 def conditioned(text):
-    """Each function of a source that has conditions, and is public if what it belongs to is: its type or trait, and its name."""
+    """The type or trait and the name of each function of a source that has conditions, and is public if its type or trait is."""
     owner, is_trait, name = "", False, ""
     for found in ITEM.finditer(text):
         if found["owner"]:
@@ -128,7 +128,7 @@ def public_conditions():
         for file in [it for it in folder.rglob("*.rt") if "tests" not in it.relative_to(folder).parts]:
             module = str(file.relative_to(folder).with_suffix(""))
             for owner, name in conditioned(file.read_text()):
-                # petool_c hands out to C what no module does
+                # petool_c exports to C what no module does
                 if crate == "petool_c" or module in modules or (owner or name) in named:
                     found[f"{owner}::{name}".lstrip(":")] = file.relative_to(TOP)
     return found
@@ -137,7 +137,7 @@ def public_conditions():
 def condition_faults():
     """Whether PROVED.md names the public functions that have conditions, and no others."""
     cells = [row[1] for row in rows(section(read(PROVED), "## Every function"))]
-    # a module is no part of the name
+    # a module is not part of the name
     named = {re.sub(r"^[a-z]\w*::", "", it) for cell in cells for it in names(cell)}
     found = public_conditions()
     yield from (f"{PROVED}: {it} of {found[it]} has conditions, and is not named" for it in sorted(found.keys() - named))
@@ -145,7 +145,7 @@ def condition_faults():
 
 
 def paths_of(cell):
-    """The paths in a cell: a file without a folder stands beside the one before it."""
+    """The paths in a cell: a file without a folder is in the folder of the one before it."""
     folder = ""
     for name in names(cell):
         folder = name[: name.rfind("/") + 1] or folder
@@ -153,7 +153,7 @@ def paths_of(cell):
 
 
 def endings():
-    """Each path of the repository, and each end of one."""
+    """The paths of the repository, and their ends."""
     found = set()
     for folder, folders, files in os.walk(TOP):
         folders[:] = [it for it in folders if it not in MADE]
@@ -229,7 +229,7 @@ def said(program, *words):
 
 
 def words_of_help(program):
-    """The options and the arguments of each command by its help; those of the program without a command by no name."""
+    """The options and the arguments of each command by its help; those of the program itself have an empty name."""
     helped = {"": said(program, "--help")}
     helped.update({name: said(program, "help", name) for name, _ in help_rows(helped[""], "Commands")})
     found = {}
@@ -237,7 +237,7 @@ def words_of_help(program):
         options = {f"--{it.name} {it.value or ''}".strip() for it in options_of(text)}
         usage = re.search(r"^Usage: petool ?(.*)$", text, re.M)[1].split()
         arguments = [re.sub("[<>]", "", it) for it in usage if it not in (name, "[OPTIONS]", "<COMMAND>")]
-        # one row of the pages tells of the help that each command has
+        # one row of the pages describes the --help of all commands
         found[name] = (options - {"--help"} if name else options, arguments)
     return found
 
@@ -256,7 +256,7 @@ def words_of_synopses(synopses):
 
 
 def shown(line):
-    """What a line of petool(1) shows: a macro of two letters sets its words side by side."""
+    """What a line of petool(1) shows: a macro of two letters joins its words."""
     macro, *words = shlex.split(line.replace("\\-", "-"))
     return ("" if len(macro) == len(".BR") else " ").join(words)
 
@@ -303,7 +303,7 @@ def word_faults(page, synopses, helped, is_short=False):
 
 
 def manual_faults(program, helped):
-    """Whether petool(1) has a paragraph for each command, no option that help has not; and the program's version."""
+    """Whether petool(1) has a paragraph for each command, no option that is not in help, and the program's version."""
     named = set(re.findall(r"^\.TP\n\.B (\w+)$", part_of_manual("COMMANDS"), re.M))
     yield from (f"{MAN}: {it} is no command, or has no paragraph" for it in sorted(named ^ (helped.keys() - {""})))
     options = {it.split()[0] for options, _ in helped.values() for it in options}
@@ -315,7 +315,7 @@ def manual_faults(program, helped):
 
 
 def version_faults():
-    """Whether the version is told everywhere as the file VERSION has it."""
+    """Whether the version is that of the file VERSION everywhere."""
     version = read("VERSION").strip()
     for path, form in VERSIONS.items():
         found = re.search(form, read(path), re.M)
@@ -329,7 +329,7 @@ def version_faults():
 
 
 def ported(all_crates):
-    """The libraries that are no crate of the repository: of the program and the library, and of other crates alone."""
+    """The libraries that are not crates of the repository: of the program and the library, and of other crates only."""
     below = list(MADE_OF)
     for crate in below:
         below += [it for it in all_crates[crate] if it in all_crates and it not in below]
@@ -338,7 +338,7 @@ def ported(all_crates):
 
 
 def trust_faults(page):
-    """Whether a page trusts the ported crates of crates.txt, and tells those apart that tests and the benchmark alone use."""
+    """Whether a page trusts the ported crates of crates.txt, and lists those apart that only tests and the benchmark use."""
     all_crates = crates()
     told = re.search(r"ported crates[^.:]*:([^.]*)\.", read(page))
     text = told[1] if told else ""
@@ -353,7 +353,7 @@ def trust_faults(page):
 
 
 def comparisons(program):
-    """Of each comparison what is wrong: nothing where page and source agree."""
+    """What is wrong by each comparison: nothing if page and source agree."""
     yield condition_faults()
     yield from (file_faults(), proof_faults(), list_faults(), command_faults(), version_faults())
     yield from map(test_faults, (PROVED, TESTS))

@@ -3,9 +3,9 @@
 
 file_rows.py [--check | --whole]. A row has the names of the folder's files. That of a crate has what its first page says, and what
 it names in crates.txt; a law has its comment. With --whole nothing is written, and a row is printed for each source, with the
-comment that it begins with and the names that it declares for other files. With --check nothing is written: each source has to
-begin with such a comment, and the three pages are compared with what is written; the last line is 'N passed, M failed', and the
-status is 1 where something is wrong.
+comment that it begins with and the names that it declares for other files. With --check nothing is written: each source must begin
+with such a comment, and the three pages are compared with what would be written; the last line is 'N passed, M failed', and the
+status is 1 if something is wrong.
 """
 
 import ast
@@ -25,7 +25,7 @@ LAW = re.compile(r"((?:^/// .*\n)+)pub fn (\w+)", re.M)
 FUNCTION = re.compile(r"^pub fn (\w+)", re.M)
 #: What begins the lines of a file's first comment, by its ending.
 MARKS = {".rt": "//!", ".rs": "//!", ".antt": "--"}
-#: The sources beside the crates: by folder, and their endings. None of what is made there is one.
+#: The sources outside the crates: their folders, and their endings. The folders in MADE have none.
 OTHERS = ("bindings", "describe", "scripts")
 ENDINGS = {".c", ".h", ".py", ".rs"}
 MADE = {"build", "out", "target", "__pycache__"}
@@ -35,7 +35,7 @@ PUBLIC = {
     ".antt": re.compile(r"^(?:abbrev |unfoldable )?pub (?:record |data )?(?!mod |use )(\S+)", re.M),
 }
 OWN = re.compile(r"^pub\(\w+\) (?:fn|struct|enum|trait|type|const|static) (\w+)", re.M)
-#: The pages of crates, whose first comments stand below headings, and the lists of modules.
+#: The pages of crates, whose first comments are below headings, and the lists of modules.
 WITHOUT_ROW = {"lib.rt", "main.rt", "Lib.antt"}
 HEAD = """# Files
 
@@ -46,7 +46,7 @@ Each source begins with a comment that says what it holds: `scripts/file_rows.py
 
 
 def first_paragraph(path):
-    """The first paragraph of the comment that begins a file. LookupError where none does."""
+    """The first paragraph of the comment that begins a file. LookupError if there is none."""
     text = path.read_text()
     if path.suffix == ".py":
         lines = (ast.get_docstring(ast.parse(text)) or "").split("\n\n")[0].splitlines()
@@ -58,7 +58,7 @@ def first_paragraph(path):
         lines = re.match(rf"(?:{mark} .*\n)*", text)[0].replace(f"{mark} ", "").splitlines()
     if not lines:
         raise LookupError(f"{path.relative_to(TOP)}: no first line says what the file holds")
-    # a link of documentation is shown as its text
+    # a link of documentation is shown as its words
     return re.sub(r"\[(`[^`]+`)\]", r"\1", " ".join(lines)).replace("|", r"\|")
 
 
@@ -114,19 +114,19 @@ def count_row(crate, folder, files, what):
 
 
 def crates():
-    """The crates, each behind those that it stands on."""
+    """The crates, each after those that it uses."""
     below = crates_below()
     return sorted(below, key=lambda name: level(name, below))
 
 
 def others(folder):
-    """The sources of a folder beside the crates."""
+    """The sources of a folder outside the crates."""
     found = [path for path in by_folder((TOP / folder).rglob("*")) if path.suffix in ENDINGS]
     return [path for path in found if not MADE.intersection(path.relative_to(TOP).parts)]
 
 
 def sources():
-    """Each source that has to say what it holds."""
+    """Each source that must say what it holds."""
     of_crates = [path for crate in crates() for path in [*files_of(crate), *lemmas_of(crate)]]
     return [*of_crates, *(path for folder in OTHERS for path in others(folder))]
 
@@ -148,7 +148,7 @@ def crate_rows():
 
 
 def law_lines():
-    """The laws by their crates, each with its comment. LookupError where one has none."""
+    """The laws by their crates, each with its comment. LookupError if one has none."""
     for crate in crates():
         path = TOP / "crates" / crate / "src" / "laws.rt"
         text = path.read_text() if path.is_file() else ""
@@ -162,7 +162,7 @@ def law_lines():
 
 
 def filled(path, name, lines):
-    """A page with lines between the two comments that name what is between them. LookupError where they are not there."""
+    """A page with these lines between the two comments that name them. LookupError if there are no such comments."""
     text = (TOP / path).read_text()
     region = re.compile(rf"(?<=<!-- from {name} -->\n).*(?=<!-- end of {name} -->\n)", re.S)
     if not region.search(text):
@@ -198,7 +198,7 @@ def whole():
         yield f"| {path.relative_to(TOP)} | A wrong body that the prover refuses. | |"
 
 
-#: What is written of each page.
+#: How each page is written.
 PAGES = {
     PAGE: page,
     MAP: lambda: filled(MAP, "crates.txt", crate_rows()),
@@ -216,7 +216,7 @@ def comment_fault(path):
 
 
 def page_fault(path):
-    """What differs between a page and what is written of the files, or nothing."""
+    """How a page differs from what would be written, or nothing."""
     try:
         return "" if PAGES[path]() == (TOP / path).read_text() else f"{path}: it is not what scripts/file_rows.py writes"
     except LookupError as error:

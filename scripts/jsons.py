@@ -3,12 +3,12 @@
 
     scripts/jsons.py 'crates/petool/out/petool json' FILE...
 
-The command is run over the files, and its lines are read by python's own json. Of an accepted image the fields of the headers with
+The command is run over the files, and its lines are read by Python's json. Of an accepted image the fields of the headers with
 their flags, the directories, sections, exports, imports and base relocations are compared with pefile's, and the sections' names
 and 8 bytes with llvm-readobj's; of an accepted object the headers, sections, relocations and symbols with llvm-readobj's. A file
-that differs is named, with the first parts that do, and the last lines count what was equal. The status is 1 where a file differs.
+that differs is named, with the first parts that do, and the last lines count what was equal. The status is 1 if a file differs.
 
-This is no part of the gate: it needs pefile (Debian's python3-pefile), llvm-readobj and real files, such as those of Debian's
+This is not part of the tests: it needs pefile (Debian's python3-pefile), llvm-readobj and real files, such as those of Debian's
 libwine, mingw-w64-x86-64-dev and gcc-mingw-w64-x86-64-win32-runtime.
 """
 
@@ -45,7 +45,7 @@ def number(value):
     return int(value, 16) if isinstance(value, str) else value
 
 
-# ---- images, beside pefile
+# ---- images, compared with pefile
 
 OTHER_NAMES = {"win32_version_value": "Reserved1", "check_sum": "CheckSum"}
 
@@ -65,7 +65,7 @@ def flags_of(struct, prefix):
     }
 
 
-# flags of a section that pefile sets for each part of the number ALIGN, or under another word for the same bit
+# flags of a section that pefile sets for each part of the number ALIGN, or that have another name for the same bit
 UNNAMED = {"LNK_COMDAT_", "NO_DEFER_SPEC_EXC", "MEM_16BIT", "MEM_FARDATA", "TYPE_REG", "TYPE_DSECT", "TYPE_NOLOAD"}
 
 
@@ -193,11 +193,11 @@ def sections_differ(pe, row):
             yield f"section {ours['index']} flags", ours["characteristics_flags"], flags
 
 
-# ---- names of sections and objects, beside llvm-readobj
+# ---- names of sections and objects, compared with llvm-readobj
 
 
 def read_obj(file, *flags):
-    """The text of llvm-readobj, as lines without the blanks around them."""
+    """The output of llvm-readobj, as lines without surrounding blanks."""
     words = ["llvm-readobj", *flags, file]
     out = subprocess.run(words, stdout=subprocess.PIPE, stderr=subprocess.DEVNULL).stdout
     return [line.strip() for line in out.split(b"\n")]
@@ -295,7 +295,7 @@ AUX = {
 
 def aux_value(key, value):
     if key == "FileName":
-        # where the record begins with four zero bytes, binutils keeps the name in the string table, and llvm-readobj shows what stands there
+        # if the record begins with four zero bytes, binutils has the name in the string table, and llvm-readobj shows that
         return value.split(b"\0")[0]
     inner = re.search(rb"\((0x[0-9A-F]+|\d+)\)$", value)
     return read_number(inner[1] if inner else value.split()[0])
@@ -369,7 +369,7 @@ def symbols_differ(file, row):
         yield "symbols", [it for it in zip(ours, theirs) if it[0] != it[1]][:1], (len(ours), len(theirs))
 
 
-# how llvm-readobj calls a field of an object's header, what the line does, and how the value is read
+# the name of an object header's field in llvm-readobj, its name in the line, and how the value is read
 OBJECT_FIELDS = {
     "Machine": ("machine", inner),
     "SectionCount": ("number_of_sections", int),
@@ -394,7 +394,7 @@ COUNTS = collections.Counter()
 
 
 def differ(file, row):
-    """How what is said of a file differs, part by part."""
+    """How the outputs for a file differ, part by part."""
     if not row["accepted"]:
         COUNTS[f"refused by fault {row['fault']['number']}"] += 1
         return

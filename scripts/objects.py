@@ -1,9 +1,9 @@
 #!/usr/bin/env python3
-"""Compares `petool object` with what the format says of an object, byte for byte: objects.py PETOOL PATH...
+"""Compares `petool object` with the text that the format gives for an object, byte for byte: objects.py PETOOL PATH...
 
 PETOOL is the program. A PATH is an object, an archive of objects (each of its members is one), or a folder, of which every file
 is taken that is one of the two. What petool prints, and its status, are compared with a dump that is made here by the rules of
-docs/FORMAT.md alone. Differences are told one by one; the last line counts the objects, those that are accepted, and those that
+docs/FORMAT.md only. Differences are printed one by one; the last line counts the objects, those that are accepted, and those that
 differ.
 """
 
@@ -29,7 +29,7 @@ class Fault(Exception):
 
 
 def quoted(text):
-    """A text in double quotes, with `\\x` and two digits for what is not printable."""
+    """A string in double quotes, with `\\x` and two digits for what is not printable."""
     return '"' + "".join(chr(c) if 0x20 <= c <= 0x7E and c not in b'"\\' else f"\\x{c:02x}" for c in text) + '"'
 
 
@@ -54,13 +54,13 @@ def string_table(file, at):
 
 
 def string_at(strings, offset):
-    """The text at an offset of the string table, or None."""
+    """The string at an offset of the string table, or None."""
     end = strings.find(b"\0", offset) if 4 <= offset < len(strings) else -1
     return None if end < 0 else strings[offset:end]
 
 
 def section_name(field, strings):
-    """The name of a section: of the string table, where the field is `/` and decimal digits."""
+    """The name of a section: from the string table, if the field is `/` and decimal digits."""
     digits = up_to_zero(field[1:])
     if field[:1] == b"/" and digits and all(48 <= c <= 57 for c in digits) and not any(field[1 + len(digits):]):
         return string_at(strings, int(digits))
@@ -68,7 +68,7 @@ def section_name(field, strings):
 
 
 def symbol_name(field, strings):
-    """The name of a symbol: of the string table, where the field's first four bytes are zeros and the others an offset."""
+    """The name of a symbol: from the string table, if the field's first four bytes are zeros and the others an offset."""
     if field[:4] != bytes(4):
         return up_to_zero(field)
     offset = struct.unpack("<I", field[4:])[0]
@@ -113,7 +113,7 @@ def read_symbols(file, table, count, sections, strings):
 
 
 def aux_line(record, section, kind, storage):
-    """What an auxiliary record holds, in the shape of its symbol."""
+    """The contents of an auxiliary record, in the form for its symbol."""
     if storage == 103:
         return "file " + quoted(up_to_zero(record))
     if storage == 105:
@@ -163,7 +163,7 @@ def dump(file):
 
 
 def expected(file):
-    """What petool prints of an object, and its status."""
+    """What petool prints for an object, and its status."""
     try:
         return dump(file).encode("latin-1"), 0
     except Fault as fault:
@@ -172,7 +172,7 @@ def expected(file):
 
 
 def members(archive):
-    """The members of an archive that are no index and no table of names, each with its number."""
+    """The members of an archive except its indexes and its table of names, each with its number."""
     at, number = len(ARCHIVE), 0
     while at + 60 <= len(archive):
         size = int(archive[at + 48:at + 58])

@@ -27,15 +27,15 @@ from pages_names import (CLASSES, DIRECTORIES, DLL_FLAGS, FIXUPS, IMAGE_FLAGS, M
 from pages_reader import FIXUP_WIDTHS, Headers, Image, Object, Refused, is_object, uint  # noqa: E402
 
 FAULTS = os.path.join(os.path.dirname(os.path.abspath(__file__)), "..", "docs", "FAULTS.md")
-#: The tables of which a page has a row for each entry, where an option wants them.
+#: The tables of which a page has a row for each entry, if an option requests them.
 TABLES = ("exports", "imports", "relocations", "symbols")
 SECTION_WORDS = {0: "UNDEFINED", 0xFFFF: "ABSOLUTE", 0xFFFE: "DEBUG"}
-# control characters, and those that turn the direction of the text around them
+# control characters, and those that change the direction of the text around them
 UNSAFE = re.compile("[\0-\x1f\x7f-\x9f\u061c\u200e\u200f\u2028-\u202e\u2066-\u2069\ufeff]")
 
 
 def fault_words(number):
-    """What stands at a fault's place, and what is wrong, by its row of docs/FAULTS.md."""
+    """What is at a fault's place, and what is wrong, by its row of docs/FAULTS.md."""
     with open(FAULTS, encoding="utf-8") as file:
         row = re.search(rf"^\| {number} \|.*\| ([^|]*?): ([^|]*) \| [^|]* \|$", file.read(), re.M)
     return row[1], row[2]
@@ -52,7 +52,7 @@ def fault_row(fault):
 
 
 def shown(name, limit=4096):
-    """A name as a page shows it: UTF-8 as it stands, else in quotes."""
+    """A name as a page shows it: UTF-8 unchanged, otherwise in quotes."""
     name = name[:limit]
     try:
         text = name.decode()
@@ -76,7 +76,7 @@ def hex_width(numbers, least):
 
 
 def flag_words(names, flags):
-    """The names of flags, each behind a blank, and then what has none."""
+    """The names of flags, each after a blank, and then the flags without names."""
     rest = flags & ~sum(1 << bit for bit in names)
     return "".join(f" {name}" for bit, name in names.items() if flags >> bit & 1) + (f" 0x{rest:x}" if rest else "")
 
@@ -97,12 +97,12 @@ def use_words(flags):
 
 
 def name_of(names, number):
-    """A name of the format, or the number where it has none."""
+    """A name of the format, or the number if it has none."""
     return names.get(number, f"0x{number:04x}")
 
 
 def place_of(image, rva):
-    """Where an RVA lies: the words, and the file offset where it has one."""
+    """Where an RVA lies: the words, and the file offset if it has one."""
     if rva >= image.size:
         return "outside the image", None
     piece = image.piece(rva)
@@ -166,7 +166,7 @@ def section_rows(sections):
 
 
 def runs(rows, key):
-    """The rows that stand together and have one key, with it."""
+    """The runs of rows with one key, each with the key."""
     return [(found, list(run)) for found, run in itertools.groupby(rows, key)]
 
 
@@ -175,7 +175,7 @@ def module_of(row):
 
 
 def summary(image, index):
-    """What was read of a directory's table."""
+    """What was read from a directory's table."""
     if index == 0 and image.exports is not None:
         forwarders = sum(isinstance(target, tuple) for _, target, _ in image.exports)
         return f"{counted(len(image.exports), 'export')}, {counted(forwarders, 'forwarder')}"
@@ -233,7 +233,7 @@ def fixup_rows(fixups):
 
 
 def table_rows(image, wanted):
-    """What a page shows behind the headers."""
+    """What a page shows after the headers."""
     yield from section_rows(image.headers.sections)
     yield from directory_rows(image)
     if "exports" in wanted and image.exports is not None:
@@ -310,7 +310,7 @@ def object_page(file, wanted):
 
 
 def split_options(words):
-    """The options that words begin with, without their dashes, and the words behind them."""
+    """The options at the beginning of words, without their dashes, and the other words."""
     options = list(itertools.takewhile(lambda word: word.startswith("--"), words))
     return [option[2:] for option in options], words[len(options) :]
 
@@ -337,7 +337,7 @@ def export_words(image, rva):
 
 
 def field_words(image, rva):
-    """The base relocation in whose field an RVA is, and where the address in it leads."""
+    """The base relocation in whose field an RVA is, and where the address in the field points."""
     for field, kind in image.fixups:
         width = FIXUP_WIDTHS[kind]
         if not field <= rva < field + width:
@@ -351,8 +351,7 @@ def field_words(image, rva):
 
 
 def rva_of(image, options, place):
-    """The RVA of a place: of an RVA itself, of an address while the image stands at its ImageBase, or of a file offset; -1 where it has
-    none."""
+    """The RVA of a place: an RVA itself, an address of the image at its ImageBase, or a file offset; -1 if it has none."""
     if "address" in options:
         return place - image.headers.base
     if "file" not in options or place < image.headers.headers:
@@ -362,7 +361,7 @@ def rva_of(image, options, place):
 
 
 def text_at(file, options, place):
-    """What `at` prints of a place of an image, and the image's fault."""
+    """What `at` prints for a place of an image, and the image's fault."""
     try:
         image = Image(file, Headers(file))
         image.read_tables()
@@ -453,7 +452,7 @@ def compare_files(command, paths):
 
 
 def write_texts(texts):
-    """Prints texts, an empty line between two, and tells whether one is of a refused file."""
+    """Prints texts, with an empty line between two; returns whether one is of a refused file."""
     sys.stdout.buffer.write("\n".join(text for text, _ in texts).encode())
     return any(fault for _, fault in texts)
 

@@ -2,7 +2,7 @@
 
 
 def numbered(words):
-    """Names by their numbers, from 0 on; `-` stands where there is none."""
+    """Names by their numbers, from 0 on; `-` if there is none."""
     return {number: word for number, word in enumerate(words.split()) if word != "-"}
 
 

@@ -1,7 +1,8 @@
-"""Reads images and objects apart from petool, by docs/FORMAT.md, docs/FAULTS.md and Microsoft's "PE Format"; for pages.py.
+"""Reads images and objects independently of petool, by docs/FORMAT.md, docs/FAULTS.md and Microsoft's "PE Format"; for pages.py.
 
-A file that breaks a rule raises Refused with the first fault, as docs/FAULTS.md orders them. The values behind the words of faults 2, 4,
-7 to 15 and 61 are those of the file and of the limit that it passes. Files over 2^32 bytes are not told apart (1 and 61).
+A file that breaks a rule raises Refused with the first fault, in the order of docs/FAULTS.md. The values after the words of faults
+2, 4, 7 to 15 and 61 are those of the file and of the limit that it exceeds. The limit of 2^32 bytes is not checked (faults 1 and
+61).
 """
 
 import itertools
@@ -16,7 +17,7 @@ FIELDS = ("magic linker_major linker_minor code data bss entry code_base data_ba
 
 
 class Refused(Exception):
-    """A fault: its number, `file` or `rva` and the place, and the values behind its words."""
+    """A fault: its number, `file` or `rva` and the place, and the values after its words."""
 
     def __init__(self, number, kind, place, detail=""):
         super().__init__(number)
@@ -24,13 +25,13 @@ class Refused(Exception):
 
 
 def must(holds, *fault):
-    """Raises a fault where a rule does not hold."""
+    """Raises a fault if a rule does not hold."""
     if not holds:
         raise Refused(*fault)
 
 
 def uint(data, at, width):
-    """The number in so many bytes, the lowest first; 0 where they are not all there."""
+    """The number in `width` bytes, the lowest first; 0 if they are not all there."""
     return int.from_bytes(data[at : at + width], "little") if at + width <= len(data) else 0
 
 
@@ -51,19 +52,19 @@ class Section:
 
 
 def strings_at(file, at):
-    """The string table at an offset; none where it passes the end of the file."""
+    """The string table at an offset; empty if it passes the end of the file."""
     size = uint(file, at, 4)
     return file[at : at + size] if at + size <= len(file) else b""
 
 
 def text_in(strings, offset):
-    """The text at an offset of a string table, or None."""
+    """The string at an offset of a string table, or None."""
     end = strings.find(b"\0", offset) if 4 <= offset < len(strings) else -1
     return None if end < 0 else strings[offset:end]
 
 
 def long_name_at(field):
-    """The offset of a long name, where a section's field has one."""
+    """The offset of a long name, if a section's field has one."""
     found = re.match(rb"/([0-9]{1,7})(?:\0|$)", field)
     return int(found[1]) if found else None
 
@@ -140,7 +141,7 @@ class Image:
         return next((piece for piece in self.pieces if piece[0] <= rva < piece[1]), None)
 
     def text(self, rva):
-        """The text at an RVA, or None."""
+        """The string at an RVA, or None."""
         if rva >= self.size:
             return None
         piece = self.piece(rva)
@@ -249,7 +250,7 @@ class Image:
 
 
 class Object:
-    """A COFF object: faults 61 and 63 to 72. 62 never stands of a file that begins as an object."""
+    """A COFF object: faults 61 and 63 to 72. A file that begins as an object never has 62."""
 
     def __init__(self, file):
         must(len(file) >= 20, 61, "file", len(file), f"it has {len(file)}")
@@ -302,6 +303,6 @@ class Object:
 
 
 def is_object(file):
-    """Whether a file begins as an object: by its machine, and where it is no text."""
+    """Whether a file begins as an object: by its machine, and if it is not text."""
     is_text = all(byte in b"\t\n\r" or 0x20 <= byte <= 0x7E for byte in file)
     return len(file) >= 2 and not is_text and uint(file, 0, 2) in OBJECT_MACHINES

@@ -1,26 +1,28 @@
 #!/usr/bin/env python3
 """Proves crates and all that they stand on, each once, side by side: prove.py [--jobs N] [--folder FOLDER] CRATE...
 
-A run of `rt` locks the crates of its checkout that its own stands on, so no two of these are proved at one time. Here each crate is
-proved in a copy of the sources in FOLDER/copies. The copy gets, as hard links, the libraries that were made of the crates below, so
-`rt` starts at the crate's own functions. What it leaves goes into the checkout's crates/*/out, where later runs of `rt` find it.
+A run of `rt` locks the crates of its checkout that its own crate uses, so no two of these are proved at the same time. Here each
+crate is proved in a copy of the sources in FOLDER/copies. The copy gets, as hard links, the libraries made from the crates below,
+so `rt` starts at the crate's own functions. The results go into the checkout's crates/*/out, where later runs of `rt` find them.
 
-A crate whose sources and kit are those of its last proof is not proved again. What was made of it is kept in FOLDER/kept too, by the
-sum of these, and any other checkout with the same sources and kit is handed it. What was used last is kept, up to 6 GB, and nothing
-where fewer than 5 GB are free. A run that was stopped goes on with what it had proved, of the crates that it was at too. A second run in
-the same checkout, or with the same FOLDER, waits for the first. FOLDER is ~/.cache/petool if none is given, or petool-build-UID among
-temporary files where that cannot be made; it has to be the user's own, since what lies there counts as proved. N is the number of cores
-if it isn't given; a crate gets one job, and more where cores would be idle.
+A crate whose sources and kit are those of its last proof is not proved again. Its results are also kept in FOLDER/kept, under the
+sum of these, and copied to any other checkout with the same sources and kit. The results used last are kept, up to 6 GB, and none
+are added if less than 5 GB are free. After a run that was stopped, the next one continues, also with the crates that were not
+finished. A second run in the same checkout, or with the same FOLDER, waits for the first. FOLDER is ~/.cache/petool if none is
+given, or petool-build-UID among temporary files if that cannot be made; only the user may write there, since its contents count as
+proved. N is by default the number of cores; a crate gets one job, and more if cores would be idle.
 
-This rests on things that `rt help` does not say. Where they do not hold, more is proved again, and nothing counts that was not proved:
+This relies on behaviour that `rt help` does not describe. If that changes, more is proved again, and nothing counts that was not
+proved:
 
-- A library counts by the stamp that `rt` writes beside it in out/rlib, a sum of the sources and of the kit, wherever it lies and whenever
-  it was made. What `rt` does not take by its stamp, it proves again, in the copy of each crate above.
-- `rt` clears out/rlib before it makes the library again. So the mark that is put there goes with it, and a copy is no longer linked with
-  the checkout. If the mark stayed, the stamp beside it would not be taken. What is kept or handed out is copied and never linked.
-- `rt` holds a crate's folder by flock while it works there, as is done here while something is copied out of it. Of the crates below only
-  what stands beside the mark is taken, which a finished run left; half a crate's own work in a copy is work that `rt` does again.
-- A program and an archive have no stamp that is known: the mark beside them has their own sum, and with another one they are made again.
+- A library is valid by the stamp that `rt` writes next to it in out/rlib, a sum of the sources and of the kit, wherever it is and
+  whenever it was made. What `rt` does not accept by its stamp, it proves again, in the copy of each crate above.
+- `rt` clears out/rlib before it makes the library again. So the mark that is put there is removed too, and a copy is no longer
+  linked with the checkout. If the mark stayed, the stamp next to it would not be accepted. Kept results are copied and never
+  linked.
+- `rt` locks a crate's folder by flock while it works there, and so does this script while it copies out of it. Of the crates below
+  it copies only results with a mark, which a finished run left; unfinished work of a crate in its own copy is done again by `rt`.
+- A program and an archive have no known stamp: the mark next to them has their own sum, and with another sum they are made again.
 """
 
 import argparse
@@ -43,16 +45,16 @@ TOP = pathlib.Path(__file__).resolve().parent.parent
 CRATES = TOP / "crates"
 PARTS = ("src", "specs", "proofs")
 SHARED = ("crates.txt", "HANDLES")
-# the first guess of a proof's seconds, from which the time that is left is told: so many, and so many for a line of its source
+# the first estimate of a proof's seconds, for the time that is left: so many, plus so many for each line of its source
 SECONDS, SECONDS_A_LINE = 15, 0.15
-# bytes that have to be free before another proof begins beside those that run
+# bytes of memory that must be free before another proof begins while others run
 MEMORY_OF_A_PROOF = 3 << 30
-# the bytes of disk that what is kept may take, and those that have to be free before more is kept
+# the bytes of disk that kept results may take, and those that must be free before more is kept
 KEPT_BYTES, FREE_BYTES = 6 << 30, 5 << 30
 
 
 class Crate:
-    """A line of crates.txt: its sources lie in a folder of crates, and what is proved of it goes into the checkout's."""
+    """A line of crates.txt: its sources are in a folder of crates, and its results go into the checkout's."""
 
     def __init__(self, name, kind, libraries, folder):
         self.name, self.kind, self.libraries, self.folder = name, kind, libraries, folder / name
@@ -61,7 +63,7 @@ class Crate:
         self.out = CRATES / name / "out"
         is_program = (self.folder / "src" / "main.rt").is_file()
         self.made = name if is_program else f"lib{name}.a" if kind == "staticlib" else f"rlib/{name}.rlib"
-        # beside what was made: `rt` clears a library's folder before it makes it again, and `rt ci` keeps that folder alone
+        # next to the result: `rt` clears a library's folder before it makes it again, and `rt ci` keeps only that folder
         self.mark = (self.out / self.made).with_name("proved")
         self.command = ["run", "--", "--version"] if is_program else ["lib"]
         lines = sum(len(it.read_bytes().splitlines()) for it in (self.folder / "src").rglob("*.rt"))
@@ -72,21 +74,21 @@ class Crate:
         return sorted(it for part in PARTS for it in (self.folder / part).rglob("*") if it.is_file())
 
     def told(self, out):
-        """What the mark beside what was made says: the sum of the sources and the kit, and that of a program or an archive itself."""
+        """The contents of the mark: the sum of the sources and the kit, and that of a program or an archive itself."""
         made = out / self.made
         return f"{self.sum} {hashlib.sha256(made.read_bytes()).hexdigest()}" if made.is_file() else self.sum
 
     def stands(self):
-        """Whether what was proved last has these sources and this kit."""
+        """Whether the result is of a proof of these sources with this kit."""
         return (self.out / self.made).exists() and self.mark.is_file() and self.mark.read_text() == self.told(self.out)
 
     def parts(self):
-        """What is made of the crate, within its out: the mark, without which nothing stands, and the rest."""
+        """The results of the crate in its out: the mark, without which nothing is valid, and the rest."""
         return [self.mark.relative_to(self.out), pathlib.PurePath(self.made).parts[0]]
 
 
 def read_crates(top):
-    """The crates of crates.txt by name, each with those below it and the sum of all that its proof rests on."""
+    """The crates of crates.txt by name, each with those below it and the sum of all that its proof depends on."""
     crates = {}
     for line in (top / "crates.txt").read_text().splitlines():
         head, colon, libraries = line.partition("#")[0].partition(":")
@@ -129,7 +131,7 @@ def locked(folder):
 
 
 def copy(source, target, linked=False):
-    """Copies a file or a folder, as hard links where that is asked and can be."""
+    """Copies a file or a folder, as hard links if that is requested and possible."""
     target.parent.mkdir(parents=True, exist_ok=True)
     words = ["cp", "-a", "--reflink=auto", source, target]
     if not linked or subprocess.run(["cp", "-al", source, target], stderr=subprocess.DEVNULL).returncode:
@@ -138,7 +140,7 @@ def copy(source, target, linked=False):
 
 
 def take_sources(target):
-    """Copies what proofs read, so that edits of the checkout meanwhile change nothing."""
+    """Copies what proofs read, so that edits of the checkout do not affect them."""
     shutil.rmtree(target, ignore_errors=True)
     for name in SHARED:
         copy(TOP / name, target / name)
@@ -149,7 +151,7 @@ def take_sources(target):
 
 
 def prepare(crate, sources, copies, kept):
-    """Makes the copy in which a crate is proved. What a run that was stopped had begun of the crate goes on in it."""
+    """Makes the copy in which a crate is proved. It continues what a stopped run had begun of the crate."""
     room = copies / crate.name
     begun, out = copies / f"{crate.name}.begun", room / "crates" / crate.name / "out"
     if out.is_dir():
@@ -159,7 +161,7 @@ def prepare(crate, sources, copies, kept):
     copy(sources, room, linked=True)
     for other in crate.below:
         with locked(other.out.parent):
-            # another run of `rt` may have cleared it meanwhile; where it is not kept either, `rt` proves it again
+            # another run of `rt` may have cleared it meanwhile; if it is not kept either, `rt` proves it again
             if other.stands() or kept.hand(other):
                 copy(other.out / "rlib", room / "crates" / other.name / "out" / "rlib", linked=True)
     if begun.is_dir():
@@ -179,8 +181,8 @@ def remove(path):
 
 
 def replace(crate, bring, more=()):
-    """Puts what `bring` brings to a folder in the place of what was made of a crate, and of more in its out. It comes whole before the
-    old goes, inside that, where git looks at nothing."""
+    """Replaces the results of a crate, and more in its out, with what `bring` puts into a folder. That is complete before the old
+    results are removed; the folder is inside out, which git ignores."""
     fresh = crate.out / "fresh"
     crate.out.mkdir(exist_ok=True)
     remove(fresh)
@@ -201,13 +203,13 @@ def sum_of(folder):
 
 
 def is_whole(entry):
-    """Whether what is kept is as it was put there."""
+    """Whether kept results are unchanged."""
     told = entry / "sum"
     return told.is_file() and told.read_text() == sum_of(entry / "made")
 
 
 class Kept:
-    """What was made of crates, each in a folder that the sum of its sources and of the kit names, with the sum of what lies there."""
+    """Kept results of crates, each in a folder named by the sum of its sources and the kit, with the sum of the contents."""
 
     def __init__(self, folder):
         self.folder = folder
@@ -219,7 +221,7 @@ class Kept:
         return self.folder / crate.sum
 
     def hand(self, crate):
-        """Whether what is kept of a crate was handed to the checkout. The lock of the crate's folder is held."""
+        """Copies a crate's kept results to the checkout: whether it has them then. The caller holds the lock of its folder."""
         entry = self.entry(crate)
         if not entry.is_dir():
             return False
@@ -235,7 +237,7 @@ class Kept:
         return crate.stands()
 
     def keep(self, crate):
-        """Keeps what stands of a crate in the checkout, or notes that it is in use. Where that fails, all else goes on."""
+        """Keeps a crate's results from the checkout, or marks them as used. A failure is only reported."""
         entry = self.entry(crate)
         fresh = entry.with_suffix(".new")
         if entry.is_dir():
@@ -252,13 +254,13 @@ class Kept:
         with locked(crate.out.parent):
             if not crate.stands():
                 raise FileNotFoundError("it was cleared meanwhile")
-            # the mark last, which is in the folder of a library already
+            # the mark last; for a library it is in its folder already
             for part in reversed(crate.parts()):
                 copy(crate.out / part, target / "made" / part)
         (target / "sum").write_text(sum_of(target / "made"))
 
     def bound(self):
-        """Lets go of what was longest unused, until the rest takes no more than it may."""
+        """Removes the results that were unused for the longest time, until the rest fits the limit."""
         total = 0
         for entry in sorted(self.folder.iterdir(), key=lambda it: it.stat().st_mtime, reverse=True):
             total += sum(it.stat().st_size for it in entry.rglob("*") if it.is_file())
@@ -283,7 +285,7 @@ class Proof:
         return time.monotonic() - self.began
 
     def ended(self):
-        """Whether the run ended; the checkout has what it proved then. A run that failed ends the program."""
+        """Whether the run ended; then its results are in the checkout. A run that failed ends the program."""
         if self.process.poll() is None:
             return False
         if self.process.returncode:
@@ -307,7 +309,7 @@ class Proof:
 
 
 class Plan:
-    """What is to be proved, what was, and what runs."""
+    """The crates to be proved, those that are, and those that run."""
 
     def __init__(self, crates, wanted, slots, folder):
         self.slots, self.folder = slots, folder
@@ -316,12 +318,12 @@ class Plan:
         self.all = [it for it in crates.values() if it in tops or any(it in top.below for top in tops)]
         self.done = [it for it in self.all if self.is_made(it)]
         self.running = []
-        # seconds told and seconds taken, of the proofs that ended
+        # seconds estimated and seconds taken, of the proofs that ended
         self.told, self.taken = 0, 0
         self.ways = {}
 
     def is_made(self, crate):
-        """Whether a crate stands in the checkout, or was kept and is handed to it."""
+        """Whether a crate's results are in the checkout, or were kept and are copied to it."""
         stands = crate.stands()
         if not stands and self.kept.entry(crate).is_dir():
             with locked(crate.out.parent):
@@ -333,7 +335,7 @@ class Plan:
         return stands
 
     def way(self, crate):
-        """The seconds of a crate and of the longest way of crates above it."""
+        """The seconds of a crate and of the longest path of crates above it."""
         if crate not in self.ways:
             above = [self.way(it) for it in self.all if crate in it.below]
             self.ways[crate] = crate.seconds + max(above, default=0)
@@ -345,7 +347,7 @@ class Plan:
         return sorted((it for it in waiting if all(low in self.done for low in it.below)), key=self.way, reverse=True)
 
     def minutes_left(self):
-        """About how long it takes until all is proved: the plan gone through with the seconds told, as long as they have proved to be."""
+        """The estimated minutes until all is proved: the plan simulated with estimated seconds, scaled by the ended proofs."""
         rate = self.taken / self.told if self.told else 1
         now, done = 0, set(self.done)
         ends = {it.crate: max(it.crate.seconds * rate - it.elapsed(), 1) for it in self.running}
@@ -363,7 +365,7 @@ class Plan:
         print(f"{text} ({len(self.done)} of {len(self.all)} crates, about {self.minutes_left()} minutes left)", flush=True)
 
     def begin(self):
-        """Begins what can be begun: the longest way first, with a job more where no crate waits for the core."""
+        """Begins what can be begun: the longest path first, with more jobs if no other crate needs the cores."""
         ready = self.ready()
         for at, crate in enumerate(ready):
             free = self.slots - sum(it.jobs for it in self.running)
@@ -391,7 +393,7 @@ class Plan:
 
 
 def free_memory():
-    """The bytes that the system could give, or more than any proof takes where it doesn't tell."""
+    """The bytes of memory that the system has available, or more than any proof takes if it does not say."""
     told = re.search(r"MemAvailable:\s+(\d+)", pathlib.Path("/proc/meminfo").read_text())
     return int(told[1]) << 10 if told else sys.maxsize
 
@@ -401,7 +403,7 @@ def stop_on_signal(number, frame):
 
 
 def folders_of_user():
-    """The folders that are taken where none is named: the first that can be had."""
+    """The folders to use if none is named: the first that is possible."""
     for cache in (os.environ.get("XDG_CACHE_HOME", ""), os.path.expanduser("~/.cache")):
         if os.path.isabs(cache):
             yield pathlib.Path(cache, "petool")
@@ -409,7 +411,7 @@ def folders_of_user():
 
 
 def own(folder):
-    """Makes a folder, or takes it if nobody but this user can write there. OSError where neither can be."""
+    """Makes a folder, or uses an existing one if only this user can write there. OSError if neither is possible."""
     folder.mkdir(mode=0o700, parents=True, exist_ok=True)
     found = folder.lstat()
     if not stat.S_ISDIR(found.st_mode) or found.st_uid != os.getuid() or found.st_mode & 0o022:
@@ -419,7 +421,7 @@ def own(folder):
 
 
 def take_folder(named):
-    """The folder of copies, logs and what is kept. It ends the program where there is none."""
+    """The folder of copies, logs and kept results. Ends the program if there is none."""
     complaints = []
     for folder in [named.resolve()] if named else folders_of_user():
         try:

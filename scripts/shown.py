@@ -4,7 +4,7 @@
 PETOOL is the program, and what words come before the files: `'petool show --all'`. A PATH is an image, an object, or a folder, of
 which every file is taken that begins as one of the two. Of an image the headers, the flags, the sections, the directories, the
 exports, the imports and the base relocations are compared with pefile's, long section names with objdump's; of an object the
-header, the sections, the relocations and the symbols with llvm-readobj's. Differences are told one by one; the last lines count
+header, the sections, the relocations and the symbols with llvm-readobj's. Differences are printed one by one; the last lines count
 the files and the values. Needs the Python package pefile, and objdump and llvm-readobj on the PATH.
 """
 
@@ -21,7 +21,7 @@ import pefile
 
 MACHINES = {0x14C: "I386", 0x8664: "AMD64", 0xAA64: "ARM64", 0x1C0: "ARM", 0x1C4: "ARMNT"}
 COUNTS = collections.Counter()
-# names of LLVM and pefile that "PE Format" has otherwise
+# names of LLVM and pefile that differ from those of "PE Format"
 RENAMED = {"MOV32T": "THUMB_MOV32", "BRANCH20T": "THUMB_BRANCH20", "BRANCH24T": "THUMB_BRANCH24", "BLX23T": "THUMB_BLX23",
            "MEM_16BIT": "MEM_PURGEABLE", "AGGRESIVE_WS_TRIM": "AGGRESSIVE_WS_TRIM"}
 KINDS = {1: "HIGH", 2: "LOW", 3: "HIGHLOW", 10: "DIR64"}
@@ -42,7 +42,7 @@ def shown(name, limit=4096):
 
 
 class Report:
-    """What differs between a page and another tool's words."""
+    """The differences between a page and another tool's output."""
 
     def __init__(self, path):
         self.path = path

@@ -1,4 +1,4 @@
-"""Tests scripts/completions.py: bash completes words by what it prints for a program whose help stands here."""
+"""Tests scripts/completions.py: bash completes words by its output for a program whose help is given here."""
 
 import pathlib
 import shutil

@@ -1,4 +1,4 @@
-"""Tests that describe/describe.py --check finds each kind of difference: a file is changed in a copy, and has to be named."""
+"""Tests that describe/describe.py --check finds each kind of difference: a file is changed in a copy, and must be named."""
 
 import pathlib
 import shutil
@@ -9,7 +9,7 @@ import unittest
 
 TOP = pathlib.Path(__file__).resolve().parents[2]
 CRATES = ("pe_records_c", "pe_handle", "pe_opened", "petool_c", "pe_json")
-#: The crates that ask faults or have a table of them.
+#: The crates that test faults or have a table of them.
 FAULT_CRATES = (
     "pe_text",
     "pe_program",
@@ -38,7 +38,7 @@ COPIED = [
     *(f"crates/{crate}/src" for crate in CRATES + FAULT_CRATES),
 ]
 
-#: What is changed: the file, what is in it, and what takes its place.
+#: The changes: the file, what is in it, and what replaces it.
 WRITTEN = [
     ("bindings/c/layout.c", "AT(petool_fixup, field, 4)", "AT(petool_fixup, field, 8)"),
     ("bindings/c/petool.map", "PETOOL_0", "PETOOL_1"),
@@ -86,7 +86,7 @@ COMPARED = [
     ("crates/pe_json/src/exports.rt", 'json.key("forward")', 'json.key("forwarder")'),
     ("crates/pe_json/src/beginning.rt", ',\\"rule\\":', ',\\"words\\":'),
 ]
-#: A description that says something else, or what it cannot, and what is then named.
+#: Changed or invalid descriptions, and what is then named.
 DESCRIBED = [
     ("    kind   u32  -    fixup.bits", "    kind   u16  -    fixup.bits", "crates/pe_records_c/src/fixup.rt"),
     ("    kind   u32  -    fixup.bits", "    kind   u32  -    fixup.bytes", "there is no fixup.bytes"),
@@ -99,7 +99,7 @@ DESCRIBED = [
     ("row fixup = FixupRow\n", "rows fixup = FixupRow\n", "line "),
     ("  written by tables.add_fixup\n", "  written by tables.add_fixups\n", "crates/pe_json/src/tables.rt"),
 ]
-#: What is changed of the faults: also a fault that is left out, and one more.
+#: Changes of the faults: also a fault that is left out, and one more.
 RULES = "crates/pe_text/src/fault_text.rt"
 EXPLAINED = "crates/pe_program/src/explain.rt"
 FAULTS = "docs/FAULTS.md"
@@ -108,7 +108,7 @@ FAULTS_WRITTEN = [
     (RULES, '(9, "NumberOfSections"', '(9, "NumberOfSymbols"'),
     (RULES, '    (41, "file", "the set has more than 256 files"),\n', ""),
     (RULES, '    (\n        83,\n', '    (\n        82,\n'),
-    # the words of two faults, and two rows, in each other's place
+    # the words of two faults, and two rows, exchanged
     (
         RULES,
         '(9, "NumberOfSections", "the image has more than 96 sections"),\n    (\n        10,\n        "NumberOfSections",\n        "the section table extends past the end of the file",',
@@ -175,8 +175,8 @@ class Describe(unittest.TestCase):
         copy_to(cls.top)
 
     def run_script(self, *words):
-        """The status, and what is said."""
-        # from another folder than that of the copy
+        """The status, and what is printed."""
+        # run in another folder than the copy
         run = subprocess.run([sys.executable, self.top / "describe/describe.py", *words], capture_output=True, cwd="/", text=True)
         return run.returncode, run.stdout + run.stderr
 
@@ -195,7 +195,7 @@ class Describe(unittest.TestCase):
         self.assertRegex(said, r"\n\d+ passed, [1-9]\d* failed\n\Z")
 
     def assert_named(self, path, old, new, named):
-        """That the check names what it should, once one place of a file is changed."""
+        """Asserts that the check names what it should after a change of one place of a file."""
         with self.subTest(path=path, old=old, new=new):
             self.changed(path, old, new)
             self.assert_refused(named)

@@ -1,4 +1,4 @@
-"""Tests that scripts/docs_check.py finds each kind of difference: a file is changed in a copy, and what differs has to be named."""
+"""Tests that scripts/docs_check.py finds each kind of difference: a file is changed in a copy, and what differs must be named."""
 
 import contextlib
 import functools
@@ -17,7 +17,7 @@ PROVED, TESTS, MAP = "docs/PROVED.md", "docs/TESTS.md", "docs/MAP.md"
 GUIDE, README, MAN = "docs/GUIDE.md", "README.md", "man/petool.1"
 TABLES, SAMPLES, TEXTS = "crates/pe_tables/src/lib.rt", "crates/pe_vectors/src/images.rt", "crates/pe_layout/src/text.rt"
 
-#: What is changed: the file, what stands in it, what takes its place, and what is then told.
+#: The changes: the file, what is in it, what replaces it, and what is then printed.
 CONDITIONS = [
     (PROVED, "`TextEnds::until_zero`, `Layout::text_at` |", "`TextEnds::until_zero` |", f"{PROVED}: Layout::text_at of {TEXTS} has conditions, and is not named"),
     (PROVED, "`files::put` |", "`files::put`, `files::number` |", f"{PROVED}: number is named, and is no public function with conditions"),
@@ -95,12 +95,12 @@ class TestDocsCheck(unittest.TestCase):
         cls.addClassCleanup(shutil.rmtree, cls.room)
         made = shutil.ignore_patterns(".git", "out", "target", "__pycache__")
         shutil.copytree(TOP, cls.room, ignore=made, dirs_exist_ok=True)
-        # the script finds the pages beside itself
+        # the script finds the pages relative to itself
         form = importlib.util.spec_from_file_location("docs_check", cls.room / "scripts" / "docs_check.py")
         cls.script = importlib.util.module_from_spec(form)
         with unittest.mock.patch.object(sys, "path", [str(cls.room / "scripts"), *sys.path]):
             form.loader.exec_module(cls.script)
-        # the program is the same in all cases, and asked once
+        # the program is the same in all cases, and its help is read once
         cls.script.said = functools.lru_cache(maxsize=None)(cls.script.said)
 
     def check(self, program=""):
@@ -111,7 +111,7 @@ class TestDocsCheck(unittest.TestCase):
         return status, said.getvalue()
 
     def assert_named(self, changes, program=""):
-        """Each change is told, and nothing once it is undone."""
+        """Each change is reported, and nothing once it is undone."""
         for path, old, new, told in changes:
             with self.subTest(told):
                 file = self.room / path

@@ -1,4 +1,4 @@
-"""Tests scripts/file_rows.py over a small repository: each kind of difference is named, and nothing once it is undone."""
+"""Tests scripts/file_rows.py over a small repository: each kind of difference is reported, and nothing once it is undone."""
 
 import pathlib
 import shutil
@@ -80,7 +80,7 @@ Of `low`:
 WHOLE = "docs/FILES.md: it is not what scripts/file_rows.py writes"
 MAP = "docs/MAP.md: it is not what scripts/file_rows.py writes"
 PROVED = "docs/PROVED.md: it is not what scripts/file_rows.py writes"
-#: What is changed: the file, its new text, or none where it is taken away, and what is then said.
+#: The changes: the file, its new contents, or none if it is removed, and what is then printed.
 CHANGES = [
     (VIEW, "pub struct View {}\n", f"{VIEW}: no first line says what the file holds"),
     (SPEC, "use X\n", f"{SPEC}: no first line says what the file holds"),

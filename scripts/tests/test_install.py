@@ -1,4 +1,4 @@
-"""Tests `make install` and `make uninstall`, of a program and an archive of the calls that PETOOL_PROGRAM and PETOOL_CALLS name."""
+"""Tests `make install` and `make uninstall`, with the program of PETOOL_PROGRAM and the archive of the calls of PETOOL_CALLS."""
 
 import os
 import pathlib
@@ -39,7 +39,7 @@ class Install(unittest.TestCase):
     def make(self, goal):
         words = [f"{name}={value}" for name, value in NAMED.items()]
         folders = [f"O={self.room / 'made'}", f"PREFIX={self.room / 'at'}"]
-        # not those of a make that runs this
+        # not the variables of a make that runs this
         environment = {name: value for name, value in os.environ.items() if name not in ("MAKEFLAGS", "MAKELEVEL", "O")}
         run = subprocess.run(["make", "-C", TOP, goal, *words, *folders], env=environment, capture_output=True, text=True)
         self.assertEqual(run.returncode, 0, run.stdout + run.stderr)

@@ -1,4 +1,4 @@
-"""Tests what bindings/test does where a machine lacks something, over a small repository whose parts say what they have left out."""
+"""Tests what bindings/test does if a machine lacks something, over a small repository whose parts print what they leave out."""
 
 import os
 import pathlib
@@ -18,7 +18,7 @@ class Test(unittest.TestCase):
     @unittest.skipIf(os.environ.get("SKIPS"), os.environ.get("SKIPS"))
     def test_may_be_left_out(self): pass
 """
-# the part in C leaves out what a variable says
+# the part in C leaves out what a variable names
 MAKEFILE = "test:\n\t@[ -z \"$$LACKS\" ] || echo \"each: left out without $$LACKS\"; echo '1 passed, 0 failed'\n"
 SCRIPTS = (
     "describe/describe.py", "scripts/crates_svg.py", "scripts/file_rows.py", "scripts/docs_check.py",
@@ -39,7 +39,7 @@ class LeftOut(unittest.TestCase):
         self.write("top/bindings/python/test_unit.py", UNIT)
         self.write("top/bindings/rust/Cargo.toml", "")
         self.write("tools/cargo", CARGO)
-        # a link to a Python would look for its library beside the link
+        # a linked Python would look for its library next to the link
         self.write("tools/python3", f'#!/bin/sh\nexec "{sys.executable}" "$@"\n')
         for name in TOOLS:
             (self.tools / name).symlink_to(shutil.which(name))
@@ -59,7 +59,7 @@ class LeftOut(unittest.TestCase):
         return run.returncode, run.stdout + run.stderr
 
     def assert_left_out(self, lack, line, **variables):
-        """That what is left out for want of a thing has failed, but not where just that may be missing, and is named in each case."""
+        """Asserts that what is left out without a thing has failed, unless just that may be missing, and is named in both cases."""
         status, said = self.run_test(**variables)
         self.assertEqual((status, f"{line.partition(': ')[0]}: failed: {line.partition(': ')[2]}" in said.splitlines()), (1, True), said)
         self.assertRegex(said.splitlines()[-1], r"^\d+ passed, [1-9]\d* failed$")

@@ -1,4 +1,4 @@
-"""Tests scripts/prove.py over a small repository, with an `rt` that only notes how it is called."""
+"""Tests scripts/prove.py over a small repository, with an `rt` that only records how it is called."""
 
 import fcntl
 import os
@@ -13,8 +13,8 @@ import unittest
 
 PROVE = pathlib.Path(__file__).resolve().parents[1] / "prove.py"
 CRATES = "low: bytes\nother:\nhigh: low bytes\ncalls staticlib: high other\nprogram: high\n"
-# it notes what of the crates below it has to prove again, or has got half; it leaves what the crate's file `fails` or a file of the kit
-# asks for, and else a made crate
+# it records which crates below it must prove again, or got unfinished; it ends as the crate's file `fails` or a file of the kit
+# says, and otherwise leaves a made crate
 RT = """#!/bin/sh
 if [ "$1" = version ]; then cat "$KIT/version"; exit; fi
 crate=$(basename "$PWD")
@@ -35,7 +35,7 @@ program) echo program >out/program ;;
 *) rm -rf out/rlib && mkdir -p "out/rlib/$crate.rlib" && stamp . >out/rlib/stamp && printf %1000s "$crate" >"out/rlib/$crate.rlib/code" ;;
 esac
 """
-# its `cp` refuses what is to be kept
+# this `cp` refuses to copy what is to be kept
 CP = """#!/bin/sh
 case $* in */kept/*) echo 'cp: No space left on device' >&2; exit 1 ;; esac
 exec /bin/cp "$@"
@@ -56,7 +56,7 @@ class TestProve(unittest.TestCase):
         (self.top / "HANDLES").write_text("Handles allowed: none.\n")
         (self.top / "scripts").mkdir()
         shutil.copy(PROVE, self.top / "scripts")
-        # whatever the disk of this machine has free
+        # whatever free space the disk of this machine has
         self.limit(6 << 30, 0)
         self.kit.mkdir()
         (self.kit / "version").write_text("kit")
@@ -70,19 +70,19 @@ class TestProve(unittest.TestCase):
         (self.kit / name).chmod(0o755)
 
     def limit(self, kept, free):
-        """Sets the bytes that may be kept, and those that have to be free."""
+        """Sets the bytes that may be kept, and those that must be free."""
         text = PROVE.read_text()
         self.assertEqual(text.count(LIMITS), 1)
         (self.top / "scripts" / "prove.py").write_text(text.replace(LIMITS, f"KEPT_BYTES, FREE_BYTES = {kept}, {free}"))
 
     def clone(self, name):
-        """Goes on in another checkout of the repository, in which nothing was made."""
+        """Switches to another checkout of the repository, in which nothing was made."""
         clone = self.room / name
         shutil.copytree(self.top, clone, ignore=shutil.ignore_patterns("out"))
         self.top = clone
 
     def kept(self):
-        """The folder of what is kept of the crate low."""
+        """The folder of the kept results of the crate low."""
         return next(it.parents[3] for it in (self.room / "folder" / "kept").glob("*/made/rlib/low.rlib/code"))
 
     def begin(self, *words):
@@ -101,7 +101,7 @@ class TestProve(unittest.TestCase):
         return run.returncode, said, self.log()
 
     def prove_beside(self, crate, act, *words):
-        """What was noted of a run that comes to the folder of a crate while another run, which does `act` there, has its lock."""
+        """What a run records that reaches the folder of a crate while another run, which does `act` there, holds its lock."""
         (self.kit / "log").write_text("")
         held = os.open(self.top / "crates" / crate, os.O_RDONLY)
         try:
@@ -282,7 +282,7 @@ class TestProve(unittest.TestCase):
         self.assertEqual(self.prove("low")[2], ["low"])
 
     def test_what_was_longest_unused_goes(self):
-        # two of these libraries
+        # room for two of these libraries
         self.limit(3000, 0)
         self.prove("low")
         self.prove("other")
@@ -310,7 +310,7 @@ class TestProve(unittest.TestCase):
         self.assertEqual(self.prove_beside("low", lambda: (begun / "half").rename(begun / "whole"), "low"), ["low lib whole"])
 
     def clear_low(self):
-        """What a run of `rt` does that makes the library low again, and has not ended."""
+        """What a run of `rt` has done that makes the library low again and has not ended."""
         folder = self.top / "crates/low/out/rlib"
         stamp = (folder / "stamp").read_text()
         shutil.rmtree(folder)

@@ -11,8 +11,8 @@
 What is raised:
 
 - ``FormatFault``, a ``ValueError``: a rule of the format is broken; its ``number`` is that of docs/FAULTS.md.
-- ``IndexError``: bytes that are not all in an image (``Image.read``, ``read_into``), or an index without an image (``Space.move``) or
-  without a section (``Object.relocations``).
+- ``IndexError``: bytes that are not all in an image (``Image.read``, ``read_into``), or an index without an image (``Space.move``)
+  or without a section (``Object.relocations``).
 - ``KeyError``: nothing is exported under a key (``Image.exports[key]``). Both are ``LookupError``.
 - ``MemoryError``: out of memory.
 - ``OverflowError``: a base or an address has over 64 bits, or is negative.

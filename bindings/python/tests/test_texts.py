@@ -2,12 +2,12 @@
 headers and look up exports. The first word of a case says what is run:
 
 `check`, `dump` and `object` print that command's text of a file, which further words change; `tables` the lines of a dump's
-exports, imports and base relocations; `begins` the first line of an object's; `show`, with `--all` or without, `json`, and `at` with
-an RVA before the file, that command's; `refusal` the line of a page that shows the fault. `map` and words of a set print the set's
-report, with a window if there is one. `rebase` and a base print its line and the length of the new file, `rebased` also what differs
-in it. All of them print the status. `head` and `layout` print the first fault of a file's headers, and of its section table too;
-`find` and names or ordinals what they export. `faults` prints the words of each number, `kind` the kind of file that its first bytes
-show, and `names` the name of each value and flag.
+exports, imports and base relocations; `begins` the first line of an object's; `show`, with `--all` or without, `json`, and `at`
+with an RVA before the file, that command's; `refusal` the line of a page that shows the fault. `map` and words of a set print the
+set's report, with a window if there is one. `rebase` and a base print its line and the length of the new file, `rebased` also what
+differs in it. All of them print the status. `head` and `layout` print the first fault of a file's headers, and of its section table
+too; `find` and names or ordinals what they export. `faults` prints the words of each number, `kind` the kind of file that its first
+bytes show, and `names` the name of each value and flag.
 """
 
 import collections
