@@ -1,8 +1,8 @@
 #!/usr/bin/env python3
 """Compares `petool object` with the text that the format gives for an object, byte for byte: objects.py PETOOL PATH...
 
-PETOOL is the program. A PATH is an object, an archive of objects (each of its members is one), or a folder, of which every file
-is taken that is one of the two. What petool prints, and its status, are compared with a dump that is made here by the rules of
+PETOOL is the program. A PATH is an object, an archive of objects (each of its members is one), or a folder, of which all files of
+these two kinds are used. What petool prints, and its status, are compared with a dump that is made here by the rules of
 docs/FORMAT.md only. Differences are printed one by one; the last line counts the objects, those that are accepted, and those that
 differ.
 """

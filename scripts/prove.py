@@ -117,7 +117,7 @@ def read_crates(top):
 
 @contextlib.contextmanager
 def locked(folder):
-    """Holds a folder's lock: that of a crate's folder is the one that `rt` takes."""
+    """Holds a folder's lock; `rt` takes the same lock of a crate's folder."""
     held = os.open(folder, os.O_RDONLY)
     try:
         try:

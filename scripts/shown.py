@@ -2,7 +2,7 @@
 """Compares `petool show --all` with what pefile and LLVM say of the same files, value by value: shown.py PETOOL PATH...
 
 PETOOL is the program, and what words come before the files: `'petool show --all'`. A PATH is an image, an object, or a folder, of
-which every file is taken that begins as one of the two. Of an image the headers, the flags, the sections, the directories, the
+which all files that begin as one of the two are used. Of an image the headers, the flags, the sections, the directories, the
 exports, the imports and the base relocations are compared with pefile's, long section names with objdump's; of an object the
 header, the sections, the relocations and the symbols with llvm-readobj's. Differences are printed one by one; the last lines count
 the files and the values. Needs the Python package pefile, and objdump and llvm-readobj on the PATH.

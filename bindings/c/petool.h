@@ -4,8 +4,8 @@
  * RULES, which hold for every call
  *
  * Bytes.    A file is a pointer and a length: all of its bytes. They are only read, and only while the call runs, or while an
- *           image is open that petool_image_open made of them; nobody may change them meanwhile. No pointer may be NULL, even if a
- *           length or a room is 0: then any pointer of the right type will do, such as that of PETOOL_NONE.
+ *           image that petool_image_open made from them is open; nobody may change them meanwhile. No pointer may be NULL, even
+ *           if a length or a room is 0: then any pointer of the right type will do, such as that of PETOOL_NONE.
  * Texts.    A petool_text points into the file, or to a string of this library. It does not end in a zero byte, and is valid as
  *           long as the file's bytes are. Unless it is empty, its offset in the file is `text.at - file`; an empty one may point
  *           anywhere.

@@ -47,7 +47,7 @@ class Folder:
 
     def __init__(self, folder: pathlib.Path) -> None:
         paths = sorted(folder.iterdir(), reverse=True)
-        # of names that differ in case alone, the first one counts
+        # of names that differ only in case, the first one is used
         self.paths = {path.name.lower(): path for path in paths if path.is_file()}
         self.images: Dict[str, Optional[petool.Image]] = {}
         self.status = 0  # the worst exit status so far

@@ -38,7 +38,7 @@ _release_buffer.restype = None
 
 
 def address_of(view: memoryview) -> int:
-    """Where the bytes of a view are, for as long as the view is not released: it holds the buffer.
+    """The address of a view's bytes, valid until the view is released, which holds the buffer.
 
     from_buffer of ctypes needs writable bytes, so this calls Python itself, which also takes `bytes` and a read-only mmap,
     and copies nothing.
@@ -97,12 +97,12 @@ def unsigned(value: int, bits: int, what: str) -> int:
 
 
 class RowLayout:
-    """The layout of a row, in the letters of `struct`: P and N are a text's pointer and length."""
+    """The layout of a row, in the letters of `struct`: P and N are a string's pointer and length."""
 
     def __init__(self, form: str) -> None:
         self.struct = struct.Struct(form)
         self.size = self.struct.size
-        # no pointer of a text may be NULL before a call
+        # no pointer of a string may be NULL before a call
         self.blank = self.struct.pack(*(_library.NO_BYTES if code == "P" else 0 for code in form if code != "x"))
 
 

@@ -109,7 +109,7 @@ Key = Union[bytes, str, int]
 
 @dataclass(frozen=True)
 class Export:
-    name: Optional[bytes]  #: the name of an export by name, as bytes, since the format gives names no encoding
+    name: Optional[bytes]  #: the name of an export by name, as bytes, since names have no encoding in the format
     ordinal: Optional[int]  #: the ordinal of an export by ordinal
     target: Target
 

@@ -95,7 +95,7 @@ def _section_header_of(record: _records.SectionHeader) -> SectionHeader:
 
 
 def _maker(file: FileBytes, kind: Callable[..., Any]) -> Callable[..., Any]:
-    """Makes an item of a row that begins with two texts."""
+    """Makes an item from a row that begins with two strings."""
 
     def make(at: int, length: int, other_at: int, other_length: int, *numbers: int) -> Any:
         return kind(file.text(at, length), file.text(other_at, other_length), *numbers)

@@ -2,7 +2,7 @@
 //! crate `petool` has them behind types that keep the rules.
 //!
 //! Records have the names of the header without `petool_`, calls and constants have them as they are. The functions
-//! that the header defines in C alone, such as `petool_exports_init`, are not here: [`Text::NONE`] and the `NONE` of
+//! that the header defines only in C, such as `petool_exports_init`, are not here: [`Text::NONE`] and the `NONE` of
 //! rows with texts are for what has to be initialized before a call.
 #![no_std]
 #![deny(missing_docs)]

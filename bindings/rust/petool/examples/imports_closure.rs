@@ -127,7 +127,7 @@ fn shown(key: Key<'_>) -> String {
     }
 }
 
-/// The files of a folder, by their names in lower case. Of names that differ in case alone, the first one counts.
+/// The files of a folder, by their names in lower case. Of names that differ only in case, the first one is used.
 fn files_of(folder: &Path) -> io::Result<BTreeMap<String, File>> {
     let paths = fs::read_dir(folder)?.map(|entry| Ok(entry?.path()));
     let mut paths = paths.collect::<io::Result<Vec<_>>>()?;

@@ -56,7 +56,7 @@ impl Headers {
             sections: [Section::default(); sys::PETOOL_SECTIONS],
         };
         let mut fault = sys::Fault::default();
-        // SAFETY: the file is all of a slice, which nobody writes to; Section is laid out as the row in it
+        // SAFETY: the file is a complete slice, which nobody writes to; Section has the layout of the row in it
         let status = unsafe {
             sys::petool_read_headers(
                 file.as_ptr(),

@@ -61,7 +61,7 @@ impl<'a> Image<'a> {
     /// ```
     pub fn read(&self, rva: u32, buffer: &mut [u8]) -> Option<()> {
         let mut fault = sys::Fault::default();
-        // SAFETY: the file and the buffer are all of slices, of which the second is nobody else's
+        // SAFETY: the file and the buffer are complete slices; the buffer is not shared
         let status = unsafe {
             sys::petool_read(
                 self.file.as_ptr(),
@@ -78,7 +78,7 @@ impl<'a> Image<'a> {
     /// The zero-terminated string at an RVA, without its zero byte; `None` if there is none.
     pub fn text(&self, rva: u32) -> Option<&'a [u8]> {
         let (mut text, mut fault) = (sys::Text::NONE, sys::Fault::default());
-        // SAFETY: the file is all of a slice, which nobody writes to; the text is initialized
+        // SAFETY: the file is a complete slice, which nobody writes to; the text is initialized
         let status = unsafe { sys::petool_read_text(self.file.as_ptr(), self.file.len(), rva, &mut text, &mut fault) };
         (status == sys::PETOOL_OK).then(|| text_of(self.file, text))
     }
@@ -86,7 +86,7 @@ impl<'a> Image<'a> {
     /// The file offset of the byte at an RVA; `None` if the file does not hold it.
     pub fn locate(&self, rva: u32) -> Option<u64> {
         let (mut offset, mut fault) = (0, sys::Fault::default());
-        // SAFETY: the file is all of a slice, which nobody writes to
+        // SAFETY: the file is a complete slice, which nobody writes to
         let status = unsafe { sys::petool_locate(self.file.as_ptr(), self.file.len(), rva, &mut offset, &mut fault) };
         (status == sys::PETOOL_OK).then_some(offset)
     }
@@ -100,7 +100,7 @@ impl<'a> Image<'a> {
     /// [`OpenImage`](crate::OpenImage).
     pub fn export_by_name(&self, name: &[u8]) -> Result<Option<Target<'a>>, OutOfMemory> {
         let (mut target, mut fault) = (sys::Target::NONE, sys::Fault::default());
-        // SAFETY: the file and the name are all of slices, which nobody writes to; the target's texts are initialized
+        // SAFETY: the file and the name are complete slices, which nobody writes to; the target's texts are initialized
         let status = unsafe {
             sys::petool_export_by_name(
                 self.file.as_ptr(),
@@ -117,7 +117,7 @@ impl<'a> Image<'a> {
     /// What an ordinal exports, as [`Image::export_by_name`].
     pub fn export_by_ordinal(&self, ordinal: u32) -> Result<Option<Target<'a>>, OutOfMemory> {
         let (mut target, mut fault) = (sys::Target::NONE, sys::Fault::default());
-        // SAFETY: the file is all of a slice, which nobody writes to; the target's texts are initialized
+        // SAFETY: the file is a complete slice, which nobody writes to; the target's texts are initialized
         let status = unsafe {
             sys::petool_export_by_ordinal(self.file.as_ptr(), self.file.len(), ordinal, &mut target, &mut fault)
         };
@@ -144,7 +144,7 @@ impl<'a> Image<'a> {
     pub fn rebased(&self, base: u64) -> Result<Vec<u8>, Error> {
         let mut out = room_of(0, self.file.len())?;
         let mut fault = sys::Fault::default();
-        // SAFETY: the file is all of a slice, which nobody writes to, and the new one is nobody else's
+        // SAFETY: the file is a complete slice, which nobody writes to, and the new one is not shared
         let status = unsafe {
             sys::petool_rebase(
                 self.file.as_ptr(),

@@ -25,7 +25,7 @@ pub struct Object<'a> {
 /// Consecutive relocations among those of all sections.
 #[derive(Debug, Default)]
 struct Window {
-    /// Where those of each section begin among those of all, and last where all end; empty until it is needed.
+    /// The index of each section's first relocation among all, then the count of all; empty until it is needed.
     starts: Vec<usize>,
     /// How many come before the first row.
     first: usize,
@@ -136,7 +136,7 @@ impl<'a> Object<'a> {
     /// exist.
     pub fn new(file: &'a [u8]) -> Result<Object<'a>, Fault> {
         let mut fault = sys::Fault::default();
-        // SAFETY: the file is all of a slice, which nobody writes to
+        // SAFETY: the file is a complete slice, which nobody writes to
         let status = unsafe { sys::petool_object_check(file.as_ptr(), file.len(), &mut fault) };
         match status {
             sys::PETOOL_OK => Ok(Object::judged(file)),
@@ -159,7 +159,7 @@ impl<'a> Object<'a> {
 
     fn read_headers(&self, rows: &mut [SectionHeader]) -> Result<ObjectHeader, OutOfMemory> {
         let (mut header, mut fault) = (ObjectHeader::default(), sys::Fault::default());
-        // SAFETY: the file is all of a slice, which nobody writes to; the rows are nobody else's
+        // SAFETY: the file is a complete slice, which nobody writes to; the rows are not shared
         let status = unsafe {
             sys::petool_object_headers(
                 self.file.as_ptr(),
@@ -214,7 +214,7 @@ impl<'a> Object<'a> {
         Ok(Some(rows))
     }
 
-    /// Where the relocations of each section begin among those of all, and where all end.
+    /// The index of each section's first relocation among all, then the count of all.
     fn starts(&self) -> Result<Vec<usize>, OutOfMemory> {
         let sections = self.read(sys::ObjectSection::NONE, sys::petool_object_sections)?;
         let mut starts = room_of(0, sections.len() + 1)?;
@@ -228,7 +228,7 @@ impl<'a> Object<'a> {
     fn relocations_from(&self, skipped: usize, room: usize) -> Result<Vec<Relocation>, OutOfMemory> {
         let mut rows = room_of(Relocation::default(), room)?;
         let (mut count, mut fault) = (0, sys::Fault::default());
-        // SAFETY: the file is all of a slice, which nobody writes to; the rows are nobody else's
+        // SAFETY: the file is a complete slice, which nobody writes to; the rows are not shared
         let status = unsafe {
             sys::petool_object_all_relocations(
                 self.file.as_ptr(),
@@ -249,7 +249,7 @@ impl<'a> Object<'a> {
     fn read<Row: Copy>(&self, blank: Row, call: ReadsObject<Row>) -> Result<Vec<Row>, OutOfMemory> {
         let mut fault = sys::Fault::default();
         let read = read_rows(0, blank, |rows, count| {
-            // SAFETY: the file is all of a slice, which nobody writes to; the rows are nobody else's, and all are set
+            // SAFETY: the file is a complete slice, which nobody writes to; the rows are initialized, and not shared
             unsafe {
                 call(
                     self.file.as_ptr(),

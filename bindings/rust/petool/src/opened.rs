@@ -51,7 +51,7 @@ impl<'a> OpenImage<'a> {
             file,
         };
         let mut fault = sys::Fault::default();
-        // SAFETY: the image is closed; the file is all of a slice, which nobody writes to while the image borrows it
+        // SAFETY: the image is closed; the file is a complete slice, which nobody writes to while the image borrows it
         let status = unsafe { sys::petool_image_open(&mut image.raw, file.as_ptr(), file.len(), &mut fault) };
         match status {
             sys::PETOOL_OK => Ok(image),
@@ -81,7 +81,7 @@ impl<'a> OpenImage<'a> {
     /// What a name exports.
     pub fn export_by_name(&mut self, name: &[u8]) -> Option<Target<'a>> {
         let mut target = sys::Target::NONE;
-        // SAFETY: the image is open; the name is all of a slice; the target's texts are initialized
+        // SAFETY: the image is open; the name is a complete slice; the target's texts are initialized
         let status = unsafe { sys::petool_image_export_by_name(&mut self.raw, name.as_ptr(), name.len(), &mut target) };
         (status == sys::PETOOL_OK).then(|| Target::of(self.file, target))
     }
@@ -96,7 +96,7 @@ impl<'a> OpenImage<'a> {
 
     /// Fills the buffer with the bytes from an RVA on, as [`Image::read`](crate::Image::read) does.
     pub fn read(&mut self, rva: u32, buffer: &mut [u8]) -> Option<()> {
-        // SAFETY: the image is open; the buffer is all of a slice, and nobody else's
+        // SAFETY: the image is open; the buffer is a complete slice, and not shared
         let status = unsafe { sys::petool_image_read(&mut self.raw, rva, buffer.as_mut_ptr(), buffer.len()) };
         (status == sys::PETOOL_OK).then_some(())
     }

@@ -65,7 +65,7 @@ pub fn judge(set: &[Entry<'_>], policy: Policy) -> Result<Vec<Binding>, SetError
     let raw = raw_entries(set)?;
     let (mut cycle, mut fault) = (0, sys::Fault::default());
     let judged = read_rows(GUESS, Binding::default(), |rows, count| {
-        // SAFETY: the entries and their texts are all of slices, which nobody writes to; the rows are nobody else's
+        // SAFETY: the entries and their texts are complete slices, which nobody writes to; the rows are not shared
         unsafe {
             sys::petool_judge(
                 raw.as_ptr(),

@@ -58,7 +58,7 @@ impl Space {
             raw: sys::Space::CLOSED,
         };
         let (mut cycle, mut fault) = (0, sys::Fault::default());
-        // SAFETY: the space is closed; the entries and their texts are all of slices, which nobody writes to
+        // SAFETY: the space is closed; the entries and their texts are complete slices, which nobody writes to
         let status = unsafe {
             sys::petool_space_map(
                 &mut space.raw,
@@ -84,7 +84,7 @@ impl Space {
             place: sys::PETOOL_PLACE_ADDRESS,
             at: address,
         };
-        // SAFETY: the space is open; the buffer is all of a slice, and nobody else's
+        // SAFETY: the space is open; the buffer is a complete slice, and not shared
         let status =
             unsafe { sys::petool_space_read(&mut self.raw, address, buffer.as_mut_ptr(), buffer.len(), &mut fault) };
         match status {
@@ -122,7 +122,7 @@ impl Space {
     /// What each import is bound to.
     pub fn bindings(&mut self) -> Result<Vec<Binding>, OutOfMemory> {
         let bound = read_rows(0, Binding::default(), |rows, count| {
-            // SAFETY: the space is open; the rows are nobody else's
+            // SAFETY: the space is open; the rows are not shared
             unsafe { sys::petool_space_bindings(&mut self.raw, rows.as_mut_ptr(), rows.len(), count) }
         });
         bound.map_err(|_| OutOfMemory)

@@ -125,7 +125,7 @@ impl<'a> Tables<'a> {
 
     /// Reads all tables into the rows: a status of `petool_tables`, with the faults of `petool_check`.
     pub(crate) fn fill(&mut self, counts: &mut sys::Counts, fault: &mut sys::Fault) -> u32 {
-        // SAFETY: the file is all of a slice, which nobody writes to; the rows are nobody else's, and all are set
+        // SAFETY: the file is a complete slice, which nobody writes to; the rows are initialized, and not shared
         unsafe {
             sys::petool_tables(
                 self.file.as_ptr(),
