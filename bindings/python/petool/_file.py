@@ -1,4 +1,4 @@
-"""What is read from a file's bytes, and releases them."""
+"""Objects that are read from a file's bytes, and release these when they are closed."""
 
 from __future__ import annotations
 
