@@ -17,9 +17,10 @@ static long asked, room = -1, living;
 static int is_refused(void)
 {
     asked++;
-    if (room < 0)
-        return 0;
-    return room-- == 0 || (room = 0, 1);
+    if (room <= 0)
+        return room == 0;
+    room--;
+    return 0;
 }
 
 void *__wrap_malloc(size_t size)
@@ -179,9 +180,12 @@ static void refuse_each(const char *name, uint32_t (*call)(void))
         memset(&fault, 0x5a, sizeof fault);
         count = 99;
         room = k;
+        asked = 0;
         status = call();
         room = -1;
         CHECK(status == PETOOL_MEMORY && fault.number == 0x5a5a && count == 99 && living == before);
+        /* those before it succeeded */
+        CHECK(asked > k);
     }
     printf("%s: each of %ld growths refused\n", name, all);
 }
