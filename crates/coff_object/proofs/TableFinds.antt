@@ -18,7 +18,7 @@ use Rattle.coff_object.proofs.Offsets.{offset-kept, offset-new, bytes-more}
 use Rattle.coff_object.proofs.MoreTexts.{texts_more, get_new, get_more, among_at, hit, told_kept}
 use Rattle.coff_object.proofs.Telling.{told}
 
--- the first slot of a string depends only on how many slots there are
+-- the first slot of a string depends on the slots only by how many they are
 pub base_same : (slots other : List ℕ) (text : List ℕ) → length other ≡ length slots → base other text ≡ base slots text
 unfolding base
 base_same slots other text len = rw len refl

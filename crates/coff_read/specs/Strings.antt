@@ -20,7 +20,7 @@ strings_start file = symbol_pointer file + 18 * record_count file
 abbrev pub size_field : List ℕ → ℕ → ℕ
 size_field file start = if nat_le (start + 4) (length file) then field file start 0 4 else 0
 
--- the size of the string table in bytes, its size field counted: 0 if there are no symbols
+-- the size of the string table in bytes, its size field counted: 0 if PointerToSymbolTable is 0
 abbrev pub strings_size : List ℕ → ℕ
 strings_size file = if symbol_pointer file == 0 then 0 else size_field file (strings_start file)
 

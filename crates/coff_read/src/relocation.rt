@@ -18,7 +18,7 @@ pub const RELOCATION_LEN: u64 = 10;
 /// A relocation of a section ("PE Format", COFF Relocations).
 #[derive(Clone, Copy, Debug, PartialEq, Eq)]
 pub struct Relocation {
-    /// Where the reference is: its offset in the section's bytes, as VirtualAddress of the section is usually 0.
+    /// Where the reference is: its offset in the section plus the section's VirtualAddress, which is usually 0.
     pub address: u32,
     /// The index of the symbol's record in the symbol table, auxiliary records counted.
     pub symbol: u32,

@@ -42,7 +42,7 @@ pub(crate) struct Tables {
     pub strings: u64,
     /// The size of the string table in bytes, its size field counted.
     pub strings_size: u64,
-    /// The size of the string table up to its last zero byte, that one counted: a string begins at each offset below it.
+    /// The size of the string table up to its last zero byte, that one counted: a string begins at each lower offset from 4 on.
     pub texts: u64,
 }
 

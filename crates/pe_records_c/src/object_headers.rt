@@ -41,7 +41,7 @@ pub struct SectionHeaderRow {
     pub virtual_address: u32,
     /// SizeOfRawData, even if the file holds no bytes.
     pub size_of_raw_data: u32,
-    /// The file offset of the raw data; 0 if there is none.
+    /// The file offset of the raw data, as the header has it.
     pub pointer_to_raw_data: u32,
     /// The file offset of the relocations.
     pub pointer_to_relocations: u32,

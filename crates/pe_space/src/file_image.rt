@@ -113,7 +113,7 @@ impl<'a, A: Allocator + Copy> FileImage<'a, A> {
         between::<ByField, _>(self.fixups.as_slice(), guess, low, end)
     }
 
-    /// The relocated number of a field: that in the file plus the difference of the base and ImageBase.
+    /// The number of a field: that in the file, relocated from ImageBase to the base.
     fn relocated(&self, fixup: Fixup) -> u64
         requires { fixup.field + width_of fixup.kind ≤ self.now.size }
         ensures { result ≡ shift fixup.kind (number_in self.now.plain fixup.field (width_of fixup.kind)) (pos self.now.base -ℤ pos self.now.image_base) }

@@ -7,7 +7,7 @@ use std::alloc::{AllocError, Allocator};
 const NONE: u32 = u32::MAX;
 
 /// Guesses of how many items of an ordered list come before a key, made for a run of its items. A search tests a guess before it
-/// begins there, so that a wrong one costs time only, and no proof mentions guesses.
+/// begins there, so that a wrong one costs only time.
 ///
 /// The keys are divided into ranges whose size is a power of two. There are at most twice as many ranges as items, and each takes
 /// 4 bytes.

@@ -71,8 +71,8 @@ pub(crate) fn window_image<P: Placed>(
     Ok(number)
 }
 
-/// Whether an image of this number and size would overlap another one at this base. Only the last other image that begins before
-/// its end can overlap it, if any does.
+/// Whether an image of this number and size would overlap another one at this base. If any other image does, the last one that
+/// begins before its end does.
 fn overlaps_another<P: Placed>(
     images: &[P],
     order: &[NumberAt],

@@ -98,7 +98,7 @@ module _ (g file : List ℕ) (base : ℕ) (s : KeepsHead g file base) where
   count-kept : directory_count g ≡ directory_count file
   count-kept = ap (λ (n : ℕ). min n 16) (either-kept 92 4 108 4 refl refl)
 
-  -- what is after the fixed part and before the end of the section table
+  -- what is after CheckSum and inside the headers
   far-kept : (o w : ℕ) → 68 ≤ o → optional_start file + o + w ≤ field file 60 4 → field g o w ≡ field file o w
   far-kept o w far held =
       ap (λ (p : ℕ). num (byte_of g) (p + 24 + o) w) p-kept

@@ -16,7 +16,7 @@ use Rattle.pe_write.specs.PlanHeaders.{plan_file, planned}
 use Rattle.pe_numbers.specs.Numbers.{number_bytes}
 use Rattle.pe_write.specs.PlanFile.{headers_from, file_end}
 
--- a section of which only `raw.now` matters, not the address of the slice
+-- a section; the address of its slice of raw data does not matter
 abbrev section : List ℕ → ℕ → ℕ → List ℕ → PlanSection
 section name size rva bytes = record { name = name; virtual_size = size; virtual_address = rva; raw = record { ref_ptr = (0, 0); now = bytes }; flags = 0xc0000040 }
 

@@ -17,7 +17,7 @@ is_empty s = length s.raw.now == 0
 abbrev pub raw_size : ℕ → PlanSection → ℕ
 raw_size alignment s = align_up alignment (length s.raw.now)
 
--- PointerToRawData, appended to a file of `end` bytes
+-- PointerToRawData of a section appended to a file of `end` bytes
 abbrev pub raw_start : ℕ → ℕ → PlanSection → ℕ
 raw_start alignment end s = if is_empty s then 0 else align_up alignment end
 

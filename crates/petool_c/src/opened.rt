@@ -15,7 +15,8 @@ use std::alloc::Global;
 ///
 /// The status is 0, and only then the image is open; 1 with the first of the image faults; or 2, out of memory, but never for a
 /// file with one of faults 1 to 15. An open image reads the file's bytes, which must stay unchanged until it and each handle that
-/// shares it are closed. After that nothing of the file is kept, but the contract can only state this for a `'static` file.
+/// shares it are closed. After that nothing of the file is kept, but no contract states this: the file is `'static`, since a
+/// handle that C can hold has no lifetime.
 #[unsafe(no_mangle)]
 pub extern "C" fn petool_image_open(
     alloc: Global,
