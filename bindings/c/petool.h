@@ -381,7 +381,7 @@ typedef struct petool_object_section {
 } petool_object_section;
 
 typedef struct petool_object_relocation {
-    uint32_t address; /* the offset of the reference in the section's bytes */
+    uint32_t address; /* the offset of the reference in the section plus the section's VirtualAddress */
     uint32_t symbol;  /* the index of the symbol's record, counting auxiliary records */
     uint32_t kind;    /* the type, which depends on the machine */
 } petool_object_relocation;

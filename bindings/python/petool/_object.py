@@ -44,7 +44,7 @@ class SectionHeader:
     virtual_size: int  #: VirtualSize, as written
     virtual_address: int  #: VirtualAddress, as written
     size_of_raw_data: int  #: SizeOfRawData, even if the file holds no bytes
-    pointer_to_raw_data: int  #: the file offset of the first byte; 0 if there is none
+    pointer_to_raw_data: int  #: the file offset of the first byte, as in the header
     pointer_to_relocations: int  #: the file offset of the relocations
     pointer_to_linenumbers: int  #: the file offset of the line numbers
     number_of_relocations: int  #: how many relocations there are
@@ -69,7 +69,7 @@ class ObjectSection:
 @dataclass(frozen=True)
 class ObjectRelocation:
     # from describe/records.txt: object_relocation
-    address: int  #: the offset of the reference in the section's bytes
+    address: int  #: the offset of the reference in the section plus the section's VirtualAddress
     symbol: int  #: the index of the symbol's record, counting auxiliary records
     kind: int  #: the type, which depends on the machine
     # end of describe/records.txt

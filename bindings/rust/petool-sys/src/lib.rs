@@ -383,7 +383,7 @@ pub struct SectionHeader {
     pub virtual_address: u32,
     /// SizeOfRawData, even if the file holds no bytes.
     pub size_of_raw_data: u32,
-    /// The file offset of the first byte; 0 if there is none.
+    /// The file offset of the first byte, as in the header.
     pub pointer_to_raw_data: u32,
     /// The file offset of the relocations.
     pub pointer_to_relocations: u32,
@@ -434,7 +434,7 @@ impl ObjectSection {
 #[repr(C)]
 #[derive(Clone, Copy, Debug, Default, PartialEq, Eq, Hash)]
 pub struct ObjectRelocation {
-    /// The offset of the reference in the section's bytes.
+    /// The offset of the reference in the section plus the section's VirtualAddress.
     pub address: u32,
     /// The index of the symbol's record, counting auxiliary records.
     pub symbol: u32,
