@@ -6,7 +6,8 @@ use std::alloc::{AllocError, Allocator};
 /// The ordinal of an exported name, and the name's index among [`Exports::names`].
 pub type ExportName = (u64, usize);
 
-/// The names ordered by ordinal, those of one ordinal in the order of the name pointer table. Empty if an allocation failed.
+/// The names ordered by ordinal, those of one ordinal in the order of the name pointer table. If an allocation fails, all memory is
+/// freed.
 pub fn names_by_ordinal<A: Allocator + Copy>(
     alloc: A,
     exports: &Exports<A>,

@@ -27,7 +27,7 @@ and_false : (b : Bool) → (b && false) ≡ false
 and_false true = refl
 and_false false = refl
 
--- a fact about all elements of a list is one about the first and the others
+-- both parts of a true conjunction are true
 parts : (p q : Bool) → (p && q) ≡ true → (p ≡ true) × (q ≡ true)
 parts true q e = (refl, e)
 parts false q e = absurd cc

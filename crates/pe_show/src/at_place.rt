@@ -29,7 +29,7 @@ struct AtReport {
     place: Place,
 }
 
-/// The RVA to which a file offset is mapped.
+/// The least RVA to which a file offset is mapped.
 fn laid_at(layout: &Layout, offset: u64) -> Option<u32> {
     let headers = layout.headers();
     if offset < u64::from(headers.size_of_headers) {

@@ -45,7 +45,7 @@ fn name_of(index: usize) -> &'static [u8] {
     }
 }
 
-/// The section in which a directory's table begins, or none for certificates, whose place is a file offset.
+/// The name of the section in which a directory's table begins, or `file offset` for certificates, whose place is one.
 fn section_of<'a>(
     layout: &Layout,
     names: &SectionNames<'a>,

@@ -33,7 +33,7 @@ impl<'p> Report for Page<'p> {
 ///
 /// A file that begins like an object is checked as an object, any other as an image. For a refused image the page shows what comes
 /// before its fault. A name that is not plain text is shown in quotes, with `\x` and two digits for a byte that is not printable;
-/// names are cut after 4,096 bytes, those of sections after 40 and those of modules after 255.
+/// names are cut after 4,096 bytes, those of sections after 40 and those of imported modules after 255.
 ///
 /// The file is read to its end, or to 2^32 + 1 bytes; the page is written only after all faults were tested. On the error `Write`
 /// the beginning of the page was written, on `Read` and `Memory` nothing; `Memory` never comes if the reader returned no byte.

@@ -155,7 +155,7 @@ fn write_behind_gap<W: Sink>(text: &mut TextWriter<W>, count: usize, gap: &[u8],
     write_name(text, name);
 }
 
-/// Adds names, each after `count` blanks and two more, and the end of their row.
+/// Adds names, the first after `count` blanks and two more and each other after a comma, and the end of their row.
 fn write_names<A: Allocator + Copy, W: Sink>(
     text: &mut TextWriter<W>,
     exports: &Exports<A>,

@@ -10,7 +10,7 @@ ghost use Rattle.pe_show.specs.Name.{is_safe, begins_plain, is_plain, cut, name_
 use pe_text::{Sink, TextWriter, is_printable};
 use std::str;
 
-/// The most bytes of a name that are shown; names that compilers write are shorter.
+/// The most bytes of a name that are shown; compilers seldom write longer ones.
 const NAME_LIMIT: usize = 4096;
 
 /// The beginning of a name, cut if it is too long to be shown.

@@ -76,7 +76,8 @@ fn write_refused<W: Sink>(text: &mut TextWriter<W>, page: &Page, outcome: Outcom
     write_refusal(text, page.options, outcome, file);
 }
 
-/// Checks an object's file, and adds its page. It allocates only before it adds the first byte.
+/// Checks an object's file, and adds its page. It returns out of memory only before it adds the first byte; an allocation that
+/// fails later only costs time.
 pub(crate) fn show_object<A: Allocator + Copy, W: Sink>(
     alloc: A,
     page: &Page,

@@ -45,7 +45,7 @@ bindings_laid : (s : List Module) → (laid_out s).bindings ≡ bindings_of s
 unfolding laid_out
 bindings_laid s = refl
 
--- whether images have valid places depends only on their placements
+-- whether images have valid places depends only on their placements and bindings
 placed_alike : (c d : Content) → map placement_of c.images ≡ map placement_of d.images → c.bindings ≡ d.bindings → ImagesApart d → ImagesApart c
 placed_alike c d same bound all =
     let at : (j : ℕ) → placement_of (nth_image c.images j) ≡ placement_of (nth_image d.images j) =

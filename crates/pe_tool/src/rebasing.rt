@@ -50,9 +50,10 @@ fn tell<W: Sink>(writer: &mut W, base: u64, outcome: Outcome) -> Result<Outcome,
 /// fault, and nothing to `out`.
 ///
 /// The file is read to its end, or to 2^32 + 1 bytes; output is written only after all faults were tested. On the error `Write`
-/// either `out` got the beginning of the new file and `writer` nothing, or `out` got everything and `writer` the beginning of its
-/// line: the output that failed is the one that has counted one more failure. On `Read` and `Memory` nothing was written; `Memory`
-/// never comes if the reader returned no byte. Condition: each device has counted fewer than 2^64 - 1 failures so far.
+/// either `out` got the beginning of the new file and `writer` nothing, or `out` got the whole new file (nothing if there is a
+/// fault) and `writer` the beginning of its line: the output that failed is the one that has counted one more failure. On `Read`
+/// and `Memory` nothing was written; `Memory` never comes if the reader returned no byte. Condition: each device has counted fewer
+/// than 2^64 - 1 failures so far.
 pub fn rebase<A: Allocator + Copy, R: Source, O: Sink, W: Sink>(
     alloc: A,
     reader: &mut R,

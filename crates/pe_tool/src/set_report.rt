@@ -66,7 +66,7 @@ fn tell_space<S: Space, W: Sink>(
     Outcome::Done
 }
 
-/// Adds the line of a fault with its cycle of forwarders.
+/// Adds the line of a cycle of forwarders, with its length.
 fn refuse_cycle<W: Sink>(text: &mut TextWriter<W>, fault: Fault, length: u32) -> Outcome
     requires { IsReady W.failures text.old }
     ensures adds { Adds W.taken W.failures text.old text.new (cycle_line fault length) }

@@ -111,8 +111,8 @@ pub struct StepWriter {
 impl StepWriter {
     ghost use Rattle.pe_vectors.specs.Devices.{taken_by, room_of, failed_writes, step_of_writes, next_write, failing_write};
 
-    /// A sink that takes at most `step` bytes per call, and `room` in all, which is allocated here. The call with the number
-    /// `failing`, counted from 0, fails and takes none.
+    /// A sink that takes at most `step` bytes per call, and `room` in all, which is allocated here; later nothing is. The call with
+    /// the number `failing`, counted from 0, fails and takes none.
     pub fn new(
         alloc: Global,
         room: usize,

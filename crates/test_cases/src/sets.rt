@@ -50,7 +50,7 @@ fn add_word<'a, R: Files + AllocGlobal>(
     edit(rt.alloc(), &mut set.members.last_mut()?.file, word)
 }
 
-/// The set of a case, or `None` if one of its words has no meaning.
+/// The set of a case, or `None` if one of its words cannot be carried out.
 pub(crate) fn read_set<'a, R: Files + AllocGlobal>(rt: &R, words: &'a str) -> Option<SetCase<'a>> {
     let mut set = SetCase {
         members: Vec::new(rt.alloc()),

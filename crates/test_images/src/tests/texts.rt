@@ -88,7 +88,7 @@ fn is_text(found: Option<&[u8]>, expected: Option<(usize, u8)>) -> bool {
     }
 }
 
-/// Index `index` of the sequence that counts up to `count` and then back.
+/// Element `index` of the sequence that counts from 0 up to `count - 1` and then back to 0.
 fn there_and_back(index: usize, count: usize) -> usize
     requires { index < 2 * count }
     ensures { result < count }
