@@ -84,8 +84,8 @@ impl SectionHeader {
         }
     }
 
-    /// How many of these bytes, from the first on, come from the file: 0 if PointerToRawData is 0, otherwise the smaller of the
-    /// extent and SizeOfRawData.
+    /// How many bytes of the section, from the first on, come from the file: 0 if PointerToRawData is 0, otherwise the smaller of
+    /// the extent and SizeOfRawData.
     pub fn rawlen(&self) -> u32
         ensures { result ≡ rawlen self.now }
     {

@@ -34,8 +34,8 @@ pub fn lay_out(file: &[u8], number: u16) -> Result<Layout<'_>, Fault>
     Layout::new(View::new(file), number)
 }
 
-/// Reads all tables of a layout. It does not use [`crate::read_tables`], whose record of options takes room that each call would
-/// have to clear.
+/// Reads all tables of a layout, or returns the first of faults 16 to 38. It does not use [`crate::read_tables`], whose record of
+/// options takes room that each call would have to clear.
 fn read_whole<A: Allocator + Copy>(alloc: A, layout: Layout<'_>) -> Result<Image<'_, A>, TableError>
     ensures { AnswersOrWants (table_tests (image_of layout.entry)) (HoldsTablesOf layout.entry) result }
 {

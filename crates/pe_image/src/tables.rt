@@ -48,8 +48,8 @@ fn tables_before<'a, A: Allocator>(
     }
 }
 
-/// Reads an image's tables up to the first with a fault: exports, imports, and base relocations, which may not overlap import
-/// address table entries.
+/// Reads an image's tables up to the first with a fault: exports, imports, and base relocations, whose fields may not overlap
+/// import address table entries.
 ///
 /// Faults are tested table by table (16 to 22, 24 to 32, 33 to 38); tables after the first fault are not read. The only error is
 /// out of memory; then all memory is freed. ("PE Format": The .edata Section, The .idata Section, The .reloc Section.)
@@ -80,7 +80,7 @@ pub fn read_tables<'a, A: Allocator + Copy>(
 }
 
 /// The base relocations of an image, or the first fault of the imports (24 to 32) and then of the base relocation table (33 to
-/// 38), or out of memory. Imports are read first, since no fixup may overlap an import address table entry. ("PE Format": The
+/// 38), or out of memory. Imports are read first, since no field may overlap an import address table entry. ("PE Format": The
 /// .reloc Section.)
 pub fn read_relocations<A: Allocator + Copy>(
     alloc: A,

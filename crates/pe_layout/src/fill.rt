@@ -121,8 +121,8 @@ impl<'a> Layout<'a> {
         }
     }
 
-    /// All SizeOfImage bytes of the image, in a new vector. Each is written once: raw data is copied, and zero fill cleared. The
-    /// error is out of memory.
+    /// All SizeOfImage bytes of the image, in a new vector. Each is written once: bytes of the file are copied, and the others
+    /// cleared. The error is out of memory.
     #[tactic(auto, unfolding(crate::specs::Layout::image_of))]
     pub fn bytes<A: Allocator + Copy>(&self, alloc: A) -> Result<Vec<u8, A>, AllocError>
         ensures { IfOk result (λ bytes. bytes.items ≡ bytes_at (image_of self.now) 0 (image_of self.now).size) }

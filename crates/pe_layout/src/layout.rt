@@ -11,7 +11,7 @@ use pe_view::{Fault, View};
 
 /// An image as its headers and sections lay it out: SizeOfImage bytes, each from the headers or a section's raw data, or 0.
 ///
-/// RVAs count bytes from the beginning of the image. No call allocates.
+/// RVAs count bytes from the beginning of the image. Only [`Layout::bytes`] and [`Layout::text_at`] allocate.
 #[derive(Debug, Drop)]
 pub struct Layout<'a> {
     pub(crate) view: View<'a>,

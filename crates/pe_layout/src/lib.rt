@@ -1,7 +1,7 @@
 //! An image laid out in memory: the byte, and the zero-terminated string, at each RVA.
 //!
-//! A [`Layout`] borrows the file and holds its headers. It copies nothing and allocates nothing, except for the ends of strings
-//! that [`Layout::text_at`] keeps:
+//! A [`Layout`] borrows the file and holds its headers. Only [`Layout::bytes`] allocates, and [`Layout::text_at`] for the ends of
+//! strings that it keeps:
 //!
 //! ```text
 //! let layout = Layout::new(View::new(file), 0)?;

@@ -41,8 +41,8 @@ pub(crate) enum Spot<'s> {
 
 /// The index of the first section that ends after an RVA, or the number of sections.
 ///
-/// A binary search finds the last section that begins at or before the RVA. Only its end is compared: earlier sections end before
-/// it begins.
+/// A binary search finds the last section that begins at or before the RVA. Only its end is compared: earlier sections end at or
+/// before its beginning.
 fn first_ending_after(sections: &[SectionHeader], rva: u32) -> usize
     requires { LieApart sections.now }
     ensures bound { result ≤ length sections.now }

@@ -63,7 +63,7 @@ fn push_number<A: Allocator>(bytes: &mut Vec<u8, A>, number: Number) -> Result<(
     bytes.extend_from_slice(&room[..width])
 }
 
-/// Appends the bytes of numbers in sequence, the lowest byte of each first. It fails only if it cannot allocate room for all of
+/// Appends the bytes of numbers in sequence, the lowest byte of each first. It fails only if the capacity is too small for all of
 /// them; then the bytes of some may have been appended.
 pub fn push_numbers<A: Allocator>(
     bytes: &mut Vec<u8, A>,
@@ -79,7 +79,8 @@ pub fn push_numbers<A: Allocator>(
     Ok(())
 }
 
-/// Writes the bytes of numbers in sequence, the lowest byte of each first. Inlined, since callers know the widths.
+/// Writes the bytes of numbers in sequence into `room`, which they fill, the lowest byte of each first. Inlined, since callers know
+/// the widths.
 #[inline(always)]
 pub fn write_numbers(room: &mut [u8], numbers: &[Number])
     requires { length room.old ≡ numbers_size numbers.now }
@@ -92,8 +93,8 @@ pub fn write_numbers(room: &mut [u8], numbers: &[Number])
     }
 }
 
-/// Appends the bytes of numbers that take `N` bytes together, as [`push_numbers`] does, but all at once. It fails only if it
-/// cannot allocate room for them. Inlined, since callers know the widths.
+/// Appends the bytes of numbers that take `N` bytes together, as [`push_numbers`] does, but all at once. It fails only if the
+/// capacity is too small for them. Inlined, since callers know the widths.
 #[inline(always)]
 pub fn push_record<const N: usize, A: Allocator>(
     bytes: &mut Vec<u8, A>,

@@ -35,6 +35,6 @@ Adds old new at back = MatchOption back
 abbrev pub EndsSo : List Module → Resolution → Stand → Type 0
 EndsSo s end at = (p : ℕ × Key) × (at ≡ stand_of p) × EndsFrom s end p
 
--- all searches that pass a place of its path end as it does
+-- if a search ends, all searches that pass a place of its path end as it does
 abbrev pub LeadsTo : List Module → List ℕ → Key → Resolution → List Stand → Type 0
 LeadsTo s name key end path = (n : ℕ) → resolve_in n s name key ≡ Some end → (i : ℕ) (at : Stand) → slice_get path i ≡ Some at → EndsSo s end at

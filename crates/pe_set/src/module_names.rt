@@ -64,8 +64,8 @@ impl<A: Allocator + Copy> Names<A> {
         Ok(Names { names, longest })
     }
 
-    /// The beginning of a name that is looked up: one byte more than the longest name of the set. A longer name matches none, and
-    /// neither does its beginning, so no file can make a look-up read more.
+    /// The beginning of a name that is looked up: at most one byte more than the longest name of the set. A longer name matches
+    /// none, and neither does its beginning, so no file can make a look-up read more.
     pub fn beginning<'n>(&self, name: &'n [u8]) -> &'n [u8]
         ensures { result.now ≡ take (self.now.longest + 1) name.now }
     {

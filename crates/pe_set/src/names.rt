@@ -32,8 +32,8 @@ fn has_name(entries: &[SetEntry], name: &[u8]) -> bool
     false
 }
 
-/// Tests faults 41 and 42: an entry too many, and an entry whose name matches that of an earlier one. Every name is compared with
-/// those before it, 256 at most, and nothing is allocated.
+/// Tests faults 41 and 42: an entry too many, and an entry whose name matches that of an earlier one. Each of at most 256 names
+/// is compared with those before it, and nothing is allocated.
 pub(crate) fn check_names(set: &[SetEntry]) -> Result<(), MapError>
     ensures exact { ClassAnswers (names_tests (entries_of set.now)) (λ _. Unit {0}) result }
     ensures no_memory { result ≢ Err MapError.Memory }

@@ -81,8 +81,8 @@ fn target_of<'a, A: Allocator + Copy>(
 }
 
 /// How the search for an import of the image with this layout ends. `image` is the number of the image with the name of its module,
-/// and `place` the RVA of the import's name, if that is long and the RVA is known. The forwarders that the search passes are added to
-/// the path, which is empty before, up to the first one whose end is known. `buffer` is scratch space for names.
+/// and `place` the RVA of the import's name, if that is long and the RVA is known. The forwarders that the search passes are added
+/// to the path, which is empty before, up to the first one whose end is known. `buffer` is scratch space for names.
 ///
 /// A search that comes to a forwarder of its path runs in a cycle, which is as long as that is back.
 fn search<'a, A: Allocator + Copy>(
@@ -138,8 +138,8 @@ fn search<'a, A: Allocator + Copy>(
 }
 
 /// How the search for an import of the image with this layout ends. `image` is the number of the image with the name of its module,
-/// and `place` the RVA of the import's name, if that is long and the RVA is known. Unless it is a cycle, the end is remembered for the
-/// forwarders that the search passed. `buffer` is scratch space for names.
+/// and `place` the RVA of the import's name, if that is long and the RVA is known. Unless it is a cycle, the end is remembered for
+/// the forwarders that the search passed. `buffer` is scratch space for names.
 pub(crate) fn resolve<'a, A: Allocator + Copy>(
     modules: &[Module<'a, A>],
     names: &Names<A>,

@@ -19,7 +19,8 @@ use std::collections::BTreeMap;
 /// The trails of the long names of one image's imports, in each exporter.
 ///
 /// Names that are ends of one string share a trail, so each block of 256 bytes of the string is looked up once in an exporter, and
-/// each name costs log n steps and fewer than 512 bytes more. A trail takes 16 bytes for each block of its longest name.
+/// each name costs log n steps and fewer than 512 bytes more. A trail has an entry of 16 bytes for each block of its
+/// longest name.
 #[derive(Drop)]
 pub(crate) struct Trails<A: Allocator> {
     alloc: A,
@@ -56,8 +57,8 @@ impl<A: Allocator + Copy> Trails<A> {
         }
     }
 
-    /// What image `number` exports by the name at an RVA of the image with this layout. If memory for the trail is refused, the names
-    /// that follow start another.
+    /// What image `number` exports by the name at an RVA of the image with this layout. If memory for the trail is refused, the
+    /// names that follow start another.
     #[inline(never)]
     pub fn look_up<'a>(
         &mut self,

@@ -1,4 +1,4 @@
--- What an export table exports, by RVA ("PE Format", The .edata Section).
+-- What an export table exports, by the indexes of its names and entries ("PE Format", The .edata Section).
 use Rattle.std.specs.Prelude.{◌≡◌, ◌≢◌, ◌<◌, ℕ, ◌+◌, List, Option, Some}
 use Rattle.pe_head.specs.declared.directory.Directory.{Directory}
 use Rattle.pe_layout.specs.Image.{LaidOut}

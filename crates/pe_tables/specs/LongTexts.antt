@@ -47,7 +47,7 @@ module _ {A : Type 0} where
     pub fresh : (n c : ℕ) (bytes : List ℕ) → longer new n bytes ≡ Some c → (longer old n bytes ≡ Some c) ⊎ (length old ≤ c)
     pub targets : (n : ℕ) (bytes : List ℕ) → held_at new n bytes ≡ held_at old n bytes
 
-  -- the nodes to which the last blocks of a string lead, in order from its end, as far as there are nodes
+  -- the last blocks of a string lead to the nodes of a path, in order from its end, as far as both go
   abbrev pub Leads : List (Node A) → List ℕ → List ℕ → Type 0
   Leads nodes text path = (k : ℕ) → k ≤ length path → 256 * k ≤ length text → node_of nodes text k ≡ Some (slice_index_or (0 ∷ path) k 0)
 

@@ -95,8 +95,8 @@ fn push_list<A: Allocator>(
     Ok(())
 }
 
-/// The RVA of the name of each import of an image, in table order, or 0 for an import by ordinal. Imports with one RVA have one
-/// name, so that it need not be compared.
+/// The RVA of the name of each import of an image, in table order, or 0 for an import by ordinal. Imports with the same
+/// name RVA have the same name, which need not be compared.
 ///
 /// It reads the table as `read_imports` does, but tests no fault. ("PE Format", Hint/Name Table.)
 pub fn import_name_rvas<A: Allocator>(alloc: A, layout: &Layout) -> Result<Vec<u32, A>, AllocError>

@@ -25,7 +25,7 @@ pub(crate) struct Node<'a, A: Allocator> {
     pub targets: BTreeMap<&'a [u8], Option<Target<'a>>, A>,
 }
 
-/// What each of some strings exports, if anything, by the string; for long strings, of which many may end alike.
+/// What each of some strings exports, or that it exports nothing, by the string; for long strings, of which many may end alike.
 ///
 /// A string is stored as its blocks of 256 bytes, counted from its end, and the bytes before them.
 #[derive(Drop)]

@@ -21,7 +21,7 @@ pub(crate) struct NameIndex<'a, A: Allocator> {
     pub exports: Vec<(&'a [u8], Target<'a>), A>,
     /// The ordinal of each of these.
     pub ordinals: Vec<u64, A>,
-    /// What each name of less than a block exports, if anything.
+    /// What each name of less than a block exports, or that it exports nothing.
     pub short: TextMap<'a, A>,
     /// The same for each longer name.
     pub long: LongTexts<'a, A>,

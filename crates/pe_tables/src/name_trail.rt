@@ -9,7 +9,7 @@ use std::alloc::Allocator;
 /// a file that have one end. A shorter name has the same last blocks, so [`crate::Exports::by_name_along`] reads only the bytes
 /// before them.
 ///
-/// It takes 16 bytes for each block.
+/// It has an entry of 16 bytes for each block.
 #[derive(Drop)]
 pub struct NameTrail<A: Allocator> {
     /// The node after each block, if the index has one.

@@ -8,7 +8,7 @@ use crate::key::Target;
 use std::alloc::{AllocError, Allocator};
 use std::collections::BTreeMap;
 
-/// What each of some strings exports, if anything, by the string.
+/// What each of some strings exports, or that it exports nothing, by the string.
 ///
 /// The strings of most tables ascend; then they are all in one run, and only its end is compared with the next one.
 #[derive(Drop)]

@@ -1,4 +1,4 @@
--- The first fault of a list of tests, part by part; proofs of all crates use it.
+-- The first fault of a list of tests, part by part; proofs of many crates use it.
 use Rattle.std.proofs.Common.{◌≡◌, ℕ, zero, suc, ◌+◌, ◌-◌, ◌≤◌, Bool, true, false, cond, List, [], ◌∷◌, ◌++◌, drop, Option, Some, None, refl, sym, ap, ◌∙◌, arith}
 use Rattle.std.specs.Prelude.{slice_range, slice_get}
 use Rattle.std.specs.Option.{option_or}

@@ -5,7 +5,7 @@ use Rattle.std.specs.BTreeMap.{get}
 use Rattle.pe_view.specs.Number.{byte_of}
 use Rattle.pe_view.specs.declared.text_ends.TextEnds.{TextEnds}
 
--- no byte between two offsets of a file is zero
+-- no byte of a file from `start` up to `end` is zero
 abbrev pub HasNoZero : List ℕ → ℕ → ℕ → Type 0
 HasNoZero file start end = (offset : ℕ) → start ≤ offset → offset < end → byte_of file offset ≢ 0
 

@@ -8,7 +8,7 @@ use std::alloc::{AllocError, AllocFailed};
 /// Why a call that allocates returns no value.
 #[derive(Clone, Copy, Debug, PartialEq, Eq)]
 pub enum Refusal {
-    /// The file breaks a rule of the format; this is the first fault.
+    /// A rule of the format is broken; this is the first fault.
     Fault(Fault),
     /// An allocation failed.
     Memory,

@@ -104,8 +104,8 @@ impl<A: Allocator + Copy> TextEnds<A> {
         }
     }
 
-    /// The first zero byte from `offset` on if it is before `end`, otherwise an offset that is not before `end`; no byte from
-    /// `offset` up to the result is zero.
+    /// The offset of the first zero byte from `offset` on if it is before `end`, otherwise an offset that is not before `end`; no
+    /// byte from `offset` up to the result is zero.
     fn zero_from(&mut self, view: View<'_>, offset: u64, end: u64) -> u64
         requires known { AreEndsOf (bytes_of view) self.old }
         requires before { offset < end }

@@ -1,4 +1,4 @@
--- The first zero byte is among the first bytes, or is found from the end of the range on.
+-- The first zero byte is among the first bytes, or `zero_from` finds it or that there is none.
 use Rattle.std.proofs.Common.{◌≡◌, ◌+◌, ◌-◌, ℕ, List, Option, None, Some, length, sym, ap, ◌∙◌, arith}
 use Rattle.std.specs.Prelude.{option_map, IsSome, IfSome}
 use Rattle.std.specs.Borrow.{Bor}
