@@ -206,8 +206,8 @@ fn relocation_count(sections: &[FileSection]) -> usize {
     count
 }
 
-/// Adds the relocations of an object, section by section, if the options select them. After a write that failed no further section is
-/// read: all sections may share the same relocations.
+/// Adds the relocations of an object, section by section, if the options select them. After a write that failed no further section
+/// is read: all sections may share the same relocations.
 pub(crate) fn write_relocations<A: Allocator + Copy, W: Sink>(
     text: &mut TextWriter<W>,
     options: &ShowOptions,
