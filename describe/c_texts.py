@@ -1,8 +1,8 @@
-"""What is written for C: the structs of petool.h, layout.c, and the names that the linker exports."""
+"""What is written for C: the enums and structs of petool.h, layout.c, and the names that the linker exports."""
 
 from typing import List
 
-from description import Call, Description, Field, Parameter, Record
+from description import Call, Description, Field, Parameter, Record, Values
 
 NUMBERS = {"usize": "size_t", "bool": "bool", "char": "char", **{f"u{bits}": f"uint{bits}_t" for bits in (8, 16, 32, 64)}}
 POINTERS = {"bytes": "const uint8_t *", "state": "void *"}
@@ -52,18 +52,29 @@ def struct(record: Record) -> List[str]:
     """A struct of petool.h, whose comments begin in one column."""
     groups = _line_groups(record)
     lines = [f"{type_of(group[0].item())}{', '.join(map(_declared, group))};" for group in groups]
-    comments = list(map(_comment, groups))
-    width = max((len(line) for line, comment in zip(lines, comments) if comment), default=0)
-    rows = [f"    {line:<{width}} /* {comment} */" if comment else f"    {line}" for line, comment in zip(lines, comments)]
     name = f"petool_{record.name}"
-    return [f"typedef struct {name} {{", *rows, f"}} {name};"]
+    return [f"typedef struct {name} {{", *_commented(lines, list(map(_comment, groups))), f"}} {name};"]
 
 
-def structs(description: Description, what: str) -> List[str]:
-    """The structs of these names, with a blank line between two."""
+def _commented(lines: List[str], comments: List[str]) -> List[str]:
+    """The lines in braces, with their comments in one column; an empty comment is left out."""
+    width = max((len(line) for line, comment in zip(lines, comments) if comment), default=0)
+    return [f"    {line:<{width}} /* {comment} */" if comment else f"    {line}" for line, comment in zip(lines, comments)]
+
+
+def enum(found: Values) -> List[str]:
+    """An enum of petool.h, whose comments begin in one column."""
+    *lines, last = [f"{found.prefix}{it.name} = {it.number}" for it in found.values]
+    comments = [it.meaning if it.comment is None else it.comment for it in found.values]
+    return ["enum {", *_commented([*(f"{line}," for line in lines), last], comments), "};"]
+
+
+def declarations(description: Description, what: str) -> List[str]:
+    """The enums and structs of these names, with a blank line between two."""
     lines: List[str] = []
     for name in what.split(", "):
-        lines += ([""] if lines else []) + struct(description.records[name])
+        lines += [""] if lines else []
+        lines += enum(description.values[name]) if name in description.values else struct(description.records[name])
     return lines
 
 

@@ -27,6 +27,9 @@ FAULTS = "describe/faults.txt"
 HEADER = "bindings/c/petool.h"
 RUST = "bindings/rust/petool-sys/src/lib.rs"
 PACKAGE = "bindings/python/petool"
+#: The modules of the package that have values, or classes with the fields of records.
+MODULES = ("_fault", "_image", "_library", "_object", "_space")
+MAN = "man/petool.h.3"
 JSON = "docs/JSON.md"
 FAULTS_PAGE = "docs/FAULTS.md"
 
@@ -42,17 +45,16 @@ WHOLE = {
 
 def rust_part(description, what):
     """A part of the crate petool-sys, with a blank line at both ends."""
-    return ["", *{"records": rust_texts.records, "calls": rust_texts.calls}[what](description), ""]
+    form = {"values": rust_texts.values, "records": rust_texts.records, "calls": rust_texts.calls}[what]
+    return ["", *form(description), ""]
 
 
 #: The files of which parts are written from the records, each between two comments.
 PARTS = {
-    HEADER: c_texts.structs,
+    HEADER: c_texts.declarations,
     RUST: rust_part,
-    f"{PACKAGE}/_image.py": python_texts.row_fields,
-    f"{PACKAGE}/_object.py": python_texts.row_fields,
-    f"{PACKAGE}/_space.py": python_texts.row_fields,
-    "man/petool.h.3": lambda description, _: page_texts.synopsis(description),
+    **{f"{PACKAGE}/{module}.py": python_texts.module_part for module in MODULES},
+    MAN: lambda description, _: page_texts.synopsis(description),
     JSON: page_texts.json_part,
     "docs/C.md": page_texts.c_part,
 }
@@ -103,14 +105,14 @@ def difference(description, faults, path):
 
 
 def parts(description):
-    """The parts that files must have: each record in petool.h, each table in JSON.md, the fields of each class in Python."""
-    records = description.records
-    yield HEADER, list(records)
+    """The parts that files must have: each enum and record in petool.h, each table in JSON.md, what each module of Python has."""
+    declared = {**description.values, **description.records}
+    yield HEADER, list(declared)
     yield JSON, [it.name for it in description.objects.values() if not it.kind_of and not it.is_in_words]
-    yield RUST, ["records", "calls"]
-    yield "docs/C.md", ["calls", "fields"]
-    for module in sorted({it.python_module for it in records.values()} - {""}):
-        yield f"{PACKAGE}/{module}.py", [name for name, it in records.items() if it.python_module == module]
+    yield RUST, ["values", "records", "calls"]
+    yield "docs/C.md", ["statuses", "calls", "fields"]
+    for module in sorted({it.python_module for it in declared.values()} - {""} | {*MODULES}):
+        yield f"{PACKAGE}/{module}.py", [name for name, it in declared.items() if it.python_module == module]
 
 
 def misplaced(description):
@@ -139,6 +141,8 @@ def comparisons(description, faults):
     yield list(wrong_parts(FAULTS_PAGE, regions.parts(read(FAULTS_PAGE), FAULTS), fault_texts.parts(faults)))
     yield missing_sources(faults)
     yield rattle_sources.prototype_faults(description, HEADER, read(HEADER))
+    yield rattle_sources.status_faults(description, MAN, read(MAN))
+    yield rattle_sources.value_faults(description, sources("pe_records_c"))
     yield rattle_sources.record_faults(description, sources("pe_records_c", "pe_handle", "pe_opened"))
     yield rattle_sources.call_faults(description, sources("petool_c"))
     yield rattle_sources.key_faults(description, sources("pe_json"))

@@ -1,4 +1,4 @@
-"""What records.txt says: records with their fields, calls with their parameters, and objects of JSON with their members."""
+"""What records.txt says: values, records with their fields, calls with their parameters, objects of JSON with their members."""
 
 import re
 from dataclasses import dataclass, field
@@ -53,6 +53,40 @@ class Record:
     def camel(self) -> str:
         """Its name in Rust and Python."""
         return "".join(word.capitalize() for word in self.name.split("_"))
+
+
+@dataclass
+class Value:
+    """A value of an enum."""
+
+    name: str  #: without what begins all names of the enum
+    number: str  #: as it is written
+    meaning: str
+    comment: Optional[str] = None  #: in C, Rust and Python; empty for none in C, None for the meaning
+    source_name: str = ""  #: its name in the source, if it is another
+
+    def in_words(self) -> str:
+        """What Rust and Python say of it."""
+        return self.comment or self.meaning
+
+    def in_source(self) -> Tuple[str, str]:
+        """Its name in the source, in capitals, and its number."""
+        return self.source_name or self.name, self.number
+
+
+@dataclass
+class Values:
+    """An enum of petool.h."""
+
+    name: str
+    prefix: str  #: what begins the names in C and Rust
+    type: str  #: in Rust
+    values: List[Value] = field(default_factory=list)
+    source: str = ""  #: which has the same numbers
+    form: str = ""  #: of a value in the source: with NAME, NUMBER, and _ for any word
+    rust: str = ".."  #: the sentence in which Rust says a meaning
+    python_module: str = ""
+    python_prefix: str = ""
 
 
 @dataclass
@@ -130,6 +164,7 @@ class Description:
     """All that records.txt says. Mistake if a line has none of its forms, or names what does not exist."""
 
     def __init__(self, text: str) -> None:
+        self.values: Dict[str, Values] = {}
         self.records: Dict[str, Record] = {}
         self.calls: List[Call] = []
         self.objects: Dict[str, Object] = {}
@@ -145,10 +180,11 @@ class Description:
         self._check()
 
     def _heading(self, line: str) -> None:
-        """A line that begins something: a group, a record, the library, an argument, calls, an object or a kind of one."""
+        """A line that begins something: a group, values, a record, the library, an argument, calls, an object or a kind of one."""
         word, rest = line.split(" ", 1)
         begin = {
             "group": self._begin_group,
+            "values": self._begin_values,
             "record": self._begin_record,
             "row": self._begin_row,
             "library": self._name_library,
@@ -161,6 +197,12 @@ class Description:
 
     def _begin_group(self, rest: str) -> None:
         self._group = rest
+
+    def _begin_values(self, rest: str) -> None:
+        name, prefix, kind = _matched(r"(\w+) = (\w+) (u\d+)", rest)
+        self.size(kind)
+        self._values = self.values[name] = Values(name, prefix, kind)
+        self._read = self._value
 
     def _begin_record(self, rest: str, is_row: bool = False) -> None:
         name, struct = rest.split(" = ")
@@ -191,6 +233,29 @@ class Description:
         name, kind_of = head.split(" of ")
         self._object = self.objects[f"{kind_of}.{name}"] = Object(name, kind_of, "".join(about))
         self._read = self._member
+
+    def _value(self, line: str) -> None:
+        first, _, rest = line.strip().partition(" ")
+        if first == "/":
+            self._values.values[-1].comment = "" if rest == "-" else rest
+        elif first == "rust":
+            self._values.rust = rest
+        elif first == "python":
+            self._values.python_module, self._values.python_prefix = _matched(r"in (\w+)(?: as (\w+))?", rest)
+        elif first == "source" and rest.startswith("in "):
+            self._values.source, self._values.form = _matched(r"in (\S+) as (.*\bNAME\b.*\bNUMBER\b.*)", rest)
+        elif first == "source":
+            self._values.values[-1].source_name = rest
+        else:
+            name, number, meaning = COLUMNS.split(line.strip(), maxsplit=2)
+            self._add_value(Value(name, number, meaning))
+
+    def _add_value(self, it: Value) -> None:
+        if any(it.name == other.name or int(it.number, 0) == int(other.number, 0) for other in self._values.values):
+            raise Mistake(f"{it.name} or {it.number} stands twice")
+        if int(it.number, 0) not in range(256 ** SIZES[self._values.type]):
+            raise Mistake(f"{it.number} does not fit {self._values.type}")
+        self._values.values.append(it)
 
     def _about(self, line: str) -> None:
         self._record.about = line.strip()
@@ -250,9 +315,12 @@ class Description:
             self._object.members.append(Member(shown, kind, meaning))
 
     def _check(self) -> None:
-        """Checks that each type is known, and that each key of a field is one of the object that it names."""
-        if not (self.records and self.calls and self.objects):
-            raise Mistake("it has no records, no calls or no objects")
+        """Checks that each enum has values, each type is known, and each key of a field is one of the object that it names."""
+        if not ("statuses" in self.values and self.records and self.calls and self.objects):
+            raise Mistake("it has no statuses, no records, no calls or no objects")
+        for values in self.values.values():
+            if not (values.values and values.form):
+                raise Mistake(f"{values.name} has no values, or no source")
         for record in self.records.values():
             for it in record.fields:
                 self.size(it.type)
@@ -312,7 +380,7 @@ def _matched(form: str, text: str) -> Tuple[str, ...]:
     """The groups of a match; Mistake if the string does not match."""
     found = re.fullmatch(form, text)
     if found is None:
-        raise Mistake("it has not the form of a call")
+        raise Mistake(f"it has not the form {form}")
     return tuple(it or "" for it in found.groups())
 
 

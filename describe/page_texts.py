@@ -1,4 +1,4 @@
-"""What is written for the documents: the manual page's synopsis, the tables of JSON.md, the fields in C.md."""
+"""What is written for the documents: the manual page's synopsis, the tables of JSON.md, the statuses and fields in C.md."""
 
 import re
 from typing import Dict, List, Tuple
@@ -86,6 +86,13 @@ def json_part(description: Description, what: str) -> List[str]:
     return _table(description.objects[what])
 
 
+def _statuses_table(description: Description) -> List[str]:
+    """The statuses with their numbers."""
+    found = description.values["statuses"]
+    rows = [f"| `{found.prefix}{it.name}` | {it.number} | {it.meaning} |" for it in found.values]
+    return ["| Status | Value | Means |", "|---|---|---|", *rows]
+
+
 def _calls_table(description: Description) -> List[str]:
     """The faults and the memory of the calls; calls that have the same share a row."""
     rows: Dict[Tuple[str, str], List[str]] = {}
@@ -111,4 +118,4 @@ def _fields_table(description: Description) -> List[str]:
 
 def c_part(description: Description, what: str) -> List[str]:
     """A part of docs/C.md."""
-    return {"calls": _calls_table, "fields": _fields_table}[what](description)
+    return {"statuses": _statuses_table, "calls": _calls_table, "fields": _fields_table}[what](description)

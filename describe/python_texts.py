@@ -1,8 +1,8 @@
-"""What is written for the Python package petool: the module _records, and the fields of its row classes."""
+"""What is written for the Python package petool: the module _records, the fields of its row classes, and its values."""
 
 from typing import List
 
-from description import Call, Description, Field, Mistake, Parameter, Record
+from description import Call, Description, Field, Mistake, Parameter, Record, Values
 
 WIDTH = 120
 NUMBERS = {"bool": "c_bool", "char": "c_char", "int": "c_int", "usize": "c_size_t", **{f"u{bits}": f"c_uint{bits}" for bits in (8, 16, 32, 64)}}
@@ -93,10 +93,26 @@ def _public_type(it: Field) -> str:
     return "bytes" if it.item() == "u8" and "[" in it.type else {"text": "bytes", "bool": "bool"}.get(it.type, "int")
 
 
-def row_fields(description: Description, what: str) -> List[str]:
+def _row_fields(description: Description, record: Record) -> List[str]:
     """The fields of the class of a row."""
     lines = []
-    for it in _ordered(description, description.records[what]):
+    for it in _ordered(description, record):
         name, kind, meaning = it.python
         lines.append(f"{name or it.name}: {kind or _public_type(it)}  #: {meaning or it.meaning}")
     return lines
+
+
+def _number(text: str) -> str:
+    """A number with the letters of hexadecimal digits in capitals."""
+    return text.upper().replace("0X", "0x")
+
+
+def _values(found: Values) -> List[str]:
+    return [f"{found.python_prefix}{it.name} = {_number(it.number)}  #: {it.in_words()}" for it in found.values]
+
+
+def module_part(description: Description, what: str) -> List[str]:
+    """A part of a module: the values of an enum, or the fields of a class."""
+    if what in description.values:
+        return _values(description.values[what])
+    return _row_fields(description, description.records[what])

@@ -1,15 +1,16 @@
-"""Sources that are compared with the description and not written: the records and calls of the crates and the keys of pe_json,
-since proofs depend on them, and the prototypes of petool.h, which follow comments that say what each call returns.
+"""Sources that are compared with the description and not written: the values, records and calls of the crates and the keys of
+pe_json, since proofs depend on them; the prototypes of petool.h, which follow comments that say what each call returns; and the
+statuses in the manual page, which says more of each.
 
 Each comparison returns what differs, and nothing if a source agrees. A source in which nothing is found differs.
 """
 
 import pathlib
 import re
-from typing import Dict, List, Set, Tuple
+from typing import Dict, List, Optional, Sequence, Set, Tuple
 
 from c_texts import prototype
-from description import Call, Description, Record
+from description import Call, Description, Record, Values
 
 #: The fields in C of a record that is one slice.
 TEXT = [("at", "bytes"), ("len", "usize")]
@@ -55,12 +56,14 @@ def structs_of(sources: Dict[str, str]) -> Dict[str, Tuple[str, str]]:
     return {found[1]: (file, found[2]) for file, text in sources.items() for found in form.finditer(_without_comments(text))}
 
 
+def _first_difference(found: Sequence[object], described: Sequence[object]) -> Optional[Tuple[object, object]]:
+    """The first item that differs, and what is described in its place; None if nothing does."""
+    return next((pair for pair in zip([*found, None], [*described, None]) if pair[0] != pair[1]), None)
+
+
 def _record_faults(record: Record, file: str, found: List[Tuple[str, str]]) -> List[str]:
-    described = [(it.name.rstrip("_"), it.type) for it in record.fields]
-    if found == described:
-        return []
-    rows = [(one, other) for one, other in zip([*found, None], [*described, None]) if one != other]
-    return [f"{file}: {record.struct} has {rows[0][0]}, and petool_{record.name} {rows[0][1]}"]
+    differs = _first_difference(found, [(it.name.rstrip("_"), it.type) for it in record.fields])
+    return [f"{file}: {record.struct} has {differs[0]}, and petool_{record.name} {differs[1]}"] if differs else []
 
 
 def record_faults(description: Description, sources: Dict[str, str]) -> List[str]:
@@ -75,6 +78,32 @@ def record_faults(description: Description, sources: Dict[str, str]) -> List[str
         else:
             faults.append(f"crates: there is no struct {record.struct} for petool_{record.name}")
     return faults
+
+
+def _value_form(form: str) -> str:
+    """The pattern of a value in a source, with its name and its number as groups."""
+    words = {"NAME": r"(\w+)", "NUMBER": r"(\w+)", "_": r"\w+"}
+    parts = re.split(r"(\b(?:NAME|NUMBER|_)\b|\s+)", form)
+    return "".join(r"\s+" if part.isspace() else words.get(part) or re.escape(part) for part in parts)
+
+
+def _value_faults(values: Values, source: str) -> List[str]:
+    found = re.findall(_value_form(values.form), _without_comments(source))
+    differs = _first_difference([(name.upper(), number) for name, number in found], [it.in_source() for it in values.values])
+    return [f"{values.source}: it has {differs[0]}, and {values.name} {differs[1]}"] if differs else []
+
+
+def value_faults(description: Description, sources: Dict[str, str]) -> List[str]:
+    """Whether the sources have the values that are described, in the same order. A source that does not exist has none."""
+    return [it for values in description.values.values() for it in _value_faults(values, sources.get(values.source, ""))]
+
+
+def status_faults(description: Description, file: str, page: str) -> List[str]:
+    """Whether the manual page has a paragraph for each status, in the same order."""
+    statuses = description.values["statuses"]
+    found = re.findall(rf"^\.B ({statuses.prefix}\w+)$", page, re.M)
+    differs = _first_difference(found, [f"{statuses.prefix}{it.name}" for it in statuses.values])
+    return [f"{file}: it has {differs[0]}, and {statuses.name} {differs[1]}"] if differs else []
 
 
 def _calls_in(sources: Dict[str, str]) -> Dict[str, Tuple[str, str, str]]:

@@ -1,10 +1,10 @@
-"""What is written for the crate petool-sys: its records, its calls and the test of their layout."""
+"""What is written for the crate petool-sys: its constants, its records, its calls and the test of their layout."""
 
 import re
 from typing import List
 
 from c_texts import RESULTS
-from description import Call, Description, Field, Parameter, Record
+from description import Call, Description, Field, Parameter, Record, Values
 from regions import wrapped
 
 WIDTH = 120
@@ -43,6 +43,22 @@ def _sentence(text: str) -> str:
     """A meaning as a sentence, with the header's names as code."""
     text = re.sub(r"(?<!`)\b(PETOOL_\w+)", r"`\1`", text)
     return text[0].upper() + text[1:].rstrip(".") + "."
+
+
+def _constants(found: Values) -> List[str]:
+    lines: List[str] = []
+    for it in found.values:
+        lines.append(f"/// {_sentence(found.rust.replace('..', it.in_words()))}")
+        lines.append(f"pub const {found.prefix}{it.name}: {found.type} = {it.number};")
+    return lines
+
+
+def values(description: Description) -> List[str]:
+    """The constants of all enums, with a blank line between two."""
+    lines: List[str] = []
+    for found in description.values.values():
+        lines += ([""] if lines else []) + _constants(found)
+    return lines
 
 
 def _item(description: Description, kind: str) -> str:

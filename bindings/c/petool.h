@@ -40,15 +40,17 @@ extern "C" {
 
 /* ---- statuses, texts, faults ---- */
 
+/* from describe/records.txt: statuses */
 enum {
     PETOOL_OK = 0,
-    PETOOL_FAULT = 1,    /* a rule of the format is broken: *fault says which, and where */
+    PETOOL_FAULT = 1,    /* a rule of the format is broken: `*fault` says which, and where */
     PETOOL_MEMORY = 2,   /* out of memory */
     PETOOL_ABSENT = 3,   /* bytes outside the image or the file, or no such string, export, section, image or fault */
     PETOOL_SMALL = 4,    /* too little room: the count says how much is needed */
     PETOOL_ARGUMENT = 5, /* an argument has a value that it may not have; nothing was done */
     PETOOL_CLOSED = 6    /* the image or the space is not open */
 };
+/* end of describe/records.txt */
 
 /* from describe/records.txt: text */
 typedef struct petool_text {
@@ -70,12 +72,14 @@ static inline petool_text petool_text_of(const char *string)
     return text;
 }
 
+/* from describe/records.txt: places */
 enum {
     PETOOL_PLACE_FILE = 0,    /* bytes of the file */
-    PETOOL_PLACE_RVA = 1,     /* bytes of the image */
+    PETOOL_PLACE_RVA = 1,     /* bytes of the laid-out image */
     PETOOL_PLACE_ADDRESS = 2, /* bytes of the address space */
     PETOOL_PLACE_ITEM = 3     /* items of a list */
 };
+/* end of describe/records.txt */
 
 /* from describe/records.txt: fault */
 typedef struct petool_fault {
@@ -154,7 +158,13 @@ uint32_t petool_locate(const uint8_t *file, size_t len, uint32_t rva, uint64_t *
 
 /* ---- an image: its tables ---- */
 
-enum { PETOOL_TARGET_RVA = 0, PETOOL_TARGET_ORDINAL = 1, PETOOL_TARGET_NAME = 2 };
+/* from describe/records.txt: targets */
+enum {
+    PETOOL_TARGET_RVA = 0,     /* an RVA of the image */
+    PETOOL_TARGET_ORDINAL = 1, /* an ordinal of another module */
+    PETOOL_TARGET_NAME = 2     /* a name of another module */
+};
+/* end of describe/records.txt */
 
 /* from describe/records.txt: target, export, import, fixup */
 typedef struct petool_target {
@@ -387,7 +397,13 @@ typedef struct petool_object_relocation {
 } petool_object_relocation;
 /* end of describe/records.txt */
 
-enum { PETOOL_SECTION_UNDEFINED = 0, PETOOL_SECTION_ABSOLUTE = 0xffff, PETOOL_SECTION_DEBUG = 0xfffe };
+/* from describe/records.txt: section_numbers */
+enum {
+    PETOOL_SECTION_UNDEFINED = 0,     /* the section number of a symbol that is defined in another object */
+    PETOOL_SECTION_ABSOLUTE = 0xffff, /* the section number of a symbol whose value is not an address */
+    PETOOL_SECTION_DEBUG = 0xfffe     /* the section number of a symbol for debuggers */
+};
+/* end of describe/records.txt */
 
 /* from describe/records.txt: object_symbol */
 typedef struct petool_object_symbol {

@@ -60,6 +60,50 @@ WRITTEN = [
     ("docs/C.md", "| `petool_fixup` | `field` | `uint32_t` | RVA |", "| `petool_fixup` | `field` | `uint32_t` | offset |"),
     ("packaging/debian/libpetool0.symbols", " petool_fixups@PETOOL_0 1.0\n", ""),
 ]
+#: Another number, another name, and two names exchanged, in each text that has values.
+STATUSES = "crates/pe_records_c/src/status.rt"
+VALUES_WRITTEN = [
+    ("bindings/c/petool.h", "PETOOL_ABSENT = 3,", "PETOOL_ABSENT = 4,"),
+    ("bindings/c/petool.h", "PETOOL_PLACE_RVA = 1,     /* bytes of", "PETOOL_PLACE_RVAS = 1,    /* bytes of"),
+    ("bindings/c/petool.h", "PETOOL_TARGET_NAME = 2 ", "PETOOL_TARGET_NAME = 3 "),
+    ("bindings/c/petool.h", "ABSOLUTE = 0xffff,", "ABSOLUTE = 0xfffe,"),
+    ("bindings/c/petool.h", "SMALL = 4,    /* too little room", "CLOSED = 4,   /* too little room"),
+    ("bindings/c/petool.h", "/* from describe/records.txt: places */\n", ""),
+    ("bindings/c/petool.h", "/* from describe/records.txt: places */", "/* from describe/records.txt: targets */"),
+    ("bindings/rust/petool-sys/src/lib.rs", "PETOOL_MEMORY: u32 = 2;", "PETOOL_MEMORY: u32 = 3;"),
+    ("bindings/rust/petool-sys/src/lib.rs", "PETOOL_MEMORY: u32 = 2;", "PETOOL_MEMORY: u16 = 2;"),
+    ("bindings/rust/petool-sys/src/lib.rs", "PETOOL_PLACE_ITEM: u32", "PETOOL_PLACE_ADDRESS: u32"),
+    ("bindings/rust/petool-sys/src/lib.rs", "PETOOL_TARGET_RVA: u32 = 0", "PETOOL_TARGET_RVA: u32 = 1"),
+    ("bindings/rust/petool-sys/src/lib.rs", "PETOOL_SECTION_DEBUG: u16", "PETOOL_SECTION_ABSOLUTE: u16"),
+    ("bindings/rust/petool-sys/src/lib.rs", "// from describe/records.txt: values\n", ""),
+    ("bindings/python/petool/_library.py", "SMALL = 4 ", "SMALL = 5 "),
+    ("bindings/python/petool/_library.py", "ARGUMENT = 5 ", "CLOSED = 5 "),
+    ("bindings/python/petool/_fault.py", "    RVA = 1 ", "    RVA = 2 "),
+    ("bindings/python/petool/_fault.py", "    FILE = 0 ", "    ITEM = 0 "),
+    ("bindings/python/petool/_fault.py", "    # from describe/records.txt: places\n", ""),
+    ("bindings/python/petool/_image.py", "_TARGET_NAME = 2 ", "_TARGET_NAME = 1 "),
+    ("bindings/python/petool/_image.py", "_TARGET_ORDINAL = 1 ", "_TARGET_NAME = 1 "),
+    ("bindings/python/petool/_object.py", "SECTION_DEBUG = 0xFFFE ", "SECTION_DEBUG = 0xFFFF "),
+    ("bindings/python/petool/_object.py", "SECTION_UNDEFINED = 0 ", "SECTION_DEBUG = 0 "),
+    ("docs/C.md", "| `PETOOL_SMALL` | 4 |", "| `PETOOL_SMALL` | 3 |"),
+    ("docs/C.md", "| `PETOOL_ARGUMENT` | 5 |", "| `PETOOL_CLOSED` | 5 |"),
+    ("docs/C.md", "<!-- from describe/records.txt: statuses -->\n", ""),
+]
+VALUES_COMPARED = [
+    ("man/petool.h.3", "\n.B PETOOL_ABSENT\n", "\n.B PETOOL_SMALL\n"),
+    ("man/petool.h.3", ".TP\n.B PETOOL_CLOSED\nthe image or the space is not open\n", ""),
+    (STATUSES, "pub const ABSENT: u32 = 3;", "pub const ABSENT: u32 = 4;"),
+    (STATUSES, "pub const DONE: u32 = 0;", "pub const OK: u32 = 0;"),
+    (STATUSES, "pub const SMALL: u32 = 4;", "pub const CLOSED: u32 = 4;"),
+    (STATUSES, "pub const CLOSED: u32 = 6;\n", ""),
+    (STATUSES, "pub const CLOSED: u32 = 6;\n", "pub const CLOSED: u32 = 6;\npub const OTHER: u32 = 7;\n"),
+    ("crates/pe_records_c/src/fault.rt", "Place::Rva(rva) => (1,", "Place::Rva(rva) => (2,"),
+    ("crates/pe_records_c/src/fault.rt", "Place::File(offset) => (0,", "Place::Item(offset) => (0,"),
+    ("crates/pe_records_c/src/export.rt", "kind: 2,", "kind: 1,"),
+    ("crates/pe_records_c/src/export.rt", "Key::Ordinal(ordinal) => TargetRecord {", "Key::Name(ordinal) => TargetRecord {"),
+    ("crates/pe_records_c/src/symbol.rt", "SymbolSection::Debug => 0xfffe", "SymbolSection::Debug => 0xffff"),
+    ("crates/pe_records_c/src/symbol.rt", "SymbolSection::Undefined =>", "SymbolSection::Debug =>"),
+]
 COMPARED = [
     ("bindings/c/petool.h", "petool_fixup *rows, size_t room", "petool_import *rows, size_t room"),
     ("bindings/c/petool.h", "uint32_t petool_version(void);", "uint32_t petool_version(void);\nuint32_t petool_more(void);"),
@@ -98,6 +142,23 @@ DESCRIBED = [
     ("pe_offset, headers.., directories", "headers.., directories", "the order of headers"),
     ("row fixup = FixupRow\n", "rows fixup = FixupRow\n", "line "),
     ("  written by tables.add_fixup\n", "  written by tables.add_fixups\n", "crates/pe_json/src/tables.rt"),
+    ("    SMALL     4  too", "    SMALL     7  too", STATUSES),
+    ("    SMALL     4  too", "    SMALL     7  too", "bindings/rust/petool-sys/src/lib.rs"),
+    ("    SMALL     4  too", "    SMALL     3  too", "SMALL or 3 stands twice"),
+    ("    SMALL     4  too", "    ABSENT    4  too", "ABSENT or 4 stands twice"),
+    ("    SMALL     4  too", "    SMALL     four  too", "line "),
+    ("    SMALL     4  too", "    SMALL     -4  too", "-4 does not fit u32"),
+    ("    SMALL     4  too", "    SMALL     4 too", "line "),
+    ("as pub const NAME: u32 = NUMBER;", "as pub const NAME: u32 = 0;", "line "),
+    ("    source in crates/pe_records_c/src/fault.rt as Place::NAME(_) => (NUMBER\n", "", "places has no values, or no source"),
+    ("    source DONE\n", "", STATUSES),
+    ("src/status.rt as pub", "src/statuses.rt as pub", "crates/pe_records_c/src/statuses.rt"),
+    ("as SymbolSection::NAME => NUMBER", "as Section::NAME => NUMBER,", "line "),
+    ("values section_numbers = PETOOL_SECTION_ u16", "values section_numbers = PETOOL_SECTION_ u8", "0xffff does not fit u8"),
+    ("values section_numbers = PETOOL_SECTION_ u16", "values section_numbers = PETOOL_SECTION_ u15", "u15 is no type"),
+    ("values statuses = ", "values results = ", "no statuses"),
+    ("values targets = ", "values kinds = ", "bindings/python/petool/_image.py"),
+    ("    python in _fault\n", "", "bindings/python/petool/_fault.py: places is not described"),
 ]
 #: Changes of the faults: also a fault that is left out, and one more.
 RULES = "crates/pe_text/src/fault_text.rt"
@@ -208,6 +269,10 @@ class Describe(unittest.TestCase):
 
     def test_a_file_that_differs_is_named(self):
         for path, old, new in WRITTEN + COMPARED:
+            self.assert_named(path, old, new, path)
+
+    def test_a_value_that_differs_is_named(self):
+        for path, old, new in VALUES_WRITTEN + VALUES_COMPARED:
             self.assert_named(path, old, new, path)
 
     def test_a_table_of_faults_that_differs_is_named(self):

@@ -13,10 +13,12 @@ from ._library import library
 class Place(enum.IntEnum):
     """What ``at`` of a fault counts."""
 
+    # from describe/records.txt: places
     FILE = 0  #: bytes of the file
     RVA = 1  #: bytes of the laid-out image
     ADDRESS = 2  #: bytes of the address space
     ITEM = 3  #: items of a list
+    # end of describe/records.txt
 
 
 #: How many bytes the longest line has, with the zero byte at its end.

@@ -148,7 +148,11 @@ class Fixup:
         return _WIDTHS[self.kind]
 
 
-_TARGET_RVA, _TARGET_ORDINAL, _TARGET_NAME = range(3)
+# from describe/records.txt: targets
+_TARGET_RVA = 0  #: an RVA of the image
+_TARGET_ORDINAL = 1  #: an ordinal of another module
+_TARGET_NAME = 2  #: a name of another module
+# end of describe/records.txt
 
 
 def _headers_of(record: _records.Headers) -> Headers:

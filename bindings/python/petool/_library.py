@@ -11,7 +11,15 @@ from ._records import CALLS, Text
 #: The version that this package knows: its first part times 65,536, and its second part.
 KNOWN_VERSION = 0x10000
 
-OK, FAULT, MEMORY, ABSENT, SMALL, ARGUMENT, CLOSED = range(7)
+# from describe/records.txt: statuses
+OK = 0  #: done
+FAULT = 1  #: a rule of the format is broken: `*fault` says which, and where
+MEMORY = 2  #: out of memory
+ABSENT = 3  #: bytes outside the image or the file, or no such string, export, section, image or fault
+SMALL = 4  #: too little room: the count says how much is needed
+ARGUMENT = 5  #: an argument has a value that it may not have; nothing was done
+CLOSED = 6  #: the image or the space is not open
+# end of describe/records.txt
 
 #: No image has more sections.
 MOST_SECTIONS = 96

@@ -12,9 +12,11 @@ from ._bytes import LAYOUTS, Buffer, FileBytes, RowLayout, Rows, first_rows, rea
 from ._file import OfFile
 from ._library import library
 
+# from describe/records.txt: section_numbers
 SECTION_UNDEFINED = 0  #: the section number of a symbol that is defined in another object
-SECTION_ABSOLUTE = 0xFFFF
-SECTION_DEBUG = 0xFFFE
+SECTION_ABSOLUTE = 0xFFFF  #: the section number of a symbol whose value is not an address
+SECTION_DEBUG = 0xFFFE  #: the section number of a symbol for debuggers
+# end of describe/records.txt
 
 #: At least how many relocations are read at once, if there are that many.
 _WINDOW = 4096

@@ -9,9 +9,11 @@
 
 use core::ffi::{c_char, c_int, c_void};
 
+// from describe/records.txt: values
+
 /// Done.
 pub const PETOOL_OK: u32 = 0;
-/// A rule of the format is broken: the fault says which, and where.
+/// A rule of the format is broken: `*fault` says which, and where.
 pub const PETOOL_FAULT: u32 = 1;
 /// Out of memory.
 pub const PETOOL_MEMORY: u32 = 2;
@@ -26,18 +28,12 @@ pub const PETOOL_CLOSED: u32 = 6;
 
 /// A fault's place counts bytes of the file.
 pub const PETOOL_PLACE_FILE: u32 = 0;
-/// A fault's place counts bytes of the image.
+/// A fault's place counts bytes of the laid-out image.
 pub const PETOOL_PLACE_RVA: u32 = 1;
 /// A fault's place counts bytes of the address space.
 pub const PETOOL_PLACE_ADDRESS: u32 = 2;
 /// A fault's place counts items of a list.
 pub const PETOOL_PLACE_ITEM: u32 = 3;
-
-/// The version of the header, as [`petool_version`] returns that of the library: the first part times 65,536, plus the
-/// second.
-pub const PETOOL_VERSION: u32 = 0x10000;
-/// No image has more sections.
-pub const PETOOL_SECTIONS: usize = 96;
 
 /// An export's target is an RVA of the image.
 pub const PETOOL_TARGET_RVA: u32 = 0;
@@ -46,12 +42,20 @@ pub const PETOOL_TARGET_ORDINAL: u32 = 1;
 /// An export's target is a name of another module.
 pub const PETOOL_TARGET_NAME: u32 = 2;
 
-/// A symbol's section: the symbol is defined in another object.
+/// The section number of a symbol that is defined in another object.
 pub const PETOOL_SECTION_UNDEFINED: u16 = 0;
-/// A symbol's section: its value is not an address.
+/// The section number of a symbol whose value is not an address.
 pub const PETOOL_SECTION_ABSOLUTE: u16 = 0xffff;
-/// A symbol's section: it is for debuggers.
+/// The section number of a symbol for debuggers.
 pub const PETOOL_SECTION_DEBUG: u16 = 0xfffe;
+
+// end of describe/records.txt
+
+/// The version of the header, as [`petool_version`] returns that of the library: the first part times 65,536, plus the
+/// second.
+pub const PETOOL_VERSION: u32 = 0x10000;
+/// No image has more sections.
+pub const PETOOL_SECTIONS: usize = 96;
 
 const NO_BYTES: &[u8; 1] = &[0];
 
