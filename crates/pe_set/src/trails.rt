@@ -19,8 +19,8 @@ use std::collections::BTreeMap;
 /// The trails of the long names of one image's imports, in each exporter.
 ///
 /// Names that are ends of one string share a trail, so each block of 256 bytes of the string is looked up once in an exporter, and
-/// each name costs log n steps and fewer than 512 bytes more. A trail has an entry of 16 bytes for each block of its
-/// longest name.
+/// each name costs log n steps and one look-up of fewer than 256 bytes more. A trail has an entry of 16 bytes for each block of its
+/// longest name, also if the exporter has no such name: a sixteenth of the string for each exporter.
 #[derive(Drop)]
 pub(crate) struct Trails<A: Allocator> {
     alloc: A,

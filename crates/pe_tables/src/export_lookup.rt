@@ -210,8 +210,8 @@ impl<'a, A: Allocator + Copy> Exports<'a, A> {
     /// What a name exports, as [`Exports::by_name`] returns it, for looking up names of another image's file that may be ends of
     /// one string. `trail` is that of the names with the same end, and is extended to this name.
     ///
-    /// So each block of 256 bytes is looked up once for all names with one end, and then each name costs two look-ups of less than
-    /// a block: no name is compared as a whole. If memory for the trail is refused, the name is looked up without it.
+    /// So each block of 256 bytes is looked up once for all names with one end, and then each name costs one look-up of less than a
+    /// block: no name is compared as a whole. If memory for the trail is refused, the name is looked up without it.
     pub fn by_name_along(&self, name: Text, trail: &mut NameTrail<A>) -> Option<Target<'a>>
         ensures exact { (file : List ℕ) → IsTextOf file name.entry → IsTrailOf self.now file name.entry.end trail.old
             → option_map target_view result ≡ target_at (exports_view self.now) (Name name.entry.bytes.now) }
