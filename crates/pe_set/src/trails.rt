@@ -20,7 +20,7 @@ use std::collections::BTreeMap;
 ///
 /// Names that are ends of one string share a trail, so each block of 256 bytes of the string is looked up once in an exporter, and
 /// each name costs log n steps and one look-up of fewer than 256 bytes more. A trail has an entry of 16 bytes for each block of its
-/// longest name, also if the exporter has no such name: a sixteenth of the string for each exporter.
+/// longest name, up to the first block that ends no name of the exporter.
 #[derive(Drop)]
 pub(crate) struct Trails<A: Allocator> {
     alloc: A,

@@ -1,8 +1,8 @@
 -- Trails: the nodes to which the last blocks of a string lead.
-use Rattle.std.proofs.Common.{◌≡◌, ℕ, zero, suc, ◌+◌, ◌*◌, ◌/◌, ◌≤◌, List, [], ◌∷◌, ◌++◌, length, get_or, take, drop, Option, None, refl, sym, ap, subst, ◌∙◌, arith, inl, inr}
+use Rattle.std.proofs.Common.{◌≡◌, ℕ, zero, suc, ◌+◌, ◌*◌, ◌/◌, ◌-◌, ◌≤◌, ◌<◌, ◌⊎◌, List, [], ◌∷◌, ◌++◌, length, get_or, Option, None, refl, sym, ap, subst, ◌∙◌, arith, inl, inr}
 use Rattle.std.specs.Prelude.{option_and_then, max}
 use Rattle.std.proofs.lemmas.Bool.{cases_lt}
-use Rattle.std.proofs.lemmas.List.{length-append, length-take-le, take-append-drop}
+use Rattle.std.proofs.lemmas.List.{length-append}
 use Rattle.std.proofs.Math.Nat.{div-add-mod}
 use Rattle.pe_tables.specs.Forwarders.{part_before}
 use Rattle.pe_tables.specs.LongTexts.{block, longer, node_of}
@@ -27,11 +27,15 @@ node_last trail next =
     last [] = refl
     last (n ∷ trail) = last trail
 
--- the last of its first nodes
-pub node_taken : (trail : List (Option ℕ)) (k : ℕ) → k ≤ length trail → node_after (take k trail) (length (take k trail)) ≡ node_after trail k
-node_taken trail k le =
-    let size : length (take k trail) ≡ k = length-take-le k trail le in
-    ap (node_after (take k trail)) size ∙ node_before (take k trail) (drop k trail) k (omega (arith, size)) ∙ ap (λ (ns : List (Option ℕ)). node_after ns k) (take-append-drop k trail)
+-- past its end there are none
+node_past : (trail : List (Option ℕ)) (k : ℕ) → length trail < k → node_after trail k ≡ None
+node_past trail zero lt = absurd (omega (arith, lt))
+node_past trail (suc k) lt = past trail k (omega (arith, lt))
+  where
+    past : (trail : List (Option ℕ)) (k : ℕ) → length trail ≤ k → get_or trail k None ≡ None
+    past [] k le = refl
+    past (n ∷ trail) zero le = absurd (omega (arith, le))
+    past (n ∷ trail) (suc k) le = past trail k (omega (arith, le))
 
 module _ {A : Type 0} where
   -- one block more
@@ -52,12 +56,23 @@ module _ {A : Type 0} where
       → IsTrail nodes file end trail → Follows nodes text trail
   follows_trail nodes file end text trail inside is along = λ k le fits. same_node nodes file end text k inside is fits ∙ (along k le).1
 
-  -- the node to which all blocks of a string lead, by a trail extended to them
+  -- the node to which all blocks of a string lead, by a trail extended to them or to where there is no node
   pub node_reached : (nodes : List (Node A)) (file : List ℕ) (end : ℕ) (text : List ℕ) (old new : List (Option ℕ)) → length text ≤ end → text ≡ part_before file end (length text) → IsTrail nodes file end old
-      → (Follows nodes text old → Follows nodes text new) → length text / 256 ≤ length new → node_of nodes text (length text / 256) ≡ node_after new (length text / 256)
+      → (Follows nodes text old → Follows nodes text new) → (length text / 256 ≤ length new) ⊎ (node_after new (length new) ≡ None) → node_of nodes text (length text / 256) ≡ node_after new (length text / 256)
   node_reached nodes file end text old new inside is along goes whole =
       let parts = div-add-mod (length text) 256 in
-      goes (follows_trail nodes file end text old inside is along) (length text / 256) whole (omega (arith, parts))
+      let follows = goes (follows_trail nodes file end text old inside is along) in
+      let all = λ (long : length text / 256 ≤ length new). follows (length text / 256) long (omega (arith, parts)) in
+      elim whole [
+        | inl long ↦ all long
+        | inr none ↦ elim (cases_lt (length new) (length text / 256)) [
+          | inr long ↦ all long
+          | inl short ↦
+              (let ends : node_of nodes text (length new) ≡ None = follows (length new) (omega arith) (omega (arith, parts, short)) ∙ none in
+              let rest : (length text / 256 - length new) + length new ≡ length text / 256 = omega (arith, short) in
+              ap (node_of nodes text) (sym rest) ∙ texts.none_on nodes text (length new) (length text / 256 - length new) ends ∙ sym (node_past new (length text / 256) short))
+        ]
+      ]
 
   -- a trail that is extended along a string
   trail_more : (nodes : List (Node A)) (file : List ℕ) (end : ℕ) (text : List ℕ) (old more : List (Option ℕ)) → length text ≤ end → text ≡ part_before file end (length text) → IsTrail nodes file end old

@@ -1,6 +1,6 @@
 //! `LongTexts`: what each name of 256 bytes or more exports, in a trie of its blocks of 256 bytes, from its end.
 
-ghost use Rattle.std.specs.Prelude.{◌≡◌, ◌+◌, ◌-◌, ◌*◌, ◌/◌, ◌≤◌, ◌<◌, ℕ, List, Option, None, Some, length, OnOk, IfOk, slice_index_or, max, is_none, option_and_then, ◌∷◌, ◌++◌, ◌==◌, ◌&&◌, [], if◌then◌else◌};
+ghost use Rattle.std.specs.Prelude.{◌≡◌, ◌+◌, ◌-◌, ◌*◌, ◌/◌, ◌≤◌, ◌<◌, ℕ, List, Option, None, Some, length, OnOk, IfOk, slice_index_or, max, is_none, option_and_then, ◌∷◌, ◌++◌, ◌==◌, ◌&&◌, [], if◌then◌else◌, ◌⊎◌};
 ghost use Rattle.std.specs.Str.{bytes_eq};
 ghost use Rattle.pe_layout.specs.Layout.{file_of};
 ghost use Rattle.pe_layout.specs.Span.{IsTextOf};
@@ -8,7 +8,7 @@ ghost use Rattle.pe_tables.specs.LongTexts.{longer, held_at, node_of, block, fro
 ghost use Rattle.pe_tables.specs.NameTrail.{node_after, Follows, IsTrail};
 
 use crate::key::Target;
-use crate::name_trail;
+use crate::name_trail::node_after;
 use pe_layout::{Layout, Text};
 use std::alloc::{AllocError, Allocator};
 use std::collections::BTreeMap;
@@ -102,17 +102,18 @@ impl<'a, A: Allocator + Copy> LongTexts<'a, A> {
         requires { 256 * (length trail.now + 1) ≤ length text.now }
         ensures { result ≡ option_and_then (λ node. longer self.now.nodes.items node (block text.now (length trail.now))) (node_after trail.now (length trail.now)) }
     {
-        self.longer(name_trail::last_node(trail)?, block(text, trail.len()))
+        self.longer(node_after(trail, trail.len())?, block(text, trail.len()))
     }
 
-    /// Extends a trail to the last block of a string, or as far as memory for it is not refused.
+    /// Extends a trail to the last block of a string or to a block for which there is no node, or as far as memory for it is not
+    /// refused.
     fn extend(&self, text: &[u8], trail: &mut Vec<Option<usize>, A>) -> Result<(), AllocError>
         ensures follows { Follows self.now.nodes.items text.now trail.old.items → Follows self.now.nodes.items text.now trail.new.items }
         ensures goes_on { (more : List (Option ℕ)) × (trail.new.items ≡ trail.old.items ++ more) }
         ensures needed { length trail.new.items ≤ max (length trail.old.items) (length text.now / 256) }
-        ensures whole { OnOk result (length text.now / 256 ≤ length trail.new.items) }
+        ensures whole { OnOk result ((length text.now / 256 ≤ length trail.new.items) ⊎ (node_after trail.new.items (length trail.new.items) ≡ None)) }
     {
-        while trail.len() < text.len() / BLOCK {
+        while trail.len() < text.len() / BLOCK && node_after(trail, trail.len()).is_some() {
             let next = self.next_node(text, trail);
             trail.push(next)?;
         }
@@ -131,7 +132,7 @@ impl<'a, A: Allocator + Copy> LongTexts<'a, A> {
             → IsTrail self.now.nodes.items file text.entry.end trail.new.items }
     {
         self.extend(text.bytes, trail)?;
-        match name_trail::last_node(&trail[..text.bytes.len() / BLOCK]) {
+        match node_after(trail, text.bytes.len() / BLOCK) {
             Some(node) => Ok(self.held_at(node, front(text.bytes))),
             None => Ok(None),
         }

@@ -1,4 +1,4 @@
--- Block by block, from the last node on.
+-- Block by block, from the last node on, if there is one.
 use Rattle.std.proofs.Common.{◌≡◌, ◌∙◌, ℕ, List, Option, ◌++◌, ◌∷◌, [], length, ap, sym, subst, arith, append_assoc}
 use Rattle.std.specs.Prelude.{option_and_then}
 use Rattle.std.proofs.Math.Nat.{div-add-mod}
@@ -21,20 +21,9 @@ loop-trail-preserved g c =
     let pushed = c.in_ok-push.ensures.items in
     let more = c.loop-trail.invariant.goes_on in
     let is : next ≡ option_and_then (λ n. longer nodes n (block text (length trail))) (node_after trail (length trail)) =
-    c.next_node-next.ensures ∙ ap (λ (ns : List (Option ℕ)). option_and_then (λ n. longer nodes n (block text (length ns))) (node_after ns (length ns))) c.deref.ensures.value in
+    c.next_node-next.ensures ∙ ap (λ (ns : List (Option ℕ)). option_and_then (λ n. longer nodes n (block text (length ns))) (node_after ns (length ns))) c.deref-in-loop-trail.ensures.value in
     record {
       follows = λ before. subst (λ (ns : List (Option ℕ)). Follows nodes text ns) (sym pushed) (follows_on nodes text trail next (omega (arith, parts, lt, len, size.0)) (c.loop-trail.invariant.follows before) is);
       goes_on = (more.0 ++ next ∷ [], pushed ∙ ap (λ (ns : List (Option ℕ)). ns ++ next ∷ []) more.1 ∙ append_assoc c.args.trail.now.items more.0 (next ∷ []));
       needed = let all = ap (λ (ns : List (Option ℕ)). length ns) pushed ∙ length-append trail (next ∷ []) in omega (arith, all, lt, len, size.0);
     }
-
-pub returns-in_err-push-clause-follows : goal.returns-in_err-push-clause-follows
-returns-in_err-push-clause-follows g c =
-    let same = c.in_err-push.ensures.items in
-    λ before. subst (λ (ns : List (Option ℕ)). Follows c.args.self.now.nodes.items c.args.text.now ns) (sym same) (c.loop-trail.invariant.follows before)
-
-pub returns-in_err-push-clause-goes_on : goal.returns-in_err-push-clause-goes_on
-returns-in_err-push-clause-goes_on g c = let more = c.loop-trail.invariant.goes_on in (more.0, c.in_err-push.ensures.items ∙ more.1)
-
-pub returns-in_err-push-clause-needed : goal.returns-in_err-push-clause-needed
-returns-in_err-push-clause-needed g c = let same = ap (λ (ns : List (Option ℕ)). length ns) c.in_err-push.ensures.items in let needed = c.loop-trail.invariant.needed in omega (arith, same, needed)

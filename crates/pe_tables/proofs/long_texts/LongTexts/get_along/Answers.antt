@@ -1,9 +1,9 @@
 -- The trail is extended to the last block of the string, whose node has the bytes before its blocks.
-use Rattle.std.proofs.Common.{◌∙◌, ℕ, ◌/◌, List, Option, length, take, sym, ap}
+use Rattle.std.proofs.Common.{◌∙◌, ℕ, ◌/◌, List, Option, length, sym, ap}
 use Rattle.std.specs.Prelude.{option_and_then}
 use Rattle.pe_tables.specs.LongTexts.{front, held_at}
 use Rattle.pe_tables.specs.NameTrail.{node_after}
-use Rattle.pe_tables.proofs.NameTrails.{node_taken, node_reached, trail_on}
+use Rattle.pe_tables.proofs.NameTrails.{node_reached, trail_on}
 use Rattle.pe_tables.proofs.long_texts.LongTexts.get_along.Goals as goal
 
 pub returns-in-Some-clause-exact : goal.returns-in-Some-clause-exact
@@ -13,7 +13,7 @@ returns-in-Some-clause-exact g c = λ file is along.
     let new : List (Option ℕ) = c.extend.new.trail.items in
     let f = c.in_ok-extend.ensures in
     let led = node_reached nodes file c.args.text.end text c.args.trail.now.items new is.inside is.bytes along f.follows f.whole in
-    let last = c.last_node.ensures ∙ ap (λ (ns : List (Option ℕ)). node_after (take (length text / 256) ns) (length (take (length text / 256) ns))) c.deref.ensures.value ∙ node_taken new (length text / 256) f.whole in
+    let last = c.node_after.ensures ∙ ap (λ (ns : List (Option ℕ)). node_after ns (length text / 256)) c.deref.ensures.value in
     c.held_at.ensures ∙ ap (held_at nodes c.in-Some.node) c.front.ensures
     ∙ sym (ap (option_and_then (λ n. held_at nodes n (front text))) (led ∙ sym last ∙ c.in-Some.is))
 
@@ -24,7 +24,7 @@ returns-in-None-clause-exact g c = λ file is along.
     let new : List (Option ℕ) = c.extend.new.trail.items in
     let f = c.in_ok-extend.ensures in
     let led = node_reached nodes file c.args.text.end text c.args.trail.now.items new is.inside is.bytes along f.follows f.whole in
-    let last = c.last_node.ensures ∙ ap (λ (ns : List (Option ℕ)). node_after (take (length text / 256) ns) (length (take (length text / 256) ns))) c.deref.ensures.value ∙ node_taken new (length text / 256) f.whole in
+    let last = c.node_after.ensures ∙ ap (λ (ns : List (Option ℕ)). node_after ns (length text / 256)) c.deref.ensures.value in
     sym (ap (option_and_then (λ n. held_at nodes n (front text))) (led ∙ sym last ∙ c.in-None.is))
 
 pub returns-in-Some-clause-follows : goal.returns-in-Some-clause-follows
