@@ -9,8 +9,8 @@ from typing import Callable, Dict, List, Tuple
 
 from faults import Fault, Faults
 
-#: The longest row that is put on one line.
-ONE_LINE = 60
+#: The longest row that is put on one line, and the longest line with an argument in parentheses.
+ONE_LINE, LINE = 60, 100
 
 
 class NoTable(Exception):
@@ -23,22 +23,31 @@ def _literal(text: str) -> str:
     return f'"{escaped}"'
 
 
+def _word(word: str) -> List[str]:
+    """A word of a row, on lines of its own: a long argument of Some has one too."""
+    line = f"        {word},"
+    if word.startswith("Some(") and len(line) > LINE:
+        return ["        Some(", f"            {word[len('Some('):-1]},", "        ),"]
+    return [line]
+
+
 def _row(words: List[str]) -> List[str]:
-    """A row of a table: on one line if it is short, otherwise with a line for each word."""
+    """A row of a table: on one line if it is short, otherwise with lines for each word."""
     line = ", ".join(words)
-    return [f"    ({line}),"] if len(line) <= ONE_LINE else ["    (", *(f"        {word}," for word in words), "    ),"]
+    return [f"    ({line}),"] if len(line) <= ONE_LINE else ["    (", *(part for word in words for part in _word(word)), "    ),"]
 
 
-def _rules(it: Fault) -> Tuple[str, str]:
-    return it.subject, it.rule
+def _rules(it: Fault) -> List[str]:
+    return [_literal(it.subject), _literal(it.rule)]
 
 
-def _explained(it: Fault) -> Tuple[str, str]:
-    return it.rows["explained"], it.rows["met by"]
+def _explained(it: Fault) -> List[str]:
+    more = f"Some({_literal(it.rows['explained'])})" if "explained" in it.rows else "None"
+    return [more, _literal(it.rows["met by"])]
 
 
-#: The table of each source: its name, the type of a row, and the strings in one.
-TABLES: Dict[str, Tuple[str, str, Callable[[Fault], Tuple[str, str]]]] = {
+#: The table of each source: its name, the type of a row, and the words of one after its number.
+TABLES: Dict[str, Tuple[str, str, Callable[[Fault], List[str]]]] = {
     "crates/pe_text/src/fault_text.rt": ("RULES", "(u16, &str, &str)", _rules),
     "crates/pe_program/src/explain.rt": ("EXPLAINED", "Explained", _explained),
 }
@@ -51,7 +60,7 @@ def source(faults: Faults, path: str, text: str) -> str:
     if len(found) != 1:
         raise NoTable(f"the table {name} stands in it {len(found)} times")
     all_faults = faults.by_number()
-    rows = [line for it in all_faults for line in _row([str(it.number), *map(_literal, texts(it))])]
+    rows = [line for it in all_faults for line in _row([str(it.number), *texts(it)])]
     table = "\n".join([f"static {name}: [{kind}; {len(all_faults)}] = [", *rows, "];"])
     return text[: found[0].start()] + table + text[found[0].end() :]
 
@@ -64,7 +73,7 @@ def _names(faults: Faults) -> List[str]:
 def _cells(it: Fault) -> List[str]:
     image = f", {it.rows['image']}" if "image" in it.rows else ""
     code = ", ".join(f"`{name}`" for name in it.rows["code"].split(", "))
-    return [str(it.number), it.rows["stands"], it.rows["place"] + image, f"{it.subject}: {it.rule}", code]
+    return [str(it.number), it.rows["condition"], it.rows["place"] + image, f"{it.subject}: {it.rule}", code]
 
 
 def part(faults: Faults, what: str) -> List[str]:

@@ -6,8 +6,9 @@ from typing import Dict, List, Tuple
 
 from description import COLUMNS, Mistake
 
-#: The rows below a fault, in order; a fault has `image` if it chooses the image itself.
-ROWS = ("stands", "place", "image", "code", "explained", "met by")
+#: The rows below a fault, in order, and those that it may lack: `image` unless it chooses the image itself, and `explained`.
+ROWS = ("condition", "place", "image", "code", "explained", "met by")
+OPTIONAL = ("image", "explained")
 ROW = re.compile(rf"({'|'.join(ROWS)}) +(.+)")
 
 
@@ -106,7 +107,7 @@ class Faults:
         if not numbers or twice:
             raise Mistake(f"fault {twice[0]} stands twice" if twice else "it has no faults")
         for it in self.by_number():
-            wanted = [row for row in ROWS if row in it.rows or row != "image"]
+            wanted = [row for row in ROWS if row in it.rows or row not in OPTIONAL]
             if list(it.rows) != wanted or "|" in "".join([it.subject, it.rule, *it.rows.values()]):
                 raise Mistake(f"fault {it.number}: its rows are not {', '.join(wanted)}, or a text has the sign |")
         bounds = [name.bounds() for name in self.names]

@@ -183,9 +183,11 @@ FAULTS_WRITTEN = [
     (RULES, "; 69] = [", "; 68] = ["),
     (RULES, "static RULES", "static WORDS"),
     (EXPLAINED, "an MS-DOS, NE, LE or LX program", "an MS-DOS program"),
-    (EXPLAINED, '"SizeOfImage is 0 or more than 2^31"', '"SizeOfImage is over 2^31"'),
-    (EXPLAINED, '    (11, "SizeOfImage is 0 or more than 2^31", "a damaged header"),\n', ""),
-    (EXPLAINED, '    (\n        12,\n        "SizeOfHeaders', '    (\n        11,\n        "SizeOfHeaders'),
+    (EXPLAINED, 'Some("The table has 40 bytes.")', 'Some("The table has 20 bytes.")'),
+    (EXPLAINED, 'Some("The table has 40 bytes.")', "None"),
+    (EXPLAINED, '    (11, None, "a damaged header"),\n', ""),
+    (EXPLAINED, '    (\n        12,\n        Some("The headers', '    (\n        11,\n        Some("The headers'),
+    (EXPLAINED, '        Some(\n            "The offset is the number', '        Some(\n"The offset is the number'),
     (FAULTS, "| n is under 64 |", "| n is at most 64 |"),
     (FAULTS, "`Rva(slot)`, the importing image", "`Rva(slot)`, image 0"),
     (FAULTS, "its Magic differs from that of file 0", "its Magic differs"),
@@ -202,7 +204,9 @@ FAULTS_PARTS = [
 FAULTS_DESCRIBED = [
     ("  9 NumberOfSections: the image has", "  9 NumberOfSections: an image has", RULES),
     ("    met by     an empty file, or one", "    met by     a file of 0 bytes, or one", EXPLAINED),
-    ("    stands     n is under 64", "    stands     n is at most 64", FAULTS),
+    ("    condition  n is under 64", "    condition  n is at most 64", FAULTS),
+    ("    explained  The table has 40 bytes.\n", "", EXPLAINED),
+    ("    condition  n is under 64\n", "", "fault 2: its rows"),
     ("  85 object: a part", "  84 object: a part", "line "),
     ("  61 end of the file", "  41 end of the file", "fault 41 stands twice"),
     ("    place      `File(60)`\n", "", "fault 4: its rows"),
@@ -214,7 +218,7 @@ FAULTS_DESCRIBED = [
     ("name plan fault              53         the plan of an image to be written\n", "", "fault 53 is in no range"),
     ("faults exports\n", "fault exports\n", "line "),
     ("faults headers\n", "", "it stands in no table"),
-    ("    stands     n is under 64", "   stands     n is under 64", "a fault has an indent of 2"),
+    ("    condition  n is under 64", "   condition  n is under 64", "a fault has an indent of 2"),
 ]
 
 

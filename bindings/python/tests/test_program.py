@@ -112,8 +112,14 @@ RVA 0x40  address 0x10000040  file 0x40  headers+0x40
 
 EXPLAINED = """\
 fault 13: section header: the section's raw data extends past the end of the file
-  Reported when the bytes that the file holds for the section, from PointerToRawData on, extend past the end of the file.
+  The raw data begins at PointerToRawData. It has SizeOfRawData bytes, or as many as the section has in memory if these are fewer.
   Typical case: an image that was cut off after its headers, like a broken download.
+"""
+
+#: A fault whose words leave nothing out.
+EXPLAINED_BY_WORDS = """\
+fault 9: NumberOfSections: the image has more than 96 sections
+  Typical case: a damaged header.
 """
 
 #: What help says of the exit statuses.
@@ -270,6 +276,7 @@ VIEW_ENDS = [
         SILENT, words=["at", "a.dll", "40"], file=b"", status=1, printed="fault 2 image 0 file 0x00000000\n", complained=NO_BYTES
     ),
     replace(SILENT, words=["explain", "13"], printed=EXPLAINED),
+    replace(SILENT, words=["explain", "9"], printed=EXPLAINED_BY_WORDS),
     replace(SILENT, words=["explain", "23"], status=2, complained="petool: there is no fault 23\n"),
     replace(FULL, words=["explain"]),
 ]

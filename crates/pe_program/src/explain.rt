@@ -5,346 +5,316 @@ use crate::statuses::{BAD_WORDS, DEVICE_FAILED, DONE};
 use pe_tool::{FaultWords, ToolError, fault_words};
 use std::io;
 
-/// A fault's number, its place, and the files that have it.
-type Explained = (u16, &'static str, &'static str);
+/// A fault's number, what its words leave out, in sentences, and the files that have it.
+type Explained = (u16, Option<&'static str>, &'static str);
 
 /// All faults, by number.
 static EXPLAINED: [Explained; 69] = [
     (
         1,
-        "the file is larger than 2^32 bytes, which is more than any RVA or file offset can reach",
+        Some("No RVA and no file offset reaches further."),
         "disk images, archives and streams that are not images at all",
     ),
     (
         2,
-        "the file has fewer than 64 bytes",
+        None,
         "an empty file, or one that was cut off within its first bytes",
     ),
     (
         3,
-        "the first two bytes are not MZ (4d 5a)",
+        None,
         "any file that is not an image: an ELF file, an archive, a text file, or an object (use petool object or petool show)",
     ),
     (
         4,
-        "the number at offset 0x3c, plus the 24 bytes of signature and COFF file header, is more than the file's length",
+        Some(
+            "The offset is the number at 0x3c. The signature and the COFF file header take 24 bytes.",
+        ),
         "an MS-DOS program, or an image that was cut off in its headers",
     ),
-    (
-        5,
-        "the four bytes at that offset are not 50 45 00 00",
-        "an MS-DOS, NE, LE or LX program",
-    ),
+    (5, None, "an MS-DOS, NE, LE or LX program"),
     (
         6,
-        "Magic, after the COFF file header, is neither 0x10b nor 0x20b, or extends past the end of the file",
+        Some("Magic is the first field after the COFF file header."),
         "a ROM image (0x107), an object with an MS-DOS stub, or a damaged header",
     ),
     (
         7,
-        "SizeOfOptionalHeader is less than 96 bytes in PE32 or 112 in PE32+, plus 8 for each of the directories that NumberOfRvaAndSizes counts, up to 16",
+        Some(
+            "The fixed fields take 96 bytes in PE32 and 112 in PE32+, and each data directory 8. NumberOfRvaAndSizes counts the directories, of which there are at most 16.",
+        ),
         "headers that were packed by hand so that the optional header looks shorter than it is",
     ),
     (
         8,
-        "the optional header, by its SizeOfOptionalHeader, extends past the end of the file",
+        Some("The optional header has SizeOfOptionalHeader bytes, after the COFF file header."),
         "an image that was cut off in its headers",
     ),
-    (9, "NumberOfSections is more than 96", "a damaged header"),
+    (9, None, "a damaged header"),
     (
         10,
-        "the section table, at 40 bytes a section, extends past the end of the file",
+        Some(
+            "The section table comes after the optional header and has 40 bytes for each section.",
+        ),
         "an image that was cut off in its headers",
     ),
-    (11, "SizeOfImage is 0 or more than 2^31", "a damaged header"),
+    (11, None, "a damaged header"),
     (
         12,
-        "SizeOfHeaders is less than the end of the section table, or more than the file's length, or more than SizeOfImage",
+        Some("The headers have SizeOfHeaders bytes, and the image SizeOfImage."),
         "tiny images made by hand, and images that were cut off",
     ),
     (
         13,
-        "the bytes that the file holds for the section, from PointerToRawData on, extend past the end of the file",
+        Some(
+            "The raw data begins at PointerToRawData. It has SizeOfRawData bytes, or as many as the section has in memory if these are fewer.",
+        ),
         "an image that was cut off after its headers, like a broken download",
     ),
     (
         14,
-        "VirtualAddress plus the section's size in memory is more than SizeOfImage",
+        Some(
+            "The section has VirtualSize bytes in memory, or SizeOfRawData if that is 0; the image has SizeOfImage.",
+        ),
         "a damaged section table, or a tool that added a section and did not raise SizeOfImage",
     ),
     (
         15,
-        "VirtualAddress is less than SizeOfHeaders, or less than the end of the previous section in the table",
+        Some(
+            "Sections must come in the order of their addresses, and the first after SizeOfHeaders bytes.",
+        ),
         "sections that overlap or are out of order, through damage, by hand or because of a packer",
     ),
-    (
-        16,
-        "the 40 bytes of the export directory table are not all inside the image",
-        "a damaged directory",
-    ),
+    (16, Some("The table has 40 bytes."), "a damaged directory"),
     (
         17,
-        "the address table, the name pointer table or the ordinal table is not empty and not entirely inside the image",
+        Some(
+            "The tables are the address table, the name pointer table and the ordinal table. An empty one may have any RVA.",
+        ),
         "a damaged export directory table",
     ),
     (
         18,
-        "the address table or the name pointer table has more than 65,536 entries",
+        Some("The tables with a count are the address table and the name pointer table."),
         "a damaged export directory table",
     ),
     (
         19,
-        "a name pointer does not point to a null-terminated string inside one section",
+        Some("The string and its zero byte must be inside one section or the headers."),
         "a damaged name pointer table, or a table that was encrypted by a packer",
     ),
-    (
-        20,
-        "an entry of the ordinal table is not less than the number of entries of the address table",
-        "a damaged ordinal table",
-    ),
+    (20, None, "a damaged ordinal table"),
     (
         21,
-        "an entry of the address table that is not a forwarder is at or past SizeOfImage",
+        Some(
+            "An address inside the export directory is a forwarder, for which fault 22 has the rule.",
+        ),
         "a damaged address table",
     ),
     (
         22,
-        "a forwarder's string is not MODULE.NAME or MODULE.#ORDINAL",
+        Some("An address inside the export directory is a forwarder: it points to this string."),
         "a directory with a wrong size, so that an address inside it is taken for a forwarder",
     ),
     (
         24,
-        "the 20 bytes of an import directory entry are not all inside the image",
+        Some("An entry has 20 bytes."),
         "a table without the empty entry that should end it, or a damaged directory",
     ),
     (
         25,
-        "the RVA of a module's name does not point to a null-terminated string inside one section",
+        Some("The string and its zero byte must be inside one section or the headers."),
         "a damaged import directory",
     ),
     (
         26,
-        "an import lookup entry is not entirely inside the image",
+        Some("An entry has 4 bytes in PE32 and 8 in PE32+."),
         "a lookup table without the zero that should end it",
     ),
     (
         27,
-        "the RVA of a name does not point to a null-terminated string inside one section",
+        Some(
+            "Bits 0 to 30 of the entry are the RVA of a hint of two bytes, and the name comes after it. The name and its zero byte must be inside one section or the headers.",
+        ),
         "an image that has no lookup table and whose import address table was bound or overwritten; a packer",
     ),
     (
         28,
-        "in PE32+, an entry that imports by name has bits other than 0 among its bits 31 to 62",
+        Some("This is a rule of PE32+ alone."),
         "a process image that was dumped to a file, whose entries are already addresses",
     ),
     (
         29,
-        "the slot of an entry in the import address table is not entirely inside the image",
+        Some(
+            "Each lookup entry has a slot of its own in the import address table, of 4 bytes in PE32 and 8 in PE32+.",
+        ),
         "a damaged import directory",
     ),
-    (
-        30,
-        "the slots of two entries overlap",
-        "import directories made by hand",
-    ),
-    (
-        31,
-        "an image has more than 1,048,576 imports",
-        "files made to exhaust a reader",
-    ),
+    (30, None, "import directories made by hand"),
+    (31, None, "files made to exhaust a reader"),
     (
         32,
-        "the RVA of the lookup table is 0, but the time stamp says that the address table is bound",
+        Some(
+            "The time stamp says that the import address table is bound: it has addresses in place of lookup entries.",
+        ),
         "images that old linkers bound; what they import can no longer be read",
     ),
     (
         33,
-        "BlockSize is odd, less than 8, or more than what is left of the directory",
+        Some("The size includes the 8 bytes of the block's own header."),
         "a damaged base relocation table, or a directory with a wrong size",
     ),
     (
         34,
-        "RVA and Size of the base relocation directory extend past the end of the image",
+        Some("The data directory says where the table begins and how many bytes it has."),
         "a damaged directory",
     ),
     (
         35,
-        "a base relocation's type is not ABSOLUTE (0), HIGH (1), LOW (2), HIGHLOW (3) or DIR64 (10)",
+        Some("Their numbers are 0, 1, 2, 3 and 10."),
         "images for ARM, RISC-V and other machines that have types of their own; a damaged table",
     ),
     (
         36,
-        "the 2, 4 or 8 bytes at which a base relocation points are not all inside the image",
+        Some("The field has 2 bytes for HIGH and LOW, 4 for HIGHLOW and 8 for DIR64."),
         "a damaged base relocation table",
     ),
-    (
-        37,
-        "the fields of two base relocations overlap",
-        "images made by hand or by a faulty linker",
-    ),
-    (
-        38,
-        "the field of a base relocation overlaps a slot of the import address table",
-        "images made by hand or by a faulty linker",
-    ),
-    (
-        41,
-        "a set has more than 256 files",
-        "a command line of map with too many files",
-    ),
+    (37, None, "images made by hand or by a faulty linker"),
+    (38, None, "images made by hand or by a faulty linker"),
+    (41, None, "a command line of map with too many files"),
     (
         42,
-        "two files of a set have names that differ at most in the case of ASCII letters",
+        Some("Names are compared without regard to the case of ASCII letters."),
         "a DLL that is named twice, or two DLLs with the same name from two folders",
     ),
     (
         43,
-        "a file's Magic differs from that of the first file",
+        Some("Magic says whether an image is PE32 or PE32+."),
         "32-bit and 64-bit DLLs in one set",
     ),
-    (
-        44,
-        "a base is not a multiple of 65,536",
-        "a base chosen by hand",
-    ),
+    (44, None, "a base chosen by hand"),
     (
         45,
-        "an image at its base extends past 2^32 in PE32, or 2^64 in PE32+",
+        Some("The address space ends at 2^32 in PE32 and at 2^64 in PE32+."),
         "a base that is too high for the image's size",
     ),
     (
         46,
-        "an image without base relocations (RELOCS_STRIPPED) would be at a base other than its ImageBase",
+        Some("RELOCS_STRIPPED in Characteristics says that an image has no base relocations."),
         "programs that were linked without base relocations",
     ),
     (
         47,
-        "two images at their bases share an address",
+        None,
         "bases that are too close together: petool show says how many bytes an image takes",
     ),
     (
         48,
-        "the search for an import reaches a module that is not in the set",
+        Some("The search for an import follows forwarders from module to module."),
         "a set that lacks a DLL: add its file, or use --known",
     ),
     (
         49,
-        "the search for an import reaches a module that has no such export",
+        Some("The search for an import follows forwarders from module to module."),
         "a DLL of a different version from the one that the program was linked with",
     ),
     (
         50,
-        "the search for an import runs into a cycle of forwarders, whose length is given",
+        Some("The fault's line ends with the number of forwarders in the cycle."),
         "DLLs made to hang a loader",
     ),
     (
         51,
-        "the field of a base relocation is not entirely inside the bytes that the file holds for one section",
+        None,
         "images that relocate bytes of their headers or of zero fill",
     ),
     (
         52,
-        "the raw data of a section begins in the headers, or overlaps that of an earlier section",
+        None,
         "packed images, whose sections share bytes of the file",
     ),
     (
         53,
-        "a plan's alignment is 0, its numbers do not fit the format, or it would have fault 11, 12, 14 or 15",
+        Some(
+            "FileAlignment is 0, a number does not fit its field, or the image would have fault 11, 12, 14 or 15.",
+        ),
         "a caller of write_image",
     ),
     (
         54,
-        "a window that is not empty is not inside one image",
+        Some("An empty window may be anywhere."),
         "a window of map that begins outside all images, or runs past the end of one",
     ),
-    (
-        55,
-        "no image has the index that is to be moved",
-        "a caller of move_image",
-    ),
-    (
-        61,
-        "the file has fewer than 20 bytes, or more than 2^32",
-        "an empty file",
-    ),
+    (55, None, "a caller of move_image"),
+    (61, None, "an empty file"),
     (
         62,
-        "the file begins with MZ, with !<arch>, or with the first two fields of an import object",
+        Some("It begins with MZ, with !<arch>, or with the first two fields of an import object."),
         "a library: extract its objects first, for example with ar x; an image: use petool dump or petool show",
     ),
     (
         63,
-        "the section table, at 40 bytes a section, extends past the end of the file",
+        Some(
+            "The section table comes after the optional header and has 40 bytes for each section.",
+        ),
         "a file of another kind, or an object that was cut off; /bigobj objects",
     ),
     (
         64,
-        "the bytes of a section extend past the end of the file",
+        Some("The raw data has SizeOfRawData bytes from PointerToRawData on."),
         "an object that was cut off",
     ),
     (
         65,
-        "a section keeps its count of relocations in the first of them (LNK_NRELOC_OVFL, 0xffff)",
+        Some(
+            "With the flag LNK_NRELOC_OVFL and a count of 0xffff, a section's first relocation has the count.",
+        ),
         "objects with more than 65,534 relocations in one section, which are not supported",
     ),
     (
         66,
-        "the relocations of a section, at 10 bytes each, extend past the end of the file",
+        Some("A relocation has 10 bytes."),
         "an object that was cut off",
     ),
     (
         67,
-        "the symbol table, at 18 bytes a record, extends past the end of the file",
+        Some("A record has 18 bytes."),
         "an object that was cut off",
     ),
     (
         68,
-        "the string table's size is cut off or 1 to 3, or the table extends past the end of the file",
+        Some("The string table comes after the symbols. It begins with its size, in 4 bytes."),
         "an object that was cut off in its last part",
     ),
     (
         69,
-        "the offset of a name does not point to a null-terminated string in the string table",
+        Some("The offset counts from the table's beginning, where the 4 bytes of its size are."),
         "a damaged string table",
     ),
-    (
-        70,
-        "the auxiliary records of a symbol extend past the last record of the symbol table",
-        "a damaged symbol table",
-    ),
+    (70, None, "a damaged symbol table"),
     (
         71,
-        "the section number of a symbol is more than the number of sections, and neither ABSOLUTE (0xffff) nor DEBUG (0xfffe)",
+        Some("ABSOLUTE is 0xffff, and DEBUG 0xfffe."),
         "a damaged symbol table",
     ),
     (
         72,
-        "the symbol index of a relocation is not less than the number of records",
+        Some("Auxiliary symbol records count too."),
         "a damaged relocation, or an object whose symbols were stripped",
     ),
-    (
-        81,
-        "a name to be written contains a zero byte",
-        "a caller of write_object",
-    ),
+    (81, None, "a caller of write_object"),
     (
         82,
-        "the name of a section would be more than 9,999,999 bytes into the string table, which a header cannot express",
+        Some("A section header has room for seven decimal digits of the offset."),
         "a caller of write_object",
     ),
-    (
-        83,
-        "a section to be written has more than 65,534 relocations",
-        "a caller of write_object",
-    ),
-    (
-        84,
-        "an object's file would have more than 2^32 - 1 bytes",
-        "a caller of write_object",
-    ),
+    (83, None, "a caller of write_object"),
+    (84, None, "a caller of write_object"),
     (
         85,
-        "a part of an object does not fit its field, or its file would begin like a file of another kind",
+        Some(
+            "Optional bytes, sections, symbols or relocations do not fit their fields, or the file would have fault 62.",
+        ),
         "a caller of write_object",
     ),
 ];
@@ -357,13 +327,15 @@ fn explained() -> &'static [Explained] {
 
 /// Prints the meaning of a fault.
 fn print_fault(rt: &impl Print, row: &Explained) -> io::Result<()> {
-    let (number, stands, met) = *row;
+    let (number, more, met) = *row;
     let Some(FaultWords { subject, rule }) = fault_words(number) else {
         return Ok(());
     };
-    println!(rt;
-        "fault {number}: {subject}: {rule}\n  Reported when {stands}.\n  Typical case: {met}."
-    )
+    println!(rt; "fault {number}: {subject}: {rule}")?;
+    if let Some(more) = more {
+        println!(rt; "  {more}")?;
+    }
+    println!(rt; "  Typical case: {met}.")
 }
 
 /// Prints the words of a fault on one line.
