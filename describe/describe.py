@@ -1,9 +1,8 @@
 #!/usr/bin/env python3
 """Writes what describe/records.txt and describe/faults.txt describe into the files that have it: describe.py [--check]
 
-With --check nothing is written: each such file is compared, and also the sources that are not written, since proofs depend on
-them. A file that differs is named, with its first line that does; the last line is 'N passed, M failed', and the status is 1 if
-something differs.
+With --check nothing is written: each such file is compared, and also the sources that are not written. A file that differs is
+named, with its first line that does; the last line is 'N passed, M failed', and the status is 1 if something differs.
 """
 
 import pathlib
@@ -14,6 +13,7 @@ sys.dont_write_bytecode = True
 
 import c_texts
 import fault_texts
+import header_texts
 import page_texts
 import python_texts
 import rattle_sources
@@ -32,8 +32,10 @@ MODULES = ("_fault", "_image", "_library", "_object", "_space")
 MAN = "man/petool.h.3"
 JSON = "docs/JSON.md"
 FAULTS_PAGE = "docs/FAULTS.md"
+#: The definition of the headers' fields by their places.
+HEAD = "crates/pe_head/specs/Head.antt"
 
-#: The files that are written completely.
+#: The files that are written completely, without the sources in Rattle.
 WHOLE = {
     "bindings/c/layout.c": c_texts.layout,
     "bindings/c/petool.map": c_texts.linker_map,
@@ -49,6 +51,15 @@ def rust_part(description, what):
     return ["", *form(description), ""]
 
 
+#: The sources in Rattle, and the page, that have the fields of the headers in parts: what writes these, and which each must have.
+FIELDS = {
+    "crates/pe_head/src/headers.rt": (header_texts.head_part, ["fields"]),
+    "crates/pe_head/src/fields.rt": (header_texts.head_part, ["counts", "reading"]),
+    "crates/pe_text/src/header_fields.rt": (header_texts.dump_part, ["coff", "standard", "windows"]),
+    "crates/pe_text/specs/HeaderFields.antt": (header_texts.dump_definition_part, ["coff", "standard", "windows"]),
+    "crates/pe_json/src/headers.rt": (header_texts.json_part, ["coff", "optional"]),
+    "docs/FORMAT.md": (header_texts.page_part, ["coff", "same", "other"]),
+}
 #: The files of which parts are written from the records, each between two comments.
 PARTS = {
     HEADER: c_texts.declarations,
@@ -57,9 +68,8 @@ PARTS = {
     MAN: lambda description, _: page_texts.synopsis(description),
     JSON: page_texts.json_part,
     "docs/C.md": page_texts.c_part,
+    **{path: form for path, (form, _) in FIELDS.items()},
 }
-#: All files that are written, completely or in part.
-WRITTEN = [*WHOLE, *PARTS, FAULTS_PAGE, *fault_texts.TABLES]
 
 
 def read(path):
@@ -80,10 +90,22 @@ def sources(*crates):
     return {str(it.relative_to(TOP)): it.read_text() for it in files}
 
 
+def whole(description):
+    """The files that are written completely, each with its contents."""
+    files = {path: form(description) for path, form in WHOLE.items()}
+    return files
+
+
+def written(description):
+    """All files that are written, completely or in part."""
+    return [*whole(description), *PARTS, FAULTS_PAGE, *fault_texts.TABLES]
+
+
 def made(description, faults, path):
     """The contents of a file, written from a description. NoRegion or NoTable if a part of it cannot be written."""
-    if path in WHOLE:
-        return WHOLE[path](description)
+    files = whole(description)
+    if path in files:
+        return files[path]
     if path in fault_texts.TABLES:
         return fault_texts.source(faults, path, read(path))
     if path == FAULTS_PAGE:
@@ -119,6 +141,8 @@ def misplaced(description):
     """What is in no part of a file, or in two, or is not described."""
     for path, wanted in parts(description):
         yield from wrong_parts(path, regions.names(read(path), RECORDS), wanted)
+    for path, (_, wanted) in FIELDS.items():
+        yield from wrong_parts(path, regions.parts(read(path), RECORDS), [f"{it} of headers" for it in wanted])
 
 
 def wrong_parts(path, found, wanted):
@@ -135,7 +159,7 @@ def missing_sources(faults):
 
 def comparisons(description, faults):
     """What is wrong with each file that is written and each source that is compared: nothing if it agrees."""
-    for path in WRITTEN:
+    for path in written(description):
         yield difference(description, faults, path)
     yield list(misplaced(description))
     yield list(wrong_parts(FAULTS_PAGE, regions.parts(read(FAULTS_PAGE), FAULTS), fault_texts.parts(faults)))
@@ -146,6 +170,7 @@ def comparisons(description, faults):
     yield rattle_sources.record_faults(description, sources("pe_records_c", "pe_handle", "pe_opened"))
     yield rattle_sources.call_faults(description, sources("petool_c"))
     yield rattle_sources.key_faults(description, sources("pe_json"))
+    yield rattle_sources.definition_faults(description, HEAD, read(HEAD))
 
 
 def check(description, faults):
@@ -158,7 +183,7 @@ def check(description, faults):
 
 
 def write(description, faults):
-    for path in WRITTEN:
+    for path in written(description):
         text = made(description, faults, path)
         if not (TOP / path).exists() or read(path) != text:
             (TOP / path).write_text(text)

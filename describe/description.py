@@ -15,6 +15,37 @@ class Mistake(Exception):
 
 
 @dataclass
+class Place:
+    """Where a field of the headers is: its offset and width in PE32 and in PE32+, in the COFF header or in the optional header."""
+
+    is_coff: bool
+    narrow: Tuple[int, int]
+    wide: Optional[Tuple[int, int]]  #: None if PE32+ lacks the field
+
+    def is_same(self) -> bool:
+        return self.narrow == self.wide
+
+    def is_extended(self) -> bool:
+        """Whether it is wider in PE32+."""
+        return self.wide is not None and self.wide[1] > self.narrow[1]
+
+    def width(self) -> int:
+        """The greater of its widths."""
+        return max(self.narrow[1], self.wide[1] if self.wide else 0)
+
+
+@dataclass
+class Origin:
+    """The value of a field in Rattle."""
+
+    name: str = ""  #: of the field of the type whose values the record shows
+    default: str = ""  #: its value where the field is absent
+    function: str = ""  #: of the type, or what gives a number for each variant of the enum
+    enum: str = ""  #: the field's type, if that is an enum
+    numbers: List[Tuple[str, str]] = field(default_factory=list)  #: each variant of the enum with its number
+
+
+@dataclass
 class Field:
     """A field of a record."""
 
@@ -27,6 +58,13 @@ class Field:
     comment: Optional[str] = None  #: of the line in C; empty for none, None for the meaning
     note: str = ""  #: after the field in C
     python: Tuple[str, str, str] = ("", "", "")  #: name, type and meaning, where they differ in Python
+    place: Optional[Place] = None  #: of a field of the headers; of the first item of an array
+    origin: Optional[Origin] = None  #: the value in Rattle, if that is not the field of this name
+    counts: str = ""  #: the list of the same struct that has as many items
+    is_named: bool = False  #: its values have names in JSON
+    flags: str = ""  #: the FlagKind of the names of its flags in JSON
+    json_note: str = ""
+    dumped: str = ""  #: `by FUNCTION`, which makes its line of the dump, or `apart`
 
     def item(self) -> str:
         """The type without the count of an array."""
@@ -49,10 +87,18 @@ class Record:
     fields: List[Field] = field(default_factory=list)
     python_module: str = ""  #: of the class that has its fields
     python_order: List[str] = field(default_factory=list)
+    rattle_file: str = ""  #: the source of pe_records_c that has it, which is written
+    rattle_source: Tuple[str, str, str] = ("", "", "")  #: crate, module and type of the values that it shows
+    rattle_filler: str = ""  #: the function that fills rows with those of a list
 
     def camel(self) -> str:
         """Its name in Rust and Python."""
         return "".join(word.capitalize() for word in self.name.split("_"))
+
+    def placed(self) -> List[Field]:
+        """The fields with a place, in the order of the format: the COFF header's, then the optional header's by their offsets."""
+        found = [(it.place.is_coff, it.place.narrow, it) for it in self.fields if it.place and "[" not in it.type]
+        return [it for _, _, it in sorted(found, key=lambda row: (not row[0], row[1]))]
 
 
 @dataclass
@@ -111,6 +157,7 @@ class Call:
     since: str
     faults: str = ""  #: which it may return, in order
     memory: str = ""  #: when it is allocated
+    reads: str = ""  #: the table that it reads, if its source is written
 
 
 @dataclass
@@ -273,8 +320,31 @@ class Description:
             self._record.python_order = rest[6:].split(", ")
         elif first == "python":
             self._record.fields[-1].python = (*COLUMNS.split(rest.strip()), "")[:3]
+        elif first == "rattle":
+            file, crate, module, kind, filler = _matched(r"in (\w+) of (\w+)\.(\w+)\.(\w+)(?:, (\w+))?", rest)
+            self._record.rattle_file, self._record.rattle_source, self._record.rattle_filler = file, (crate, module, kind), filler
+        elif len(COLUMNS.split(line.strip())) == 1:
+            self._add_word(first, rest)
         else:
             self._add_field(first == ",", rest if first == "," else line)
+
+    def _add_word(self, word: str, rest: str) -> None:
+        """What a field has in a line of its own."""
+        it = self._record.fields[-1]
+        if word == "from":
+            it.origin = _origin(rest)
+        elif word == "named" and not rest:
+            it.is_named = True
+        elif word == "counts":
+            it.counts = rest
+        elif word == "flags":
+            it.flags = rest
+        elif word == "json":
+            it.json_note = rest
+        elif word == "dumped":
+            it.dumped = _matched(r"(by \w+|apart)", rest)[0]
+        else:
+            raise Mistake("it has none of the forms of a field")
 
     def _add_field(self, is_joined: bool, row: str) -> None:
         name, kind, unit, keys, meaning = COLUMNS.split(row.strip(), maxsplit=4)
@@ -282,12 +352,15 @@ class Description:
             raise Mistake(f"{unit} is no unit")
         same = f"{self._record.name}.{name}"
         named = [same if key == "=" else key for key in keys.split(", ") if key != "-"]
-        self._record.fields.append(Field(name, kind, unit, named, meaning, is_joined))
+        kind, _, place = kind.partition(" ")
+        self._record.fields.append(Field(name, kind, unit, named, meaning, is_joined, place=_place(place) if place else None))
 
     def _call(self, line: str) -> None:
         if line.strip().startswith("asks "):
             call = self.calls[-1]
             call.faults, call.memory = line.strip()[len("asks ") :].split("; memory ")
+        elif line.strip().startswith("reads "):
+            self.calls[-1].reads = line.strip()[len("reads ") :]
         else:
             self._add_call(line.strip())
 
@@ -310,6 +383,8 @@ class Description:
             self._object.places = words[len("written by ") :].split(", ")
         elif words.startswith("* "):
             self._object.members += self.objects[words[2:]].members[1:]
+        elif words.startswith("fields of "):
+            self._object.members += map(_member_of, self.records[words[len("fields of ") :]].placed())
         else:
             shown, kind, meaning = (*COLUMNS.split(words), "")[:3]
             self._object.members.append(Member(shown, kind, meaning))
@@ -323,7 +398,9 @@ class Description:
                 raise Mistake(f"{values.name} has no values, or no source")
         for record in self.records.values():
             for it in record.fields:
-                self.size(it.type)
+                size, _ = self.size(it.type)
+                if it.place and size != it.place.width() * it.count():
+                    raise Mistake(f"{record.name}.{it.name}: its places have not the width of {it.type}")
                 for key in it.keys:
                     name, _, member = key.partition(".")
                     if name not in self.objects or member not in self.objects[name].keys():
@@ -382,6 +459,35 @@ def _matched(form: str, text: str) -> Tuple[str, ...]:
     if found is None:
         raise Mistake(f"it has not the form {form}")
     return tuple(it or "" for it in found.groups())
+
+
+def _place(words: str) -> Place:
+    """The place of a field from its words in a row."""
+    coff, offset, width, other, wide_offset, wide_width = _matched(r"(coff )?(\d+)/([1248])(?: (-|(\d+)/([1248])))?", words)
+    narrow = int(offset), int(width)
+    wide = None if other == "-" else (int(wide_offset), int(wide_width)) if other else narrow
+    return Place(bool(coff), narrow, wide)
+
+
+def _origin(words: str) -> Origin:
+    """The value of a field from its words in a row."""
+    called = re.fullmatch(r"(\w+)\(\)", words)
+    numbered = re.fullmatch(r"(\w+) by (\w+) of (\w+): (\w+ \w+(?:, \w+ \w+)*)", words)
+    if called:
+        return Origin(function=called[1])
+    if numbered:
+        numbers = [(variant, number) for variant, number in (arm.split() for arm in numbered[4].split(", "))]
+        return Origin(name=numbered[1], function=numbered[2], enum=numbered[3], numbers=numbers)
+    name, default = _matched(r"(\w+)(?: or (\w+))?", words)
+    return Origin(name=name, default=default)
+
+
+def _member_of(it: Field) -> Member:
+    """The member of JSON that has a field of the headers."""
+    beside = "+name" if it.is_named else "+flags" if it.flags else ""
+    if it.place and it.place.is_extended():
+        return Member(it.name + beside, "string", "64 bits")
+    return Member(it.name + beside, "number", it.json_note or ("" if it.place and it.place.wide else "PE32 only"))
 
 
 def _lines(text: str) -> List[Tuple[int, str]]:

@@ -1,6 +1,6 @@
 """Sources that are compared with the description and not written: the values, records and calls of the crates and the keys of
-pe_json, since proofs depend on them; the prototypes of petool.h, which follow comments that say what each call returns; and the
-statuses in the manual page, which says more of each.
+pe_json; the definition of the headers, since the written code is compared with it; the prototypes of petool.h, which follow
+comments that say what each call returns; and the statuses in the manual page, which says more of each.
 
 Each comparison returns what differs, and nothing if a source agrees. A source in which nothing is found differs.
 """
@@ -11,6 +11,7 @@ from typing import Dict, List, Optional, Sequence, Set, Tuple
 
 from c_texts import prototype
 from description import Call, Description, Record, Values
+from header_texts import definition
 
 #: The fields in C of a record that is one slice.
 TEXT = [("at", "bytes"), ("len", "usize")]
@@ -192,6 +193,16 @@ def key_faults(description: Description, sources: Dict[str, str]) -> List[str]:
         file = files[place.partition(".")[0]]
         faults += [f"{file}: {place} writes {key}, which is not described" for key in sorted(keys - told[place])]
     return faults
+
+
+def definition_faults(description: Description, file: str, definitions: str) -> List[str]:
+    """Whether the fields of the headers are defined at their places. A proof compares them too, but this names the row at once."""
+    body = re.search(r"^head_of file =\n    record \{\n(.*?)^    \}$", definitions, re.M | re.S)
+    found = re.findall(r"^ +(\w+) = (.*);$", body[1] if body else "", re.M)
+    described = [(it.name, definition(it)) for it in description.records["headers"].placed()]
+    names = {name for name, _ in described} - {"magic"}
+    differs = _first_difference([it for it in found if it[0] in names], [it for it in described if it[0] in names])
+    return [f"{file}: head_of has {differs[0]}, described as {differs[1]}"] if differs else []
 
 
 def prototype_faults(description: Description, file: str, header: str) -> List[str]:

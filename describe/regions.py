@@ -15,7 +15,7 @@ class NoRegion(Exception):
 
 def _begins(line: str, source: str) -> Optional["re.Match[str]"]:
     """The indent and the name of a part of a description that begins here."""
-    return re.fullmatch(rf"([ \t]*)(?:/\*|//|#|<!--|\.\\\") from {re.escape(source)}: (.+?)(?: \*/| -->)?", line)
+    return re.fullmatch(rf"([ \t]*)(?:/\*|//|--|#|<!--|\.\\\") from {re.escape(source)}: (.+?)(?: \*/| -->)?", line)
 
 
 def filled(text: str, source: str, render: Callable[[str], List[str]]) -> str:

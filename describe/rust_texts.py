@@ -39,7 +39,7 @@ fn the_library_has_the_version_of_the_header() {
 """
 
 
-def _sentence(text: str) -> str:
+def sentence(text: str) -> str:
     """A meaning as a sentence, with the header's names as code."""
     text = re.sub(r"(?<!`)\b(PETOOL_\w+)", r"`\1`", text)
     return text[0].upper() + text[1:].rstrip(".") + "."
@@ -48,7 +48,7 @@ def _sentence(text: str) -> str:
 def _constants(found: Values) -> List[str]:
     lines: List[str] = []
     for it in found.values:
-        lines.append(f"/// {_sentence(found.rust.replace('..', it.in_words()))}")
+        lines.append(f"/// {sentence(found.rust.replace('..', it.in_words()))}")
         lines.append(f"pub const {found.prefix}{it.name}: {found.type} = {it.number};")
     return lines
 
@@ -85,7 +85,7 @@ def _struct(description: Description, record: Record) -> List[str]:
     derived = f"#[derive({_derived(description, record)})]"
     lines = [f"/// {record.about}", "#[repr(C)]", derived, f"pub struct {record.camel()} {{"]
     for it in record.fields:
-        lines += [f"    /// {_sentence(it.meaning)}", f"    pub {it.name}: {_type(description, it)},"]
+        lines += [f"    /// {sentence(it.meaning)}", f"    pub {it.name}: {_type(description, it)},"]
     return [*lines, "}"]
 
 

@@ -32,9 +32,12 @@ COPIED = [
     "describe",
     "docs/C.md",
     "docs/FAULTS.md",
+    "docs/FORMAT.md",
     "docs/JSON.md",
     "man/petool.h.3",
     "packaging/debian/libpetool0.symbols",
+    "crates/pe_head/specs/Head.antt",
+    "crates/pe_text/specs/HeaderFields.antt",
     *(f"crates/{crate}/src" for crate in CRATES + FAULT_CRATES),
 ]
 
@@ -89,6 +92,33 @@ VALUES_WRITTEN = [
     ("docs/C.md", "| `PETOOL_ARGUMENT` | 5 |", "| `PETOOL_CLOSED` | 5 |"),
     ("docs/C.md", "<!-- from describe/records.txt: statuses -->\n", ""),
 ]
+#: Another place, name, width or order of a field, in each file that has the fields of the headers, and parts that are missing.
+FIELDS_WRITTEN = [
+    ("crates/pe_head/src/headers.rt", "    pub size_of_stack_commit: u64,", "    pub size_of_stack_commit: u32,"),
+    ("crates/pe_head/src/headers.rt", "/// How many bytes of stack to commit.", "/// The bytes of stack to commit."),
+    ("crates/pe_head/src/headers.rt", "    // from describe/records.txt: fields of headers\n", ""),
+    ("crates/pe_head/src/fields.rt", "self.u64_either(76, 80)", "self.u64_either(77, 80)"),
+    ("crates/pe_head/src/fields.rt", "self.coff_u16(18)", "self.coff_u16(16)"),
+    ("crates/pe_head/src/fields.rt", "number_of_rva_and_sizes = self.u32_either(92, 108)", "number_of_rva_and_sizes = self.u32_at(92)"),
+    ("crates/pe_head/src/fields.rt", "// from describe/records.txt: counts of headers", "// from describe/records.txt: reading of headers"),
+    ("crates/pe_text/src/header_fields.rt", 'field!(b"Subsystem", 2,', 'field!(b"Subsystem", 4,'),
+    ("crates/pe_text/src/header_fields.rt", 'b"SizeOfStackReserve",\n            extended', 'b"SizeOfStackReserve",\n            4'),
+    ("crates/pe_text/specs/HeaderFields.antt", '(codes "CheckSum") 4 h.check_sum', '(codes "CheckSum") 4 h.loader_flags'),
+    ("crates/pe_text/specs/HeaderFields.antt", "    -- from describe/records.txt: coff of headers\n", ""),
+    ("crates/pe_json/src/headers.rt", "number!(headers, check_sum),", "number!(headers, checksum),"),
+    ("crates/pe_json/src/headers.rt", "wide!(headers, image_base),", "number!(headers, image_base),"),
+    ("crates/pe_json/src/headers.rt", "Flags(FlagKind::Dll,", "Flags(FlagKind::File,"),
+    ("docs/FORMAT.md", "SizeOfStackCommit | 76/4 | 80/8", "SizeOfStackCommit | 76/4 | 84/8"),
+    ("docs/FORMAT.md", "MajorLinkerVersion 2/1", "MajorLinkerVersion 2/2"),
+    ("docs/FORMAT.md", "<!-- from describe/records.txt: other of headers -->\n", ""),
+]
+#: The definition of the headers, which is not written.
+FIELDS_COMPARED = [
+    ("crates/pe_head/specs/Head.antt", "either_field file 76 4 80 8", "either_field file 77 4 80 8"),
+    ("crates/pe_head/specs/Head.antt", "loader_flags = either_field file 88 4 104 4", "loader_flag = either_field file 88 4 104 4"),
+    ("crates/pe_head/specs/Head.antt", "      check_sum = field file 64 4;\n", ""),
+    ("crates/pe_head/specs/Head.antt", "head_of file =\n", "header_of file =\n"),
+]
 VALUES_COMPARED = [
     ("man/petool.h.3", "\n.B PETOOL_ABSENT\n", "\n.B PETOOL_SMALL\n"),
     ("man/petool.h.3", ".TP\n.B PETOOL_CLOSED\nthe image or the space is not open\n", ""),
@@ -131,7 +161,23 @@ COMPARED = [
     ("crates/pe_json/src/beginning.rt", ',\\"rule\\":', ',\\"words\\":'),
 ]
 #: Changed or invalid descriptions, and what is then named.
+STACK_COMMIT = "  , size_of_stack_commit            u64 76/4 80/8"
 DESCRIBED = [
+    (STACK_COMMIT, STACK_COMMIT.replace("76/4", "77/4"), "crates/pe_head/src/fields.rt"),
+    (STACK_COMMIT, STACK_COMMIT.replace("76/4", "77/4"), "crates/pe_head/specs/Head.antt: head_of has ('size_of_stack_commit'"),
+    (STACK_COMMIT, STACK_COMMIT.replace("76/4", "77/4"), "docs/FORMAT.md"),
+    (STACK_COMMIT, STACK_COMMIT.replace("76/4 80/8", "76/4"), "headers.size_of_stack_commit: its places"),
+    (STACK_COMMIT, STACK_COMMIT.replace("76/4", "76/3"), "line "),
+    (STACK_COMMIT, STACK_COMMIT.replace("80/8", "80"), "line "),
+    ("    named\n", "    name\n", "line "),
+    ("    named\n", "    flags File\n", "crates/pe_json/src/headers.rt"),
+    ("    dumped apart\n", "    dumped twice\n", "line "),
+    ("    counts sections\n", "", "crates/pe_head/src/fields.rt"),
+    ("    flags Dll\n", "    flags File\n", "crates/pe_json/src/headers.rt"),
+    ("    from base_of_data or 0\n", "    from base of data or 0\n", "line "),
+    ("    rattle in headers of pe_head.section.SectionHeader", "    rattle in headers of pe_head.SectionHeader", "line "),
+    ("    fields of headers\n", "    fields of header\n", "line "),
+    ("    fields of headers\n", "", "headers"),
     ("    kind   u32  -    fixup.bits", "    kind   u16  -    fixup.bits", "crates/pe_records_c/src/fixup.rt"),
     ("    kind   u32  -    fixup.bits", "    kind   u32  -    fixup.bytes", "there is no fixup.bytes"),
     ("    kind   u32  -    fixup.bits", "    kind   u32  days    fixup.bits", "days is no unit"),
@@ -278,6 +324,20 @@ class Describe(unittest.TestCase):
     def test_a_value_that_differs_is_named(self):
         for path, old, new in VALUES_WRITTEN + VALUES_COMPARED:
             self.assert_named(path, old, new, path)
+
+    def test_a_field_of_the_headers_that_differs_is_named(self):
+        for path, old, new in FIELDS_WRITTEN + FIELDS_COMPARED:
+            self.assert_named(path, old, new, path)
+
+    def test_a_file_with_fields_is_written_back(self):
+        for path, old, new in FIELDS_WRITTEN:
+            if "describe/records.txt" not in old:
+                with self.subTest(path=path, old=old, new=new):
+                    before = (self.top / path).read_bytes()
+                    file = self.changed(path, old, new)
+                    self.assertEqual(self.run_script(), (0, f"{path}: written\n"))
+                    self.assertEqual(file.read_bytes(), before)
+                self.doCleanups()
 
     def test_a_table_of_faults_that_differs_is_named(self):
         for path, old, new in FAULTS_WRITTEN + FAULTS_PARTS:

@@ -33,43 +33,43 @@ class Headers:
 
     # from describe/records.txt: headers
     pe_offset: int  #: the file offset of the signature
-    machine: int  #: the processor that the image is for
+    machine: int  #: the machine that the image is for
     number_of_sections: int  #: how many sections there are
     time_date_stamp: int  #: when the image was made, in seconds since 1970, as written
     pointer_to_symbol_table: int  #: the file offset of the symbol table, which is not read
     number_of_symbols: int  #: how many records the symbol table has
     size_of_optional_header: int  #: the bytes from the beginning of the optional header to the section table
-    characteristics: int  #: flags of the image
+    characteristics: int  #: the flags of the image
     magic: int  #: 0x10b for PE32, 0x20b for PE32+
-    major_linker_version: int  #: the linker's version
-    minor_linker_version: int  #: the second part of the linker's version
+    major_linker_version: int  #: the linker's major version
+    minor_linker_version: int  #: the linker's minor version
     size_of_code: int  #: the size of all code
     size_of_initialized_data: int  #: the size of all initialized data
     size_of_uninitialized_data: int  #: the size of all uninitialized data
-    address_of_entry_point: int  #: the RVA where the image starts to run, or 0
+    address_of_entry_point: int  #: the RVA of the entry point, or 0 if there is none
     base_of_code: int  #: the RVA where code begins
     base_of_data: int  #: the RVA where data begins; 0 in PE32+
     image_base: int  #: the preferred address of the image
     section_alignment: int  #: the alignment of sections in the laid-out image
     file_alignment: int  #: the alignment of raw data in the file
-    major_operating_system_version: int  #: the operating system's version that the image needs
-    minor_operating_system_version: int  #: the second part of the operating system's version
-    major_image_version: int  #: the image's own version
-    minor_image_version: int  #: the second part of the image's version
-    major_subsystem_version: int  #: the subsystem's version that the image needs
-    minor_subsystem_version: int  #: the second part of the subsystem's version
+    major_operating_system_version: int  #: the major version of the operating system that the image needs
+    minor_operating_system_version: int  #: the minor version of the operating system
+    major_image_version: int  #: the image's own major version
+    minor_image_version: int  #: the image's own minor version
+    major_subsystem_version: int  #: the major version of the subsystem that the image needs
+    minor_subsystem_version: int  #: the minor version of the subsystem
     win32_version_value: int  #: reserved
     size_of_image: int  #: the size of the laid-out image
     size_of_headers: int  #: the size of the headers in the laid-out image
-    check_sum: int  #: as written; it is not computed
-    subsystem: int  #: what the image needs to run
-    dll_characteristics: int  #: flags of a library
+    check_sum: int  #: the checksum as written; it is not computed
+    subsystem: int  #: the subsystem that the image needs to run
+    dll_characteristics: int  #: the flags in DllCharacteristics
     size_of_stack_reserve: int  #: how many bytes of stack to reserve
     size_of_stack_commit: int  #: how many bytes of stack to commit
     size_of_heap_reserve: int  #: how many bytes of heap to reserve
     size_of_heap_commit: int  #: how many bytes of heap to commit
     loader_flags: int  #: reserved
-    number_of_rva_and_sizes: int  #: how many directories there are; at most 16 are kept
+    number_of_rva_and_sizes: int  #: the number of directories, as written; at most 16 are kept
     directories: Tuple[Directory, ...]  #: 16 of them; those that the headers do not hold are 0
     # end of describe/records.txt
 

@@ -243,11 +243,14 @@ impl<'a> Fields<'a> {
         requires sections { section_start (bytes_of self.now.view) (coff_field (bytes_of self.now.view) 2 2) ≤ size_of self.now.view }
         ensures { result ≡ head_of (bytes_of self.now.view) }
     {
+        // from describe/records.txt: counts of headers
         let number_of_sections = self.coff_u16(2);
         let number_of_rva_and_sizes = self.u32_either(92, 108);
+        // end of describe/records.txt
         Headers {
             magic: self.magic,
             pe_offset: self.offset,
+            // from describe/records.txt: reading of headers
             machine: self.coff_u16(0),
             number_of_sections,
             time_date_stamp: self.coff_u32(4),
@@ -273,8 +276,8 @@ impl<'a> Fields<'a> {
             major_subsystem_version: self.u16_at(48),
             minor_subsystem_version: self.u16_at(50),
             win32_version_value: self.u32_at(52),
-            size_of_image: self.size_of_image(),
-            size_of_headers: self.size_of_headers(),
+            size_of_image: self.u32_at(56),
+            size_of_headers: self.u32_at(60),
             check_sum: self.u32_at(64),
             subsystem: self.u16_at(68),
             dll_characteristics: self.u16_at(70),
@@ -284,6 +287,7 @@ impl<'a> Fields<'a> {
             size_of_heap_commit: self.u64_either(84, 96),
             loader_flags: self.u32_either(88, 104),
             number_of_rva_and_sizes,
+            // end of describe/records.txt
             directories: self.directories(u64::from(number_of_rva_and_sizes.min(16))),
             sections: self.sections(u64::from(number_of_sections)),
         }

@@ -16,18 +16,19 @@ pub struct Headers {
     /// The file offset of the signature.
     pub pe_offset: u32,
 
+    // from describe/records.txt: fields of headers
     // The COFF header.
     /// The machine that the image is for.
     pub machine: u16,
-    /// The number of section headers.
+    /// How many sections there are.
     pub number_of_sections: u16,
-    /// When the image was made, as its linker wrote it.
+    /// When the image was made, in seconds since 1970, as written.
     pub time_date_stamp: u32,
     /// The file offset of the symbol table, which is not read.
     pub pointer_to_symbol_table: u32,
-    /// The number of symbol table records.
+    /// How many records the symbol table has.
     pub number_of_symbols: u32,
-    /// The size of the optional header in bytes, which ends where the section table begins.
+    /// The bytes from the beginning of the optional header to the section table.
     pub size_of_optional_header: u16,
     /// The flags of the image.
     pub characteristics: u16,
@@ -37,11 +38,11 @@ pub struct Headers {
     pub major_linker_version: u8,
     /// The linker's minor version.
     pub minor_linker_version: u8,
-    /// The size of all code in bytes.
+    /// The size of all code.
     pub size_of_code: u32,
-    /// The size of all initialized data in bytes.
+    /// The size of all initialized data.
     pub size_of_initialized_data: u32,
-    /// The size of all uninitialized data in bytes.
+    /// The size of all uninitialized data.
     pub size_of_uninitialized_data: u32,
     /// The RVA of the entry point, or 0 if there is none.
     pub address_of_entry_point: u32,
@@ -51,9 +52,9 @@ pub struct Headers {
     pub base_of_data: Option<u32>,
     /// The preferred address of the image.
     pub image_base: u64,
-    /// The alignment of sections in the laid-out image, in bytes.
+    /// The alignment of sections in the laid-out image.
     pub section_alignment: u32,
-    /// The alignment of raw data in the file, in bytes.
+    /// The alignment of raw data in the file.
     pub file_alignment: u32,
     /// The major version of the operating system that the image needs.
     pub major_operating_system_version: u16,
@@ -69,28 +70,29 @@ pub struct Headers {
     pub minor_subsystem_version: u16,
     /// Reserved.
     pub win32_version_value: u32,
-    /// The size of the laid-out image in bytes.
+    /// The size of the laid-out image.
     pub size_of_image: u32,
-    /// The size of the headers in bytes, as they are laid out.
+    /// The size of the headers in the laid-out image.
     pub size_of_headers: u32,
-    /// The checksum as written in the file; it is not computed.
+    /// The checksum as written; it is not computed.
     pub check_sum: u32,
     /// The subsystem that the image needs to run.
     pub subsystem: u16,
     /// The flags in DllCharacteristics.
     pub dll_characteristics: u16,
-    /// The size of stack to reserve in bytes.
+    /// How many bytes of stack to reserve.
     pub size_of_stack_reserve: u64,
-    /// The size of stack to commit in bytes.
+    /// How many bytes of stack to commit.
     pub size_of_stack_commit: u64,
-    /// The size of heap to reserve in bytes.
+    /// How many bytes of heap to reserve.
     pub size_of_heap_reserve: u64,
-    /// The size of heap to commit in bytes.
+    /// How many bytes of heap to commit.
     pub size_of_heap_commit: u64,
     /// Reserved.
     pub loader_flags: u32,
-    /// The number as written in the file; `directories` has at most 16.
+    /// The number of directories, as written; at most 16 are kept.
     pub number_of_rva_and_sizes: u32,
+    // end of describe/records.txt
 
     /// The data directories in the headers, by index.
     pub directories: ArrayVec<Directory, 16>,

@@ -23,6 +23,7 @@ macro_rules! wide {
 /// The fields of a COFF file header, in the header's order ("PE Format", COFF File Header).
 pub(crate) fn coff_members(header: &FileHeader) -> [Member<'static>; 9] {
     [
+        // from describe/records.txt: coff of headers
         number!(header, machine),
         ("machine_name", text_if(machine_name(header.machine))),
         number!(header, number_of_sections),
@@ -35,12 +36,14 @@ pub(crate) fn coff_members(header: &FileHeader) -> [Member<'static>; 9] {
             "characteristics_flags",
             Flags(FlagKind::File, header.characteristics as u32),
         ),
+        // end of describe/records.txt
     ]
 }
 
 /// The fields of an optional header, in the header's order ("PE Format", Optional Header).
 pub(crate) fn optional_members(headers: &Headers) -> [Member<'static>; 32] {
     [
+        // from describe/records.txt: optional of headers
         (
             "magic",
             match headers.magic {
@@ -88,5 +91,6 @@ pub(crate) fn optional_members(headers: &Headers) -> [Member<'static>; 32] {
         wide!(headers, size_of_heap_commit),
         number!(headers, loader_flags),
         number!(headers, number_of_rva_and_sizes),
+        // end of describe/records.txt
     ]
 }

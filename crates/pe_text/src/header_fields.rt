@@ -42,12 +42,14 @@ pub fn coff_fields(headers: &Headers) -> [Field; 6]
     ensures { map field_of result ≡ coff_fields headers.now }
 {
     [
+        // from describe/records.txt: coff of headers
         field!(b"NumberOfSections", 2, headers.number_of_sections),
         time_date_stamp(headers.time_date_stamp),
         field!(b"PointerToSymbolTable", 4, headers.pointer_to_symbol_table),
         field!(b"NumberOfSymbols", 4, headers.number_of_symbols),
         field!(b"SizeOfOptionalHeader", 2, headers.size_of_optional_header),
         characteristics(headers.characteristics),
+        // end of describe/records.txt
     ]
 }
 
@@ -57,6 +59,7 @@ pub fn standard_fields(headers: &Headers) -> [Field; 8]
     ensures { map field_of result ≡ standard_fields headers.now }
 {
     [
+        // from describe/records.txt: standard of headers
         field!(b"Magic", 2, magic_number(headers.magic)),
         field!(b"MajorLinkerVersion", 1, headers.major_linker_version),
         field!(b"MinorLinkerVersion", 1, headers.minor_linker_version),
@@ -73,6 +76,7 @@ pub fn standard_fields(headers: &Headers) -> [Field; 8]
         ),
         field!(b"AddressOfEntryPoint", 4, headers.address_of_entry_point),
         field!(b"BaseOfCode", 4, headers.base_of_code),
+        // end of describe/records.txt
     ]
 }
 
@@ -83,6 +87,7 @@ pub fn windows_fields(headers: &Headers) -> [Field; 21]
 {
     let extended = extended_width(headers.magic);
     [
+        // from describe/records.txt: windows of headers
         field!(b"ImageBase", extended, headers.image_base),
         field!(b"SectionAlignment", 4, headers.section_alignment),
         field!(b"FileAlignment", 4, headers.file_alignment),
@@ -116,5 +121,6 @@ pub fn windows_fields(headers: &Headers) -> [Field; 21]
         field!(b"SizeOfHeapCommit", extended, headers.size_of_heap_commit),
         field!(b"LoaderFlags", 4, headers.loader_flags),
         field!(b"NumberOfRvaAndSizes", 4, headers.number_of_rva_and_sizes),
+        // end of describe/records.txt
     ]
 }

@@ -123,7 +123,7 @@ pub struct Headers {
     pub size_of_initialized_data: u32,
     /// The size of all uninitialized data.
     pub size_of_uninitialized_data: u32,
-    /// The RVA where the image starts to run, or 0.
+    /// The RVA of the entry point, or 0 if there is none.
     pub address_of_entry_point: u32,
     /// The RVA where code begins.
     pub base_of_code: u32,
@@ -139,43 +139,43 @@ pub struct Headers {
     pub size_of_image: u32,
     /// The size of the headers in the laid-out image.
     pub size_of_headers: u32,
-    /// As written; it is not computed.
+    /// The checksum as written; it is not computed.
     pub check_sum: u32,
     /// Reserved.
     pub loader_flags: u32,
-    /// How many directories there are; at most 16 are kept.
+    /// The number of directories, as written; at most 16 are kept.
     pub number_of_rva_and_sizes: u32,
     /// 0x10b for PE32, 0x20b for PE32+.
     pub magic: u16,
-    /// The processor that the image is for.
+    /// The machine that the image is for.
     pub machine: u16,
     /// How many sections there are.
     pub number_of_sections: u16,
     /// The bytes from the beginning of the optional header to the section table.
     pub size_of_optional_header: u16,
-    /// Flags of the image.
+    /// The flags of the image.
     pub characteristics: u16,
-    /// What the image needs to run.
+    /// The subsystem that the image needs to run.
     pub subsystem: u16,
-    /// Flags of a library.
+    /// The flags in DllCharacteristics.
     pub dll_characteristics: u16,
-    /// The operating system's version that the image needs.
+    /// The major version of the operating system that the image needs.
     pub major_operating_system_version: u16,
-    /// The second part of the operating system's version.
+    /// The minor version of the operating system.
     pub minor_operating_system_version: u16,
-    /// The image's own version.
+    /// The image's own major version.
     pub major_image_version: u16,
-    /// The second part of the image's version.
+    /// The image's own minor version.
     pub minor_image_version: u16,
-    /// The subsystem's version that the image needs.
+    /// The major version of the subsystem that the image needs.
     pub major_subsystem_version: u16,
-    /// The second part of the subsystem's version.
+    /// The minor version of the subsystem.
     pub minor_subsystem_version: u16,
-    /// The linker's version.
+    /// The linker's major version.
     pub major_linker_version: u8,
-    /// The second part of the linker's version.
+    /// The linker's minor version.
     pub minor_linker_version: u8,
-    /// Those that the headers do not hold are 0.
+    /// The data directories by index; those that the headers do not hold are 0.
     pub directories: [Directory; 16],
 }
 
