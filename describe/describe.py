@@ -15,6 +15,7 @@ import c_texts
 import fault_texts
 import header_texts
 import page_texts
+import plan_texts
 import python_texts
 import rattle_sources
 import regions
@@ -32,6 +33,8 @@ MODULES = ("_fault", "_image", "_library", "_object", "_space")
 MAN = "man/petool.h.3"
 JSON = "docs/JSON.md"
 FAULTS_PAGE = "docs/FAULTS.md"
+#: The definitions of the fields that a plan names.
+PLAN_HEADERS = "crates/pe_write/specs/PlanHeaders.antt"
 #: The definition of the headers' fields by their places.
 HEAD = "crates/pe_head/specs/Head.antt"
 
@@ -51,6 +54,11 @@ def rust_part(description, what):
     return ["", *form(description), ""]
 
 
+def plan_part(description, what):
+    """A part of the proofs about a plan's headers."""
+    return plan_texts.part(description, what, plan_texts.planned(read(PLAN_HEADERS)))
+
+
 #: The sources in Rattle, and the page, that have the fields of the headers in parts: what writes these, and which each must have.
 FIELDS = {
     "crates/pe_head/src/headers.rt": (header_texts.head_part, ["fields"]),
@@ -58,6 +66,7 @@ FIELDS = {
     "crates/pe_text/src/header_fields.rt": (header_texts.dump_part, ["coff", "standard", "windows"]),
     "crates/pe_text/specs/HeaderFields.antt": (header_texts.dump_definition_part, ["coff", "standard", "windows"]),
     "crates/pe_json/src/headers.rt": (header_texts.json_part, ["coff", "optional"]),
+    "crates/pe_write/proofs/PlanHead.antt": (plan_part, ["values", "reading"]),
     "docs/FORMAT.md": (header_texts.page_part, ["coff", "same", "other"]),
 }
 #: The files of which parts are written from the records, each between two comments.

@@ -38,6 +38,8 @@ COPIED = [
     "packaging/debian/libpetool0.symbols",
     "crates/pe_head/specs/Head.antt",
     "crates/pe_text/specs/HeaderFields.antt",
+    "crates/pe_write/proofs/PlanHead.antt",
+    "crates/pe_write/specs/PlanHeaders.antt",
     *(f"crates/{crate}/src" for crate in CRATES + FAULT_CRATES),
 ]
 
@@ -108,6 +110,8 @@ FIELDS_WRITTEN = [
     ("crates/pe_json/src/headers.rt", "number!(headers, check_sum),", "number!(headers, checksum),"),
     ("crates/pe_json/src/headers.rt", "wide!(headers, image_base),", "number!(headers, image_base),"),
     ("crates/pe_json/src/headers.rt", "Flags(FlagKind::Dll,", "Flags(FlagKind::File,"),
+    ("crates/pe_write/proofs/PlanHead.antt", "either_field g 76 4 80 8 ≡ 0", "either_field g 72 4 72 8 ≡ 0"),
+    ("crates/pe_write/proofs/PlanHead.antt", "check_sum = same-is 64", "check_sum = same-is 68"),
     ("docs/FORMAT.md", "SizeOfStackCommit | 76/4 | 80/8", "SizeOfStackCommit | 76/4 | 84/8"),
     ("docs/FORMAT.md", "MajorLinkerVersion 2/1", "MajorLinkerVersion 2/2"),
     ("docs/FORMAT.md", "<!-- from describe/records.txt: other of headers -->\n", ""),

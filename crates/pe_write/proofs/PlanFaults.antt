@@ -41,8 +41,8 @@ pub head_none : {A : Type 0} (plan : Plan A) (g : List ℕ) (image : ℕ) → Re
 unfolding head_tests
 head_none plan g image r b =
     let p = r.p in
-    let optional = r.optional in
-    let count = r.count in
+    let optional = r.size_of_optional_header in
+    let count = r.number_of_sections in
     let headers_size = r.size_of_headers in
     let image_size = r.size_of_image in
     let most = b.most in
@@ -54,7 +54,7 @@ head_none plan g image r b =
     let inside = b.inside in
     let fixed : fixed_size g ≡ fixed_size_of plan.magic = ap fixed_size_of r.magic in
     let directories : directory_bytes g ≤ 8 * directory_count g = cond_most (nat_le (optional_start g + fixed_size g) (length g)) (8 * directory_count g) in
-    let counted : directory_count g ≡ 16 = ap (λ (n : ℕ). min n 16) r.number in
+    let counted : directory_count g ≡ 16 = ap (λ (n : ℕ). min n 16) r.number_of_rva_and_sizes in
     let start : section_start g (coff_field g 2 2) ≡ table_end plan.magic (length plan.sections.items) = omega arith in
     let has : has_field g 0 2 ≡ true = le-leb _ _ (omega arith) in
     let is_known : (field g 0 2 == 0x10b || field g 0 2 == 0x20b) ≡ true = ap (λ (v : ℕ). v == 0x10b || v == 0x20b) r.number_of_magic ∙ known plan.magic in

@@ -20,43 +20,45 @@ pub record Read {A : Type 0} (plan : Plan A) (g : List ℕ) : Type 0 where
   pub signature : num (byte_of g) (pe_offset g) 4 ≡ 0x4550
   pub number_of_magic : field g 0 2 ≡ magic_number plan.magic
   pub p : pe_offset g ≡ 0x40
-  pub machine : coff_field g 0 2 ≡ plan.machine
-  pub count : coff_field g 2 2 ≡ length plan.sections.items
-  pub time_stamp : coff_field g 4 4 ≡ plan.time_stamp
-  pub symbols : coff_field g 8 4 ≡ 0
-  pub symbol_count : coff_field g 12 4 ≡ 0
-  pub optional : coff_field g 16 2 ≡ optional_size plan.magic
-  pub characteristics : coff_field g 18 2 ≡ plan.characteristics
   pub magic : magic_of g ≡ plan.magic
-  pub linker_major : field g 2 1 ≡ 0
-  pub linker_minor : field g 3 1 ≡ 0
-  pub code : field g 4 4 ≡ 0
-  pub initialized : field g 8 4 ≡ 0
-  pub uninitialized : field g 12 4 ≡ 0
-  pub entry : field g 16 4 ≡ plan.entry
+  -- from describe/records.txt: values of headers
+  pub machine : coff_field g 0 2 ≡ plan.machine
+  pub number_of_sections : coff_field g 2 2 ≡ length plan.sections.items
+  pub time_date_stamp : coff_field g 4 4 ≡ plan.time_stamp
+  pub pointer_to_symbol_table : coff_field g 8 4 ≡ 0
+  pub number_of_symbols : coff_field g 12 4 ≡ 0
+  pub size_of_optional_header : coff_field g 16 2 ≡ optional_size plan.magic
+  pub characteristics : coff_field g 18 2 ≡ plan.characteristics
+  pub major_linker_version : field g 2 1 ≡ 0
+  pub minor_linker_version : field g 3 1 ≡ 0
+  pub size_of_code : field g 4 4 ≡ 0
+  pub size_of_initialized_data : field g 8 4 ≡ 0
+  pub size_of_uninitialized_data : field g 12 4 ≡ 0
+  pub address_of_entry_point : field g 16 4 ≡ plan.entry
   pub base_of_code : field g 20 4 ≡ 0
   pub base_of_data : (if is_pe32 g then Some (field g 24 4) else None) ≡ base_of_data_of plan.magic
   pub image_base : either_field g 28 4 24 8 ≡ plan.image_base
   pub section_alignment : field g 32 4 ≡ plan.section_alignment
   pub file_alignment : field g 36 4 ≡ plan.file_alignment
-  pub system_major : field g 40 2 ≡ 0
-  pub system_minor : field g 42 2 ≡ 0
-  pub image_major : field g 44 2 ≡ 0
-  pub image_minor : field g 46 2 ≡ 0
-  pub subsystem_major : field g 48 2 ≡ 0
-  pub subsystem_minor : field g 50 2 ≡ 0
-  pub win32 : field g 52 4 ≡ 0
+  pub major_operating_system_version : field g 40 2 ≡ 0
+  pub minor_operating_system_version : field g 42 2 ≡ 0
+  pub major_image_version : field g 44 2 ≡ 0
+  pub minor_image_version : field g 46 2 ≡ 0
+  pub major_subsystem_version : field g 48 2 ≡ 0
+  pub minor_subsystem_version : field g 50 2 ≡ 0
+  pub win32_version_value : field g 52 4 ≡ 0
   pub size_of_image : field g 56 4 ≡ plan.size_of_image
   pub size_of_headers : field g 60 4 ≡ plan.size_of_headers
   pub check_sum : field g 64 4 ≡ 0
   pub subsystem : field g 68 2 ≡ plan.subsystem
-  pub dll : field g 70 2 ≡ plan.dll_characteristics
-  pub stack_reserve : either_field g 72 4 72 8 ≡ 0
-  pub stack_commit : either_field g 76 4 80 8 ≡ 0
-  pub heap_reserve : either_field g 80 4 88 8 ≡ 0
-  pub heap_commit : either_field g 84 4 96 8 ≡ 0
-  pub loader : either_field g 88 4 104 4 ≡ 0
-  pub number : either_field g 92 4 108 4 ≡ 16
+  pub dll_characteristics : field g 70 2 ≡ plan.dll_characteristics
+  pub size_of_stack_reserve : either_field g 72 4 72 8 ≡ 0
+  pub size_of_stack_commit : either_field g 76 4 80 8 ≡ 0
+  pub size_of_heap_reserve : either_field g 80 4 88 8 ≡ 0
+  pub size_of_heap_commit : either_field g 84 4 96 8 ≡ 0
+  pub loader_flags : either_field g 88 4 104 4 ≡ 0
+  pub number_of_rva_and_sizes : either_field g 92 4 108 4 ≡ 16
+  -- end of describe/records.txt
 
 by_form : (P : Magic → Type 0) → P Pe32 → P Pe32Plus → (m : Magic) → P m
 by_form P narrow wide Pe32 = narrow
@@ -119,41 +121,43 @@ module _ {A : Type 0} (plan : Plan A) (g : List ℕ) (fits : AllByRecursion Numb
     signature = ap (λ (p : ℕ). num (byte_of g) p 4) p-is ∙ at 0x40 0x40 (U32 0x4550) refl refl;
     number_of_magic = field-is 0 (U16 (magic_number plan.magic)) 0x58 refl refl;
     p = p-is;
-    machine = coff-is 0 (U16 plan.machine) 0x44 refl refl;
-    count = coff-is 2 (U16 (length plan.sections.items)) 0x46 refl refl;
-    time_stamp = coff-is 4 (U32 plan.time_stamp) 0x48 refl refl;
-    symbols = coff-is 8 (U32 0) 0x4c refl refl;
-    symbol_count = coff-is 12 (U32 0) 0x50 refl refl;
-    optional = coff-is 16 (U16 (optional_size plan.magic)) 0x54 refl refl;
-    characteristics = coff-is 18 (U16 plan.characteristics) 0x56 refl refl;
     magic = magic-is;
-    linker_major = field-is 2 (U8 0) 0x5a refl refl;
-    linker_minor = field-is 3 (U8 0) 0x5b refl refl;
-    code = field-is 4 (U32 0) 0x5c refl refl;
-    initialized = field-is 8 (U32 0) 0x60 refl refl;
-    uninitialized = field-is 12 (U32 0) 0x64 refl refl;
-    entry = field-is 16 (U32 plan.entry) 0x68 refl refl;
+    -- from describe/records.txt: reading of headers
+    machine = coff-is 0 (U16 plan.machine) 0x44 refl refl;
+    number_of_sections = coff-is 2 (U16 (length plan.sections.items)) 0x46 refl refl;
+    time_date_stamp = coff-is 4 (U32 plan.time_stamp) 0x48 refl refl;
+    pointer_to_symbol_table = coff-is 8 (U32 0) 0x4c refl refl;
+    number_of_symbols = coff-is 12 (U32 0) 0x50 refl refl;
+    size_of_optional_header = coff-is 16 (U16 (optional_size plan.magic)) 0x54 refl refl;
+    characteristics = coff-is 18 (U16 plan.characteristics) 0x56 refl refl;
+    major_linker_version = field-is 2 (U8 0) 0x5a refl refl;
+    minor_linker_version = field-is 3 (U8 0) 0x5b refl refl;
+    size_of_code = field-is 4 (U32 0) 0x5c refl refl;
+    size_of_initialized_data = field-is 8 (U32 0) 0x60 refl refl;
+    size_of_uninitialized_data = field-is 12 (U32 0) 0x64 refl refl;
+    address_of_entry_point = field-is 16 (U32 plan.entry) 0x68 refl refl;
     base_of_code = field-is 20 (U32 0) 0x6c refl refl;
     base_of_data = data_of plan.magic (is_pe32 g) (field g 24 4) magic-is (in_form Pe32 24 (U32 0) 0x70 refl refl);
     image_base = form-is 28 24 (U32 plan.image_base) (U64 plan.image_base) plan.image_base refl refl refl refl;
     section_alignment = same-is 32 (U32 plan.section_alignment) 0x78 refl refl refl;
     file_alignment = same-is 36 (U32 plan.file_alignment) 0x7c refl refl refl;
-    system_major = same-is 40 (U16 0) 0x80 refl refl refl;
-    system_minor = same-is 42 (U16 0) 0x82 refl refl refl;
-    image_major = same-is 44 (U16 0) 0x84 refl refl refl;
-    image_minor = same-is 46 (U16 0) 0x86 refl refl refl;
-    subsystem_major = same-is 48 (U16 0) 0x88 refl refl refl;
-    subsystem_minor = same-is 50 (U16 0) 0x8a refl refl refl;
-    win32 = same-is 52 (U32 0) 0x8c refl refl refl;
+    major_operating_system_version = same-is 40 (U16 0) 0x80 refl refl refl;
+    minor_operating_system_version = same-is 42 (U16 0) 0x82 refl refl refl;
+    major_image_version = same-is 44 (U16 0) 0x84 refl refl refl;
+    minor_image_version = same-is 46 (U16 0) 0x86 refl refl refl;
+    major_subsystem_version = same-is 48 (U16 0) 0x88 refl refl refl;
+    minor_subsystem_version = same-is 50 (U16 0) 0x8a refl refl refl;
+    win32_version_value = same-is 52 (U32 0) 0x8c refl refl refl;
     size_of_image = same-is 56 (U32 plan.size_of_image) 0x90 refl refl refl;
     size_of_headers = same-is 60 (U32 plan.size_of_headers) 0x94 refl refl refl;
     check_sum = same-is 64 (U32 0) 0x98 refl refl refl;
     subsystem = same-is 68 (U16 plan.subsystem) 0x9c refl refl refl;
-    dll = same-is 70 (U16 plan.dll_characteristics) 0x9e refl refl refl;
-    stack_reserve = form-is 72 72 (U32 0) (U64 0) 0 refl refl refl refl;
-    stack_commit = form-is 76 80 (U32 0) (U64 0) 0 refl refl refl refl;
-    heap_reserve = form-is 80 88 (U32 0) (U64 0) 0 refl refl refl refl;
-    heap_commit = form-is 84 96 (U32 0) (U64 0) 0 refl refl refl refl;
-    loader = form-is 88 104 (U32 0) (U32 0) 0 refl refl refl refl;
-    number = form-is 92 108 (U32 16) (U32 16) 16 refl refl refl refl;
+    dll_characteristics = same-is 70 (U16 plan.dll_characteristics) 0x9e refl refl refl;
+    size_of_stack_reserve = form-is 72 72 (U32 0) (U64 0) 0 refl refl refl refl;
+    size_of_stack_commit = form-is 76 80 (U32 0) (U64 0) 0 refl refl refl refl;
+    size_of_heap_reserve = form-is 80 88 (U32 0) (U64 0) 0 refl refl refl refl;
+    size_of_heap_commit = form-is 84 96 (U32 0) (U64 0) 0 refl refl refl refl;
+    loader_flags = form-is 88 104 (U32 0) (U32 0) 0 refl refl refl refl;
+    number_of_rva_and_sizes = form-is 92 108 (U32 16) (U32 16) 16 refl refl refl refl;
+    -- end of describe/records.txt
   }

@@ -80,7 +80,7 @@ section_made g at k s start fits there =
     (read 34 26 (U16 s.number_of_linenumbers) refl refl) (read 36 28 (U32 s.characteristics) refl refl)
 
 head_made : {A : Type 0} (plan : Plan A) (g : List ℕ) → Read plan g → map (directory_at g) (range_with_len 0 (directory_count g)) ≡ plan.directories → map (section_at g) (range_with_len 0 (coff_field g 2 2)) ≡ plan_sections plan → head_of g ≡ plan_headers plan
-head_made plan g r directories sections = cc (directories, sections, r.p, r.machine, r.count, r.time_stamp, r.symbols, r.symbol_count, r.optional, r.characteristics, r.magic, r.linker_major, r.linker_minor, r.code, r.initialized, r.uninitialized, r.entry, r.base_of_code, r.base_of_data, r.image_base, r.section_alignment, r.file_alignment, r.system_major, r.system_minor, r.image_major, r.image_minor, r.subsystem_major, r.subsystem_minor, r.win32, r.size_of_image, r.size_of_headers, r.check_sum, r.subsystem, r.dll, r.stack_reserve, r.stack_commit, r.heap_reserve, r.heap_commit, r.loader, r.number)
+head_made plan g r directories sections = cc
 
 pub length-section : (s : SectionHeader) → IsRow s → length (section_bytes s) ≡ 40
 length-section s f = let n = f.name in omega (arith, length-append s.name (numbers_bytes (section_numbers s)), length-numbers (section_numbers s))
@@ -133,7 +133,7 @@ module _ {A : Type 0} (plan : Plan A) (g : List ℕ) (fits : IsPlan plan) (there
 
   directories-are : map (directory_at g) (range_with_len 0 (directory_count g)) ≡ plan.directories
   directories-are =
-      let count : directory_count g ≡ 16 = ap (λ (n : ℕ). min n 16) all_read.number in
+      let count : directory_count g ≡ 16 = ap (λ (n : ℕ). min n 16) all_read.number_of_rva_and_sizes in
       ap (λ (n : ℕ). map (directory_at g) (range_with_len 0 n)) count
       ∙ sym (fill_by_all (directory_at g) plan.directories 16 no_directory fits.directories directory-is)
 
@@ -142,7 +142,7 @@ module _ {A : Type 0} (plan : Plan A) (g : List ℕ) (fits : IsPlan plan) (there
       let s : SectionHeader = get_or (plan_sections plan) k no_section in
       let table : ℕ = 0x40 + 24 + optional_size plan.magic in
       let r = all_read in
-      let start : section_start g k ≡ table + 40 * k = ap (λ (p : ℕ). p + 24 + coff_field g 16 2 + 40 * k) r.p ∙ ap (λ (n : ℕ). 0x40 + 24 + n + 40 * k) r.optional in
+      let start : section_start g k ≡ table + 40 * k = ap (λ (p : ℕ). p + 24 + coff_field g 16 2 + 40 * k) r.p ∙ ap (λ (n : ℕ). 0x40 + 24 + n + 40 * k) r.size_of_optional_header in
       let len = length-numbers (header_numbers plan) in
       let end = numbers_end plan fits in
       let behind : StandsAt g table (flat_map section_bytes (plan_sections plan)) =
@@ -154,6 +154,6 @@ module _ {A : Type 0} (plan : Plan A) (g : List ℕ) (fits : IsPlan plan) (there
   head-is count =
       let r = all_read in
       let sections : map (section_at g) (range_with_len 0 (coff_field g 2 2)) ≡ plan_sections plan =
-      ap (λ (n : ℕ). map (section_at g) (range_with_len 0 n)) (r.count ∙ sym count)
+      ap (λ (n : ℕ). map (section_at g) (range_with_len 0 n)) (r.number_of_sections ∙ sym count)
       ∙ sym (fill_by_all (section_at g) (plan_sections plan) (length (plan_sections plan)) no_section refl section-is) in
       head_made plan g r directories-are sections

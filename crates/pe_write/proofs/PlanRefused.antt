@@ -57,7 +57,7 @@ module _ {A : Type 0} (plan : Plan A) (fits : IsPlan plan) (some : 0 < plan.file
   count_fine =
       let g = plan_file plan in
       let r = all_of plan fits in
-      ap (λ (v : ℕ). nat_lt 96 v) (sym r.count) ∙ none_stands (head_tests 0 g) 8 _ head_none refl
+      ap (λ (v : ℕ). nat_lt 96 v) (sym r.number_of_sections) ∙ none_stands (head_tests 0 g) 8 _ head_none refl
 
   image_fine : (plan.size_of_image == 0 || nat_lt (2 ^ 31) plan.size_of_image) ≡ false
   unfolding head_tests
@@ -76,8 +76,8 @@ module _ {A : Type 0} (plan : Plan A) (fits : IsPlan plan) (some : 0 < plan.file
       let low = ltb-false _ _ parts.0 in
       let high = ltb-false _ _ others.1 in
       let p = r.p in
-      let optional = r.optional in
-      let count = r.count in
+      let optional = r.size_of_optional_header in
+      let count = r.number_of_sections in
       let headers_size = r.size_of_headers in
       let image_size = r.size_of_image in
       (omega arith, omega arith)

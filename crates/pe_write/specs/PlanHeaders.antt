@@ -10,6 +10,7 @@ use Rattle.pe_head.specs.declared.optional.Magic.TheVariants.{Pe32, Pe32Plus}
 use Rattle.pe_head.specs.declared.directory.Directory.{Directory}
 use Rattle.pe_head.specs.declared.section.SectionHeader.{SectionHeader}
 use Rattle.pe_head.specs.declared.headers.Headers.{Headers}
+use Rattle.pe_head.specs.Head.{head_of}
 use Rattle.pe_head.specs.Optional.{fixed_size_of}
 use Rattle.pe_write.specs.declared.plan.Plan.{Plan}
 use Rattle.pe_write.specs.PlanFile.{headers_from, data_from, file_end, planned_from}
@@ -106,46 +107,25 @@ abbrev pub base_of_data_of : Magic → Option ℕ
 base_of_data_of Pe32 = Some 0
 base_of_data_of Pe32Plus = None
 
--- the headers of the file; fields that the plan doesn't name are 0
+-- the headers of the file: fields that the plan doesn't name are those of an empty file, 0
 abbrev pub plan_headers : {A : Type 0} → Plan A → Headers
-plan_headers plan = record {
+plan_headers plan = record (head_of []) {
   magic = plan.magic;
   pe_offset = 0x40;
   machine = plan.machine;
   number_of_sections = length plan.sections.items;
   time_date_stamp = plan.time_stamp;
-  pointer_to_symbol_table = 0;
-  number_of_symbols = 0;
   size_of_optional_header = optional_size plan.magic;
   characteristics = plan.characteristics;
-  major_linker_version = 0;
-  minor_linker_version = 0;
-  size_of_code = 0;
-  size_of_initialized_data = 0;
-  size_of_uninitialized_data = 0;
   address_of_entry_point = plan.entry;
-  base_of_code = 0;
   base_of_data = base_of_data_of plan.magic;
   image_base = plan.image_base;
   section_alignment = plan.section_alignment;
   file_alignment = plan.file_alignment;
-  major_operating_system_version = 0;
-  minor_operating_system_version = 0;
-  major_image_version = 0;
-  minor_image_version = 0;
-  major_subsystem_version = 0;
-  minor_subsystem_version = 0;
-  win32_version_value = 0;
   size_of_image = plan.size_of_image;
   size_of_headers = plan.size_of_headers;
-  check_sum = 0;
   subsystem = plan.subsystem;
   dll_characteristics = plan.dll_characteristics;
-  size_of_stack_reserve = 0;
-  size_of_stack_commit = 0;
-  size_of_heap_reserve = 0;
-  size_of_heap_commit = 0;
-  loader_flags = 0;
   number_of_rva_and_sizes = 16;
   directories = record { items = plan.directories };
   sections = record { items = plan_sections plan };
