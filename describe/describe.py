@@ -17,6 +17,7 @@ import header_texts
 import page_texts
 import plan_texts
 import python_texts
+import rattle_records
 import rattle_sources
 import regions
 import rust_texts
@@ -69,6 +70,8 @@ FIELDS = {
     "crates/pe_write/proofs/PlanHead.antt": (plan_part, ["values", "reading"]),
     "docs/FORMAT.md": (header_texts.page_part, ["coff", "same", "other"]),
 }
+#: The definitions of pe_records_c of which rows are written, and the records of each.
+ROWS = {"crates/pe_records_c/specs/HeaderRows.antt": ["section", "headers"]}
 #: The files of which parts are written from the records, each between two comments.
 PARTS = {
     HEADER: c_texts.declarations,
@@ -78,6 +81,7 @@ PARTS = {
     JSON: page_texts.json_part,
     "docs/C.md": page_texts.c_part,
     **{path: form for path, (form, _) in FIELDS.items()},
+    **{path: rattle_records.definition_part for path in ROWS},
 }
 
 
@@ -102,6 +106,8 @@ def sources(*crates):
 def whole(description):
     """The files that are written completely, each with its contents."""
     files = {path: form(description) for path, form in WHOLE.items()}
+    records = {it: rattle_records.source(description, it) for it in rattle_records.files(description)}
+    files.update({f"crates/pe_records_c/src/{name}.rt": text for name, text in records.items()})
     return files
 
 
@@ -152,6 +158,8 @@ def misplaced(description):
         yield from wrong_parts(path, regions.names(read(path), RECORDS), wanted)
     for path, (_, wanted) in FIELDS.items():
         yield from wrong_parts(path, regions.parts(read(path), RECORDS), [f"{it} of headers" for it in wanted])
+    for path, records in ROWS.items():
+        yield from wrong_parts(path, regions.parts(read(path), RECORDS), [f"rows of {it}" for it in records])
 
 
 def wrong_parts(path, found, wanted):

@@ -17,14 +17,16 @@ directory_row d = record { rva = d.rva; size = d.size }
 -- where a section lies in the image and in the file, with the fields of its header
 abbrev pub section_row : SectionHeader → SectionRow
 section_row s = record {
-  name = s.name;
   rva = s.virtual_address;
   extent = extent s;
   file_size = rawlen s;
+  -- from describe/records.txt: rows of section
+  name = s.name;
   pointer_to_raw_data = s.pointer_to_raw_data;
   size_of_raw_data = s.size_of_raw_data;
   virtual_size = s.virtual_size;
   characteristics = s.characteristics;
+  -- end of describe/records.txt
 }
 
 -- the field Magic
@@ -39,6 +41,10 @@ directory_rows ds = filled directory_row ds (replicate 16 (record { rva = 0; siz
 -- the headers, field by field; BaseOfData is 0 in PE32+, which has none
 abbrev pub headers_record : Headers → HeadersRecord
 headers_record h = record {
+  base_of_data = unwrap_or h.base_of_data 0;
+  magic = magic_number h.magic;
+  directories = directory_rows h.directories.items;
+  -- from describe/records.txt: rows of headers
   image_base = h.image_base;
   size_of_stack_reserve = h.size_of_stack_reserve;
   size_of_stack_commit = h.size_of_stack_commit;
@@ -53,7 +59,6 @@ headers_record h = record {
   size_of_uninitialized_data = h.size_of_uninitialized_data;
   address_of_entry_point = h.address_of_entry_point;
   base_of_code = h.base_of_code;
-  base_of_data = unwrap_or h.base_of_data 0;
   section_alignment = h.section_alignment;
   file_alignment = h.file_alignment;
   win32_version_value = h.win32_version_value;
@@ -62,7 +67,6 @@ headers_record h = record {
   check_sum = h.check_sum;
   loader_flags = h.loader_flags;
   number_of_rva_and_sizes = h.number_of_rva_and_sizes;
-  magic = magic_number h.magic;
   machine = h.machine;
   number_of_sections = h.number_of_sections;
   size_of_optional_header = h.size_of_optional_header;
@@ -77,5 +81,5 @@ headers_record h = record {
   minor_subsystem_version = h.minor_subsystem_version;
   major_linker_version = h.major_linker_version;
   minor_linker_version = h.minor_linker_version;
-  directories = directory_rows h.directories.items;
+  -- end of describe/records.txt
 }

@@ -1,19 +1,21 @@
-//! The headers of an image as C has them: `HeadersRecord`, `DirectoryRow` and `SectionRow`.
+//! Records that C has: `DirectoryRow`, `SectionRow` and `HeadersRecord`.
+//!
+//! describe/describe.py writes this file.
 
 ghost use Rattle.std.specs.Prelude.{◌≡◌};
-ghost use Rattle.pe_records_c.specs.HeaderRows.{directory_row, directory_rows, section_row, headers_record};
+ghost use Rattle.pe_records_c.specs.HeaderRows.{directory_row, section_row, directory_rows, headers_record};
 ghost use Rattle.pe_records_c.specs.Rows.{filled};
 
 use crate::row::{Row, fill_rows};
 use pe_head::{Directory, Headers, Magic, SectionHeader};
 
-/// Where a table lies in the laid-out image.
+/// One of the 16 data directories. Offsets and sizes count bytes.
 #[repr(C)]
 #[derive(Clone, Copy)]
 pub struct DirectoryRow {
-    /// The table's RVA. For the certificate table it is a file offset.
+    /// Where its table begins in the image, or for the certificate table in the file; 0 if there is none.
     pub rva: u32,
-    /// The table's size in bytes.
+    /// The table's size, as the file has it.
     pub size: u32,
 }
 
@@ -40,11 +42,11 @@ pub struct SectionRow {
     pub extent: u32,
     /// How many of these, from the first on, come from the file.
     pub file_size: u32,
-    /// The file offset of the raw data, as the header has it.
+    /// The file offset of the first byte, as in the header.
     pub pointer_to_raw_data: u32,
-    /// The size of the raw data, as the header has it.
+    /// The size in the file, as in the header.
     pub size_of_raw_data: u32,
-    /// The size in the laid-out image, as the header has it.
+    /// The size in the laid-out image, as in the header.
     pub virtual_size: u32,
     /// The section's flags.
     pub characteristics: u32,
@@ -67,19 +69,19 @@ impl Row<SectionHeader> for SectionRow {
     }
 }
 
-/// Every field of an image's headers, with the wider type where PE32 and PE32+ differ. Offsets and sizes count bytes.
+/// Every field of the headers, with the wider type where PE32 and PE32+ differ. Offsets and sizes count bytes.
 #[repr(C)]
 #[derive(Clone, Copy)]
 pub struct HeadersRecord {
     /// The preferred address of the image.
     pub image_base: u64,
-    /// The bytes of stack to reserve.
+    /// How many bytes of stack to reserve.
     pub size_of_stack_reserve: u64,
-    /// The bytes of stack to commit.
+    /// How many bytes of stack to commit.
     pub size_of_stack_commit: u64,
-    /// The bytes of heap to reserve.
+    /// How many bytes of heap to reserve.
     pub size_of_heap_reserve: u64,
-    /// The bytes of heap to commit.
+    /// How many bytes of heap to commit.
     pub size_of_heap_commit: u64,
     /// The file offset of the signature.
     pub pe_offset: u32,
@@ -89,69 +91,69 @@ pub struct HeadersRecord {
     pub pointer_to_symbol_table: u32,
     /// How many records the symbol table has.
     pub number_of_symbols: u32,
-    /// The bytes of all code.
+    /// The size of all code.
     pub size_of_code: u32,
-    /// The bytes of all initialized data.
+    /// The size of all initialized data.
     pub size_of_initialized_data: u32,
-    /// The bytes of all uninitialized data.
+    /// The size of all uninitialized data.
     pub size_of_uninitialized_data: u32,
-    /// The RVA where the image starts to run, or 0.
+    /// The RVA of the entry point, or 0 if there is none.
     pub address_of_entry_point: u32,
     /// The RVA where code begins.
     pub base_of_code: u32,
-    /// The RVA where data begins; 0 in PE32+, which has no such field.
+    /// The RVA where data begins; 0 in PE32+.
     pub base_of_data: u32,
-    /// The alignment of sections in the laid-out image, in bytes.
+    /// The alignment of sections in the laid-out image.
     pub section_alignment: u32,
-    /// The alignment of raw data in the file, in bytes.
+    /// The alignment of raw data in the file.
     pub file_alignment: u32,
     /// Reserved.
     pub win32_version_value: u32,
-    /// The bytes of the laid-out image.
+    /// The size of the laid-out image.
     pub size_of_image: u32,
-    /// The bytes of the headers in the laid-out image.
+    /// The size of the headers in the laid-out image.
     pub size_of_headers: u32,
-    /// As written; it is not verified.
+    /// The checksum as written; it is not computed.
     pub check_sum: u32,
     /// Reserved.
     pub loader_flags: u32,
-    /// As written; at most 16 directories are read.
+    /// The number of directories, as written; at most 16 are kept.
     pub number_of_rva_and_sizes: u32,
-    /// The form of the optional header: 0x10b PE32, 0x20b PE32+.
+    /// 0x10b for PE32, 0x20b for PE32+.
     pub magic: u16,
-    /// The processor that the image is for, as numbered in "PE Format".
+    /// The machine that the image is for.
     pub machine: u16,
     /// How many sections there are.
     pub number_of_sections: u16,
-    /// The bytes from the optional header's beginning to the section table.
+    /// The bytes from the beginning of the optional header to the section table.
     pub size_of_optional_header: u16,
-    /// Flags of the image.
+    /// The flags of the image.
     pub characteristics: u16,
-    /// The subsystem that runs the image, as numbered in "PE Format".
+    /// The subsystem that the image needs to run.
     pub subsystem: u16,
-    /// Flags of a library.
+    /// The flags in DllCharacteristics.
     pub dll_characteristics: u16,
-    /// The operating system's version that the image needs.
+    /// The major version of the operating system that the image needs.
     pub major_operating_system_version: u16,
-    /// The second part of the operating system's version.
+    /// The minor version of the operating system.
     pub minor_operating_system_version: u16,
-    /// The image's own version.
+    /// The image's own major version.
     pub major_image_version: u16,
-    /// The second part of the image's version.
+    /// The image's own minor version.
     pub minor_image_version: u16,
-    /// The subsystem's version that the image needs.
+    /// The major version of the subsystem that the image needs.
     pub major_subsystem_version: u16,
-    /// The second part of the subsystem's version.
+    /// The minor version of the subsystem.
     pub minor_subsystem_version: u16,
-    /// The linker's version.
+    /// The linker's major version.
     pub major_linker_version: u8,
-    /// The second part of the linker's version.
+    /// The linker's minor version.
     pub minor_linker_version: u8,
     /// The data directories by index; those that the headers do not hold are 0.
     pub directories: [DirectoryRow; 16],
 }
 
-/// Sixteen directories; those that the headers do not hold are 0.
+/// The data directories by index; those that the headers do not hold are 0.
 fn directory_rows(directories: &[Directory]) -> [DirectoryRow; 16]
     ensures { result ≡ directory_rows directories.now }
 {
