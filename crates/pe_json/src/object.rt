@@ -100,40 +100,90 @@ fn write_sections<A: Allocator + Copy, W: Sink>(
     json.end_list();
 }
 
+/// Adds the auxiliary record of a function's definition.
+fn add_function<A: Allocator + Copy>(
+    json: &mut JsonText<A>,
+    index: Member,
+    tag_index: u32,
+    total_size: u32,
+    pointer_to_linenumber: u32,
+    pointer_to_next_function: u32,
+) {
+    json.object(&[
+        index,
+        ("kind", Text("function")),
+        ("tag_index", Number(tag_index as u64)),
+        ("total_size", Number(total_size as u64)),
+        (
+            "pointer_to_linenumber",
+            Number(pointer_to_linenumber as u64),
+        ),
+        (
+            "pointer_to_next_function",
+            Number(pointer_to_next_function as u64),
+        ),
+    ]);
+}
+
+/// Adds the auxiliary record of the beginning or the end of a function.
+fn add_lines<A: Allocator + Copy>(json: &mut JsonText<A>, index: Member, line: u16, next: u32) {
+    json.object(&[
+        index,
+        ("kind", Text("lines")),
+        ("linenumber", Number(line as u64)),
+        ("pointer_to_next_function", Number(next as u64)),
+    ]);
+}
+
+/// Adds the auxiliary record of a weak external symbol.
+fn add_weak<A: Allocator + Copy>(
+    json: &mut JsonText<A>,
+    index: Member,
+    tag_index: u32,
+    search: u32,
+) {
+    json.object(&[
+        index,
+        ("kind", Text("weak_external")),
+        ("tag_index", Number(tag_index as u64)),
+        ("characteristics", Number(search as u64)),
+    ]);
+}
+
+/// Adds the auxiliary record of a section's definition.
+fn add_definition<A: Allocator + Copy>(
+    json: &mut JsonText<A>,
+    index: Member,
+    length: u32,
+    relocations: u16,
+    line_numbers: u16,
+    checksum: u32,
+    number: u16,
+    selection: u8,
+) {
+    json.object(&[
+        index,
+        ("kind", Text("section_definition")),
+        ("length", Number(length as u64)),
+        ("number_of_relocations", Number(relocations as u64)),
+        ("number_of_linenumbers", Number(line_numbers as u64)),
+        ("check_sum", Number(checksum as u64)),
+        ("number", Number(number as u64)),
+        ("selection", Number(selection as u64)),
+    ]);
+}
+
 /// Adds the fields of an auxiliary record, in the format for its symbol ("PE Format", Auxiliary Symbol Records).
 fn add_aux<'a, A: Allocator + Copy>(json: &mut JsonText<A>, index: Member<'a>, aux: &Aux<'a>) {
     match aux {
         Aux::Function {
             tag_index,
             total_size,
-            pointer_to_linenumber,
-            pointer_to_next_function,
-        } => json.object(&[
-            index,
-            ("kind", Text("function")),
-            ("tag_index", Number(*tag_index as u64)),
-            ("total_size", Number(*total_size as u64)),
-            (
-                "pointer_to_linenumber",
-                Number(*pointer_to_linenumber as u64),
-            ),
-            (
-                "pointer_to_next_function",
-                Number(*pointer_to_next_function as u64),
-            ),
-        ]),
-        Aux::Lines { line, next } => json.object(&[
-            index,
-            ("kind", Text("lines")),
-            ("linenumber", Number(*line as u64)),
-            ("pointer_to_next_function", Number(*next as u64)),
-        ]),
-        Aux::Weak { tag_index, search } => json.object(&[
-            index,
-            ("kind", Text("weak_external")),
-            ("tag_index", Number(*tag_index as u64)),
-            ("characteristics", Number(*search as u64)),
-        ]),
+            pointer_to_linenumber: pointer,
+            pointer_to_next_function: next,
+        } => add_function(json, index, *tag_index, *total_size, *pointer, *next),
+        Aux::Lines { line, next } => add_lines(json, index, *line, *next),
+        Aux::Weak { tag_index, search } => add_weak(json, index, *tag_index, *search),
         Aux::File { name } => json.object(&[
             index,
             ("kind", Text("file")),
@@ -146,16 +196,16 @@ fn add_aux<'a, A: Allocator + Copy>(json: &mut JsonText<A>, index: Member<'a>, a
             checksum,
             number,
             selection,
-        } => json.object(&[
+        } => add_definition(
+            json,
             index,
-            ("kind", Text("section_definition")),
-            ("length", Number(*length as u64)),
-            ("number_of_relocations", Number(*relocations as u64)),
-            ("number_of_linenumbers", Number(*line_numbers as u64)),
-            ("check_sum", Number(*checksum as u64)),
-            ("number", Number(*number as u64)),
-            ("selection", Number(*selection as u64)),
-        ]),
+            *length,
+            *relocations,
+            *line_numbers,
+            *checksum,
+            *number,
+            *selection,
+        ),
         Aux::Raw { bytes } => {
             json.object(&[index, ("kind", Text("raw")), ("bytes_hex", Bytes(bytes))]);
         }
