@@ -2,6 +2,8 @@
 use Rattle.std.specs.Prelude.{ℕ, [], ◌∷◌, codes, ◌==◌, List, Option, option_map}
 use Rattle.std.specs.List.{find}
 use denote.Bor.{Bor}
+use Rattle.pe_head.specs.declared.names.FlagKind.{FlagKind}
+use Rattle.pe_head.specs.declared.names.FlagKind.TheVariants.{File, Dll, Section}
 
 -- values, or flags, and their names
 abbrev pub Names : Type 0
@@ -60,6 +62,12 @@ section_flag_names =
     (0x2000000, codes "MEM_DISCARDABLE") ∷ (0x4000000, codes "MEM_NOT_CACHED") ∷ (0x8000000, codes "MEM_NOT_PAGED") ∷
     (0x10000000, codes "MEM_SHARED") ∷ (0x20000000, codes "MEM_EXECUTE") ∷ (0x40000000, codes "MEM_READ") ∷
     (0x80000000, codes "MEM_WRITE") ∷ []
+
+-- the names of a field's flags
+abbrev pub flag_names : FlagKind → Names
+flag_names File = characteristic_names
+flag_names Dll = dll_characteristic_names
+flag_names Section = section_flag_names
 
 unfoldable pub directory_names : Names
 directory_names =

@@ -10,6 +10,7 @@
 #![tactic(auto)]
 
 mod coff;
+mod detail;
 mod directory;
 mod fields;
 mod headers;
@@ -20,11 +21,12 @@ mod reading;
 mod section;
 
 pub use coff::{characteristic, machine};
+pub use detail::{FaultDetail, fault_detail};
 pub use directory::{Directory, directory_index};
 pub use headers::Headers;
 pub use names::{
-    Named, characteristic_name, directory_name, dll_characteristic_name, machine_name, name_among,
-    section_flag_name, subsystem_name,
+    FlagKind, Named, characteristic_name, directory_name, dll_characteristic_name, flag_name,
+    machine_name, name_among, section_flag_name, subsystem_name,
 };
 pub use optional::{Magic, dll_characteristic, subsystem};
 pub use reading::read_headers;

@@ -2,7 +2,7 @@
 
 ghost use Rattle.std.specs.Prelude.{◌≡◌, ◌==◌, option_map, map};
 ghost use Rattle.std.specs.List.{find};
-ghost use Rattle.pe_head.specs.Names.{name_in, name_view, machine_names, subsystem_names, characteristic_names, dll_characteristic_names, section_flag_names, directory_names};
+ghost use Rattle.pe_head.specs.Names.{name_in, name_view, machine_names, subsystem_names, characteristic_names, dll_characteristic_names, section_flag_names, flag_names, directory_names};
 
 use crate::coff::{characteristic, machine};
 use crate::directory::directory_index;
@@ -243,6 +243,29 @@ pub fn section_flag_name(flag: u32) -> Option<&'static str>
     ensures { option_map (λ name. name.now) result ≡ name_in section_flag_names flag }
 {
     name_among(&SECTION_FLAGS, flag)
+}
+
+/// The field that flags belong to.
+#[derive(Clone, Copy, PartialEq, Eq)]
+pub enum FlagKind {
+    /// The Characteristics of a COFF file header.
+    File,
+    /// The DllCharacteristics of an optional header.
+    Dll,
+    /// The Characteristics of a section.
+    Section,
+}
+
+/// The name of one flag of a field, or `None` if "PE Format" has none for this value.
+#[tactic(auto, unfolding(crate::specs::Names::characteristic_names, crate::specs::Names::dll_characteristic_names, crate::specs::Names::section_flag_names))]
+pub fn flag_name(kind: FlagKind, flag: u32) -> Option<&'static str>
+    ensures { option_map (λ name. name.now) result ≡ name_in (flag_names kind) flag }
+{
+    match kind {
+        FlagKind::File => name_among(&CHARACTERISTICS, flag),
+        FlagKind::Dll => name_among(&DLL_CHARACTERISTICS, flag),
+        FlagKind::Section => name_among(&SECTION_FLAGS, flag),
+    }
 }
 
 /// The name of a directory's table, like `base relocation`, or `None` from index 16 on.
