@@ -1,7 +1,8 @@
 -- The kind of a file by its first bytes.
-use Rattle.std.specs.Prelude.{ℕ, ◌==◌, ◌&&◌, ◌||◌, Bool, nat_lt, nat_le, nat_eq, if◌then◌else◌, List, [], ◌∷◌, ◌++◌, codes, length, Option, None, Some}
+use Rattle.std.specs.Prelude.{ℕ, ◌==◌, ◌&&◌, ◌||◌, Bool, true, false, nat_lt, nat_le, nat_eq, if◌then◌else◌, List, [], ◌∷◌, ◌++◌, codes, length, Option, None, Some}
 use Rattle.std.specs.List.{list_all, starts_with}
 use Rattle.pe_view.specs.Number.{num, byte_of}
+use Rattle.pe_view.specs.Faults.{Test}
 use Rattle.pe_text.specs.declared.file_beginning.FileKind.{FileKind}
 use Rattle.pe_text.specs.declared.file_beginning.FileKind.TheVariants.{Image, Elf, Archive, Text, Object}
 
@@ -31,6 +32,19 @@ kind_of bytes =
     else (if is_text bytes then Some Text
     else (if begins_object bytes then Some Object
     else None))))
+
+-- the first bytes are those of an object
+abbrev pub is_object : Option FileKind → Bool
+is_object None = false
+is_object (Some Image) = false
+is_object (Some Elf) = false
+is_object (Some Archive) = false
+is_object (Some Text) = false
+is_object (Some Object) = true
+
+-- the tests of a file: those of an object if its first bytes are those of one, otherwise those of an image
+abbrev pub tests_by_kind : List ℕ → List Test → List Test → List Test
+tests_by_kind file object_tests image_tests = if is_object (kind_of file) then object_tests else image_tests
 
 -- the kind in words
 abbrev pub kind_words : FileKind → List ℕ

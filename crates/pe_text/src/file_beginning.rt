@@ -1,8 +1,8 @@
-//! `file_kind`: the kind of a file by its first bytes.
+//! `file_kind`: the kind of a file by its first bytes; and `is_object`, by which it is checked as an object or as an image.
 
 ghost use Rattle.std.specs.Prelude.{◌≡◌, Some};
 ghost use Rattle.std.specs.List.{list_all};
-ghost use Rattle.pe_text.specs.FileKind.{is_text_byte, is_text, is_machine, begins_object, kind_of, kind_words};
+ghost use Rattle.pe_text.specs.FileKind.{is_text_byte, is_text, is_machine, begins_object, is_object, kind_of, kind_words};
 
 use pe_head::machine;
 use pe_view::View;
@@ -98,4 +98,11 @@ pub fn file_kind(first: &[u8]) -> Option<FileKind>
     } else {
         None
     }
+}
+
+/// Whether a file is checked as an object, since its first bytes are those of one. Every other file is checked as an image.
+pub fn is_object(file: &[u8]) -> bool
+    ensures { result ≡ is_object (kind_of file.now) }
+{
+    matches!(file_kind(file), Some(FileKind::Object))
 }
