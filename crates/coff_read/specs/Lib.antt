@@ -8,6 +8,7 @@ pub mod Field
 pub mod FileView
 pub mod Form
 pub mod Headers
+pub mod ImageNames
 pub mod NameField
 pub mod Names
 pub mod ObjectFaults

@@ -99,7 +99,7 @@ fn number_in(bytes: &[u8]) -> Option<u32>
 }
 
 /// The offset into the string table in a section's name field, if it has one.
-fn name_offset(field: &[u8]) -> Option<u32>
+pub(crate) fn name_offset(field: &[u8]) -> Option<u32>
     requires { length field.now ≤ 8 }
     ensures { result ≡ name_offset field.now }
 {

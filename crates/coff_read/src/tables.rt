@@ -97,7 +97,7 @@ fn strings_size(view: View, start: u64) -> Result<u64, Fault>
 
 /// The length of the `size` bytes at a file offset up to their last zero byte, that one counted: a terminated string begins at each
 /// offset below it. The search goes backwards from the end.
-fn texts_len(view: View, start: u64, size: u64) -> u64
+pub(crate) fn texts_len(view: View, start: u64, size: u64) -> u64
     requires { start + size ≤ size_of view }
     ensures { (offset : ℕ) → is_none (text_between (bytes_of view.entry) (start + offset) (start + size)) ≡ nat_le result offset }
 {
