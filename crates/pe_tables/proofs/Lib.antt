@@ -1,5 +1,6 @@
 pub mod Beside
 pub mod Blocks
+pub mod ByOrdinal
 pub mod Clear
 pub mod Counts
 pub mod Decimal

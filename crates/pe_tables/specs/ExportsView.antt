@@ -7,6 +7,7 @@ use Rattle.pe_tables.specs.NameIndex.{export_view}
 use Rattle.pe_tables.specs.declared.key.Target as code_target
 use Rattle.pe_tables.specs.declared.exports.Name as code_name
 use Rattle.pe_tables.specs.declared.export_lookup.Exports as code_exports
+use Rattle.pe_tables.specs.declared.export_names.NamesByOrdinal as code_names
 
 -- a name, and the index of the entry that it exports
 abbrev pub name_view : code_name.Name → List ℕ × ℕ
@@ -26,3 +27,7 @@ exports_view exports = record {
   names = map export_view exports.names.exports.items;
   name_ordinals = exports.names.ordinals.items;
 }
+
+-- the names ordered by ordinal, each its ordinal and its index
+abbrev pub by_ordinal_view : {A : Type 0} → code_names.NamesByOrdinal A → List (ℕ × ℕ)
+by_ordinal_view names = names.names.items

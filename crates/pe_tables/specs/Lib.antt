@@ -3,6 +3,7 @@ pub use Rattle.pe_layout.specs.Layout
 pub use Rattle.pe_layout.specs.Span
 pub mod Encoded
 pub mod ExportFaults
+pub mod ExportNames
 pub mod ExportPlaces
 pub mod Exports
 pub mod ExportsView

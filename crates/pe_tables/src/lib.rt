@@ -21,6 +21,7 @@ mod encode;
 mod entry_run;
 mod error;
 mod export_lookup;
+mod export_names;
 mod export_table;
 mod exports;
 mod fixups;
@@ -44,6 +45,7 @@ pub use bytes::{shift_32, shift_64, shift_field, shift_high, shift_low, write_lo
 pub use encode::{ascending, encode_fixups};
 pub use error::TableError;
 pub use export_lookup::Exports;
+pub use export_names::{ExportName, NamesByOrdinal};
 pub use exports::read_exports;
 pub use fixups::{Fixup, FixupKind, read_fixups};
 pub use import::Import;
