@@ -49,4 +49,4 @@ pub use part::{Part, write_part, write_parts};
 pub use printable::is_printable;
 pub use show_options::ShowOptions;
 pub use text_writer::{TextWriter, is_plain, write_all};
-pub use whole_file::read_whole;
+pub use whole_file::{ReadBytes, read_up_to, read_whole};
