@@ -43,8 +43,9 @@ pub fn refuse<W: Sink>(text: &mut TextWriter<W>, fault: Fault) -> Outcome
     Outcome::Refused(fault)
 }
 
-/// Checks a file, and writes its text.
-fn write_report<T: Report, A: Allocator + Copy, W: Sink>(
+/// Checks a file, and writes its text. On the error `Write` the beginning of the text was written, on `Memory` nothing; it is never
+/// `Read`. Condition: the writer has counted fewer than 2^64 - 1 failures so far.
+pub fn write_report<T: Report, A: Allocator + Copy, W: Sink>(
     report: &T,
     alloc: A,
     writer: &mut W,

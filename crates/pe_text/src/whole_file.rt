@@ -9,7 +9,7 @@ use crate::outcome::ToolError;
 use std::alloc::{AllocError, Allocator};
 
 /// The most bytes that are read: one more than a file may have.
-const READ_LIMIT: usize = (1 << 32) + 1;
+pub const READ_LIMIT: usize = (1 << 32) + 1;
 
 /// The most bytes that one read requests.
 const PIECE: usize = 1 << 16;

@@ -1,0 +1,56 @@
+//! `needed`: how many first bytes of a file decide its answers.
+
+ghost use Rattle.std.specs.Prelude.{◌≡◌, ◌≤◌, ◌^◌, ℕ, List, length, max, ◌++◌, IfSome};
+ghost use Rattle.pe_reach.specs.Reach.{headers_end, raw_end, Decide};
+ghost use Rattle.pe_reach.specs.Ends.{headers_end_of};
+
+use pe_head::{Headers, SectionHeader, read_headers};
+use pe_view::View;
+
+/// The most bytes that a file may have.
+const MOST: u64 = 1 << 32;
+
+/// How many bytes the fixed fields and 16 data directories of PE32+ take, which are more than those of PE32.
+const OPTIONAL: u64 = 240;
+
+/// Where the MS-DOS header, the optional header with all directories, and the section table end.
+fn headers_end(headers: &Headers) -> u64
+    ensures { result ≡ headers_end_of headers.now }
+{
+    let optional = u64::from(headers.pe_offset) + 24;
+    let sections = optional + u64::from(headers.size_of_optional_header);
+    let table = sections + 40 * u64::from(headers.number_of_sections);
+    (optional + OPTIONAL).max(64).max(table)
+}
+
+/// The greater of an offset and the end of the sections' raw data.
+fn raw_end(sections: &[SectionHeader], least: u64) -> u64
+    ensures { result ≡ max least (raw_end sections.now) }
+{
+    let mut end = least;
+    for section in sections {
+        let rawlen = section.rawlen();
+        if rawlen > 0 {
+            end = end.max(u64::from(section.pointer_to_raw_data) + u64::from(rawlen));
+        }
+    }
+    end
+}
+
+/// How many first bytes of a file of `len` bytes decide its answers, by its headers among the bytes that it begins with. `None` if
+/// `begin` does not have all its headers, these have one of faults 1 to 12, or the file is shorter than they say.
+pub fn needed(begin: &[u8], len: u64) -> Option<u64>
+    ensures { IfSome result (λ end. (end ≤ len) × (len ≤ 2 ^ 32)
+        × ((more : List ℕ) → end ≤ length (begin.now ++ more) → length (begin.now ++ more) ≤ len → Decide len (begin.now ++ more))) }
+{
+    let Ok(headers) = read_headers(View::new(begin), 0) else {
+        return None;
+    };
+    let headers_end = headers_end(&headers);
+    let least = headers_end.max(u64::from(headers.size_of_headers));
+    let end = raw_end(headers.sections.as_slice(), least);
+    if headers_end > begin.len() as u64 || end > len || len > MOST {
+        return None;
+    }
+    Some(end)
+}

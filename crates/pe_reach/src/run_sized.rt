@@ -1,0 +1,33 @@
+//! `run_sized`: the engine of a report over a file of a known size.
+
+ghost use Rattle.std.specs.Prelude.{◌-◌, ◌^◌, ◌<◌, ◌↔◌, IsErrOf};
+ghost use Rattle.pe_reach.specs.Sized.{Follows, RanSized};
+
+use crate::read_enough::read_enough;
+use pe_text::{Outcome, Report, Sink, Source, ToolError, write_report};
+use std::alloc::Allocator;
+
+/// Reads as much of a file of `len` bytes as decides its answers, checks it, and writes its text. The text is that of each file of
+/// `len` bytes that begins with what was read, unless the file was read whole.
+///
+/// On the error `Write` the beginning of the text was written, on `Read` and `Memory` nothing; `Memory` never comes if the reader
+/// returned no byte. Conditions: the report writes the same text for files with the same answers, and each device has counted fewer
+/// than 2^64 - 1 failures so far.
+pub fn run_sized<T: Report, A: Allocator + Copy, R: Source, W: Sink>(
+    report: &T,
+    alloc: A,
+    reader: &mut R,
+    len: u64,
+    writer: &mut W,
+) -> Result<Outcome, ToolError>
+    requires follows { Follows T.is_text }
+    requires reads { R.failures reader.old < 2 ^ 64 - 1 }
+    requires writes { W.failures writer.old < 2 ^ 64 - 1 }
+    ensures ran { RanSized T.is_text len (R.given reader.old) (R.given reader.new)
+        (W.taken writer.old) (W.taken writer.new) (R.ended reader.new) result }
+    ensures read { IsErrOf result ToolError.Read ↔ (R.failures reader.old < R.failures reader.new) }
+    ensures write { IsErrOf result ToolError.Write ↔ (W.failures writer.old < W.failures writer.new) }
+{
+    let file = read_enough(alloc, reader, len)?;
+    write_report(report, alloc, writer, &file)
+}
