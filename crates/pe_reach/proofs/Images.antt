@@ -1,11 +1,11 @@
--- Files that agree below the end of the bytes that the headers name lay out one image, and have the same faults 1 to 15.
+-- Files that agree before the end of the bytes that the headers name lay out one image, and have the same faults 1 to 15.
 use Rattle.std.proofs.Common.{◌≡◌, ℕ, zero, suc, ◌+◌, ◌-◌, ◌*◌, ◌^◌, ◌<◌, ◌≤◌, true, false, List, [], ◌∷◌, ◌++◌, length, Option, None, Some, refl, sym, ◌∙◌, ap, ap₂, arith, inl, inr}
 use Rattle.std.specs.Prelude.{◌==◌, ◌&&◌, ◌||◌, not, nat_lt, nat_le, min, max, map, find, if◌then◌else◌}
 use Rattle.std.specs.List.{range_with_len}
 use Rattle.std.proofs.Math.Path.{fun_ext}
 use Rattle.std.proofs.lemmas.Bool.{cases_Bool, ltb-true, le-leb, le-ltb, lt-ltb}
 use Rattle.std.proofs.Common.{get_or}
-use Rattle.std.proofs.lemmas.List.{get_or-take}
+use Rattle.std.proofs.lemmas.List.{get_or-take, get_or_append_left, length-append}
 use Rattle.pe_view.specs.declared.fault.Place.TheVariants.{File}
 use Rattle.pe_view.specs.Number.{num, byte_of}
 use Rattle.pe_view.specs.Text.{zero_ended}
@@ -25,10 +25,10 @@ use Rattle.pe_layout.specs.Plain.{plain, section_byte}
 use Rattle.pe_layout.specs.PieceText.{text}
 use Rattle.pe_layout.specs.Image.{directory_of, slot_width_of, image_from, image_of_file}
 use Rattle.pe_layout.specs.SectionFaults.{placing_tests, sections_tests}
-use Rattle.pe_reach.specs.Reach.{AgreeBefore, HaveBoth, Begins, headers_end, image_end, raw_end, SameAnswers}
+use Rattle.pe_reach.specs.Reach.{AgreeBefore, HaveBoth, Begins, Decide, headers_end, image_end, raw_end, SameAnswers}
 use Rattle.pe_reach.proofs.Headers.{headers_agree, num_agrees, pe_agrees, coff_agrees, field_agrees, pe32_agrees, count_agrees}
 
--- agreement below an end is agreement below a lower one
+-- agreement before an end is agreement before a lower one
 pub lower : (low high : ℕ) (f g : List ℕ) → low ≤ high → AgreeBefore high f g → AgreeBefore low f g
 lower low high f g le a = record { tails = omega (arith, a.tails, le); bytes = λ k lt. a.bytes k (omega arith) }
 
@@ -62,7 +62,7 @@ head_tests_from image f = refl
 raw_some : (p n : ℕ) → 0 < n → (if nat_lt 0 n then p + n else 0) ≡ p + n
 raw_some p n some = rw (lt-ltb 0 n some) refl
 
--- a byte of raw data lies below its end
+-- a byte of raw data is before its end
 in_raw : (p n k end : ℕ) → k < n → (if nat_lt 0 (n) then p + n else 0) ≤ end → p + k < end
 in_raw p n k end lt le = omega (arith, raw_some p n (omega arith), lt, le)
 
@@ -216,3 +216,19 @@ enough held len file small fits reach b = same_answers file held (record {
   small_g = omega (arith, fits, small);
   bytes = λ k lt. sym (get_or-take (length held) file k 0 (omega (arith, lt, reach))) ∙ ap (λ (l : List ℕ). get_or l k 0) b.begins;
 })
+
+-- the end is that of the headers, whatever comes after these
+same_end : (f g : List ℕ) → AgreeBefore (headers_end g) f g → image_end f ≡ image_end g
+same_end f g a =
+    let ends : headers_end f ≡ headers_end g = ap₂ (λ p t. max (max 64 (p + 24 + 240)) t) (pe_agrees f g a) (λ i. pe_agrees f g a i + 24 + coff_agrees f g a 16 2 (omega arith) i + 40 * coff_agrees f g a 2 2 (omega arith) i) in
+    ap₂ (λ (n : ℕ) (h : Headers). max n (max h.size_of_headers (raw_end h.sections.items))) ends (headers_agree f g a)
+
+-- bytes with all headers, and more bytes up to the end that these name
+pub decide_with : (begin more : List ℕ) (len : ℕ) → headers_end begin ≤ length begin → len ≤ 2 ^ 32 → image_end begin ≤ length (begin ++ more) → length (begin ++ more) ≤ len → Decide len (begin ++ more)
+decide_with begin more len held small reach fits =
+    let size : length (begin ++ more) ≡ length begin + length more = length-append begin more in
+    let before : AgreeBefore (headers_end begin) (begin ++ more) begin = record {
+      tails = omega (arith, size, held);
+      bytes = λ k lt. get_or_append_left begin more 0 k (omega (arith, lt, held));
+    } in
+    λ file b. enough (begin ++ more) len file small fits (omega (arith, same_end (begin ++ more) begin before, reach)) b

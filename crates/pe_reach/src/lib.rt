@@ -5,10 +5,10 @@
 #![tactic(auto)]
 
 pub mod laws;
-mod needed;
-mod read_enough;
-mod run_sized;
+mod reach;
+mod reading;
+mod sized;
 
-pub use needed::needed;
-pub use read_enough::read_enough;
-pub use run_sized::run_sized;
+pub use reach::needed;
+pub use reading::read_enough;
+pub use sized::run_sized;

@@ -3,7 +3,7 @@
 ghost use Rattle.std.specs.Prelude.{◌-◌, ◌^◌, ◌<◌, ◌↔◌, IsErrOf};
 ghost use Rattle.pe_reach.specs.Sized.{Follows, RanSized};
 
-use crate::read_enough::read_enough;
+use crate::reading::read_enough;
 use pe_text::{Outcome, Report, Sink, Source, ToolError, write_report};
 use std::alloc::Allocator;
 

@@ -4,7 +4,7 @@ ghost use Rattle.std.specs.Prelude.{◌≡◌, ◌-◌, ◌+◌, ◌^◌, ◌<�
 ghost use Rattle.pe_text.specs.Engine.{FailsAfter};
 ghost use Rattle.pe_reach.specs.Reach.{Decide, IsEnough};
 
-use crate::needed::needed;
+use crate::reach::needed;
 use pe_text::{READ_LIMIT, Source, ToolError, read_up_to};
 use std::alloc::Allocator;
 

@@ -1,7 +1,7 @@
 //! `needed`: how many first bytes of a file decide its answers.
 
 ghost use Rattle.std.specs.Prelude.{◌≡◌, ◌≤◌, ◌^◌, ℕ, List, length, max, ◌++◌, IfSome};
-ghost use Rattle.pe_reach.specs.Reach.{headers_end, raw_end, Decide};
+ghost use Rattle.pe_reach.specs.Reach.{headers_end, raw_end, image_end, Decide};
 ghost use Rattle.pe_reach.specs.Ends.{headers_end_of};
 
 use pe_head::{Headers, SectionHeader, read_headers};
@@ -17,10 +17,14 @@ const OPTIONAL: u64 = 240;
 fn headers_end(headers: &Headers) -> u64
     ensures { result ≡ headers_end_of headers.now }
 {
-    let optional = u64::from(headers.pe_offset) + 24;
-    let sections = optional + u64::from(headers.size_of_optional_header);
-    let table = sections + 40 * u64::from(headers.number_of_sections);
-    (optional + OPTIONAL).max(64).max(table)
+    let signature = headers.pe_offset;
+    let size = headers.size_of_optional_header;
+    let count = headers.number_of_sections;
+    let optional = u64::from(signature) + 24;
+    let table = optional + u64::from(size);
+    (optional + OPTIONAL)
+        .max(64)
+        .max(table + 40 * u64::from(count))
 }
 
 /// The greater of an offset and the end of the sections' raw data.
@@ -37,18 +41,25 @@ fn raw_end(sections: &[SectionHeader], least: u64) -> u64
     end
 }
 
-/// How many first bytes of a file of `len` bytes decide its answers, by its headers among the bytes that it begins with. `None` if
-/// `begin` does not have all its headers, these have one of faults 1 to 12, or the file is shorter than they say.
-pub fn needed(begin: &[u8], len: u64) -> Option<u64>
-    ensures { IfSome result (λ end. (end ≤ len) × (len ≤ 2 ^ 32)
-        × ((more : List ℕ) → end ≤ length (begin.now ++ more) → length (begin.now ++ more) ≤ len → Decide len (begin.now ++ more))) }
+/// Where the headers end with which a file begins, and where all bytes end that they name. `None` if they have one of faults 1 to 12.
+fn ends(begin: &[u8]) -> Option<(u64, u64)>
+    ensures { IfSome result (λ ends. (ends.0 ≡ headers_end begin.now) × (ends.1 ≡ image_end begin.now)) }
 {
     let Ok(headers) = read_headers(View::new(begin), 0) else {
         return None;
     };
     let headers_end = headers_end(&headers);
     let least = headers_end.max(u64::from(headers.size_of_headers));
-    let end = raw_end(headers.sections.as_slice(), least);
+    Some((headers_end, raw_end(headers.sections.as_slice(), least)))
+}
+
+/// How many first bytes of a file of `len` bytes decide its answers, by its headers among the bytes that it begins with. `None` if
+/// `begin` does not have all its headers, these have one of faults 1 to 12, or the file is shorter than they say.
+pub fn needed(begin: &[u8], len: u64) -> Option<u64>
+    ensures { IfSome result (λ end. (end ≤ len) × (len ≤ 2 ^ 32)
+        × ((more : List ℕ) → end ≤ length (begin.now ++ more) → length (begin.now ++ more) ≤ len → Decide len (begin.now ++ more))) }
+{
+    let (headers_end, end) = ends(begin)?;
     if headers_end > begin.len() as u64 || end > len || len > MOST {
         return None;
     }
