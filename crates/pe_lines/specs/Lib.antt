@@ -6,6 +6,7 @@ pub use Rattle.pe_tables.specs.Fixups
 pub use Rattle.pe_tables.specs.Imports
 pub use Rattle.pe_tables.specs.Key
 pub use Rattle.pe_image.specs.ImageTests
+pub use Rattle.pe_reach.specs.Sized
 pub use Rattle.pe_text.specs.Engine
 pub use Rattle.pe_text.specs.HeaderFields
 pub mod Dump

@@ -12,7 +12,7 @@ use pe_text::{Outcome, Report, Sink, Source, TextWriter, ToolError, refuse, run_
 use std::alloc::{AllocError, Allocator};
 
 /// The report of [`check`]: the line of an accepted image, or its first fault.
-struct CheckReport;
+pub(crate) struct CheckReport;
 
 impl Report for CheckReport {
     ghost is_text = { IsCheckText };
@@ -35,7 +35,7 @@ impl Report for CheckReport {
 }
 
 /// The report of [`dump`]: the content of an accepted image, or its first fault.
-struct DumpReport;
+pub(crate) struct DumpReport;
 
 impl Report for DumpReport {
     ghost is_text = { IsDumpText };

@@ -7,11 +7,16 @@
 //! let mut writer = Counted::new(standard_output);
 //! let answer = dump(alloc, &mut reader, &mut writer);
 //! ```
+//!
+//! [`check_sized`] and [`dump_sized`] are told the file's size, and read only a beginning of it.
 #![tactic(auto)]
 
 mod dump_lines;
 mod engine;
 mod format;
+pub mod laws;
+mod sized;
 mod table_lines;
 
 pub use engine::{check, dump};
+pub use sized::{check_sized, dump_sized};
