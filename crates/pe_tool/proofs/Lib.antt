@@ -4,3 +4,4 @@ pub mod Mapped
 pub mod RebasedSets
 pub mod RebaseRuns
 pub mod Rows
+pub mod SameSets

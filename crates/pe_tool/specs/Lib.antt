@@ -10,3 +10,4 @@ pub use Rattle.pe_text.specs.Engine
 pub mod MapReport
 pub mod RebasedSet
 pub mod RebaseRun
+pub mod SameSets
