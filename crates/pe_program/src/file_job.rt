@@ -52,6 +52,7 @@ where
             let text = Text::File {
                 engine,
                 name: name_of(path),
+                size: file.size(),
                 is_headed,
                 most,
                 file: &mut file,

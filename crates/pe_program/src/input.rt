@@ -2,7 +2,7 @@
 
 ghost use Rattle.std.specs.Prelude.{◌≤◌, length, IfOk};
 
-use std::fs;
+use std::fs::{self, OpenFile};
 use std::io::{self, Error, Input, Read};
 use std::rt::Files;
 
@@ -16,10 +16,11 @@ enum Stream<F, S> {
     Standard(S),
 }
 
-/// An input file. It keeps its first bytes, how many were read, and the error of the read that failed.
+/// An input file. It keeps its size if that is known, its first bytes, how many were read, and the error of the read that failed.
 #[derive(Drop)]
 pub(crate) struct InputFile<F, S> {
     stream: Stream<F, S>,
+    size: Option<u64>,
     first: [u8; FIRST_BYTES],
     len: u64,
     error: Option<Error>,
@@ -27,13 +28,19 @@ pub(crate) struct InputFile<F, S> {
 
 impl<F: Read, S: Read> InputFile<F, S> {
     /// A file that was not read yet.
-    fn new(stream: Stream<F, S>) -> InputFile<F, S> {
+    fn new(stream: Stream<F, S>, size: Option<u64>) -> InputFile<F, S> {
         InputFile {
             stream,
+            size,
             first: [0; FIRST_BYTES],
             len: 0,
             error: None,
         }
+    }
+
+    /// Its size in bytes, if it is a regular file. The size of pipes and devices is not known.
+    pub fn size(&self) -> Option<u64> {
+        self.size
     }
 
     /// Its first bytes, as far as they were read.
@@ -84,12 +91,22 @@ impl<F: Read, S: Read> Read for InputFile<F, S> {
     }
 }
 
+/// The size in bytes of an open file, if it is a regular file.
+fn size_of(file: &impl OpenFile) -> Option<u64> {
+    match file.metadata() {
+        Ok(metadata) if metadata.is_file() => Some(metadata.len()),
+        _ => None,
+    }
+}
+
 /// The file at a path.
 pub(crate) fn open_path<R: Files + Input>(
     rt: &R,
     path: &str,
 ) -> io::Result<InputFile<R::File, R::Reader>> {
-    Ok(InputFile::new(Stream::File(fs::open(rt, path)?)))
+    let file = fs::open(rt, path)?;
+    let size = size_of(&file);
+    Ok(InputFile::new(Stream::File(file), size))
 }
 
 /// The file at a path, or standard input for the path `-`.
@@ -98,7 +115,7 @@ pub(crate) fn open_file<R: Files + Input>(
     path: &str,
 ) -> io::Result<InputFile<R::File, R::Reader>> {
     if path == "-" {
-        return Ok(InputFile::new(Stream::Standard(rt.reader())));
+        return Ok(InputFile::new(Stream::Standard(rt.reader()), None));
     }
     open_path(rt, path)
 }

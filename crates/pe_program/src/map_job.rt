@@ -1,4 +1,4 @@
-//! The command `map`: reads whole files, maps them and prints the report.
+//! The command `map`: reads files, maps them and prints the report.
 
 use crate::file_job::refuse_path;
 use crate::import_fault::{import_of, tell_import_fault};
@@ -6,22 +6,28 @@ use crate::input::{name_of, open_file};
 use crate::messages::{STANDARD_OUTPUT, tell_failure, tell_fault};
 use crate::statuses::OUT_OF_MEMORY;
 use crate::texts::{Printed, Text, print_text};
-use pe_tool::{Counted, MapFile, Outcome, Policy, SetEntry, ToolError, read_whole, status};
+use pe_tool::{
+    Counted, MapFile, Outcome, Policy, SetEntry, ToolError, read_enough, read_whole, status,
+};
 use pe_view::Fault;
 use std::alloc::{AllocError, Allocator};
 use std::io::{Input, Read};
 use std::rt::Files;
 
-/// Reads bytes to their end.
+/// Reads a file: as far as it decides the report if its size is known, otherwise to its end.
 fn read_bytes<A: Allocator + Copy>(
     alloc: A,
     file: impl Read + Drop,
+    size: Option<u64>,
 ) -> Result<Vec<u8, A>, ToolError> {
     let mut reader = Counted::new(file);
-    read_whole(alloc, &mut reader)
+    match size {
+        Some(size) => read_enough(alloc, &mut reader, size),
+        None => read_whole(alloc, &mut reader),
+    }
 }
 
-/// Reads a whole file, or reports the failure and returns the exit status.
+/// Reads a file, or reports the failure and returns the exit status.
 fn read_file<R: Files + Input + Eprint + Alloc>(rt: &R, path: &str) -> Result<Vec<u8, R::A>, u8>
 where
     R::A: Copy,
@@ -30,7 +36,8 @@ where
         Ok(file) => file,
         Err(error) => return Err(refuse_path(rt, path, error)),
     };
-    let answer = read_bytes(rt.alloc(), &mut file);
+    let size = file.size();
+    let answer = read_bytes(rt.alloc(), &mut file, size);
     answer.map_err(|failure| {
         tell_failure(rt, name_of(path), failure, file.error());
         status(&Err(failure))
@@ -43,7 +50,7 @@ fn refuse_map(rt: &impl Eprint) -> u8 {
     OUT_OF_MEMORY
 }
 
-/// Reads whole files in order, up to the first that fails.
+/// Reads files in order, up to the first that fails.
 fn read_files<R: Files + Input + Eprint + Alloc>(
     rt: &R,
     files: &[MapFile],

@@ -3,8 +3,8 @@
 use crate::headed::Headed;
 use crate::output::Output;
 use pe_tool::{
-    Counted, Outcome, Policy, SetEntry, ShowOptions, ToolError, at, check, dump, dump_object, json,
-    map_report, show,
+    Counted, Outcome, Policy, SetEntry, ShowOptions, ToolError, at, check, check_sized, dump,
+    dump_object, dump_sized, json, map_report, show,
 };
 use pe_view::Place;
 use std::alloc::Allocator;
@@ -34,10 +34,12 @@ pub enum Engine {
 /// What to print.
 #[derive(Drop)]
 pub(crate) enum Text<'a, F> {
-    /// The output of an engine for an open file, perhaps after a heading, and with at most `most` bytes.
+    /// The output of an engine for an open file of this size, if that is known, perhaps after a heading, and with at most `most`
+    /// bytes.
     File {
         engine: Engine,
         name: &'a str,
+        size: Option<u64>,
         is_headed: bool,
         most: Option<u64>,
         file: F,
@@ -106,6 +108,7 @@ fn write_text<A: Allocator + Copy>(
         Text::File {
             engine,
             name,
+            size,
             is_headed,
             most: _,
             file,
@@ -114,13 +117,17 @@ fn write_text<A: Allocator + Copy>(
             let (heading, rest) = heading_of(engine, name, is_headed);
             let mut writer = Counted::new(Headed::new(writer, heading, rest));
             let name = name.as_bytes();
-            match engine {
-                Engine::Check => check(alloc, &mut reader, &mut writer),
-                Engine::Dump => dump(alloc, &mut reader, &mut writer),
-                Engine::Object => dump_object(alloc, &mut reader, &mut writer),
-                Engine::Show(options) => show(alloc, name, &options, &mut reader, &mut writer),
-                Engine::Json => json(alloc, name, &mut reader, &mut writer),
-                Engine::At(place) => at(alloc, place, &mut reader, &mut writer),
+            match (engine, size) {
+                (Engine::Check, Some(size)) => {
+                    check_sized(alloc, &mut reader, size, &mut writer)
+                }
+                (Engine::Check, None) => check(alloc, &mut reader, &mut writer),
+                (Engine::Dump, Some(size)) => dump_sized(alloc, &mut reader, size, &mut writer),
+                (Engine::Dump, None) => dump(alloc, &mut reader, &mut writer),
+                (Engine::Object, _) => dump_object(alloc, &mut reader, &mut writer),
+                (Engine::Show(options), _) => show(alloc, name, &options, &mut reader, &mut writer),
+                (Engine::Json, _) => json(alloc, name, &mut reader, &mut writer),
+                (Engine::At(place), _) => at(alloc, place, &mut reader, &mut writer),
             }
         }
         Text::Map {
