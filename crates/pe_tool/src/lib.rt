@@ -1,4 +1,4 @@
-//! The engines of the program `petool`: each reads a whole file, checks it, and writes its output.
+//! The engines of the program `petool`: each reads a file, checks it, and writes its output.
 //!
 //! An engine runs over any [`Source`] and any [`Sink`]; [`Counted`] makes one of any reader or writer of std. Its contract relates
 //! the output to the bytes that it read:
