@@ -15,6 +15,7 @@ mod fixup;
 mod headers;
 mod image;
 mod import;
+mod lending;
 mod object;
 mod opened;
 mod opened_bytes;

@@ -4,9 +4,9 @@ ghost use Rattle.std.specs.Prelude.{◌≡◌, ◌↔◌, false, length};
 ghost use Rattle.pe_opened.specs.Held.{file_in};
 ghost use Rattle.pe_records_c.specs.Images.{IsBytesOf, IsTextOf, IsOffsetOf};
 
+use crate::lending::with_image;
 use pe_opened::ImageHandle;
 use pe_records_c::opened::{tell_bytes, tell_offset, tell_text};
-use pe_records_c::status;
 use pe_records_c::text::TextRecord;
 use std::alloc::Global;
 
@@ -26,14 +26,7 @@ pub extern "C" fn petool_image_read(
     ensures image_kept { file_in image.new.image ≡ file_in image.old.image }
     ensures open_kept { image.new.is_open ≡ image.old.is_open }
 {
-    match std::mem::replace(image, ImageHandle::closed(alloc)).take() {
-        Some(opened) => {
-            let answer = tell_bytes(&opened, rva, buffer);
-            *image = ImageHandle::of(opened);
-            answer
-        }
-        None => status::CLOSED,
-    }
+    with_image!(alloc, image, |opened| tell_bytes(opened, rva, buffer))
 }
 
 /// The zero-terminated string at an RVA of an open image, without its zero byte, as a slice of the file.
@@ -52,14 +45,7 @@ pub extern "C" fn petool_image_read_text(
     ensures image_kept { file_in image.new.image ≡ file_in image.old.image }
     ensures open_kept { image.new.is_open ≡ image.old.is_open }
 {
-    match std::mem::replace(image, ImageHandle::closed(alloc)).take() {
-        Some(opened) => {
-            let answer = tell_text(&opened, rva, text);
-            *image = ImageHandle::of(opened);
-            answer
-        }
-        None => status::CLOSED,
-    }
+    with_image!(alloc, image, |opened| tell_text(opened, rva, text))
 }
 
 /// The file offset of the byte at an RVA of an open image.
@@ -78,12 +64,5 @@ pub extern "C" fn petool_image_locate(
     ensures image_kept { file_in image.new.image ≡ file_in image.old.image }
     ensures open_kept { image.new.is_open ≡ image.old.is_open }
 {
-    match std::mem::replace(image, ImageHandle::closed(alloc)).take() {
-        Some(opened) => {
-            let answer = tell_offset(&opened, rva, offset);
-            *image = ImageHandle::of(opened);
-            answer
-        }
-        None => status::CLOSED,
-    }
+    with_image!(alloc, image, |opened| tell_offset(opened, rva, offset))
 }

@@ -10,6 +10,7 @@ ghost use Rattle.pe_records_c.specs.Images.{TellsTargetOf, opened_ordinals, open
 ghost use Rattle.pe_records_c.specs.ImportRows.{import_text, import_row};
 ghost use Rattle.pe_records_c.specs.Rows.{TellsTable};
 
+use crate::lending::with_image;
 use pe_opened::ImageHandle;
 use pe_records_c::export::{ExportRow, TargetRecord};
 use pe_records_c::fixup::FixupRow;
@@ -17,7 +18,6 @@ use pe_records_c::import::ImportRow;
 use pe_records_c::opened::{
     tell_exports, tell_fixups, tell_imports, tell_name, tell_names, tell_ordinal,
 };
-use pe_records_c::status;
 use std::alloc::Global;
 
 /// What a name of an open image exports; if the name is repeated, what it exports at its first place.
@@ -36,14 +36,7 @@ pub extern "C" fn petool_image_export_by_name(
     ensures image_kept { file_in image.new.image ≡ file_in image.old.image }
     ensures open_kept { image.new.is_open ≡ image.old.is_open }
 {
-    match std::mem::replace(image, ImageHandle::closed(alloc)).take() {
-        Some(opened) => {
-            let answer = tell_name(&opened, name, target);
-            *image = ImageHandle::of(opened);
-            answer
-        }
-        None => status::CLOSED,
-    }
+    with_image!(alloc, image, |opened| tell_name(opened, name, target))
 }
 
 /// What an ordinal of an open image exports, with the statuses of [`petool_image_export_by_name`].
@@ -59,14 +52,7 @@ pub extern "C" fn petool_image_export_by_ordinal(
     ensures image_kept { file_in image.new.image ≡ file_in image.old.image }
     ensures open_kept { image.new.is_open ≡ image.old.is_open }
 {
-    match std::mem::replace(image, ImageHandle::closed(alloc)).take() {
-        Some(opened) => {
-            let answer = tell_ordinal(&opened, ordinal, target);
-            *image = ImageHandle::of(opened);
-            answer
-        }
-        None => status::CLOSED,
-    }
+    with_image!(alloc, image, |opened| tell_ordinal(opened, ordinal, target))
 }
 
 /// Copies the exports by ordinal of an open image, in the order of the export address table, into the caller's rows.
@@ -87,14 +73,7 @@ pub extern "C" fn petool_image_exports(
     ensures image_kept { file_in image.new.image ≡ file_in image.old.image }
     ensures open_kept { image.new.is_open ≡ image.old.is_open }
 {
-    match std::mem::replace(image, ImageHandle::closed(alloc)).take() {
-        Some(opened) => {
-            let answer = tell_exports(&opened, rows, count);
-            *image = ImageHandle::of(opened);
-            answer
-        }
-        None => status::CLOSED,
-    }
+    with_image!(alloc, image, |opened| tell_exports(opened, rows, count))
 }
 
 /// Copies the exports by name of an open image, in the order of the name pointer table and each name once, as
@@ -113,14 +92,7 @@ pub extern "C" fn petool_image_export_names(
     ensures image_kept { file_in image.new.image ≡ file_in image.old.image }
     ensures open_kept { image.new.is_open ≡ image.old.is_open }
 {
-    match std::mem::replace(image, ImageHandle::closed(alloc)).take() {
-        Some(opened) => {
-            let answer = tell_names(&opened, rows, count);
-            *image = ImageHandle::of(opened);
-            answer
-        }
-        None => status::CLOSED,
-    }
+    with_image!(alloc, image, |opened| tell_names(opened, rows, count))
 }
 
 /// Copies the imports of an open image, in the order of its import table, as [`petool_image_exports`] does.
@@ -138,14 +110,7 @@ pub extern "C" fn petool_image_imports(
     ensures image_kept { file_in image.new.image ≡ file_in image.old.image }
     ensures open_kept { image.new.is_open ≡ image.old.is_open }
 {
-    match std::mem::replace(image, ImageHandle::closed(alloc)).take() {
-        Some(opened) => {
-            let answer = tell_imports(&opened, rows, count);
-            *image = ImageHandle::of(opened);
-            answer
-        }
-        None => status::CLOSED,
-    }
+    with_image!(alloc, image, |opened| tell_imports(opened, rows, count))
 }
 
 /// Copies the base relocations of an open image, in the order of their table, as [`petool_image_exports`] does.
@@ -163,12 +128,5 @@ pub extern "C" fn petool_image_fixups(
     ensures image_kept { file_in image.new.image ≡ file_in image.old.image }
     ensures open_kept { image.new.is_open ≡ image.old.is_open }
 {
-    match std::mem::replace(image, ImageHandle::closed(alloc)).take() {
-        Some(opened) => {
-            let answer = tell_fixups(&opened, rows, count);
-            *image = ImageHandle::of(opened);
-            answer
-        }
-        None => status::CLOSED,
-    }
+    with_image!(alloc, image, |opened| tell_fixups(opened, rows, count))
 }

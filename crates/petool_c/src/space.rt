@@ -9,6 +9,7 @@ ghost use Rattle.pe_records_c.specs.Rows.{TellsTable};
 ghost use Rattle.pe_records_c.specs.SetRows.{entry_text, binding_row, policy_of, IsJudged};
 ghost use Rattle.pe_records_c.specs.Spaces.{IsReadOf, IsMoveOf, base_of, size_of, bindings_of};
 
+use crate::lending::with_space;
 use pe_handle::Handle;
 use pe_records_c::fault::FaultRecord;
 use pe_records_c::set::{BindingRow, EntryRecord, refuse_set};
@@ -74,14 +75,11 @@ pub extern "C" fn petool_space_read(
     ensures space_kept { space.new.space ≡ space.old.space }
     ensures open_kept { space.new.is_open ≡ space.old.is_open }
 {
-    match std::mem::replace(space, Handle::closed(alloc)).take() {
-        Some(mapped) => {
-            let answer = read_window(&mapped, address, buffer, fault);
-            *space = Handle::of(mapped);
-            answer
-        }
-        None => status::CLOSED,
-    }
+    with_space(
+        alloc,
+        space,
+        &mut |mapped| read_window(mapped, address, buffer, fault),
+    )
 }
 
 /// Moves an image to another base: its fields are relocated, and the slots of all images that lead to it are bound again. `moved`
@@ -102,14 +100,11 @@ pub extern "C" fn petool_space_move(
     ensures closed { (result ≡ 6) ↔ (space.old.is_open ≡ false) }
     ensures open_kept { space.new.is_open ≡ space.old.is_open }
 {
-    match std::mem::replace(space, Handle::closed(alloc)).take() {
-        Some(mut mapped) => {
-            let answer = move_image(&mut mapped, image, base, moved, fault);
-            *space = Handle::of(mapped);
-            answer
-        }
-        None => status::CLOSED,
-    }
+    with_space(
+        alloc,
+        space,
+        &mut |mapped| move_image(mapped, image, base, moved, fault),
+    )
 }
 
 /// The base and the size in bytes of an image.
@@ -133,14 +128,11 @@ pub extern "C" fn petool_space_image(
     ensures space_kept { space.new.space ≡ space.old.space }
     ensures open_kept { space.new.is_open ≡ space.old.is_open }
 {
-    match std::mem::replace(space, Handle::closed(alloc)).take() {
-        Some(mapped) => {
-            let answer = tell_place(&mapped, image, base, size);
-            *space = Handle::of(mapped);
-            answer
-        }
-        None => status::CLOSED,
-    }
+    with_space(
+        alloc,
+        space,
+        &mut |mapped| tell_place(mapped, image, base, size),
+    )
 }
 
 /// Copies the bound slots, image by image and in the order of each image's imports, into the caller's rows.
@@ -161,12 +153,9 @@ pub extern "C" fn petool_space_bindings(
     ensures space_kept { space.new.space ≡ space.old.space }
     ensures open_kept { space.new.is_open ≡ space.old.is_open }
 {
-    match std::mem::replace(space, Handle::closed(alloc)).take() {
-        Some(mapped) => {
-            let answer = tell_bindings(&mapped, rows, count);
-            *space = Handle::of(mapped);
-            answer
-        }
-        None => status::CLOSED,
-    }
+    with_space(
+        alloc,
+        space,
+        &mut |mapped| tell_bindings(mapped, rows, count),
+    )
 }
