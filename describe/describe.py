@@ -12,6 +12,7 @@ TOP = pathlib.Path(__file__).resolve().parents[1]
 sys.dont_write_bytecode = True
 
 import c_texts
+import call_texts
 import fault_texts
 import header_texts
 import page_texts
@@ -108,6 +109,8 @@ def whole(description):
     files = {path: form(description) for path, form in WHOLE.items()}
     records = {it: rattle_records.source(description, it) for it in rattle_records.files(description)}
     files.update({f"crates/pe_records_c/src/{name}.rt": text for name, text in records.items()})
+    calls = {call_texts.item_of(it): call_texts.source(description, it) for it in call_texts.calls(description)}
+    files.update({f"crates/petool_c/src/{name}.rt": text for name, text in calls.items()})
     return files
 
 

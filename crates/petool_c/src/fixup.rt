@@ -1,4 +1,6 @@
 //! Base relocations: `petool_fixups`.
+//!
+//! describe/describe.py writes this file.
 
 ghost use Rattle.pe_layout.specs.Image.{image_of_file};
 ghost use Rattle.pe_tables.specs.Fixups.{fixups_of};
@@ -16,11 +18,9 @@ use std::alloc::Global;
 
 /// Reads the base relocations of an image, in the order of its base relocation table, into the caller's rows.
 ///
-/// The status is 0; 4 if there are more base relocations than rows, which then hold the first of them; 1 with the first fault of
-/// the headers and sections (1 to 15), of the import table (24 to 32) and of the base relocation table (33 to 38); or 2, out of
-/// memory, under the condition of `petool_imports`, or if there is no fault up to the table's place (34) and the size of its first
-/// block (33). The count is that of all base relocations; 1 and 2 leave it and the rows unchanged. ("PE Format": The .reloc
-/// Section.)
+/// The status is 0; 4 if there are more base relocations than rows, which then hold the first of them; 1 with the first of faults 1
+/// to 15, 24 to 38; or 2, out of memory: memory is allocated as for the imports, or after the head of the first block. The count is
+/// that of all base relocations; 1 and 2 leave it and the rows unchanged. ("PE Format": The .reloc Section.)
 #[unsafe(no_mangle)]
 pub extern "C" fn petool_fixups(
     alloc: Global,

@@ -1,4 +1,6 @@
 //! Imports: `petool_imports`.
+//!
+//! describe/describe.py writes this file.
 
 ghost use Rattle.pe_layout.specs.Image.{image_of_file};
 ghost use Rattle.pe_tables.specs.Imports.{imports_of};
@@ -16,10 +18,9 @@ use std::alloc::Global;
 
 /// Reads the imports of an image, in the order of its import table, into the caller's rows.
 ///
-/// The status is 0; 4 if there are more imports than rows, which then hold the first imports; 1 with the first fault of the
-/// headers and sections (1 to 15) and of the import table (24 to 32); or 2, out of memory, which comes only if a lookup entry is
-/// an import without a fault, and there is no earlier fault. The count is that of all imports; 1 and 2 leave it and the rows
-/// unchanged. ("PE Format": The .idata Section.)
+/// The status is 0; 4 if there are more imports than rows, which then hold the first of them; 1 with the first of faults 1 to 15,
+/// 24 to 32; or 2, out of memory: memory is allocated after faults 1 to 15 and the first import. The count is that of all imports;
+/// 1 and 2 leave it and the rows unchanged. ("PE Format": The .idata Section.)
 #[unsafe(no_mangle)]
 pub extern "C" fn petool_imports<'a>(
     alloc: Global,
