@@ -1,5 +1,5 @@
 #!/usr/bin/env python3
-"""Writes what describe/records.txt and describe/faults.txt describe into the files that have it: describe.py [--check]
+"""Writes what describe/records.txt, faults.txt and commands.txt describe into the files that have it: describe.py [--check]
 
 With --check nothing is written: each such file is compared, and also the sources that are not written. A file that differs is
 named, with its first line that does; the last line is 'N passed, M failed', and the status is 1 if something differs.
@@ -13,6 +13,7 @@ sys.dont_write_bytecode = True
 
 import c_texts
 import call_texts
+import command_texts
 import fault_texts
 import header_texts
 import page_texts
@@ -22,11 +23,13 @@ import rattle_records
 import rattle_sources
 import regions
 import rust_texts
+from commands import Commands
 from description import Description, Mistake
 from faults import Faults
 
 RECORDS = "describe/records.txt"
 FAULTS = "describe/faults.txt"
+COMMANDS = command_texts.SOURCE
 HEADER = "bindings/c/petool.h"
 RUST = "bindings/rust/petool-sys/src/lib.rs"
 PACKAGE = "bindings/python/petool"
@@ -134,9 +137,22 @@ def made(description, faults, path):
 def difference(description, faults, path):
     """How a file differs from what the description gives, as a list of one sentence, or of none."""
     try:
-        stands, wanted = read(path), made(description, faults, path)
+        return compared(path, made(description, faults, path))
     except (regions.NoRegion, fault_texts.NoTable) as error:
         return [f"{path}: {error}"]
+
+
+def command_difference(commands, path):
+    """The same of a file that has commands, options or exit statuses."""
+    try:
+        return compared(path, command_texts.FILES[path](commands, read(path)))
+    except (regions.NoRegion, command_texts.NoPlace) as error:
+        return [f"{path}: {error}"]
+
+
+def compared(path, wanted):
+    """How a file differs from its wanted contents, as a list of one sentence, or of none."""
+    stands = read(path)
     if stands == wanted:
         return []
     lines = enumerate(zip([*stands.split("\n"), None], [*wanted.split("\n"), None]), 1)
@@ -193,8 +209,17 @@ def comparisons(description, faults):
     yield rattle_sources.definition_faults(description, HEAD, read(HEAD))
 
 
-def check(description, faults):
-    found = list(comparisons(description, faults))
+def command_comparisons(commands):
+    """The same of the commands."""
+    for path in command_texts.FILES:
+        yield command_difference(commands, path)
+    for path, wanted in command_texts.PARTS.items():
+        yield list(wrong_parts(path, regions.parts(read(path), COMMANDS), wanted))
+    yield command_texts.status_faults(commands, read(command_texts.STATUSES))
+
+
+def check(description, faults, commands):
+    found = [*comparisons(description, faults), *command_comparisons(commands)]
     for sentence in [sentence for sentences in found for sentence in sentences]:
         print(sentence)
     failed = sum(map(bool, found))
@@ -202,12 +227,18 @@ def check(description, faults):
     return 0 if failed == 0 else 1
 
 
-def write(description, faults):
+def put(path, text):
+    """Writes a file if its contents change."""
+    if not (TOP / path).exists() or read(path) != text:
+        (TOP / path).write_text(text)
+        print(f"{path}: written")
+
+
+def write(description, faults, commands):
     for path in written(description):
-        text = made(description, faults, path)
-        if not (TOP / path).exists() or read(path) != text:
-            (TOP / path).write_text(text)
-            print(f"{path}: written")
+        put(path, made(description, faults, path))
+    for path, form in command_texts.FILES.items():
+        put(path, form(commands, read(path)))
     return 0
 
 
@@ -216,9 +247,10 @@ def main(words):
         print(__doc__.splitlines()[0], file=sys.stderr)
         return 2
     try:
-        described = described_by(RECORDS, Description), described_by(FAULTS, Faults)
+        forms = {RECORDS: Description, FAULTS: Faults, COMMANDS: Commands}
+        described = [described_by(path, form) for path, form in forms.items()]
         return check(*described) if words else write(*described)
-    except (Mistake, regions.NoRegion, fault_texts.NoTable, OSError) as error:
+    except (Mistake, regions.NoRegion, fault_texts.NoTable, command_texts.NoPlace, OSError) as error:
         print(f"describe.py: {error}\n0 passed, 1 failed")
         return 1
 

@@ -256,8 +256,13 @@ def words_of_synopses(synopses):
 
 
 def shown(line):
-    """What a line of petool(1) shows: a macro of two letters joins its words."""
-    macro, *words = shlex.split(line.replace("\\-", "-"))
+    """What a line of petool(1) shows: a macro of two letters joins its words, and a comment shows nothing."""
+    if line.startswith('.\\"'):
+        return ""
+    line = re.sub(r"\\f[BIP]", "", line.replace("\\-", "-"))
+    if not line.startswith("."):
+        return line
+    macro, *words = shlex.split(line)
     return ("" if len(macro) == len(".BR") else " ").join(words)
 
 
@@ -267,7 +272,7 @@ def part_of_manual(heading):
 
 def manual_synopses():
     lines = part_of_manual("SYNOPSIS").split(".br\n")
-    return [" ".join(map(shown, it.splitlines())) for it in lines]
+    return [" ".join(" ".join(map(shown, it.splitlines())).split()) for it in lines]
 
 
 def row_synopses(page):

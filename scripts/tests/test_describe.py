@@ -22,7 +22,10 @@ FAULT_CRATES = (
     "coff_read",
     "coff_object",
 )
+#: The crates that have words of commands.
+WORD_CRATES = ("pe_words", "pe_bench")
 COPIED = [
+    "README.md",
     "bindings/c/layout.c",
     "bindings/c/petool.h",
     "bindings/c/petool.map",
@@ -33,7 +36,9 @@ COPIED = [
     "docs/C.md",
     "docs/FAULTS.md",
     "docs/FORMAT.md",
+    "docs/GUIDE.md",
     "docs/JSON.md",
+    "man/petool.1",
     "man/petool.h.3",
     "packaging/debian/libpetool0.symbols",
     "crates/pe_head/specs/Head.antt",
@@ -41,7 +46,7 @@ COPIED = [
     "crates/pe_text/specs/HeaderFields.antt",
     "crates/pe_write/proofs/PlanHead.antt",
     "crates/pe_write/specs/PlanHeaders.antt",
-    *(f"crates/{crate}/src" for crate in CRATES + FAULT_CRATES),
+    *(f"crates/{crate}/src" for crate in CRATES + FAULT_CRATES + WORD_CRATES),
 ]
 
 #: The changes: the file, what is in it, and what replaces it.
@@ -282,6 +287,41 @@ FAULTS_DESCRIBED = [
     ("    condition  n is under 64", "   condition  n is under 64", "a fault has an indent of 2"),
 ]
 
+#: Changes of what has commands, options or exit statuses.
+FILE_WORDS = "crates/pe_words/src/file_words.rt"
+COMMANDS_WRITTEN = [
+    ("README.md", "| `petool explain [N]` | what fault N means |", "| `petool explain N` | what fault N means |"),
+    ("README.md", "; 4 out of memory;", "; 4 no memory;"),
+    ("docs/GUIDE.md", "[--known] [--window HEX]", "[--window HEX]"),
+    ("docs/GUIDE.md", "| 5 | a text was cut", "| 6 | a text was cut"),
+    ("man/petool.1", "\\fIHEX\\fP \\fIIN\\fP \\fIOUT\\fP", "\\fIIN\\fP \\fIOUT\\fP"),
+    ("man/petool.1", "Prints what fault N means", "Prints what a fault means"),
+    (FILE_WORDS, "Prints each symbol of an object", "Prints symbols"),
+    (FILE_WORDS, "Prints each image or object, or its first fault, as one line of JSON", "Prints JSON"),
+    (FILE_WORDS, "        imports: is_all", "        exports: is_all"),
+    ("crates/pe_words/src/at_words.rt", "Explains a fault by its number, or", "Explains a fault, or"),
+    ("crates/pe_words/src/map_words.rt", "Maps images together", "Maps images"),
+    ("crates/pe_words/src/rebase_words.rt", "Writes an image's file for another base", "Moves an image"),
+    ("crates/pe_words/src/commands.rt", "  3  reading or writing failed", "  4  reading or writing failed"),
+    ("crates/pe_text/src/show_options.rt", "    pub imports: bool,", "    pub import: bool,"),
+    ("crates/pe_bench/src/texts.rt", "    symbols: true,\n", ""),
+]
+COMMANDS_COMPARED = [
+    ("crates/pe_program/src/statuses.rt", "CUT: u8 = 5", "CUT: u8 = 6"),
+    (FILE_WORDS, "const SHOW_OPTIONS", "const OPTIONS"),
+    (FILE_WORDS, 'name: "json",', 'name: "lines",'),
+    ("README.md", "<!-- from describe/commands.txt: statuses -->\n", ""),
+    ("man/petool.1", ".\\\" from describe/commands.txt: synopses", ".\\\" from describe/commands.txt: commands"),
+]
+COMMANDS_DESCRIBED = [
+    ("  means      done", "  means      finished", "README.md"),
+    ("status 5 CUT", "status 7 CUT", "crates/pe_program/src/statuses.rt"),
+    ("option symbols\n", "option symbols\n  column     Symbols\n", "line "),
+    ("  readme     what fault N means\n", "", "command explain [N] has no row readme"),
+    ("command object FILE", "command objects FILE", "crates/pe_words/src/file_words.rt"),
+    ("status 4 OUT_OF_MEMORY", "statuses 4 OUT_OF_MEMORY", "line "),
+]
+
 
 def copy_to(folder):
     for path in COPIED:
@@ -375,6 +415,23 @@ class Describe(unittest.TestCase):
                     self.assertEqual(self.run_script(), (0, f"{path}: written\n"))
                     self.assertEqual(file.read_bytes(), before)
                 self.doCleanups()
+
+    def test_a_text_of_commands_that_differs_is_named(self):
+        for path, old, new in COMMANDS_WRITTEN + COMMANDS_COMPARED:
+            self.assert_named(path, old, new, path)
+
+    def test_another_description_of_commands_is_named(self):
+        for old, new, named in COMMANDS_DESCRIBED:
+            self.assert_named("describe/commands.txt", old, new, named)
+
+    def test_a_text_of_commands_is_written_back(self):
+        for path, old, new in COMMANDS_WRITTEN:
+            with self.subTest(path=path, old=old, new=new):
+                before = (self.top / path).read_bytes()
+                file = self.changed(path, old, new)
+                self.assertEqual(self.run_script(), (0, f"{path}: written\n"))
+                self.assertEqual(file.read_bytes(), before)
+            self.doCleanups()
 
     def test_a_crate_without_sources_is_found(self):
         for crate in CRATES + FAULT_CRATES:

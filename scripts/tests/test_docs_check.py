@@ -77,13 +77,13 @@ WORDS = [
     (GUIDE, "`petool check FILE...`", "`petool judge FILE...`", f"{GUIDE}: there is no command judge"),
     (GUIDE, ", `petool --version` |", " |", f"{GUIDE}: petool has --version, which is not named"),
     (README, "`petool explain [N]`", "`petool show`", f"{README}: petool explain is not named"),
-    (README, "`petool show [--all] FILE...`", "`petool show [--rows] FILE...`", f"{README}: petool show has no --rows"),
+    (README, "`petool show FILE...`", "`petool show [--rows] FILE...`", f"{README}: petool show has no --rows"),
     (README, "(`--file`) |", "(`--offset`) |", f"{README}: petool at FILE ADDRESS has no --offset"),
-    (MAN, ".B petool explain\n.RI [ N ]\n.br\n", "", f"{MAN}: petool explain is not named"),
-    (MAN, '"] [" \\-\\-window', '"] [" \\-\\-range', f"{MAN}: petool map has --window HEX, which is not named"),
-    (MAN, ".IR HEX=FILE ...", ".I HEX=FILE", f"{MAN}: petool map takes HEX=FILE..., and not HEX=FILE"),
+    (MAN, ".B petool explain\n[\\fIN\\fP]\n.br\n", "", f"{MAN}: petool explain is not named"),
+    (MAN, "[\\fB\\-\\-window", "[\\fB\\-\\-range", f"{MAN}: petool map has --window HEX, which is not named"),
+    (MAN, "\\fIHEX=FILE\\fP...", "\\fIHEX=FILE\\fP", f"{MAN}: petool map takes HEX=FILE..., and not HEX=FILE"),
     (MAN, "\n.B rebase\n", "\n.B move\n", f"{MAN}: move is no command, or has no paragraph"),
-    (MAN, "Options add", "\\-\\-more adds", f"{MAN}: there is no option --more"),
+    (MAN, "bad command line", "bad command line, by \\-\\-more", f"{MAN}: there is no option --more"),
     ("VERSION", "1.0", "1.1", "VERSION: the program is petool 1.0"),
 ]
 

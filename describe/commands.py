@@ -1,0 +1,91 @@
+"""What commands.txt says: the options of `show`, the exit statuses, and the commands with their arguments and texts."""
+
+import re
+from dataclasses import dataclass, field
+from typing import Dict, List
+
+from description import Mistake
+
+#: The rows below each kind of heading, in order; a command has `options` if it has any.
+ROWS = {
+    "option": ("field", "help"),
+    "status": ("means",),
+    "command": ("options", "help", "readme", "guide"),
+    "other": ("guide",),
+}
+ROW = re.compile(r"(\w+) +(.+)")
+
+
+@dataclass
+class Item:
+    """An option, a status, a command or other words, with its rows."""
+
+    kind: str
+    words: str  #: after the kind
+    rows: Dict[str, str] = field(default_factory=dict)
+
+    def name(self) -> str:
+        """The word of an option, the number of a status, the name of a command."""
+        return self.words.partition(" ")[0]
+
+    def rest(self) -> str:
+        """The arguments of a command, the constant of a status."""
+        return self.words.partition(" ")[2]
+
+
+class Commands:
+    """All that commands.txt says. Mistake if a line has none of its forms, or an item is incomplete."""
+
+    def __init__(self, text: str) -> None:
+        self.items: List[Item] = []
+        self.all_help = ""
+        for number, line in enumerate(text.splitlines(), 1):
+            if not line.strip() or line.startswith("#"):
+                continue
+            try:
+                self._read(len(line) - len(line.lstrip()), line.strip())
+            except (Mistake, ValueError, KeyError, IndexError) as error:
+                raise Mistake(f"line {number}: {error!r}: {line.strip()}") from error
+        for it in self.items:
+            missing = [row for row in ROWS[it.kind] if row not in it.rows and row != "options"]
+            if missing:
+                raise Mistake(f"{it.kind} {it.words} has no row {missing[0]}")
+
+    def _read(self, indent: int, line: str) -> None:
+        if indent == 0:
+            self._heading(*line.split(" ", 1))
+        elif indent == 2:
+            self._row(line)
+        else:
+            self.items[-1].rows[self._last] += f" {line}"
+
+    def _heading(self, kind: str, words: str) -> None:
+        if kind == "all":
+            self.all_help = words
+            return
+        if kind not in ROWS or words in [it.words for it in self.of(kind)]:
+            raise Mistake("no new item")
+        self.items.append(Item(kind, words))
+
+    def _row(self, line: str) -> None:
+        found = ROW.fullmatch(line)
+        item = self.items[-1]
+        if found is None or found[1] not in ROWS[item.kind] or found[1] in item.rows:
+            raise Mistake("no row of this item")
+        self._last = found[1]
+        item.rows[found[1]] = found[2]
+
+    def of(self, kind: str) -> List[Item]:
+        return [it for it in self.items if it.kind == kind]
+
+    def named(self, name: str) -> Item:
+        """The command with this name. KeyError if there is none."""
+        for it in self.of("command"):
+            if it.name() == name:
+                return it
+        raise KeyError(name)
+
+    def usage(self, command: Item) -> List[str]:
+        """The options of a command in usage."""
+        of_show = [f"[--{it.name()}]" for it in self.of("option")] + ["[--all]"] if command.name() == "show" else []
+        return of_show + re.findall(r"\[[^\]]*\]", command.rows.get("options", ""))
