@@ -1,3 +1,4 @@
+pub mod Early
 pub mod Faults
 pub mod Headers
 pub mod Images

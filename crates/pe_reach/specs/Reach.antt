@@ -1,5 +1,5 @@
 -- Which first bytes of a file decide its headers, its image and its faults.
-use Rattle.std.specs.Prelude.{◌≡◌, ℕ, ◌+◌, ◌*◌, ◌<◌, max, min, ◌≤◌, ◌^◌, ◌⊎◌, nat_lt, if◌then◌else◌, Bool, List, take, [], ◌∷◌, length}
+use Rattle.std.specs.Prelude.{◌≡◌, ℕ, ◌+◌, ◌*◌, ◌<◌, max, min, ◌≤◌, ◌^◌, ◌⊎◌, nat_lt, if◌then◌else◌, Bool, List, take, [], ◌∷◌, length, Some}
 use Rattle.pe_view.specs.Number.{byte_of}
 use Rattle.pe_view.specs.Faults.{first_standing}
 use Rattle.pe_head.specs.declared.section.SectionHeader.{SectionHeader}
@@ -7,6 +7,8 @@ use Rattle.pe_head.specs.Section.{rawlen}
 use Rattle.pe_head.specs.Head.{head_of, optional_start, section_start, coff_field}
 use Rattle.pe_layout.specs.Image.{image_of_file}
 use Rattle.pe_layout.specs.SectionFaults.{layout_tests}
+use Rattle.pe_view.specs.declared.fault.Fault.{Fault}
+use Rattle.pe_image.specs.ImageTests.{image_tests}
 use Rattle.pe_text.specs.Engine.{IsWhole}
 
 -- where the headers end: the MS-DOS header, the optional header with 16 directories of PE32+, and the section table
@@ -53,3 +55,7 @@ Decide len bytes = (file : List ℕ) → Begins bytes len file → SameAnswers f
 -- bytes that were read of a file of a length are enough: they are the whole file, or decide the answers for it
 abbrev pub IsEnough : Bool → ℕ → List ℕ → Type 0
 IsEnough ended len bytes = IsWhole ended bytes ⊎ Decide len bytes
+
+-- bytes refuse each file of a length that begins with them, by a fault
+abbrev pub Refuse : ℕ → List ℕ → Fault → Type 0
+Refuse len bytes fault = (file : List ℕ) → Begins bytes len file → first_standing (image_tests 0 file) ≡ Some fault

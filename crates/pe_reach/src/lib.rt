@@ -1,7 +1,7 @@
 //! How much of a file decides its answers: what comes after the end of the bytes that its headers name changes none.
 //!
-//! [`needed`] says where that end is, and [`read_enough`] reads a file of a known size up to there. [`run_sized`] is the engine of a
-//! report over such a file.
+//! [`needed`] says where that end is, and [`read_enough`] reads a file of a known size up to there. [`early_fault`] is a fault that
+//! the first bytes decide. [`run_sized`] is the engine of a report over such a file.
 #![tactic(auto)]
 
 pub mod laws;
@@ -9,6 +9,6 @@ mod reach;
 mod reading;
 mod sized;
 
-pub use reach::needed;
+pub use reach::{early_fault, needed};
 pub use reading::read_enough;
 pub use sized::run_sized;

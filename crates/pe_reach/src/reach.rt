@@ -1,11 +1,11 @@
-//! `needed`: how many first bytes of a file decide its answers.
+//! `needed`: how many first bytes of a file decide its answers; and `early_fault`: a fault that its first bytes decide.
 
 ghost use Rattle.std.specs.Prelude.{◌≡◌, ◌≤◌, ◌^◌, ℕ, List, length, max, ◌++◌, IfSome};
-ghost use Rattle.pe_reach.specs.Reach.{headers_end, raw_end, image_end, Decide};
+ghost use Rattle.pe_reach.specs.Reach.{headers_end, raw_end, image_end, Decide, Refuse};
 ghost use Rattle.pe_reach.specs.Ends.{headers_end_of};
 
 use pe_head::{Headers, SectionHeader, read_headers};
-use pe_view::View;
+use pe_view::{Fault, Place, View};
 
 /// The most bytes that a file may have.
 const MOST: u64 = 1 << 32;
@@ -64,4 +64,29 @@ pub fn needed(begin: &[u8], len: u64) -> Option<u64>
         return None;
     }
     Some(end)
+}
+
+/// The number that a file begins with if its first bytes are `MZ`.
+const MZ: u16 = 0x5a4d;
+
+/// The fault of each file of `len` bytes that begins with these, if it is larger than any file may be, or does not begin with `MZ`.
+/// `None` says nothing.
+pub fn early_fault(begin: &[u8], len: u64) -> Option<Fault>
+    ensures { IfSome result (λ fault. Refuse len begin.now fault) }
+{
+    if len > MOST {
+        return Some(Fault {
+            number: 1,
+            image: 0,
+            place: Place::File(MOST),
+        });
+    }
+    match View::new(begin).u16_at(0) {
+        Some(number) if number != MZ && len >= 64 => Some(Fault {
+            number: 3,
+            image: 0,
+            place: Place::File(0),
+        }),
+        _ => None,
+    }
 }

@@ -1,5 +1,6 @@
 -- What an engine reads and writes.
 use Rattle.std.specs.Prelude.{ℕ, ◌≡◌, ◌<◌, ◌≤◌, ◌+◌, ◌^◌, ◌⊎◌, Bool, true, List, [], ◌++◌, length, None, Some, Result, Ok, Err, MatchResult, IsErrOf}
+use Rattle.pe_view.specs.declared.fault.Fault.{Fault}
 use Rattle.pe_view.specs.Faults.{Test, first_standing}
 use Rattle.pe_text.specs.declared.outcome.Outcome.{Outcome}
 use Rattle.pe_text.specs.declared.outcome.Outcome.TheVariants.{Done, Refused}
@@ -12,6 +13,10 @@ use Rattle.pe_text.specs.TextWriter.{IsBeginning}
 abbrev pub IsFileText : (List ℕ → List Test) → (List ℕ → List ℕ) → List ℕ → Outcome → List ℕ → Type 0
 IsFileText tests lines file Done text = (first_standing (tests file) ≡ None) × (text ≡ lines file)
 IsFileText tests lines file (Refused fault) text = (first_standing (tests file) ≡ Some fault) × (text ≡ fault_line fault)
+
+-- the outcome and the text of a file that is refused by a fault
+abbrev pub IsRefusal : Fault → Outcome → List ℕ → Type 0
+IsRefusal fault outcome text = (outcome ≡ Refused fault) × (text ≡ fault_line fault)
 
 -- the source's end was seen, or one byte more was read than any file may have
 abbrev pub IsWhole : Bool → List ℕ → Type 0

@@ -2,7 +2,7 @@
 
 ghost use Rattle.std.specs.Prelude.{◌≡◌, ◌-◌, ◌^◌, ◌<◌, ◌↔◌, ℕ, List, length, IfOk, OnErr, IsErrOf};
 ghost use Rattle.pe_text.specs.declared.outcome.Outcome.{Outcome};
-ghost use Rattle.pe_text.specs.Engine.{Puts, Ran};
+ghost use Rattle.pe_text.specs.Engine.{IsRefusal, Puts, Ran};
 ghost use Rattle.pe_text.specs.FaultLine.{fault_line};
 ghost use Rattle.pe_text.specs.TextWriter.{IsReady, Adds};
 
@@ -60,6 +60,22 @@ pub fn write_report<T: Report, A: Allocator + Copy, W: Sink>(
     let Ok(outcome) = report.write(alloc, &mut text, file) else {
         return Err(ToolError::Memory);
     };
+    match text.finish() {
+        Ok(()) => Ok(outcome),
+        Err(_) => Err(ToolError::Write),
+    }
+}
+
+/// Writes the line of a file that is refused by this fault. On the error, which is `Write`, the beginning of the line was written.
+/// Condition: the writer has counted fewer than 2^64 - 1 failures so far.
+pub fn write_refusal<W: Sink>(writer: &mut W, fault: Fault) -> Result<Outcome, ToolError>
+    requires { W.failures writer.old < 2 ^ 64 - 1 }
+    ensures puts { Puts (IsRefusal fault) (W.taken writer.old) (W.taken writer.new)
+        (W.failures writer.old) (W.failures writer.new) result }
+    ensures memory { IsErrOf result ToolError.Memory → ⊥ }
+{
+    let mut text = TextWriter::new(writer);
+    let outcome = refuse(&mut text, fault);
     match text.finish() {
         Ok(()) => Ok(outcome),
         Err(_) => Err(ToolError::Write),

@@ -36,7 +36,7 @@ pub use counted::Counted;
 pub use detail_text::{Amount, DetailPart, DetailText};
 pub use device::{Failed, Sink, Source};
 pub use digits::hex_width;
-pub use engine::{Report, refuse, run_report, write_report};
+pub use engine::{Report, refuse, run_report, write_refusal, write_report};
 pub use fault_line::{write_cycle_line, write_fault_line};
 pub use fault_text::{FaultText, FaultWords, fault_sentence, fault_words};
 pub use field::Field;
