@@ -191,9 +191,9 @@ def _body(description: Description, file: str) -> List[str]:
 def source(description: Description, file: str) -> str:
     """crates/pe_records_c/src/FILE.rt."""
     *names, last = [f"`{it.struct}`" for it in _of(description, file)]
-    shown = f"{', '.join(names)} and {last}" if names else last
+    shown = f"{', '.join(names)} and {last}, as C has them" if names else f"{last}, as C has it"
     body = _body(description, file)
-    first = [f"//! Records that C has: {shown}.", "//!", "//! describe/describe.py writes this file.", ""]
+    first = [f"//! {shown}.", "//!", "//! describe/describe.py writes this file.", ""]
     return "\n".join([*first, *_uses(description, file, body), *body]) + "\n"
 
 

@@ -119,6 +119,7 @@ FIELDS_WRITTEN = [
     ("crates/pe_records_c/src/headers.rt", "rva: item.virtual_address", "rva: item.virtual_size"),
     ("crates/pe_records_c/src/headers.rt", "base_of_data.unwrap_or(0)", "base_of_data.unwrap_or(1)"),
     ("crates/pe_records_c/src/headers.rt", "Magic::Pe32Plus => 0x20b", "Magic::Pe32Plus => 0x10b"),
+    ("crates/pe_records_c/src/fixup.rt", "FixupKind::Low => 2", "FixupKind::Low => 1"),
     ("crates/pe_records_c/specs/HeaderRows.antt", "virtual_size = s.virtual_size;", "virtual_size = s.size_of_raw_data;"),
     ("crates/pe_records_c/specs/HeaderRows.antt", "  -- from describe/records.txt: rows of headers\n", ""),
     ("crates/pe_write/proofs/PlanHead.antt", "either_field g 76 4 80 8 ≡ 0", "either_field g 72 4 72 8 ≡ 0"),

@@ -1,13 +1,14 @@
-//! `FixupRow`: a base relocation as C has it.
+//! `FixupRow`, as C has it.
+//!
+//! describe/describe.py writes this file.
 
 ghost use Rattle.std.specs.Prelude.{◌≡◌};
-ghost use Rattle.pe_tables.specs.Encoded.{type_of};
 ghost use Rattle.pe_records_c.specs.FixupRows.{fixup_row};
 
 use crate::row::Row;
 use pe_tables::{Fixup, FixupKind};
 
-/// A base relocation of an image.
+/// A base relocation: a field that changes with the base.
 #[repr(C)]
 #[derive(Clone, Copy)]
 pub struct FixupRow {
@@ -15,20 +16,8 @@ pub struct FixupRow {
     pub entry: u32,
     /// The RVA of the field.
     pub field: u32,
-    /// The entry's type: 1 HIGH, 2 LOW, 3 HIGHLOW, 10 DIR64.
+    /// The entry's type: 1 HIGH and 2 LOW of 2 bytes, 3 HIGHLOW of 4, 10 DIR64 of 8.
     pub kind: u32,
-}
-
-/// The type of the entry for a kind of field.
-fn type_of(kind: FixupKind) -> u32
-    ensures { result ≡ type_of kind }
-{
-    match kind {
-        FixupKind::High => 1,
-        FixupKind::Low => 2,
-        FixupKind::Bits32 => 3,
-        FixupKind::Bits64 => 10,
-    }
 }
 
 impl Row<Fixup> for FixupRow {
@@ -38,7 +27,12 @@ impl Row<Fixup> for FixupRow {
         FixupRow {
             entry: item.entry,
             field: item.field,
-            kind: type_of(item.kind),
+            kind: match item.kind {
+                FixupKind::High => 1,
+                FixupKind::Low => 2,
+                FixupKind::Bits32 => 3,
+                FixupKind::Bits64 => 10,
+            },
         }
     }
 }

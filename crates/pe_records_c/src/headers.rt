@@ -1,4 +1,4 @@
-//! Records that C has: `DirectoryRow`, `SectionRow` and `HeadersRecord`.
+//! `DirectoryRow`, `SectionRow` and `HeadersRecord`, as C has them.
 //!
 //! describe/describe.py writes this file.
 
