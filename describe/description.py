@@ -64,7 +64,7 @@ class Field:
     is_named: bool = False  #: its values have names in JSON
     flags: str = ""  #: the FlagKind of the names of its flags in JSON
     json_note: str = ""
-    dumped: str = ""  #: `by FUNCTION`, which makes its line of the dump, or `apart`
+    dumped: str = ""  #: `by name` if the function of its name makes its line of the dump, `apart` if that is in no list
 
     def item(self) -> str:
         """The type without the count of an array."""
@@ -342,7 +342,7 @@ class Description:
         elif word == "json":
             it.json_note = rest
         elif word == "dumped":
-            it.dumped = _matched(r"(by \w+|apart)", rest)[0]
+            it.dumped = _matched("(by name|apart)", rest)[0]
         else:
             raise Mistake("it has none of the forms of a field")
 

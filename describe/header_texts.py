@@ -112,7 +112,7 @@ def _dumped_value(it: Field, value: str, form: str) -> str:
 def _dumped_code(it: Field) -> List[str]:
     place, value = place_of(it), f"headers.{it.name}"
     if it.dumped:
-        return [f"{it.dumped[len('by ') :]}({value}),"]
+        return [f"{it.name}({value}),"]
     width = "extended" if place.is_extended() else str(place.narrow[1])
     words = [f'b"{format_name(it)}"', width, _dumped_value(it, value, "{}({})")]
     if len(", ".join(words)) <= ARGUMENTS:
@@ -128,7 +128,7 @@ def dump_part(description: Description, what: str) -> List[str]:
 def _dumped_definition(it: Field) -> str:
     place, value = place_of(it), f"h.{it.name}"
     if it.dumped:
-        return f"{it.dumped[len('by ') :]} {value}"
+        return f"{it.name} {value}"
     width = "(extended_width h.magic)" if place.is_extended() else str(place.narrow[1])
     return f'field (codes "{format_name(it)}") {width} {_dumped_value(it, value, "({} {})")}'
 

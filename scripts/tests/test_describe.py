@@ -190,6 +190,7 @@ DESCRIBED = [
     ("    named\n", "    name\n", "line "),
     ("    named\n", "    flags File\n", "crates/pe_json/src/headers.rt"),
     ("    dumped apart\n", "    dumped twice\n", "line "),
+    ("    dumped by name\n", "", "crates/pe_text/src/header_fields.rt"),
     ("    counts sections\n", "", "crates/pe_head/src/fields.rt"),
     ("    flags Dll\n", "    flags File\n", "crates/pe_json/src/headers.rt"),
     ("    from virtual_address\n", "    from virtual_size\n", "crates/pe_records_c/src/headers.rt"),
