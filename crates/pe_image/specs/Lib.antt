@@ -11,6 +11,7 @@ pub use Rattle.pe_tables.specs.ImportFaults
 pub use Rattle.pe_tables.specs.Imports
 pub use Rattle.pe_tables.specs.ImportView
 pub use Rattle.pe_tables.specs.TableFaults
+pub mod HasBytes
 pub mod ImageOf
 pub mod ImageTests
 pub mod Wants

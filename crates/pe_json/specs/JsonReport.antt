@@ -4,7 +4,15 @@ use Rattle.pe_text.specs.declared.outcome.Outcome.{Outcome}
 use Rattle.pe_text.specs.declared.outcome.ToolError.{ToolError}
 use Rattle.pe_text.specs.declared.outcome.ToolError.TheVariants.{Read, Write, Memory}
 use Rattle.pe_text.specs.Engine.{IsWhole, OnJudged}
-use Rattle.pe_names.specs.Judged.{file_tests, IsOutcomeOf}
+use Rattle.pe_view.specs.Faults.{Test}
+use Rattle.pe_image.specs.ImageTests.{image_tests}
+use Rattle.coff_read.specs.ObjectFaults.{object_tests}
+use Rattle.pe_text.specs.FileKind.{tests_by_kind}
+use Rattle.pe_text.specs.Outcome.{IsOutcomeOf}
+
+-- the tests of a file: those of an object if its first bytes are those of one, otherwise those of an image with the number 0
+abbrev pub file_tests : List ℕ → List Test
+file_tests file = tests_by_kind file (object_tests file) (image_tests 0 file)
 
 -- why a line was not written whole: a write failed, or memory ran out
 abbrev pub Fails : ℕ → ℕ → ToolError → Type 0

@@ -4,9 +4,9 @@ ghost use Rattle.std.specs.Prelude.{◌-◌, ◌^◌, ◌<◌, ◌↔◌, length
 ghost use Rattle.coff_read.specs.ObjectFaults.{object_tests};
 ghost use Rattle.pe_image.specs.ImageTests.{image_tests};
 ghost use Rattle.pe_json.specs.Growing.{Grows};
-ghost use Rattle.pe_json.specs.JsonReport.{Prints, Ran};
+ghost use Rattle.pe_json.specs.JsonReport.{file_tests, Prints, Ran};
 ghost use Rattle.pe_text.specs.TextWriter.{IsReady};
-ghost use Rattle.pe_names.specs.Judged.{file_tests, IsOutcomeOf};
+ghost use Rattle.pe_text.specs.Outcome.{IsOutcomeOf};
 
 use crate::beginning::{begin, refuse};
 use crate::image::write_image;
@@ -14,9 +14,8 @@ use crate::json_text::JsonText;
 use crate::object::write_object;
 use coff_read::ObjectFile;
 use pe_image::read_image;
-use pe_names::is_object;
 use pe_tables::TableError;
-use pe_text::{Outcome, Sink, Source, TextWriter, ToolError, read_whole};
+use pe_text::{Outcome, Sink, Source, TextWriter, ToolError, is_object, read_whole};
 use std::alloc::{AllocError, Allocator};
 
 /// Checks an object, and writes its line.

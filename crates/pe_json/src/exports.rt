@@ -5,8 +5,7 @@ ghost use Rattle.pe_text.specs.TextWriter.{IsReady};
 
 use crate::json_text::JsonText;
 use crate::tables::add_key;
-use pe_names::{ExportName, names_by_ordinal, names_of};
-use pe_tables::{Exports, Key, Target};
+use pe_tables::{ExportName, Exports, Key, NamesByOrdinal, Target};
 use pe_text::{Sink, TextWriter};
 use std::alloc::Allocator;
 
@@ -70,7 +69,7 @@ fn write_rows<A: Allocator + Copy, W: Sink>(
     json: &mut JsonText<A>,
     text: &mut TextWriter<W>,
     exports: &Exports<A>,
-    names: &[ExportName],
+    names: &NamesByOrdinal<A>,
 )
     requires { IsReady W.failures text.old }
     ensures { Grows W.taken W.failures text.old text.new }
@@ -79,7 +78,7 @@ fn write_rows<A: Allocator + Copy, W: Sink>(
         if text.has_failed() {
             break;
         }
-        let own = names_of(names, *ordinal);
+        let own = names.of(*ordinal);
         write_ordinal(json, text, exports.names(), own, *ordinal, target);
     }
 }
@@ -94,7 +93,7 @@ pub(crate) fn write_exports<A: Allocator + Copy, W: Sink>(
     ensures { Grows W.taken W.failures text.old text.new }
 {
     json.begin_list("exports");
-    match names_by_ordinal(json.alloc, exports) {
+    match NamesByOrdinal::new(json.alloc, exports) {
         Ok(names) => write_rows(json, text, exports, &names),
         Err(error) => json.note(Err(error)),
     }

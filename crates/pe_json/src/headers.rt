@@ -3,8 +3,7 @@
 use crate::value::Value::{Absent, Flags, Number, Wide};
 use crate::value::{Member, text_if};
 use coff_read::FileHeader;
-use pe_head::{Headers, Magic, machine_name, subsystem_name};
-use pe_names::FlagKind;
+use pe_head::{FlagKind, Headers, Magic, machine_name, subsystem_name};
 
 /// A member that is a number.
 macro_rules! number {

@@ -10,10 +10,9 @@ use crate::sections::section_members;
 use crate::tables::{write_fixups, write_imports};
 use crate::value::Value::{Number, Text};
 use crate::value::text_if;
-use coff_read::FileHeader;
+use coff_read::{FileHeader, ImageStrings, section_name};
 use pe_head::{Headers, Magic, SectionHeader, directory_name};
 use pe_image::Image;
-use pe_names::{section_name, string_table};
 use pe_text::{Sink, TextWriter};
 use pe_view::View;
 use std::alloc::Allocator;
@@ -58,7 +57,7 @@ fn add_headers<A: Allocator + Copy>(json: &mut JsonText<A>, headers: &Headers) {
 fn write_sections<A: Allocator + Copy, W: Sink>(
     json: &mut JsonText<A>,
     text: &mut TextWriter<W>,
-    table: Option<&[u8]>,
+    strings: Option<ImageStrings>,
     sections: &[SectionHeader],
 )
     requires { IsReady W.failures text.old }
@@ -69,7 +68,7 @@ fn write_sections<A: Allocator + Copy, W: Sink>(
         if text.has_failed() {
             break;
         }
-        let name = section_name(table, &section.name);
+        let name = section_name(strings, &section.name);
         let index = ("index", Number(index as u64));
         json.object(&section_members(index, name, section));
         json.put(text);
@@ -90,8 +89,8 @@ pub(crate) fn write_image<A: Allocator + Copy, W: Sink>(
     let headers = image.layout.headers();
     add_headers(json, headers);
     json.put(text);
-    let table = string_table(View::new(file), headers);
-    write_sections(json, text, table, headers.sections.as_slice());
+    let strings = ImageStrings::new(View::new(file), headers);
+    write_sections(json, text, strings, headers.sections.as_slice());
     write_exports(json, text, &image.exports);
     write_imports(json, text, &image.imports);
     write_fixups(json, text, &image.fixups);

@@ -7,7 +7,7 @@ ghost use Rattle.pe_text.specs.TextWriter.{IsReady};
 
 use crate::value::{Member, Value};
 use json::{Token, Writer};
-use pe_names::{FlagKind, flag_name};
+use pe_head::{FlagKind, flag_name};
 use pe_text::{Sink, TextWriter};
 use std::alloc::{AllocError, Allocator};
 use std::{mem, str};

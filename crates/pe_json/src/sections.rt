@@ -3,8 +3,7 @@
 use crate::value::Member;
 use crate::value::Value::{Absent, Flags, Name, Number};
 use bstr::ByteSlice;
-use pe_head::SectionHeader;
-use pe_names::FlagKind;
+use pe_head::{FlagKind, SectionHeader};
 
 /// The members of a section ("PE Format", Section Table). The short name is the Name field without the zero bytes at its end; it is
 /// left out if it is the section's name.

@@ -1,6 +1,6 @@
 //! `Value` and `Member`: a member of a JSON object, as data.
 
-use pe_names::FlagKind;
+use pe_head::FlagKind;
 
 /// The value of a member.
 #[derive(Clone, Copy)]

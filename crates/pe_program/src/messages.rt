@@ -1,6 +1,6 @@
 //! The messages on standard error.
 
-use pe_tool::{FaultDetail, FaultText, FileKind, ToolError, fault_detail, file_kind};
+use pe_tool::{DetailText, FaultText, FileKind, ToolError, fault_detail, file_kind};
 use pe_view::{Fault, View};
 use std::fmt::{self, Display};
 use std::io::{Error, ErrorKind};
@@ -37,11 +37,11 @@ fn other_kind(fault: &Fault, first: &[u8]) -> Option<FileKind> {
     file_kind(first).filter(|kind| *kind != read)
 }
 
-/// A fault in words, the values of the file that it compares, and the kind of the file if it is the wrong one.
+/// A fault in words, the numbers of the file that its rule compares, and the kind of the file if it is the wrong one.
 #[derive(Clone, Copy)]
 struct Told {
     fault: FaultText,
-    detail: Option<FaultDetail>,
+    detail: Option<DetailText>,
     kind: Option<FileKind>,
 }
 
@@ -62,7 +62,7 @@ impl Display for Told {
 pub(crate) fn tell_fault(rt: &impl Eprint, subject: &str, fault: Fault, first: &[u8], len: u64) {
     let told = Told {
         fault: FaultText(fault),
-        detail: fault_detail(View::new(first), len, &fault),
+        detail: fault_detail(View::new(first), len, &fault).map(DetailText),
         kind: other_kind(&fault, first),
     };
     let _ = eprintln!(rt; "petool: {subject}: {told}");

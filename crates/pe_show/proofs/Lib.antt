@@ -1,4 +1,5 @@
 pub mod Adding
+pub mod Behind
 pub mod Names
 pub mod PageRows
 pub mod SymbolIndexes

@@ -3,6 +3,7 @@ pub use Rattle.pe_image.specs.ImageTests
 pub use Rattle.coff_read.specs.ObjectFaults
 pub use Rattle.pe_text.specs.Engine
 pub use Rattle.pe_text.specs.FileKind
+pub use Rattle.pe_text.specs.Outcome
 pub use Rattle.pe_text.specs.TextWriter
 pub mod Judged
 pub mod Name

@@ -11,7 +11,7 @@ use crate::flags::write_flags;
 use crate::name::{name_width, write_name};
 use crate::place::SectionPlace;
 use itoa::Buffer;
-use pe_names::FlagKind;
+use pe_head::FlagKind;
 use pe_tables::Key;
 use pe_text::Part::{self, Text};
 use pe_text::{Sink, TextWriter, write_part, write_parts};

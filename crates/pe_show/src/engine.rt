@@ -7,8 +7,9 @@ ghost use Rattle.pe_show.specs.Judged.{IsJudged};
 use crate::heading::Page;
 use crate::image::show_image;
 use crate::object::show_object;
-use pe_names::is_object;
-use pe_text::{Outcome, Report, ShowOptions, Sink, Source, TextWriter, ToolError, run_report};
+use pe_text::{
+    Outcome, Report, ShowOptions, Sink, Source, TextWriter, ToolError, is_object, run_report,
+};
 use std::alloc::{AllocError, Allocator};
 
 impl<'p> Report for Page<'p> {

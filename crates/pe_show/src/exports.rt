@@ -13,8 +13,7 @@ use crate::name::write_name;
 use crate::place::{SectionNames, SectionPlace};
 use pe_image::Tables;
 use pe_layout::Layout;
-use pe_names::{ExportName, names_of};
-use pe_tables::{Exports, Key, Target};
+use pe_tables::{ExportName, Exports, Key, NamesByOrdinal, Target};
 use pe_text::{ShowOptions, Sink, TextWriter, hex_width};
 use std::alloc::Allocator;
 
@@ -187,7 +186,7 @@ pub(crate) fn write_exports<A: Allocator + Copy, W: Sink>(
     layout: &Layout,
     sections: &SectionNames,
     tables: &Tables<A>,
-    names_by_ordinal: &[ExportName],
+    names_by_ordinal: &NamesByOrdinal<A>,
 )
     requires { IsReady W.failures text.old }
     ensures { AddsSome W.taken W.failures text.old text.new }
@@ -200,7 +199,7 @@ pub(crate) fn write_exports<A: Allocator + Copy, W: Sink>(
     for (ordinal, target) in exports.ordinals() {
         let shown = shown_of(layout, sections, target);
         write_target(text, &widths, *ordinal, &shown);
-        let names = names_of(names_by_ordinal, *ordinal);
+        let names = names_by_ordinal.of(*ordinal);
         write_names(text, exports, names, gap_of(&widths, &shown));
     }
 }

@@ -4,9 +4,11 @@ ghost use Rattle.pe_text.specs.TextWriter.{IsReady};
 ghost use Rattle.pe_show.specs.Page.{AddsSome};
 
 use crate::style::{end_style, refusal_style};
-use pe_names::{Amount, fault_detail};
+use pe_head::fault_detail;
 use pe_text::Part::{self, Decimal, Hex, Text};
-use pe_text::{Outcome, ShowOptions, Sink, TextWriter, fault_sentence, write_parts};
+use pe_text::{
+    Amount, DetailText, Outcome, ShowOptions, Sink, TextWriter, fault_sentence, write_parts,
+};
 use pe_view::{Fault, View};
 
 /// Words, and the number after them.
@@ -19,7 +21,7 @@ fn amount_parts(words: &'static str, amount: Amount) -> [Part<'static>; 3] {
     [Text(words.as_bytes()), prefix, number]
 }
 
-/// Adds the values that a fault compares after a colon, if there are any.
+/// Adds the numbers that the rule of a fault compares after a colon, if there are any.
 fn write_detail<W: Sink>(text: &mut TextWriter<W>, file: View, fault: &Fault)
     requires { IsReady W.failures text.old }
     ensures { AddsSome W.taken W.failures text.old text.new }
@@ -27,7 +29,7 @@ fn write_detail<W: Sink>(text: &mut TextWriter<W>, file: View, fault: &Fault)
     let Some(detail) = fault_detail(file, file.len(), fault) else {
         return;
     };
-    let [first, second, third] = detail.parts();
+    let [first, second, third] = DetailText(detail).parts();
     write_parts(text, &[Text(b": ")]);
     write_parts(text, &amount_parts(first.0, first.1));
     write_parts(text, &amount_parts(second.0, second.1));

@@ -3,8 +3,7 @@
 ghost use Rattle.pe_text.specs.TextWriter.{IsReady};
 ghost use Rattle.pe_show.specs.Page.{AddsSome};
 
-use pe_head::section_flag;
-use pe_names::{FlagKind, flag_name};
+use pe_head::{FlagKind, flag_name, section_flag};
 use pe_text::Part::{Hex, Name, Text};
 use pe_text::{Sink, TextWriter, write_parts};
 

@@ -7,8 +7,7 @@ use crate::cell::Cell::{self, Plain};
 use crate::cell::{NOTHING, write_cells};
 use crate::heading::Kind;
 use crate::place::SectionPlace;
-use pe_head::{Headers, Magic, characteristic, machine_name, subsystem_name};
-use pe_names::FlagKind;
+use pe_head::{FlagKind, Headers, Magic, characteristic, machine_name, subsystem_name};
 use pe_text::Part::{self, Decimal, Hex, Hex4, Hex8, Text};
 use pe_text::{Sink, TextWriter, write_parts};
 

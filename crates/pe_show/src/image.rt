@@ -5,7 +5,7 @@ ghost use Rattle.pe_view.specs.Faults.{Test, first_standing};
 ghost use Rattle.pe_image.specs.ImageTests.{image_tests};
 ghost use Rattle.pe_text.specs.TextWriter.{IsReady};
 ghost use Rattle.pe_show.specs.Page.{AddsSome};
-ghost use Rattle.pe_names.specs.Judged.{IsOutcomeOf};
+ghost use Rattle.pe_text.specs.Outcome.{IsOutcomeOf};
 
 use crate::directories::write_directories;
 use crate::exports::write_exports;
@@ -19,7 +19,7 @@ use crate::sections::write_sections;
 use pe_head::read_headers;
 use pe_image::{Tables, lay_out, read_tables};
 use pe_layout::Layout;
-use pe_names::{ExportName, names_by_ordinal};
+use pe_tables::NamesByOrdinal;
 use pe_text::Part::Text;
 use pe_text::{Outcome, Sink, TextWriter};
 use pe_view::{Fault, View};
@@ -40,10 +40,10 @@ fn order_names<A: Allocator + Copy>(
     alloc: A,
     tables: &Tables<A>,
     is_wanted: bool,
-) -> Result<Vec<ExportName, A>, AllocError> {
+) -> Result<NamesByOrdinal<A>, AllocError> {
     match (&tables.exports, is_wanted) {
-        (Some(exports), true) => names_by_ordinal(alloc, exports),
-        _ => Ok(Vec::new(alloc)),
+        (Some(exports), true) => NamesByOrdinal::new(alloc, exports),
+        _ => Ok(NamesByOrdinal::none(alloc)),
     }
 }
 
@@ -72,7 +72,7 @@ fn write_image<A: Allocator + Copy, W: Sink>(
     view: View,
     layout: &Layout,
     tables: &Tables<A>,
-    names_by_ordinal: &[ExportName],
+    names_by_ordinal: &NamesByOrdinal<A>,
 )
     requires { IsReady W.failures text.old }
     ensures { AddsSome W.taken W.failures text.old text.new }

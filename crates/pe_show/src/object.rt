@@ -4,7 +4,7 @@ ghost use Rattle.std.specs.Prelude.{◌≡◌, ◌<◌, length, IfOk, OnErr};
 ghost use Rattle.coff_read.specs.ObjectFaults.{object_tests};
 ghost use Rattle.pe_text.specs.TextWriter.{IsReady};
 ghost use Rattle.pe_show.specs.Page.{AddsSome};
-ghost use Rattle.pe_names.specs.Judged.{IsOutcomeOf};
+ghost use Rattle.pe_text.specs.Outcome.{IsOutcomeOf};
 
 use crate::cell::Cell::{self, Plain};
 use crate::cell::write_cells;
@@ -14,8 +14,7 @@ use crate::heading::{Page, write_title};
 use crate::object_sections::{read_sections, write_relocations, write_sections};
 use crate::symbols::{SymbolNames, write_symbols};
 use coff_read::{FileSection, ObjectFile};
-use pe_head::machine_name;
-use pe_names::FlagKind;
+use pe_head::{FlagKind, machine_name};
 use pe_text::Part::Text;
 use pe_text::{Outcome, Sink, TextWriter};
 use pe_view::View;

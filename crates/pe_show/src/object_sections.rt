@@ -13,7 +13,7 @@ use crate::place::cut;
 use crate::sections::{content, permissions};
 use crate::symbols::SymbolNames;
 use coff_read::{FileSection, ObjectFile, RawData, Relocation, relocation_type_name};
-use pe_names::FlagKind;
+use pe_head::FlagKind;
 use pe_text::Part::{Hex, Text};
 use pe_text::{ShowOptions, Sink, TextWriter, hex_width};
 use std::alloc::{AllocError, Allocator};

@@ -8,8 +8,7 @@ use crate::cell::write_cells;
 use crate::heading::write_heading;
 use crate::name::name_width;
 use crate::place::SectionNames;
-use pe_head::{Headers, SectionHeader, section_flag};
-use pe_names::FlagKind;
+use pe_head::{FlagKind, Headers, SectionHeader, section_flag};
 use pe_text::Part::{Hex, Text};
 use pe_text::{ShowOptions, Sink, TextWriter, hex_width};
 

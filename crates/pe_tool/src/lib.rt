@@ -21,14 +21,14 @@ mod window;
 mod words;
 
 pub use coff_lines::dump_object;
+pub use pe_head::{FaultDetail, fault_detail};
 pub use pe_json::json;
 pub use pe_lines::{check, check_sized, dump, dump_sized};
-pub use pe_names::{FaultDetail, fault_detail};
 pub use pe_reach::{needed, read_enough};
 pub use pe_show::{ShowOptions, at, show};
 pub use pe_space::{Policy, SetEntry};
 pub use pe_text::{
-    Counted, Failed, FaultText, FaultWords, FileKind, Outcome, Sink, Source, ToolError,
+    Counted, DetailText, Failed, FaultText, FaultWords, FileKind, Outcome, Sink, Source, ToolError,
     fault_words, file_kind, read_whole, status,
 };
 pub use pe_words::{MapFile, WordsError};

@@ -1,5 +1,5 @@
 use Rattle.std.proofs.lemmas.Result.{err_from_is_err_and}
-use Rattle.pe_names.specs.Judging.{image_has_bytes}
+use Rattle.pe_image.specs.HasBytes.{image_has_bytes}
 use Rattle.pe_json.proofs.Growing.{◌then◌}
 use Rattle.pe_json.proofs.engine.write_image_line.Goals as goal
 

@@ -6,8 +6,9 @@ use Rattle.pe_layout.specs.Image.{LaidOut, image_of_file}
 use Rattle.pe_layout.specs.Layout.{image_of}
 use Rattle.pe_layout.specs.SectionFaults.{layout_tests}
 use Rattle.pe_image.specs.ImageTests.{image_tests, table_tests}
-use Rattle.pe_names.specs.Judging.{behind, has_bytes}
-use Rattle.pe_names.specs.Judged.{IsOutcomeOf}
+use Rattle.pe_image.specs.HasBytes.{has_bytes}
+use Rattle.pe_text.specs.Outcome.{IsOutcomeOf}
+use Rattle.pe_show.proofs.Behind.{behind}
 use Rattle.pe_show.proofs.image.show_image.Goals as goal
 
 pub returns-in_err-tables-in-Ok-clause-reads : goal.returns-in_err-tables-in-Ok-clause-reads
