@@ -92,6 +92,19 @@ class Reading(unittest.TestCase):
         self.assertEqual({command: self.by_path(command, **limited) for command in COMMANDS}, texts)
         self.assertEqual(self.by_path("show", **limited)[0], 4)
 
+    def test_long_files_that_are_no_images_take_no_memory(self):
+        most = 1 << 28
+        limited = {"preexec_fn": lambda: resource.setrlimit(resource.RLIMIT_AS, (most, most))}
+        for size, begin, fault in (((1 << 30), b"\x7fELF", 3), ((1 << 32), b"", 3), ((1 << 32) + 1, LIBRARY, 1)):
+            self.path.write_bytes(begin)
+            os.truncate(self.path, size)
+            place = 1 << 32 if fault == 1 else 0
+            for command in ("check", "dump"):
+                with self.subTest(command=command, size=size, fault=fault):
+                    status, printed, complained = self.by_path(command, **limited)
+                    self.assertEqual((status, printed.decode()), (1, f"fault {fault} image 0 file 0x{place:08x}\n"))
+                    self.assertIn(b"standard input: ", complained)
+
     def test_a_file_without_a_size_is_read_whole(self):
         # the system gives the size 0 for it
         status, printed, _ = self.run_over(["check", "/proc/version"], subprocess.DEVNULL)
