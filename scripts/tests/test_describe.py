@@ -259,7 +259,7 @@ FAULTS_WRITTEN = [
     (FAULTS, "| n is under 64 |", "| n is at most 64 |"),
     (FAULTS, "`Rva(slot)`, the importing image", "`Rva(slot)`, image 0"),
     (FAULTS, "its Magic differs from that of file 0", "its Magic differs"),
-    (FAULTS, "`pe_set/src/placing.rt` |", "`pe_set/src/names.rt` |"),
+    (FAULTS, "`pe_set/src/place_faults.rt` |", "`pe_set/src/names.rt` |"),
     (FAULTS, "| 84 | the file would", "| 86 | the file would"),
     (FAULTS, "| image faults | 1 to 38 |", "| image faults | 1 to 32 |"),
     (FAULTS, "| 1 | n is over 2^32 | `File(2^32)` | byte: the file is larger than 2^32 bytes | `pe_head/src/reading.rt` |\n", ""),

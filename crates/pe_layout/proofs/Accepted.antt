@@ -6,7 +6,7 @@ use Rattle.pe_head.specs.Accepted as head
 use Rattle.pe_head.specs.Head.{head_of}
 use Rattle.pe_head.specs.HeaderFaults.{head_tests}
 use Rattle.pe_layout.specs.SectionFaults.{placing_tests, layout_tests}
-use Rattle.pe_layout.proofs.Placed.{AllPlaced, all_placed}
+use Rattle.pe_layout.proofs.SectionPlaces.{AllPlaced, all_placed}
 
 parts : (image : ℕ) (file : List ℕ) → first_standing (layout_tests image file) ≡ None → (first_standing (head_tests image file) ≡ None) × (first_standing (placing_tests image (head_of file) (length file)) ≡ None)
 parts image file none = none-append (head_tests image file) (placing_tests image (head_of file) (length file)) none

@@ -12,7 +12,7 @@ use Rattle.pe_head.specs.declared.headers.Headers.{Headers}
 use Rattle.pe_layout.specs.Piece.{end_of, holds, section_of, section_index}
 use Rattle.pe_layout.specs.Plain.{IsIn}
 use Rattle.pe_layout.specs.Sections.{IsInSectionAt, IsInGap}
-use Rattle.pe_layout.proofs.Placed.{AllPlaced, starts_ascend}
+use Rattle.pe_layout.proofs.SectionPlaces.{AllPlaced, starts_ascend}
 
 module _ {X : Type 0} (p : X → Bool) (xs : List X) where
   found : (i : ℕ) (d : X) → i < length xs → position_or_len p xs ≡ i → (find p xs ≡ Some (get_or xs i d)) × (position p xs ≡ Some i)

@@ -3,8 +3,8 @@ pub mod Finding
 pub mod OfLayout
 pub mod Parts
 pub mod Pieces
-pub mod Placed
 pub mod Runs
+pub mod SectionPlaces
 pub mod SectionSteps
 pub mod Texts
 pub mod Vectors

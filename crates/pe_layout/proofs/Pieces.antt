@@ -14,7 +14,7 @@ use Rattle.pe_layout.specs.Piece.{holds, section_of, section_index}
 use Rattle.pe_layout.specs.SectionFaults.{placing_tests}
 use Rattle.pe_layout.specs.Plain.{plain, section_byte, IsIn, IsLaidOut}
 use Rattle.pe_layout.specs.Locating.{located, located_in, located_byte}
-use Rattle.pe_layout.proofs.Placed.{AllPlaced, all_placed, no_header}
+use Rattle.pe_layout.proofs.SectionPlaces.{AllPlaced, all_placed, no_header}
 use Rattle.pe_layout.proofs.Finding.{in_section, none_passes, found_both}
 
 -- the byte at an RVA after the headers

@@ -5,7 +5,7 @@ ghost use Rattle.pe_view.specs.View.{size_of};
 ghost use Rattle.pe_view.specs.Faults.{first_standing};
 ghost use Rattle.pe_layout.specs.SectionFaults.{placing_tests};
 
-use crate::placing::check_sections;
+use crate::section_faults::check_sections;
 use pe_head::{Directory, Headers, characteristic, directory_index, read_headers};
 use pe_view::{Fault, View};
 

@@ -14,7 +14,7 @@ mod fill;
 pub mod laws;
 mod layout;
 mod locate;
-mod placing;
+mod section_faults;
 mod text;
 
 pub use layout::Layout;

@@ -8,7 +8,7 @@ ghost use Rattle.pe_layout.specs.Locating.{located_in};
 ghost use Rattle.pe_layout.specs.Sections.{LieApart};
 
 use crate::layout::Layout;
-use crate::placing::end_of;
+use crate::section_faults::end_of;
 use pe_head::SectionHeader;
 
 /// What is at an RVA of a laid-out image.

@@ -12,7 +12,7 @@ use crate::error::MapError;
 use crate::laws::sets_export_little;
 use crate::module_names::Names;
 use crate::names::check_names;
-use crate::placing::check_places;
+use crate::place_faults::check_places;
 use crate::reading::{Module, read_modules};
 use std::alloc::Allocator;
 

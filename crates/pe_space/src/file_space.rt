@@ -9,12 +9,12 @@ ghost use Rattle.pe_space.specs.ImagesApart.{ImagesApart};
 ghost use Rattle.pe_space.specs.FieldsAndSlots.{Each, FieldsAndSlotsApart};
 ghost use Rattle.pe_space.specs.Windows.{bytes_in};
 
+use crate::address_ranges::{base_of, holder, move_fault, size_of, window_image};
 use crate::by_base::{NumberAt, by_base, rebase};
 use crate::bytes::slot_width;
 use crate::file_image::FileImage;
 use crate::hints::{Hints, guess_of};
 use crate::ordered::{BySlot, IMAGE_STEP, between, ordered_copy};
-use crate::placed::{base_of, holder, move_fault, size_of, window_image};
 use crate::space::{Moved, Space};
 use crate::window::{REACH, lay_on};
 use pe_set::{Binding, Placed};

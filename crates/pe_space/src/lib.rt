@@ -13,6 +13,7 @@
 //! ```
 #![tactic(auto)]
 
+mod address_ranges;
 mod by_base;
 mod bytes;
 mod commands;
@@ -25,7 +26,6 @@ mod mapped_space;
 mod mapping;
 mod opening;
 mod ordered;
-mod placed;
 mod reply;
 mod space;
 mod window;

@@ -12,10 +12,10 @@ ghost use Rattle.pe_space.specs.FieldsAndSlots.{Each, IsSlot, FieldsAndSlotsApar
 ghost use Rattle.pe_space.specs.ImagesApart.{ImagesApart};
 ghost use Rattle.pe_space.specs.MappedSpaceView.{mapped_content, SlotsUnbound};
 
+use crate::address_ranges::{base_of, holder, move_fault, size_of, window_image};
 use crate::by_base::{NumberAt, by_base, rebase};
 use crate::mapped_image::MappedImage;
 use crate::ordered::{ByExporter, between, ordered_copy};
-use crate::placed::{base_of, holder, move_fault, size_of, window_image};
 use crate::space::{Moved, Space};
 use pe_set::{Binding, Placed};
 use pe_view::Fault;

@@ -9,7 +9,7 @@ use Rattle.std.specs.List.Sorted.{IsPartitionedBy}
 use Rattle.pe_head.specs.declared.section.SectionHeader.{SectionHeader}
 use Rattle.pe_layout.specs.Piece.{end_of}
 use Rattle.pe_layout.specs.Sections.{LieApart}
-use Rattle.pe_layout.proofs.Placed.{starts_ascend}
+use Rattle.pe_layout.proofs.SectionPlaces.{starts_ascend}
 use Rattle.pe_layout.proofs.locate.first_ending_after.Goals as goal
 
 abbrev begins_by : ℕ → SectionHeader → Bool

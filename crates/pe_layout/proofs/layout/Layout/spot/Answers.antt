@@ -1,7 +1,7 @@
 -- Where the search among the sections finds an RVA.
 use Rattle.std.proofs.Common.{arith}
 use Rattle.pe_view.specs.View.{size_of}
-use Rattle.pe_layout.proofs.Placed.{no_header}
+use Rattle.pe_layout.proofs.SectionPlaces.{no_header}
 use Rattle.pe_layout.proofs.OfLayout.{sections_placed}
 use Rattle.pe_layout.proofs.Finding.{in_section, in_gap, in_last_gap}
 use Rattle.pe_layout.proofs.layout.Layout.spot.Goals as goal

@@ -1,7 +1,7 @@
 use Rattle.std.proofs.Common.{◌∙◌, sym}
 use Rattle.std.proofs.lemmas.Result.{err_from_is_err_and}
 use Rattle.pe_layout.proofs.SectionSteps.{goes_on, stops, ends}
-use Rattle.pe_layout.proofs.placing.check_sections.Goals as goal
+use Rattle.pe_layout.proofs.section_faults.check_sections.Goals as goal
 
 pub returns-in_err-before : goal.returns-in_err-before
 returns-in_err-before c =

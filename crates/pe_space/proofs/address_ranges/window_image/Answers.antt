@@ -1,6 +1,6 @@
 use Rattle.std.proofs.Common.{◌∙◌, ap, sym, map, Err}
 use Rattle.pe_space.specs.Content.{window_image_by}
-use Rattle.pe_space.proofs.placed.window_image.Goals as goal
+use Rattle.pe_space.proofs.address_ranges.window_image.Goals as goal
 
 pub returns-in_default-clause-image : goal.returns-in_default-clause-image
 returns-in_default-clause-image g c =

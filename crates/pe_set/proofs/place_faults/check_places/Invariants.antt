@@ -3,7 +3,7 @@ use Rattle.pe_view.specs.Faults.{first_standing}
 use Rattle.pe_set.specs.Numbered.{numbered}
 use Rattle.pe_set.specs.SetFaults.{placing_tests}
 use Rattle.pe_set.specs.SetView.{modules_view}
-use Rattle.pe_set.proofs.placing.check_places.Given as goal
+use Rattle.pe_set.proofs.place_faults.check_places.Given as goal
 
 abbrev pub invariant-loop-index : goal.invariant-loop-index
 invariant-loop-index g l =

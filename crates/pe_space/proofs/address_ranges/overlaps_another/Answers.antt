@@ -5,7 +5,7 @@ use Rattle.pe_space.specs.declared.by_base.NumberAt.{NumberAt}
 use Rattle.pe_space.proofs.Asked.{own_at}
 use Rattle.pe_space.proofs.Judged.{none_left}
 use Rattle.pe_space.proofs.Ordering.{near_one, all_left, own_behind, left_parts, left_has, other_found, none_found}
-use Rattle.pe_space.proofs.placed.overlaps_another.Goals as goal
+use Rattle.pe_space.proofs.address_ranges.overlaps_another.Goals as goal
 
 pub loop-at-init : goal.loop-at-init
 loop-at-init g c = (

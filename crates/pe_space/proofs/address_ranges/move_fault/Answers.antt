@@ -5,7 +5,7 @@ use Rattle.std.specs.List.{list_any}
 use Rattle.pe_tables.specs.Ranges.{meets}
 use Rattle.pe_set.specs.Placement.{Placement, others_than}
 use Rattle.pe_space.proofs.Asked.{own_at, move_asked, base_alone_some, base_alone_none, base_room}
-use Rattle.pe_space.proofs.placed.move_fault.Goals as goal
+use Rattle.pe_space.proofs.address_ranges.move_fault.Goals as goal
 
 pub overlaps_another-requires-clause-some : goal.overlaps_another-requires-clause-some
 overlaps_another-requires-clause-some g c =

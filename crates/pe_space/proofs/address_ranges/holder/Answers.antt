@@ -5,7 +5,7 @@ use Rattle.std.specs.Option.{option_copied}
 use Rattle.pe_set.specs.Placement.{Placement, placement_at}
 use Rattle.pe_space.proofs.Asked.{own_at}
 use Rattle.pe_space.proofs.Ordering.{AreUpTo, none_last, none_near, near_one, last_holds, last_misses}
-use Rattle.pe_space.proofs.placed.holder.Goals as goal
+use Rattle.pe_space.proofs.address_ranges.holder.Goals as goal
 
 pub returns-in_err-number-clause-holder : goal.returns-in_err-number-clause-holder
 returns-in_err-number-clause-holder g c =

@@ -12,7 +12,7 @@ use Rattle.pe_set.proofs.Asking.{next_here, asked_past, asked_in, asked_all}
 use Rattle.pe_set.proofs.Magics.{same_magic-sameb}
 use Rattle.pe_set.proofs.Searching.{own_base}
 use Rattle.pe_set.specs.declared.reading.Module as code_module
-use Rattle.pe_set.proofs.placing.check_places.Goals as goal
+use Rattle.pe_set.proofs.place_faults.check_places.Goals as goal
 
 -- the first image is compared
 first_decides : {A : Type 0} (ms : List (code_module.Module A)) (first : code_module.Module A) (m : Module) (b : Bool) → 0 < length ms → first ≡ get_or ms 0 first
