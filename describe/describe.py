@@ -21,6 +21,7 @@ import plan_texts
 import python_texts
 import rattle_records
 import rattle_sources
+import reach_texts
 import regions
 import rust_texts
 from commands import Commands
@@ -72,6 +73,7 @@ FIELDS = {
     "crates/pe_text/specs/HeaderFields.antt": (header_texts.dump_definition_part, ["coff", "standard", "windows"]),
     "crates/pe_json/src/headers.rt": (header_texts.json_part, ["coff", "optional"]),
     "crates/pe_write/proofs/PlanHead.antt": (plan_part, ["values", "reading"]),
+    "crates/pe_reach/proofs/Headers.antt": (reach_texts.part, ["agreeing"]),
     "docs/FORMAT.md": (header_texts.page_part, ["coff", "same", "other"]),
 }
 #: The definitions of pe_records_c of which rows are written, and the records of each.

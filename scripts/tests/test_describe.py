@@ -42,6 +42,7 @@ COPIED = [
     "man/petool.h.3",
     "packaging/debian/libpetool0.symbols",
     "crates/pe_head/specs/Head.antt",
+    "crates/pe_reach/proofs/Headers.antt",
     "crates/pe_records_c/specs/HeaderRows.antt",
     "crates/pe_text/specs/HeaderFields.antt",
     "crates/pe_write/proofs/PlanHead.antt",

@@ -112,6 +112,7 @@ pub headers_agree : (f g : List ℕ) → AgreeBefore (headers_end g) f g → hea
 headers_agree f g a = λ i. record {
   magic = if pe32_agrees f g a i then Pe32 else Pe32Plus;
   pe_offset = pe_agrees f g a i;
+  -- from describe/records.txt: agreeing of headers
   machine = coff_agrees f g a 0 2 (omega arith) i;
   number_of_sections = coff_agrees f g a 2 2 (omega arith) i;
   time_date_stamp = coff_agrees f g a 4 4 (omega arith) i;
@@ -126,6 +127,8 @@ headers_agree f g a = λ i. record {
   size_of_uninitialized_data = field_agrees f g a 12 4 (omega arith) i;
   address_of_entry_point = field_agrees f g a 16 4 (omega arith) i;
   base_of_code = field_agrees f g a 20 4 (omega arith) i;
+  base_of_data = if pe32_agrees f g a i then Some (field_agrees f g a 24 4 (omega arith) i) else None;
+  image_base = either_agrees f g a 28 4 24 8 (omega arith) (omega arith) i;
   section_alignment = field_agrees f g a 32 4 (omega arith) i;
   file_alignment = field_agrees f g a 36 4 (omega arith) i;
   major_operating_system_version = field_agrees f g a 40 2 (omega arith) i;
@@ -140,14 +143,13 @@ headers_agree f g a = λ i. record {
   check_sum = field_agrees f g a 64 4 (omega arith) i;
   subsystem = field_agrees f g a 68 2 (omega arith) i;
   dll_characteristics = field_agrees f g a 70 2 (omega arith) i;
-  base_of_data = if pe32_agrees f g a i then Some (field_agrees f g a 24 4 (omega arith) i) else None;
-  image_base = either_agrees f g a 28 4 24 8 (omega arith) (omega arith) i;
   size_of_stack_reserve = either_agrees f g a 72 4 72 8 (omega arith) (omega arith) i;
   size_of_stack_commit = either_agrees f g a 76 4 80 8 (omega arith) (omega arith) i;
   size_of_heap_reserve = either_agrees f g a 80 4 88 8 (omega arith) (omega arith) i;
   size_of_heap_commit = either_agrees f g a 84 4 96 8 (omega arith) (omega arith) i;
   loader_flags = either_agrees f g a 88 4 104 4 (omega arith) (omega arith) i;
   number_of_rva_and_sizes = either_agrees f g a 92 4 108 4 (omega arith) (omega arith) i;
+  -- end of describe/records.txt
   directories = record { items = directories_agree f g a i };
   sections = record { items = sections_agree f g a i };
 }
