@@ -3,6 +3,7 @@
 
 - PROVED.md: the public functions that have conditions, and the tests that it names; TESTS.md: the tests that it names
 - MAP.md: each file and each proof by hand that it names is there (its crates, and FILES.md, are compared by file_rows.py)
+- MAP.md: how many files a new table takes, by table_files.py
 - GUIDE.md and petool(1): the commands, options and arguments of the program that PETOOL_PROGRAM names, and README.md, which may
   leave out options; without that program this is left out
 - README.md and GUIDE.md: the test command of .ci/run
@@ -22,6 +23,7 @@ import sys
 sys.dont_write_bytecode = True
 
 from completions import options_of, rows as help_rows
+from table_files import count_faults
 
 TOP = pathlib.Path(__file__).resolve().parents[1]
 PROVED, TESTS, MAP = "docs/PROVED.md", "docs/TESTS.md", "docs/MAP.md"
@@ -361,6 +363,7 @@ def comparisons(program):
     """What is wrong by each comparison: nothing if page and source agree."""
     yield condition_faults()
     yield from (file_faults(), proof_faults(), list_faults(), command_faults(), version_faults())
+    yield count_faults(read(MAP))
     yield from map(test_faults, (PROVED, TESTS))
     yield from map(trust_faults, (PROVED, README))
     if program:

@@ -39,6 +39,13 @@ FILES = [
     (MAP, "`new` and `add` of `Told`", "`new` of `Told`", f"{MAP}: the proof by hand of pe_text Told add is not named"),
     (MAP, "`hold` and `release` of", "`hold`, `free` and `release` of", f"{MAP}: there is no proof by hand of pe_handle Handle free"),
 ]
+COUNTED = [
+    (MAP, "| its crate | `crates.txt`, only beyond | 0 | 1 |", "| its crate | `crates.txt`, only beyond | 1 | 1 |", f"{MAP}: its crate: 1 and 1, and these are 0 and 1"),
+    (MAP, "`pe_lines/src/table_lines.rt`\\*, ", "", f"{MAP}: its lines of the dump: 6 and 0, and these are 5 and 0"),
+    (MAP, "`pe_show/src/fixups.rt`, ", "`pe_show/src/fixups.rt`\\*, ", "7 and 7, and these are 7 and 6"),
+    (MAP, "| **together** | | **55** |", "| **together** | | **54** |", f"{MAP}: **together**: 54 and 33, and these are 55 and 33"),
+    (MAP, "| What | Files | Profile | Beyond |", "| What | Files |", "there is no such table"),
+]
 NAMED = [
     (PROVED, "`outcome.rt`", "`outcomes.rt`", f"{PROVED}: there is no test outcomes.rt"),
     (PROVED, "`test_headers.py`", "`test_header.py`", f"{PROVED}: there is no test test_header.py"),
@@ -128,6 +135,9 @@ class TestDocsCheck(unittest.TestCase):
 
     def test_files_and_proofs_by_hand_are_there(self):
         self.assert_named(FILES)
+
+    def test_files_of_a_table_are_counted(self):
+        self.assert_named(COUNTED)
 
     def test_tests_are_there(self):
         self.assert_named(NAMED)
