@@ -5,6 +5,8 @@ use Rattle.std.specs.Prelude.{Option, Some, None, pos, ◌-ℤ◌, slice_set}
 use Rattle.std.specs.List.{find, Contains}
 use Rattle.std.proofs.lemmas.Bool.{cases_eq}
 use Rattle.std.proofs.lemmas.List.{length-set, get_or-set_same, get_or-set_other}
+use Rattle.pe_view.specs.Digits.{num_of_own_digits}
+use Rattle.pe_view.specs.Number.{byte_of}
 use Rattle.pe_tables.specs.declared.fixups.Fixup.{Fixup}
 use Rattle.pe_set.specs.declared.binding.Binding.{Binding}
 use Rattle.pe_head.specs.declared.optional.Magic.{Magic}
@@ -14,7 +16,6 @@ use Rattle.pe_space.specs.Moves.{moved}
 use Rattle.pe_space.specs.Memory.{shifted_all, memory_of, address_of, bound}
 use Rattle.pe_space.specs.FieldsAndSlots.{Each, SlotsApart, IsImage, IsSlot, FieldsAndSlotsApart, MemoryHolds}
 use Rattle.pe_tables.proofs.Shifts.{shift_lt, shift-shift}
-use Rattle.pe_space.proofs.Numbers.{number_of_own_digits}
 use Rattle.pe_space.proofs.Lists.{each_map, each_both, each_in, each_contains, pair_map}
 use Rattle.pe_space.proofs.SlotsAndFields.{slot_byte, field_byte, value_of, slot_found, in_fields}
 use Rattle.pe_space.proofs.Written.{InField, IsAt, InSlot, in_one, width_in, Fits, StillFields, StillSlots, laid_fields, laid_slots, bound_lengths, length-shifted_all}
@@ -181,7 +182,7 @@ laid_moved c i base bs ms lt aligned was_aligned ending fields_and_slots memory_
 
     held : Each (λ (f : Fixup). number_in old f.field (width_of f.kind) ≡ value_of image f) image.fixups
     held = each_map _ _ image.fixups
-        (λ f both. number_of_own_digits old f.field (width_of f.kind) (value_of image f) (shift_lt _ f.kind _)
+        (λ f both. num_of_own_digits (byte_of old) f.field (width_of f.kind) (value_of image f) (shift_lt _ f.kind _)
         (λ k small. (let inside = both.0 in let back : f.field + k - f.field ≡ k = omega arith in
         memory_holds.each i (f.field + k) (omega arith) ∙ both.1 (f.field + k) (omega arith) (omega arith) ∙ ap (digit (value_of image f)) back)))
         (each_both (λ (f : Fixup). f.field + width_of f.kind ≤ image.size) (λ (f : Fixup). (r : ℕ) → f.field ≤ r → r < f.field + width_of f.kind → byte_in c i r ≡ digit (value_of image f) (r - f.field)) image.fixups (fields_and_slots.images i).inside (field_byte c i fields_and_slots))

@@ -3,7 +3,8 @@ use Rattle.std.proofs.Common.{◌≡◌, ℕ, zero, suc, ◌+◌, ◌-◌, ◌*�
 use Rattle.std.specs.Prelude.{ℤ, pos, ◌-ℤ◌}
 use Rattle.std.specs.Int.{byte_at, bytes_low_first}
 use Rattle.std.proofs.lemmas.List.{get_or-drop, drop_all, take_rest}
-use Rattle.std.proofs.Math.Nat.{add-mul, add_assoc, div-add-mod', mod-eq_of_lt, mod-lt, mul-add-mod_self_right, mul-le-mul_right, mul_assoc}
+use Rattle.std.proofs.Math.Arith.{mod-mul}
+use Rattle.std.proofs.Math.Nat.{div-add-mod', mod-eq_of_lt, mod-lt, mul-add-mod_self_right}
 use borrow.Rule.Slice.PartMut.{put_mid}
 use Rattle.byteorder.specs.Endian.{little_from}
 use Rattle.pe_view.specs.Number.{num, byte_of}
@@ -36,24 +37,10 @@ number_read xs place i (suc w) =
     let more : little_from (suc i) w (drop place xs) ≡ num (byte_of xs) (place + i + 1) w = number_read xs place (suc i) w ∙ ap (λ (p : ℕ). num (byte_of xs) p w) e in
     rw (get_or-drop place xs i 0, more) refl
 
--- the two low digits of n, to the bases c and then m
-mod-split : (n : ℕ) {m c : ℕ} → zero < m → zero < c → n % (m * c) ≡ (n / c % m) * c + n % c
-mod-split n {m} {c} hm hc =
-    let a = mod-lt (n / c) hm in
-    let b = mod-lt n hc in
-    let top : (n / c % m + 1) * c ≤ m * c = mul-le-mul_right c (omega arith) in
-    let expand : (n / c % m + 1) * c ≡ n / c % m * c + 1 * c = add-mul (n / c % m) 1 c in
-    let split : n ≡ n / c / m * (m * c) + (n / c % m * c + n % c) =
-    sym (div-add-mod' n c)
-    ∙ ap (λ (x : ℕ). x * c + n % c) (sym (div-add-mod' (n / c) m))
-    ∙ ap (λ (x : ℕ). x + n % c) (add-mul (n / c / m * m) (n / c % m) c ∙ ap (λ (x : ℕ). x + n / c % m * c) (mul_assoc (n / c / m) m c))
-    ∙ add_assoc (n / c / m * (m * c)) (n / c % m * c) (n % c) in
-    ap (λ (x : ℕ). x % (m * c)) split ∙ mul-add-mod_self_right (n / c / m) (m * c) (n / c % m * c + n % c) ∙ mod-eq_of_lt (omega arith)
-
 -- a remainder by a multiple keeps the remainder
 mod-mod : (n q m : ℕ) → zero < q → zero < m → n % (q * m) % m ≡ n % m
 mod-mod n q m hq hm =
-    ap (λ (x : ℕ). x % m) (mod-split n {m = q} {c = m} hq hm) ∙ mul-add-mod_self_right (n / m % q) m (n % m) ∙ mod-eq_of_lt (mod-lt n hm)
+    ap (λ (x : ℕ). x % m) (mod-mul n {m = q} {c = m} hq hm) ∙ mul-add-mod_self_right (n / m % q) m (n % m) ∙ mod-eq_of_lt (mod-lt n hm)
 
 -- what is added may be reduced first
 add_mod : (a b n : ℕ) → (a + b % n) % n ≡ (a + b) % n

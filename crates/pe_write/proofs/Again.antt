@@ -8,7 +8,7 @@ use Rattle.pe_tables.specs.declared.fixups.Fixup.{Fixup}
 use Rattle.pe_tables.specs.Relocated.{shift, in_field, shifted, relocated, relocated_by}
 use Rattle.pe_tables.proofs.Shifts.{shift_lt, shift-shift}
 use Rattle.pe_write.proofs.Lists.{found, find_first, in_range, below_range, above_range}
-use Rattle.pe_numbers.specs.ReadBack.{num_of_own_digits}
+use Rattle.pe_view.specs.Digits.{num_of_own_digits}
 use Rattle.pe_write.proofs.Whole.{FieldsApart}
 
 -- The image of g is that of i relocated to the base, a multiple of 65,536, wherever `free` holds, and it has the same fixups;

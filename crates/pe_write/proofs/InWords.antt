@@ -17,7 +17,7 @@ use Rattle.pe_write.proofs.Lists.{each_at, find_first, in_range, range_parts, fi
 use Rattle.pe_write.proofs.Bytes.{byte_kept, byte_written, length-writes}
 use Rattle.pe_write.proofs.Kept.{Kept, where_at}
 use Rattle.pe_write.proofs.Moved.{free_behind, covering}
-use Rattle.pe_numbers.specs.ReadBack.{num_of_own_digits}
+use Rattle.pe_view.specs.Digits.{num_of_own_digits}
 use Rattle.pe_write.proofs.Sequence.{not_covered}
 use Rattle.pe_write.proofs.Rebasable.{IsSound, lies, kept, base_number, sum_bytes}
 use Rattle.pe_write.proofs.Whole.{clear_at, each_from}

@@ -37,7 +37,7 @@ use Rattle.pe_write.proofs.Bytes.{byte_written, same_num, length-writes}
 use Rattle.pe_write.proofs.Apart.{raw_apart}
 use Rattle.pe_write.proofs.Kept.{Kept, Lies, all_kept, where_at}
 use Rattle.pe_write.proofs.Moved.{header_kept, free_behind, plain-rebased}
-use Rattle.pe_numbers.specs.ReadBack.{num_of_own_digits}
+use Rattle.pe_view.specs.Digits.{num_of_own_digits}
 use Rattle.pe_write.proofs.HeadKept.{KeepsHead, fixed_of, head-kept}
 use Rattle.pe_write.proofs.Again.{IsRebasedImage}
 use Rattle.pe_write.proofs.Whole.{FieldsApart}
