@@ -1,7 +1,7 @@
 -- The COFF file header and the section headers of an object, field by field.
 use Rattle.std.specs.Prelude.{ℕ, List, map}
-use Rattle.pe_view.specs.Number.{part}
 use Rattle.pe_head.specs.declared.section.SectionHeader.{SectionHeader}
+pub use Rattle.pe_head.specs.Section.{section_header}
 use Rattle.coff_read.specs.Field.{field}
 use Rattle.coff_read.specs.Reading.{section_starts}
 use Rattle.coff_read.specs.declared.headers.FileHeader.{FileHeader}
@@ -16,21 +16,6 @@ file_header file = record {
   number_of_symbols = field file 0 12 4;
   size_of_optional_header = field file 0 16 2;
   characteristics = field file 0 18 2;
-}
-
--- the section header at a file offset
-abbrev pub section_header : List ℕ → ℕ → SectionHeader
-section_header file h = record {
-  name = part file h 8;
-  virtual_size = field file h 8 4;
-  virtual_address = field file h 12 4;
-  size_of_raw_data = field file h 16 4;
-  pointer_to_raw_data = field file h 20 4;
-  pointer_to_relocations = field file h 24 4;
-  pointer_to_linenumbers = field file h 28 4;
-  number_of_relocations = field file h 32 2;
-  number_of_linenumbers = field file h 34 2;
-  characteristics = field file h 36 4;
 }
 
 -- the section headers in table order

@@ -9,7 +9,7 @@ ghost use Rattle.coff_read.specs.Reading.{section_starts, symbol_indexes};
 ghost use Rattle.coff_read.specs.TablesPlace.{AreTables};
 
 use crate::fields::{u16_in, u32_in};
-use crate::headers::{FileHeader, file_header, section_header};
+use crate::headers::{FileHeader, file_header};
 use crate::names::{name_of, section_name_field};
 use crate::object::Object;
 use crate::relocation::check_relocations;
@@ -145,7 +145,7 @@ impl<'a> ObjectFile<'a> {
             return None;
         }
         let h = self.tables.headers + SECTION_LEN * index as u64;
-        Some(section_header(self.view, h))
+        Some(SectionHeader::read(self.view, h))
     }
 
     /// The sections in table order, in time linear in the section table and the string table: each byte of the latter is searched

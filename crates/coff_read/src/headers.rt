@@ -1,11 +1,10 @@
-//! `FileHeader`: the COFF file header of an object; and its section headers. Each field is as stored in the file.
+//! `FileHeader`: the COFF file header of an object. Each field is as stored in the file.
 
-ghost use Rattle.std.specs.Prelude.{◌≡◌, ◌+◌, ◌≤◌};
+ghost use Rattle.std.specs.Prelude.{◌≡◌, ◌≤◌};
 ghost use Rattle.pe_view.specs.View.{bytes_of, size_of};
-ghost use Rattle.coff_read.specs.Headers.{file_header, section_header};
+ghost use Rattle.coff_read.specs.Headers.{file_header};
 
 use crate::fields::{u16_in, u32_in};
-use pe_head::SectionHeader;
 use pe_view::View;
 
 /// The COFF file header of an object ("PE Format", COFF File Header).
@@ -40,26 +39,5 @@ pub(crate) fn file_header(view: View) -> FileHeader
         number_of_symbols: u32_in(view, 0, 12),
         size_of_optional_header: u16_in(view, 0, 16),
         characteristics: u16_in(view, 0, 18),
-    }
-}
-
-/// The section header at an offset of the file.
-pub(crate) fn section_header(view: View, h: u64) -> SectionHeader
-    requires { h + 40 ≤ size_of view }
-    ensures { result ≡ section_header (bytes_of view.entry) h }
-{
-    let mut name = [0; 8];
-    name.copy_from_slice(view.slice(h, 8).unwrap());
-    SectionHeader {
-        name,
-        virtual_size: u32_in(view, h, 8),
-        virtual_address: u32_in(view, h, 12),
-        size_of_raw_data: u32_in(view, h, 16),
-        pointer_to_raw_data: u32_in(view, h, 20),
-        pointer_to_relocations: u32_in(view, h, 24),
-        pointer_to_linenumbers: u32_in(view, h, 28),
-        number_of_relocations: u16_in(view, h, 32),
-        number_of_linenumbers: u16_in(view, h, 34),
-        characteristics: u32_in(view, h, 36),
     }
 }

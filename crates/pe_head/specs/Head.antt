@@ -2,13 +2,14 @@
 -- field is the number at an offset, in a width.
 use Rattle.std.specs.Prelude.{ℕ, ◌+◌, ◌*◌, ◌==◌, Bool, min, map, List, None, Some, if◌then◌else◌}
 use Rattle.std.specs.List.{range_with_len}
-use Rattle.pe_view.specs.Number.{num, byte_of, part}
+use Rattle.pe_view.specs.Number.{num, byte_of}
 use Rattle.pe_head.specs.declared.optional.Magic.{Magic}
 use Rattle.pe_head.specs.declared.optional.Magic.TheVariants.{Pe32, Pe32Plus}
 use Rattle.pe_head.specs.declared.directory.Directory.{Directory}
 use Rattle.pe_head.specs.declared.section.SectionHeader.{SectionHeader}
 use Rattle.pe_head.specs.declared.headers.Headers.{Headers}
 use Rattle.pe_head.specs.Optional.{fixed_size_of}
+use Rattle.pe_head.specs.Section.{section_header}
 
 -- p, the file offset of the signature
 abbrev pub pe_offset : List ℕ → ℕ
@@ -61,20 +62,7 @@ section_start file i = table_start file + 40 * i
 
 -- section i's header
 abbrev pub section_at : List ℕ → ℕ → SectionHeader
-section_at file i =
-    let field = λ (offset width : ℕ). num (byte_of file) (section_start file i + offset) width in
-    record {
-      name = part file (section_start file i) 8;
-      virtual_size = field 8 4;
-      virtual_address = field 12 4;
-      size_of_raw_data = field 16 4;
-      pointer_to_raw_data = field 20 4;
-      pointer_to_relocations = field 24 4;
-      pointer_to_linenumbers = field 28 4;
-      number_of_relocations = field 32 2;
-      number_of_linenumbers = field 34 2;
-      characteristics = field 36 4;
-    }
+section_at file i = section_header file (section_start file i)
 
 -- the headers of a file; offsets are those in the COFF header and in the optional header
 abbrev pub head_of : List ℕ → Headers

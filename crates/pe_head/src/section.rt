@@ -1,4 +1,7 @@
-//! `SectionHeader`: a row of the section table, with its sizes in the image and in the file; and its flags.
+//! `SectionHeader`: a row of the section table, of an image or an object, with its sizes in the image and in the file; and its flags.
+
+use crate::fields::{u16_in, u32_in};
+use pe_view::View;
 
 /// A row of the section table ("PE Format", Section Table). Sizes count bytes.
 #[derive(Clone, Copy, Debug, Default, PartialEq, Eq)]
@@ -70,8 +73,30 @@ pub mod section_flag {
 }
 
 impl SectionHeader {
-    ghost use Rattle.std.specs.Prelude.{◌≡◌};
-    ghost use Rattle.pe_head.specs.Section.{extent, rawlen};
+    ghost use Rattle.std.specs.Prelude.{◌≡◌, ◌+◌, ◌≤◌};
+    ghost use Rattle.pe_view.specs.View.{bytes_of, size_of};
+    ghost use Rattle.pe_head.specs.Section.{extent, rawlen, section_header};
+
+    /// The section header at an offset of a file that contains it.
+    pub fn read(file: View, start: u64) -> SectionHeader
+        requires { start + 40 ≤ size_of file }
+        ensures { result ≡ section_header (bytes_of file.entry) start }
+    {
+        let mut name = [0; 8];
+        name.copy_from_slice(file.slice(start, 8).unwrap());
+        SectionHeader {
+            name,
+            virtual_size: u32_in(file, start + 8),
+            virtual_address: u32_in(file, start + 12),
+            size_of_raw_data: u32_in(file, start + 16),
+            pointer_to_raw_data: u32_in(file, start + 20),
+            pointer_to_relocations: u32_in(file, start + 24),
+            pointer_to_linenumbers: u32_in(file, start + 28),
+            number_of_relocations: u16_in(file, start + 32),
+            number_of_linenumbers: u16_in(file, start + 34),
+            characteristics: u32_in(file, start + 36),
+        }
+    }
 
     /// The section's size in the laid-out image: VirtualSize, or SizeOfRawData if VirtualSize is 0.
     pub fn extent(&self) -> u32

@@ -23,5 +23,5 @@ returns c =
     let count = c.args.self.now.stand.sections in
     let headers = c.args.self.now.stand.headers in
     let at : section_start file c.args.index ≡ c.args.self.now.tables.headers + 40 * c.args.index = omega arith in
-    ap Some (c.section_header.ensures ∙ ap (section_header file) (sym at))
+    ap Some (c.read.ensures ∙ ap (section_header file) (sym at))
     ∙ sym (slice_get-map (section_header file) (section_starts file) c.args.index ∙ ap (option_map (section_header file)) (made_at (section_start file) (field file 0 2 2) c.args.index (omega (arith, under, count))))
