@@ -204,7 +204,7 @@ def comparisons(description, faults):
     yield missing_sources(faults)
     yield rattle_sources.prototype_faults(description, HEADER, read(HEADER))
     yield rattle_sources.status_faults(description, MAN, read(MAN))
-    yield rattle_sources.value_faults(description, sources("pe_records_c"))
+    yield rattle_sources.value_faults(description, sources("pe_records_c", "coff_read"))
     yield rattle_sources.record_faults(description, sources("pe_records_c", "pe_handle", "pe_opened"))
     yield rattle_sources.call_faults(description, sources("petool_c"))
     yield rattle_sources.key_faults(description, sources("pe_json"))

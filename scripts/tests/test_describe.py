@@ -150,8 +150,8 @@ VALUES_COMPARED = [
     ("crates/pe_records_c/src/fault.rt", "Place::File(offset) => (0,", "Place::Item(offset) => (0,"),
     ("crates/pe_records_c/src/export.rt", "kind: 2,", "kind: 1,"),
     ("crates/pe_records_c/src/export.rt", "Key::Ordinal(ordinal) => TargetRecord {", "Key::Name(ordinal) => TargetRecord {"),
-    ("crates/pe_records_c/src/symbol.rt", "SymbolSection::Debug => 0xfffe", "SymbolSection::Debug => 0xffff"),
-    ("crates/pe_records_c/src/symbol.rt", "SymbolSection::Undefined =>", "SymbolSection::Debug =>"),
+    ("crates/coff_read/src/symbol.rt", "SymbolSection::Debug => 0xfffe", "SymbolSection::Debug => 0xffff"),
+    ("crates/coff_read/src/symbol.rt", "SymbolSection::Undefined =>", "SymbolSection::Debug =>"),
 ]
 COMPARED = [
     ("bindings/c/petool.h", "petool_fixup *rows, size_t room", "petool_import *rows, size_t room"),

@@ -7,11 +7,9 @@ use Rattle.pe_numbers.specs.declared.number.Number.TheVariants.{U8, U16, U32}
 use Rattle.pe_numbers.specs.Numbers.{numbers_bytes}
 use Rattle.coff_read.specs.Names.{decimal_digits, padded, is_long, is_long_section_name}
 use Rattle.coff_read.specs.Records.{Raw, Bytes, Absent, Section, Symbol, Object}
-pub use Rattle.coff_read.specs.Records.{raw_size, aux_records, records_of}
+pub use Rattle.coff_read.specs.Records.{raw_size, section_number, aux_records, records_of}
 use Rattle.coff_read.specs.Strings.{with_strings, offset_of, string_bytes}
 use Rattle.coff_read.specs.declared.relocation.Relocation.{Relocation}
-use Rattle.coff_read.specs.declared.symbol.SymbolSection.{SymbolSection}
-use Rattle.coff_read.specs.declared.symbol.SymbolSection.TheVariants as belongs
 
 -- the names that go into the string table, in order of first use: of sections, then of symbols
 abbrev pub long_section_names : List Section → List (List ℕ)
@@ -72,12 +70,6 @@ symbol_name_at offset name = if is_long name then numbers_bytes (U32 0 ∷ U32 o
 
 abbrev pub symbol_name_field : List (List ℕ) → List ℕ → List ℕ
 symbol_name_field strings name = symbol_name_at (offset_of strings name) name
-
-abbrev pub section_number : SymbolSection → ℕ
-section_number belongs.Undefined = 0
-section_number belongs.Absolute = 0xffff
-section_number belongs.Debug = 0xfffe
-section_number (belongs.Section k) = k
 
 -- the fields of a symbol's record after its name
 abbrev pub symbol_numbers : Symbol → List Number

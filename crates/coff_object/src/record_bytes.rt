@@ -4,11 +4,11 @@ ghost use Rattle.std.specs.Prelude.{◌≡◌, ◌+◌, ◌*◌, ◌≤◌, ◌<
 ghost use Rattle.std.specs.List.{flat_map, AllByRecursion};
 ghost use Rattle.coff_read.specs.Names.{decimal_digits, padded, is_long, is_long_section_name};
 ghost use Rattle.coff_read.specs.Records.{RawFits, RelocationFits, RelocationsFit, SectionFits, SymbolFits};
-ghost use Rattle.coff_object.specs.Written.{relocation_bytes, raw_bytes, pointer_to, raw_size, section_body, section_name_at, section_fields, symbol_name_at, section_number, aux_records, symbol_fields};
+ghost use Rattle.coff_object.specs.Written.{relocation_bytes, raw_bytes, pointer_to, raw_size, section_body, section_name_at, section_fields, symbol_name_at, aux_records, symbol_fields};
 ghost use Rattle.coff_read.specs.ObjectView.{raw_view, section_view, symbol_view};
 
 use coff_read::{
-    NAME_LEN, ObjSection, RELOCATION_LEN, RawData, Relocation, Symbol, SymbolSection, is_long,
+    NAME_LEN, ObjSection, RELOCATION_LEN, RawData, Relocation, Symbol, is_long,
     is_long_section_name,
 };
 use itoa::Buffer;
@@ -166,18 +166,6 @@ fn push_section_fields<A: Allocator>(
     )
 }
 
-/// The SectionNumber of a symbol.
-fn section_number(section: SymbolSection) -> u16
-    ensures { result ≡ section_number section }
-{
-    match section {
-        SymbolSection::Undefined => 0,
-        SymbolSection::Absolute => 0xffff,
-        SymbolSection::Debug => 0xfffe,
-        SymbolSection::Section(number) => number,
-    }
-}
-
 /// Adds the name field of a symbol's record; a name that is too long is at an offset of the string table.
 fn push_symbol_name<A: Allocator>(
     bytes: &mut Vec<u8, A>,
@@ -207,7 +195,7 @@ fn push_symbol_fields<A: Allocator>(
         bytes,
         &[
             U32(symbol.value),
-            U16(section_number(symbol.section)),
+            U16(symbol.section.number()),
             U16(symbol.kind),
             U8(symbol.class),
             U8((symbol.aux.len() / 18) as u8),

@@ -4,6 +4,7 @@ use Rattle.std.specs.Prelude.{ℕ, ◌+◌, ◌/◌, ◌<◌, ◌^◌, List, [],
 use Rattle.std.specs.List.{AllByRecursion}
 use Rattle.coff_read.specs.declared.relocation.Relocation.{Relocation}
 use Rattle.coff_read.specs.declared.symbol.SymbolSection.{SymbolSection}
+use Rattle.coff_read.specs.declared.symbol.SymbolSection.TheVariants as belongs
 
 -- the raw data of a section, or SizeOfRawData if none is in the file
 pub data Raw : Type 0 where
@@ -22,6 +23,13 @@ pub record Section : Type 0 where
   pub raw : Raw
   pub flags : ℕ
   pub relocations : List Relocation
+
+-- the field SectionNumber of a symbol's record
+abbrev pub section_number : SymbolSection → ℕ
+section_number belongs.Undefined = 0
+section_number belongs.Absolute = 0xffff
+section_number belongs.Debug = 0xfffe
+section_number (belongs.Section number) = number
 
 pub record Symbol : Type 0 where
   pub name : List ℕ

@@ -33,6 +33,22 @@ pub enum SymbolSection {
     Section(u16),
 }
 
+impl SymbolSection {
+    ghost use Rattle.coff_read.specs.Records.{section_number};
+
+    /// The field SectionNumber of a symbol's record.
+    pub fn number(self) -> u16
+        ensures { result ≡ section_number self }
+    {
+        match self {
+            SymbolSection::Undefined => 0,
+            SymbolSection::Absolute => 0xffff,
+            SymbolSection::Debug => 0xfffe,
+            SymbolSection::Section(number) => number,
+        }
+    }
+}
+
 /// A symbol with its auxiliary records ("PE Format", COFF Symbol Table).
 #[derive(Clone, Copy, Debug, PartialEq, Eq)]
 pub struct Symbol<'a> {

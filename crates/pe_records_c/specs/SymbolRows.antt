@@ -1,22 +1,13 @@
 -- Symbols of an object as C has them, with strings as their bytes.
 use Rattle.std.specs.Prelude.{ℕ, List}
 use Rattle.coff_read.specs.Reading.{symbol_indexes}
-use Rattle.coff_read.specs.Records.{Symbol}
+use Rattle.coff_read.specs.Records.{Symbol, section_number}
 use Rattle.coff_read.specs.SymbolsLeft.{indexed}
-use Rattle.coff_read.specs.declared.symbol.SymbolSection.{SymbolSection}
-use Rattle.coff_read.specs.declared.symbol.SymbolSection.TheVariants.{Undefined, Absolute, Debug, Section}
 use Rattle.pe_records_c.specs.declared.symbol.ObjectSymbolRow.{ObjectSymbolRow}
 
 -- the symbols of an object's file, each with the index of its record
 unfoldable pub symbols_of : List ℕ → List (ℕ × Symbol)
 symbols_of file = indexed file (symbol_indexes file)
-
--- the field SectionNumber
-abbrev pub section_number : SymbolSection → ℕ
-section_number Undefined = 0
-section_number Absolute = 0xffff
-section_number Debug = 0xfffe
-section_number (Section number) = number
 
 pub record SymbolText : Type 0 where
   pub name : List ℕ

@@ -4,10 +4,10 @@ ghost use Rattle.std.specs.Prelude.{◌≡◌, length};
 ghost use Rattle.coff_read.specs.ObjectFile.{file_of};
 ghost use Rattle.coff_read.specs.ObjectView.{symbol_view};
 ghost use Rattle.pe_records_c.specs.Rows.{Fills, TellsTable};
-ghost use Rattle.pe_records_c.specs.SymbolRows.{section_number, symbol_row, symbol_text, symbols_of};
+ghost use Rattle.pe_records_c.specs.SymbolRows.{symbol_row, symbol_text, symbols_of};
 
 use crate::row::table_status;
-use coff_read::{ObjectFile, Symbol, SymbolSection};
+use coff_read::{ObjectFile, Symbol};
 use std::alloc::Global;
 
 /// A symbol of an object.
@@ -30,18 +30,6 @@ pub struct ObjectSymbolRow<'a> {
     pub class: u8,
 }
 
-/// The SectionNumber of a symbol.
-fn section_number(section: SymbolSection) -> u16
-    ensures { result ≡ section_number section }
-{
-    match section {
-        SymbolSection::Undefined => 0,
-        SymbolSection::Absolute => 0xffff,
-        SymbolSection::Debug => 0xfffe,
-        SymbolSection::Section(number) => number,
-    }
-}
-
 impl<'a> ObjectSymbolRow<'a> {
     /// A symbol as C has it.
     fn of(index: u32, symbol: Symbol<'a>) -> ObjectSymbolRow<'a>
@@ -52,7 +40,7 @@ impl<'a> ObjectSymbolRow<'a> {
             aux: symbol.aux,
             index,
             value: symbol.value,
-            section_number: section_number(symbol.section),
+            section_number: symbol.section.number(),
             kind: symbol.kind,
             class: symbol.class,
         }
