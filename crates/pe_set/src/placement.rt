@@ -7,6 +7,7 @@ ghost use Rattle.pe_tables.specs.Ranges.{meets};
 ghost use Rattle.pe_set.specs.Placement.{Placement, address_limit, base_tests};
 
 use pe_head::Magic;
+use pe_layout::Layout;
 use pe_view::{Fault, Place};
 
 /// Every base is a multiple of this.
@@ -35,6 +36,39 @@ pub trait Placed {
     /// Whether its relocations were stripped, so that it can only be at its ImageBase.
     fn is_stripped(&self) -> bool
         ensures { result ≡ (placement self.now).is_stripped };
+}
+
+/// An image that no set has placed is at its ImageBase.
+impl<'a> Placed for Layout<'a> {
+    ghost use Rattle.pe_layout.specs.Layout.{headers_of, image_of};
+
+    ghost placement = { λ layout. record {
+      base = (image_of layout).image_base;
+      size = (image_of layout).size;
+      magic = (headers_of layout).magic;
+      image_base = (image_of layout).image_base;
+      is_stripped = (image_of layout).is_stripped;
+    } };
+
+    fn base(&self) -> u64 {
+        Layout::image_base(self)
+    }
+
+    fn size(&self) -> u32 {
+        Layout::size(self)
+    }
+
+    fn magic(&self) -> Magic {
+        self.headers().magic
+    }
+
+    fn image_base(&self) -> u64 {
+        Layout::image_base(self)
+    }
+
+    fn is_stripped(&self) -> bool {
+        Layout::is_stripped(self)
+    }
 }
 
 /// The end of the addresses that an image of this Magic may use.

@@ -14,10 +14,10 @@ ghost use Rattle.pe_view.specs.declared.refusal.Refusal.{Refusal};
 
 use crate::error::WriteError;
 use crate::raw_data::{check_raw_data, holder};
-use pe_head::{Headers, Magic, SectionHeader};
+use pe_head::{Headers, SectionHeader};
 use pe_image::{lay_out, read_relocations};
 use pe_layout::Layout;
-use pe_set::{Placed, base_fault};
+use pe_set::base_fault;
 use pe_tables::{Fixup, shift_field, write_low};
 use pe_view::Fault;
 use std::alloc::Allocator;
@@ -25,44 +25,11 @@ use std::alloc::Allocator;
 /// The offset of CheckSum in the optional header.
 const CHECK_SUM: usize = 64;
 
-/// An image alone in its address space, at its ImageBase.
-#[derive(Clone, Copy)]
-struct Alone<'l, 'a> {
-    layout: &'l Layout<'a>,
-}
-
-impl<'l, 'a> Placed for Alone<'l, 'a> {
-    ghost use Rattle.pe_layout.specs.Layout.{headers_of, image_of};
-    ghost use Rattle.pe_write.specs.RebaseFaults.{placed};
-
-    ghost placement = { λ m. placed (headers_of m.layout.now).magic (image_of m.layout.now) (image_of m.layout.now).image_base };
-
-    fn base(&self) -> u64 {
-        self.layout.image_base()
-    }
-
-    fn size(&self) -> u32 {
-        self.layout.size()
-    }
-
-    fn magic(&self) -> Magic {
-        self.layout.headers().magic
-    }
-
-    fn image_base(&self) -> u64 {
-        self.layout.image_base()
-    }
-
-    fn is_stripped(&self) -> bool {
-        self.layout.is_stripped()
-    }
-}
-
-/// Tests faults 44 to 46 of an image at a base.
+/// Tests faults 44 to 46 of an image at a base, alone in its address space.
 fn check_base(layout: &Layout, base: u64) -> Result<(), Fault>
     ensures { Answers (own_base_tests (headers_of layout.now).magic (image_of layout.now) base) (λ _. ⊤) result }
 {
-    match base_fault(&[], &[], 0, &Alone { layout }, base) {
+    match base_fault(&[], &[], 0, layout, base) {
         Some(fault) => Err(fault),
         None => Ok(()),
     }
