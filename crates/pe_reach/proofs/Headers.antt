@@ -51,8 +51,8 @@ count_agrees f g a = ap (λ n. min n 16) (either_agrees f g a 92 4 108 4 (omega 
 directory_agrees : (f g : List ℕ) → AgreeBefore (headers_end g) f g → (k : ℕ) → k < 16 → directory_at f k ≡ directory_at g k
 directory_agrees f g a k lt =
     ap₂ (λ (r s : ℕ). let d : Directory = record { rva = r; size = s } in d)
-        (either_agrees f g a (96 + 8 * k) 4 (112 + 8 * k) 4 (omega arith) (omega arith))
-        (either_agrees f g a (96 + 8 * k + 4) 4 (112 + 8 * k + 4) 4 (omega arith) (omega arith))
+    (either_agrees f g a (96 + 8 * k) 4 (112 + 8 * k) 4 (omega arith) (omega arith))
+    (either_agrees f g a (96 + 8 * k + 4) 4 (112 + 8 * k + 4) 4 (omega arith) (omega arith))
 
 -- lists that are made place by place
 pub map_agrees : {A : Type 0} (p q : ℕ → A) (start n : ℕ) → ((k : ℕ) → start ≤ k → k < start + n → p k ≡ q k) → map p (range_with_len start n) ≡ map q (range_with_len start n)
@@ -75,20 +75,20 @@ rooms end m n offset len same le = omega arith
 pub part_agrees : (end : ℕ) (f g : List ℕ) → AgreeBefore end f g → (offset len : ℕ) → offset + len ≤ end → part f offset len ≡ part g offset len
 part_agrees end f g a offset len le =
     ext_get_or 0 (part f offset len) (part g offset len)
-        (length-take len (drop offset f) ∙ ap (min len) (length-drop offset f) ∙ rooms end (length f) (length g) offset len a.tails le ∙ sym (length-take len (drop offset g) ∙ ap (min len) (length-drop offset g)))
-        (λ k lt.
-            let small : k < len = omega (arith, length-take len (drop offset f), lt) in
-            get_or-take len (drop offset f) k 0 small ∙ get_or-drop offset f k 0
-            ∙ a.bytes (offset + k) (omega arith)
-            ∙ sym (get_or-take len (drop offset g) k 0 small ∙ get_or-drop offset g k 0))
+    (length-take len (drop offset f) ∙ ap (min len) (length-drop offset f) ∙ rooms end (length f) (length g) offset len a.tails le ∙ sym (length-take len (drop offset g) ∙ ap (min len) (length-drop offset g)))
+    (λ k lt.
+    let small : k < len = omega (arith, length-take len (drop offset f), lt) in
+    get_or-take len (drop offset f) k 0 small ∙ get_or-drop offset f k 0
+    ∙ a.bytes (offset + k) (omega arith)
+    ∙ sym (get_or-take len (drop offset g) k 0 small ∙ get_or-drop offset g k 0))
 
 section_agrees : (f g : List ℕ) → AgreeBefore (headers_end g) f g → (k : ℕ) → k < coff_field g 2 2 → section_at f k ≡ section_at g k
 section_agrees f g a k lt =
     let start = start_agrees f g a k in
     let number : (o w : ℕ) → o + w ≤ 40 → num (byte_of f) (section_start f k + o) w ≡ num (byte_of g) (section_start g k + o) w =
-        λ o w le. ap (λ s. num (byte_of f) (s + o) w) start ∙ number_agrees f g a (section_start g k + o) w (omega arith) in
+    λ o w le. ap (λ s. num (byte_of f) (s + o) w) start ∙ number_agrees f g a (section_start g k + o) w (omega arith) in
     let name : part f (section_start f k) 8 ≡ part g (section_start g k) 8 =
-        ap (λ s. part f s 8) start ∙ part_agrees (headers_end g) f g a (section_start g k) 8 (omega arith) in
+    ap (λ s. part f s 8) start ∙ part_agrees (headers_end g) f g a (section_start g k) 8 (omega arith) in
     λ i. record {
       name = name i;
       virtual_size = number 8 4 (omega arith) i;

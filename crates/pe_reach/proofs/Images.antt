@@ -159,7 +159,7 @@ first_held_of : (image : ℕ) (f : List ℕ) → length f ≤ 2 ^ 32 → headers
 first_held_of image f small held headers =
     ap first_standing (head_tests_from image f)
     ∙ first_held image (length f) (pe_offset f) (num (byte_of f) 0 2) (num (byte_of f) (pe_offset f) 4) (coff_field f 16 2) (directory_count f) (fixed_size f) (field f 0 2) (coff_field f 2 2) (field f 56 4) (field f 60 4)
-        small (omega arith) (omega arith) (fixed_small (magic_of f)) (omega arith) headers
+    small (omega arith) (omega arith) (fixed_small (magic_of f)) (omega arith) headers
 
 -- the same of two files
 head_first_agrees : (image : ℕ) (f g : List ℕ) → HaveBoth (image_end g) f g → first_standing (head_tests image f) ≡ first_standing (head_tests image g)
@@ -167,12 +167,12 @@ head_first_agrees image f g both =
     let a : AgreeBefore (headers_end g) f g = lower (headers_end g) (image_end g) f g (omega arith) (agree_of_both (image_end g) f g both) in
     let mz : num (byte_of f) 0 2 ≡ num (byte_of g) 0 2 = num_agrees (headers_end g) (byte_of f) (byte_of g) a.bytes 0 2 (omega arith) in
     let pe : num (byte_of f) (pe_offset f) 4 ≡ num (byte_of g) (pe_offset g) 4 =
-        ap (λ p. num (byte_of f) p 4) (pe_agrees f g a) ∙ num_agrees (headers_end g) (byte_of f) (byte_of g) a.bytes (pe_offset g) 4 (omega arith) in
+    ap (λ p. num (byte_of f) p 4) (pe_agrees f g a) ∙ num_agrees (headers_end g) (byte_of f) (byte_of g) a.bytes (pe_offset g) 4 (omega arith) in
     let fixed : fixed_size f ≡ fixed_size g = ap (λ b. fixed_size_of (if b then Pe32 else Pe32Plus)) (pe32_agrees f g a) in
     let same : tests_held image (pe_offset f) (num (byte_of f) 0 2) (num (byte_of f) (pe_offset f) 4) (coff_field f 16 2) (directory_count f) (fixed_size f) (field f 0 2) (coff_field f 2 2) (field f 56 4) (field f 60 4)
-             ≡ tests_held image (pe_offset g) (num (byte_of g) 0 2) (num (byte_of g) (pe_offset g) 4) (coff_field g 16 2) (directory_count g) (fixed_size g) (field g 0 2) (coff_field g 2 2) (field g 56 4) (field g 60 4) =
-        λ i. tests_held image (pe_agrees f g a i) (mz i) (pe i) (coff_agrees f g a 16 2 (omega arith) i) (count_agrees f g a i) (fixed i)
-            (field_agrees f g a 0 2 (omega arith) i) (coff_agrees f g a 2 2 (omega arith) i) (field_agrees f g a 56 4 (omega arith) i) (field_agrees f g a 60 4 (omega arith) i) in
+    ≡ tests_held image (pe_offset g) (num (byte_of g) 0 2) (num (byte_of g) (pe_offset g) 4) (coff_field g 16 2) (directory_count g) (fixed_size g) (field g 0 2) (coff_field g 2 2) (field g 56 4) (field g 60 4) =
+    λ i. tests_held image (pe_agrees f g a i) (mz i) (pe i) (coff_agrees f g a 16 2 (omega arith) i) (count_agrees f g a i) (fixed i)
+    (field_agrees f g a 0 2 (omega arith) i) (coff_agrees f g a 2 2 (omega arith) i) (field_agrees f g a 56 4 (omega arith) i) (field_agrees f g a 60 4 (omega arith) i) in
     let heads : head_of f ≡ head_of g = headers_agree f g a in
     let ends : headers_end f ≡ headers_end g = ap₂ (λ p t. max (max 64 (p + 24 + 240)) t) (pe_agrees f g a) (λ i. pe_agrees f g a i + 24 + coff_agrees f g a 16 2 (omega arith) i + 40 * coff_agrees f g a 2 2 (omega arith) i) in
     first_held_of image f both.small_f (omega (arith, ends, both.reach_f)) (omega (arith, ap (λ (h : Headers). h.size_of_headers) heads, both.reach_f))
@@ -199,11 +199,11 @@ same_answers f g both =
     record {
       headers = heads;
       first = λ number.
-        first-append (head_tests number f) (placing_tests number (head_of f) (length f))
-        ∙ ap₂ option_or (head_first_agrees number f g both)
-            (ap first_standing (ap (λ (h : Headers). placing_tests number h (length f)) heads
-              ∙ placing_agrees number (head_of g) (length f) (length g) 0 0 (head_of g).sections.items (omega (arith, both.reach_f)) (omega (arith, both.reach_g))))
-        ∙ sym (first-append (head_tests number g) (placing_tests number (head_of g) (length g)));
+          first-append (head_tests number f) (placing_tests number (head_of f) (length f))
+          ∙ ap₂ option_or (head_first_agrees number f g both)
+          (ap first_standing (ap (λ (h : Headers). placing_tests number h (length f)) heads
+          ∙ placing_agrees number (head_of g) (length f) (length g) 0 0 (head_of g).sections.items (omega (arith, both.reach_f)) (omega (arith, both.reach_g))))
+          ∙ sym (first-append (head_tests number g) (placing_tests number (head_of g) (length g)));
       image = λ number. same_image_of number f g below;
     }
 

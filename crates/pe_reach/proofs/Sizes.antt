@@ -14,7 +14,7 @@ use Rattle.pe_reach.specs.Sized.{Follows, RefusesByFaults, IsKnown, WrittenSized
 module _ (IsText : List ℕ → Outcome → List ℕ → Type 0) (ended : Bool) (len : ℕ) (input : List ℕ) where
   -- what holds of enough bytes is known of the file
   known : (Holds : List ℕ → Type 0) → ((file : List ℕ) → Rattle.pe_reach.specs.Reach.SameAnswers file input → Holds input → Holds file) → IsEnough ended len input → Holds input → IsKnown ended len input Holds
-  known Holds carries enough holds = elim enough [ | inl whole ↦ inl (whole, holds) | inr decide ↦ inr (λ file b. carries file (decide file b) holds) ]
+  known Holds carries enough holds = elim enough [ inl whole ↦ inl (whole, holds) | inr decide ↦ inr (λ file b. carries file (decide file b) holds) ]
 
   -- the text of enough bytes
   put : Follows IsText → IsEnough ended len input → (before now : List ℕ) (count count' : ℕ) (result : Result Outcome ToolError) → (puts : Puts (IsText input) before now count count' result) → WrittenSized IsText ended len input result puts.0

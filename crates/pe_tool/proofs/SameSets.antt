@@ -46,7 +46,7 @@ module _ (all others : List Entry) (same : AreSameSets all others) where
   name_agrees : (k : ℕ) (e f : Entry) → e.name ≡ f.name → name_tests all k e ≡ name_tests others k f
   name_agrees k e f name =
       let is_named : list_any (λ (before : Entry). same_name e.name before.name) (take k all) ≡ list_any (λ (before : Entry). same_name f.name before.name) (take k others) =
-          ap (λ (n : List ℕ). list_any (λ (before : Entry). same_name n before.name) (take k all)) name ∙ any_agrees f.name k all others same in
+      ap (λ (n : List ℕ). list_any (λ (before : Entry). same_name n before.name) (take k all)) name ∙ any_agrees f.name k all others same in
       ap (λ (b : Bool). test 41 k (Item k) (k == 256) ∷ test 42 k (Item k) b ∷ []) is_named
 
   each_name_agrees : (k : ℕ) (es fs : List Entry) → AreSameSets es fs → numbered (name_tests all) k es ≡ numbered (name_tests others) k fs

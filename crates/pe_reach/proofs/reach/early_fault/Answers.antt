@@ -14,4 +14,4 @@ returns-in-Some c =
     let read = c.in-Some.ensures in
     let same : num (byte_of begin) 0 2 ≡ c.in-Some.number = ap (λ (bytes : List ℕ). num (byte_of bytes) 0 2) (sym c.new.ensures) ∙ sym read.1 in
     refuse_other begin c.args.len (omega (arith, c.if-len-gt-MOST.false)) c.if-len-ge64.true (omega (arith, read.0, ap (λ (bytes : List ℕ). length bytes) c.new.ensures))
-        (ap (λ n. n == 0x5a4d) same ∙ ne_eqb c.in-Some.number 0x5a4d c.if-number-ne-MZ.true)
+    (ap (λ n. n == 0x5a4d) same ∙ ne_eqb c.in-Some.number 0x5a4d c.if-number-ne-MZ.true)
