@@ -10,8 +10,9 @@ use pe_reach::run_sized;
 use pe_text::{Outcome, Sink, Source, ToolError};
 use std::alloc::Allocator;
 
-/// [`check`](crate::check) for a file of `len` bytes. It is read up to the end of the bytes that its headers name, and the output is
-/// that of each file of `len` bytes that begins so; or it is read whole, if its first 4,096 bytes do not say where that end is.
+/// [`check`](crate::check) for a file of `len` bytes. It is read up to the end of the bytes that its headers name, and the output
+/// is that of each file of `len` bytes that begins so; or it is read whole, if its first 4,096 bytes do not say where that end is.
+/// Of a file that is too large or does not begin with `MZ` no more than these bytes are read.
 ///
 /// The errors and conditions are those of [`check`](crate::check).
 pub fn check_sized<A: Allocator + Copy, R: Source, W: Sink>(

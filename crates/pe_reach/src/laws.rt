@@ -11,8 +11,8 @@ pub fn headers_agree()
     ensures { (f g : List ℕ) → AgreeBefore (headers_end g) f g → head_of f ≡ head_of g }
 {}
 
-/// Two files that reach the end of the bytes that the one's headers name, and agree before it, have the same headers, the same first
-/// of faults 1 to 15, and lay out the same image, whatever comes after that end in either.
+/// Two files that reach the end of the bytes that the one's headers name, and agree before it, have the same headers, the same
+/// first of faults 1 to 15, and lay out the same image, whatever comes after that end in either.
 pub fn answers_agree()
     ensures { (f g : List ℕ) → HaveBoth (image_end g) f g → SameAnswers f g }
 {}

@@ -41,7 +41,8 @@ fn raw_end(sections: &[SectionHeader], least: u64) -> u64
     end
 }
 
-/// Where the headers end with which a file begins, and where all bytes end that they name. `None` if they have one of faults 1 to 12.
+/// Where the headers end with which a file begins, and where all bytes end that they name. `None` if they have one of faults 1 to
+/// 12.
 fn ends(begin: &[u8]) -> Option<(u64, u64)>
     ensures { IfSome result (λ ends. (ends.0 ≡ headers_end begin.now) × (ends.1 ≡ image_end begin.now)) }
 {

@@ -27,7 +27,7 @@ macro_rules! with_image {
 
 pub(crate) use with_image;
 
-/// Calls `ask` with the space of an open handle, which `ask` may change, and returns the status that `ask` returns. If the handle is
+/// Calls `ask` with the space of an open handle, which it may change, and returns the status that it returns. If the handle is
 /// closed, `ask` is not called, and the status is 6.
 pub(crate) fn with_space<F: FnMut(&mut MappedSpace<Global>) -> u32>(
     alloc: Global,
