@@ -157,7 +157,7 @@ fn add_definition<A: Allocator + Copy>(
     length: u32,
     relocations: u16,
     line_numbers: u16,
-    checksum: u32,
+    check_sum: u32,
     number: u16,
     selection: u8,
 ) {
@@ -167,7 +167,7 @@ fn add_definition<A: Allocator + Copy>(
         ("length", Number(length as u64)),
         ("number_of_relocations", Number(relocations as u64)),
         ("number_of_linenumbers", Number(line_numbers as u64)),
-        ("check_sum", Number(checksum as u64)),
+        ("check_sum", Number(check_sum as u64)),
         ("number", Number(number as u64)),
         ("selection", Number(selection as u64)),
     ]);
@@ -193,7 +193,7 @@ fn add_aux<'a, A: Allocator + Copy>(json: &mut JsonText<A>, index: Member<'a>, a
             length,
             relocations,
             line_numbers,
-            checksum,
+            checksum: check_sum,
             number,
             selection,
         } => add_definition(
@@ -202,7 +202,7 @@ fn add_aux<'a, A: Allocator + Copy>(json: &mut JsonText<A>, index: Member<'a>, a
             *length,
             *relocations,
             *line_numbers,
-            *checksum,
+            *check_sum,
             *number,
             *selection,
         ),
