@@ -3,7 +3,7 @@
 ghost use Rattle.std.specs.Prelude.{◌≡◌, ℕ, ◌+◌, ◌≤◌, ◌*◌, ◌^◌, ◌<◌, if◌then◌else◌, map};
 ghost use Rattle.std.specs.List.{range_with_len};
 ghost use Rattle.pe_view.specs.View.{bytes_of, size_of};
-ghost use Rattle.pe_view.specs.Number.{num, byte_of, part};
+ghost use Rattle.pe_view.specs.Number.{num, byte_of};
 ghost use Rattle.pe_head.specs.Head.{head_of, directory_count, pe_offset, optional_start, coff_field, field, either_field, magic_of, is_pe32, fixed_size, directory_at, section_at, section_start};
 
 use crate::directory::Directory;
@@ -47,16 +47,6 @@ fn u64_in(view: View, offset: u64) -> u64
     ensures { result ≡ num (byte_of (bytes_of view.entry)) offset 8 }
 {
     view.u64_at(offset).unwrap()
-}
-
-/// The 8 bytes of a section's name, which are inside the file.
-fn name_in(view: View, offset: u64) -> [u8; 8]
-    requires { offset + 8 ≤ size_of view }
-    ensures { result ≡ part (bytes_of view.entry) offset 8 }
-{
-    let mut name = [0; 8];
-    name.copy_from_slice(view.slice(offset, 8).unwrap());
-    name
 }
 
 impl<'a> Fields<'a> {
@@ -196,18 +186,7 @@ impl<'a> Fields<'a> {
         ensures { result ≡ section_at (bytes_of self.now.view) index }
     {
         let start = self.optional(u64::from(self.coff_u16(16)) + 40 * index);
-        SectionHeader {
-            name: name_in(self.view, start),
-            virtual_size: u32_in(self.view, start + 8),
-            virtual_address: u32_in(self.view, start + 12),
-            size_of_raw_data: u32_in(self.view, start + 16),
-            pointer_to_raw_data: u32_in(self.view, start + 20),
-            pointer_to_relocations: u32_in(self.view, start + 24),
-            pointer_to_linenumbers: u32_in(self.view, start + 28),
-            number_of_relocations: u16_in(self.view, start + 32),
-            number_of_linenumbers: u16_in(self.view, start + 34),
-            characteristics: u32_in(self.view, start + 36),
-        }
+        SectionHeader::read(self.view, start)
     }
 
     /// The first `count` directories.
