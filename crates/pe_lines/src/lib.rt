@@ -8,7 +8,7 @@
 //! let answer = dump(alloc, &mut reader, &mut writer);
 //! ```
 //!
-//! [`check_sized`] and [`dump_sized`] are told the file's size, and read only a beginning of it.
+//! [`check_sized`] and [`dump_sized`] take the file's size too, and read only as much of the file as decides the output.
 #![tactic(auto)]
 
 mod dump_lines;

@@ -58,7 +58,8 @@ impl Display for Told {
     }
 }
 
-/// Reports a fault of a file or a command in words; `first` and `len` are the file's first bytes and its size.
+/// Reports a fault of a file or a command in words. `first` has the file's first bytes, and `len` is how many bytes were read. That
+/// is its size if the message states one: a file with such a fault is read whole.
 pub(crate) fn tell_fault(rt: &impl Eprint, subject: &str, fault: Fault, first: &[u8], len: u64) {
     let told = Told {
         fault: FaultText(fault),

@@ -1,6 +1,6 @@
-//! Exit statuses of results that no engine returned.
+//! The exit statuses of the program. `pe_tool::status` returns that of an engine's result.
 
-/// The exit status if help or the version was printed.
+/// The exit status if a command did its work, or help or the version was printed.
 pub(crate) const DONE: u8 = 0;
 
 /// The exit status if a fault refused the input.

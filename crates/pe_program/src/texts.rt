@@ -34,8 +34,8 @@ pub enum Engine {
 /// What to print.
 #[derive(Drop)]
 pub(crate) enum Text<'a, F> {
-    /// The output of an engine for an open file of this size, if that is known, perhaps after a heading, and with at most `most`
-    /// bytes.
+    /// The output of an engine for an open file, cut after `most` bytes. `size` is the file's size, if that is known; `is_headed`
+    /// says whether a heading comes before the output.
     File {
         engine: Engine,
         name: &'a str,

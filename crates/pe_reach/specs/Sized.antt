@@ -1,4 +1,4 @@
--- What an engine reads and writes that knows the size of its file.
+-- What an engine over a file of a known size reads and writes.
 use Rattle.std.specs.Prelude.{ℕ, ◌≡◌, ◌<◌, ◌≤◌, ◌+◌, ◌^◌, ◌⊎◌, Bool, List, [], ◌++◌, length, Some, Result, Ok, Err, IsErrOf}
 use Rattle.pe_view.specs.declared.fault.Fault.{Fault}
 use Rattle.pe_view.specs.Faults.{first_standing}
@@ -31,7 +31,7 @@ WrittenSized IsText ended len input (Err Read) written = written ≡ []
 WrittenSized IsText ended len input (Err Write) written = IsKnown ended len input (λ file. BeginsText (IsText file) written)
 WrittenSized IsText ended len input (Err Memory) written = written ≡ []
 
--- What an engine read and wrote that was told the size of its file, where IsText defines the text and the outcome of a file.
+-- What an engine over a file of a known size read and wrote, where IsText defines the text and the outcome of a file.
 pub record RanSized (IsText : List ℕ → Outcome → List ℕ → Type 0) (len : ℕ) (given given' taken taken' : List ℕ) (ended : Bool) (result : Result Outcome ToolError) : Type 0 where
   pub input : List ℕ
   pub written : List ℕ

@@ -1,7 +1,8 @@
 //! How much of a file decides its answers: what comes after the end of the bytes that its headers name changes none.
 //!
-//! [`needed`] says where that end is, and [`read_enough`] reads a file of a known size up to there. [`early_fault`] is a fault that
-//! the first bytes decide. [`run_sized`] is the engine of a report over such a file.
+//! The answers are the headers, the first fault and the laid-out image. [`needed`] says where that end is, and [`read_enough`]
+//! reads a file of a known size up to there. [`early_fault`] is a fault that the first bytes decide. [`run_sized`] is the engine of
+//! a report over such a file.
 #![tactic(auto)]
 
 pub mod laws;

@@ -41,8 +41,8 @@ fn raw_end(sections: &[SectionHeader], least: u64) -> u64
     end
 }
 
-/// Where the headers end with which a file begins, and where all bytes end that they name. `None` if they have one of faults 1 to
-/// 12.
+/// The end of the headers of a file that begins with these bytes, and the end of all bytes that its headers name. `None` if they
+/// have one of faults 1 to 12.
 fn ends(begin: &[u8]) -> Option<(u64, u64)>
     ensures { IfSome result (λ ends. (ends.0 ≡ headers_end begin.now) × (ends.1 ≡ image_end begin.now)) }
 {
@@ -54,8 +54,9 @@ fn ends(begin: &[u8]) -> Option<(u64, u64)>
     Some((headers_end, raw_end(headers.sections.as_slice(), least)))
 }
 
-/// How many first bytes of a file of `len` bytes decide its answers, by its headers among the bytes that it begins with. `None` if
-/// `begin` does not have all its headers, these have one of faults 1 to 12, or the file is shorter than they say.
+/// How many first bytes of a file of `len` bytes decide its answers. Its headers say so, which are read from `begin`, its first
+/// bytes. `None` if these do not hold all headers, the headers have one of faults 1 to 12, or the file is shorter than they say, or
+/// larger than any file may be.
 pub fn needed(begin: &[u8], len: u64) -> Option<u64>
     ensures { IfSome result (λ end. (end ≤ len) × (len ≤ 2 ^ 32)
         × ((more : List ℕ) → end ≤ length (begin.now ++ more) → length (begin.now ++ more) ≤ len → Decide len (begin.now ++ more))) }
@@ -70,8 +71,8 @@ pub fn needed(begin: &[u8], len: u64) -> Option<u64>
 /// The number that a file begins with if its first bytes are `MZ`.
 const MZ: u16 = 0x5a4d;
 
-/// The fault of each file of `len` bytes that begins with these, if it is larger than any file may be, or does not begin with `MZ`.
-/// `None` says nothing.
+/// The fault of each file of `len` bytes that begins with these: 1 if it is larger than any file may be, 3 if it does not begin
+/// with `MZ`. `None` does not mean that it has no fault.
 pub fn early_fault(begin: &[u8], len: u64) -> Option<Fault>
     ensures { IfSome result (λ fault. Refuse len begin.now fault) }
 {

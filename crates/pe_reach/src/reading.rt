@@ -11,7 +11,8 @@ use std::alloc::Allocator;
 /// How many bytes are read first; the headers and section tables that linkers write are among them.
 const FIRST: usize = 1 << 12;
 
-/// How many bytes are read of a file of `len` bytes that begins with these.
+/// How many bytes are read of a file of `len` bytes that begins with these, which were read. If they are more than `len`, the size
+/// was wrong, and the file is read whole.
 fn limit_of(begin: &[u8], len: u64) -> usize
     requires { length begin.now ≤ 2 ^ 12 }
     ensures least { length begin.now ≤ result }
@@ -63,9 +64,8 @@ pub(crate) fn read_rest<A: Allocator + Copy, R: Source>(
     Ok(read.bytes)
 }
 
-/// Reads as many first bytes of a file of `len` bytes as decide its answers. It is read whole, to its end or to 2^32 + 1 bytes, if
-/// these do not say how many are needed: [`needed`] returns `None` for its first 4,096 bytes. What comes after the bytes that are
-/// needed is not read.
+/// Reads as many first bytes of a file of `len` bytes as decide its answers, but at least 4,096 if it has as many. If [`needed`]
+/// returns `None` for those, it is read whole: to its end, or to 2^32 + 1 bytes.
 ///
 /// The error is `Read` if a read failed, and `Memory` if out of memory, never before the source returned a byte; it is never
 /// `Write`. Condition: the source has counted fewer than 2^64 - 1 failures so far.
