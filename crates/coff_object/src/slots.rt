@@ -8,7 +8,7 @@ use std::hash::{FoldHasher, Hasher};
 /// How many of its last bytes choose a string's slots.
 const LAST: usize = 256;
 
-/// A number that two strings seldom share, of the length and the last 256 bytes.
+/// A number computed from the length and the last 256 bytes of a string, which two strings seldom share.
 fn mark(text: &[u8]) -> u64
     ensures { result ≡ mark text.now }
 {
@@ -61,7 +61,7 @@ pub(crate) fn seek(
     None
 }
 
-/// Whether a string's last slot is free, and can store the number of one more than so many strings.
+/// Whether a string's last slot is free, and a slot can store the number of the string that comes after `texts` others.
 pub(crate) fn is_open(slots: &[u32], first: usize, texts: usize) -> bool
     requires { first + 4 ≤ 2 ^ 64 }
     ensures { IsTrue result ↔ IsOpen slots.now first texts }

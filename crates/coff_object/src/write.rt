@@ -69,7 +69,7 @@ fn check_sections<A: Allocator + Copy>(
     Ok(())
 }
 
-/// Adds the section table, if the first body is at a file offset.
+/// Adds the section table; `start` is the file offset of the first section's body.
 fn push_table<A: Allocator + Copy>(
     bytes: &mut Vec<u8, A>,
     places: &NamePlaces<A>,
@@ -174,7 +174,7 @@ fn is_bad_object<A: Allocator + Copy>(object: &Object<A>) -> bool
     has_bad_part(object, record_count(object.symbols.as_slice()))
 }
 
-/// Adds the COFF header, with the symbol table at a file offset.
+/// Adds the COFF header; `symbols_at` is the file offset of the symbol table, or 0 without symbols and strings.
 fn push_coff_header<A: Allocator + Copy>(
     bytes: &mut Vec<u8, A>,
     object: &Object<A>,
@@ -317,8 +317,8 @@ fn write_parts<A: Allocator + Copy>(
 /// The file of an object, or the least of faults 81 to 85, or out of memory.
 ///
 /// The COFF header, the optional header, the section table, each section's raw data and its relocations, the symbols and the string
-/// table follow one another without a gap. Nothing is allocated with fault 81. ("PE Format": COFF File Header, Section Table, COFF
-/// Relocations, COFF Symbol Table, COFF String Table.)
+/// table follow one another without a gap. An object with fault 81 is refused before anything is allocated. ("PE Format": COFF File
+/// Header, Section Table, COFF Relocations, COFF Symbol Table, COFF String Table.)
 pub fn write_object<A: Allocator + Copy>(
     alloc: A,
     object: &Object<A>,

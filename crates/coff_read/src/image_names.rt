@@ -16,7 +16,7 @@ fn long_name<'a>(strings: Option<ImageStrings<'a>>, field: &[u8]) -> Option<&'a 
 }
 
 /// The name of an image's section: the string of its string table whose offset the field gives, otherwise the field up to its first
-/// zero byte. Each call searches a long name for its end.
+/// zero byte. Each call searches for the end of a long name.
 pub fn section_name<'a>(strings: Option<ImageStrings<'a>>, field: &'a [u8; NAME_LEN]) -> &'a [u8]
     ensures { result.now ≡ section_name (option_map table_of strings.entry) field.now }
 {

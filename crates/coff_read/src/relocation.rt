@@ -38,7 +38,8 @@ pub(crate) fn relocation_at(view: View, at: u64) -> Relocation
     }
 }
 
-/// Tests fault 72 of the relocations of the section whose header is at a file offset, if the symbol table has so many records.
+/// Tests fault 72 of the relocations of the section whose header is at file offset `h`; `records` is how many records the symbol
+/// table has.
 pub(crate) fn check_relocations(view: View, h: u64, records: u64) -> Result<(), Fault>
     requires inside { h + 40 ≤ size_of view }
     requires records { records ≡ record_count (bytes_of view) }

@@ -48,7 +48,7 @@ fn fixups_of(alloc: Global, shape: Shape, module: Module, rva: u32) -> Option<Ve
     Some(fixups)
 }
 
-/// The base relocation table of fixups.
+/// The base relocation table of fixups, or `None` if their fields do not ascend.
 fn encoded(alloc: Global, fixups: &[Fixup]) -> Option<Vec<u8>> {
     if ascending(fixups) {
         encode_fixups(alloc, fixups).ok()
@@ -134,7 +134,7 @@ fn fixup_table(alloc: Global, shape: Shape, module: Module, data: u32) -> Option
     }
 }
 
-/// The parts of a module in order.
+/// The parts of a module, each at the first page after the part before it.
 fn parts_of(alloc: Global, shape: Shape, module: Module) -> Option<Parts> {
     let seed = module.own_seed();
     let code = bytes_of(alloc, seed ^ 0xc0de, shape.code)?;
@@ -164,7 +164,7 @@ fn parts_of(alloc: Global, shape: Shape, module: Module) -> Option<Parts> {
     })
 }
 
-/// The directories of a module.
+/// The data directories of a module: exports, imports and base relocations, and 13 empty ones.
 fn directories_of(parts: &Parts) -> [Directory; 16] {
     let mut directories = [Directory { rva: 0, size: 0 }; 16];
     directories[directory_index::EXPORT] = Directory {

@@ -25,7 +25,7 @@ pub(crate) enum Engine {
     Json,
 }
 
-/// Runs an engine over a file.
+/// Runs an engine over a file, and appends its output to `text`.
 fn write_text(
     alloc: Global,
     engine: Engine,

@@ -1,5 +1,5 @@
 -- The numbers that the rule of a fault compares, in the words of the rules: functions of the file's first bytes, of its size and of
--- the fault. They are told only if all of them are among these bytes.
+-- the fault. There are none if not all of them are among these bytes.
 use Rattle.std.specs.Prelude.{ℕ, ◌+◌, ◌-◌, ◌*◌, ◌/◌, ◌^◌, ◌==◌, ◌&&◌, ◌||◌, Bool, nat_lt, nat_le, List, length, Option, None, Some, if◌then◌else◌}
 use Rattle.pe_view.specs.declared.fault.Fault.{Fault}
 use Rattle.pe_view.specs.declared.fault.Place.{Place}

@@ -90,7 +90,7 @@ fn holds_optional(first: View, size: u64) -> bool
     first.len() >= 64 && optional_start(first) + size <= first.len()
 }
 
-/// Numbers of the headers, which the first bytes of a file hold up to the fields that are read.
+/// The first bytes of a file, which hold its headers up to the fields that are read.
 #[derive(Clone, Copy)]
 struct Beginning<'a> {
     first: View<'a>,
@@ -183,7 +183,7 @@ fn signature_detail(first: View, file_size: u64) -> Option<FaultDetail>
     Some(FaultDetail::Signature { offset, file_size })
 }
 
-/// The form of the optional header, as faults after fault 6 take it.
+/// The form of the optional header, by Magic. Every value but that of PE32 counts as PE32+; fault 6 refuses the others.
 fn magic(first: View) -> Magic
     requires { IsTrue (holds_optional (bytes_of first) 2) }
     ensures { result ≡ magic_of (bytes_of first.entry) }

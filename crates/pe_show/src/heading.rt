@@ -1,4 +1,4 @@
-//! `Page`: the first row of a page, and the headings of its tables.
+//! `Page`: the name and the options of a page; and the first row of a page, and the headings of its tables.
 
 ghost use Rattle.pe_text.specs.TextWriter.{IsReady};
 ghost use Rattle.pe_show.specs.Page.{AddsSome};

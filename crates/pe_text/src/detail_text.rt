@@ -6,7 +6,7 @@ use std::fmt::{self, Display};
 /// A number of a detail.
 #[derive(Clone, Copy, Debug, PartialEq, Eq)]
 pub enum Amount {
-    /// No number, after words that end a detail.
+    /// No number: these are the last words, or the part is empty.
     Nothing,
     /// A size in bytes or a count, shown in decimal.
     Count(u64),
@@ -17,7 +17,7 @@ pub enum Amount {
 /// Words, and the number after them.
 pub type DetailPart = (&'static str, Amount);
 
-/// The end of a detail.
+/// An empty part, of a detail that has fewer than three.
 const END: DetailPart = ("", Amount::Nothing);
 
 /// The numbers that the rule of a fault compares. Displayed, it is a clause: `16 bytes at 0x200, and the file has 520`.

@@ -84,7 +84,7 @@ pub(crate) fn write_bindings<S: Space, W: Sink>(text: &mut TextWriter<W>, space:
     }
 }
 
-/// Adds bytes in the form of a window's line.
+/// Adds a space and two hexadecimal digits for each byte.
 fn write_bytes<W: Sink>(line: &mut TextWriter<W>, bytes: &[u8])
     requires { IsReady W.failures line.old }
     ensures { Adds W.taken W.failures line.old line.new (flat_map byte_text bytes.now) }

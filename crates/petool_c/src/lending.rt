@@ -1,4 +1,4 @@
-//! What an open handle holds, lent to a call: `with_image!` and `with_space`.
+//! `with_image!` and `with_space`: lend a call the image or the space of an open handle.
 
 ghost use Rattle.std.specs.Prelude.{◌≡◌, None, Some, is_some};
 ghost use Rattle.std.specs.Fn.{CalledAtMut};
@@ -9,8 +9,9 @@ use pe_records_c::status;
 use pe_space::MappedSpace;
 use std::alloc::Global;
 
-/// The status that `$ask` returns of the image of an open handle, which keeps it; 6 if the handle is closed, and then `$ask` is not
-/// evaluated. It is a macro since `$ask` fills records that borrow for `'static`, which no closure of a generic lifetime may do.
+/// Evaluates `$ask` with `$opened`, the image of an open handle, and returns the status that it gives; the handle keeps the image.
+/// If the handle is closed, `$ask` is not evaluated, and the status is 6. It is a macro since `$ask` fills records that borrow for
+/// `'static`, which no closure of a generic lifetime may do.
 macro_rules! with_image {
     ($alloc:expr, $image:expr, |$opened:ident| $ask:expr) => {
         match std::mem::replace($image, ImageHandle::closed($alloc)).take() {
@@ -27,8 +28,8 @@ macro_rules! with_image {
 
 pub(crate) use with_image;
 
-/// Calls `ask` with the space of an open handle, which it may change, and returns the status that it returns. If the handle is
-/// closed, `ask` is not called, and the status is 6.
+/// Calls `ask` with the space of an open handle, which `ask` may change, and returns its status. If the handle is closed, `ask` is
+/// not called, and the status is 6.
 pub(crate) fn with_space<F: FnMut(&mut MappedSpace<Global>) -> u32>(
     alloc: Global,
     space: &mut Handle,

@@ -21,7 +21,7 @@ const SHAPE: Shape = Shape {
     fixups: 20_000,
 };
 
-/// Maps a set of four libraries, moves each image, and mixes in the output of `check` for each.
+/// Maps a set of four libraries, moves each image, and mixes in the bindings, the bytes and the output of `check` for each file.
 fn map_set(alloc: Global, digest: &mut Digest, seed: u64) -> Option<()> {
     let files = files_of(alloc, SHAPE, seed, 4)?;
     let set = files.set(alloc, 0)?;

@@ -52,7 +52,7 @@ fn read_symbol(digest: &mut Digest, symbol: &Symbol) {
     digest.bytes(symbol.aux);
 }
 
-/// Mixes in an object as the reader that makes lists returns it.
+/// Mixes in an object as `read_object` returns it, with its sections and symbols as lists.
 fn read_lists(alloc: Global, digest: &mut Digest, file: &[u8]) -> Option<()> {
     let object = read_object(alloc, file).ok()?;
     for section in &object.sections {
