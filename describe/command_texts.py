@@ -34,7 +34,7 @@ def _replaced(text: str, begin: str, body: str, end: str, new: str) -> str:
     """A source with other text between a beginning and an end. All but the new text are patterns. NoPlace if there is not one."""
     found = list(re.finditer(f"({begin}){body}(?={end})", text, re.M))
     if len(found) != 1:
-        raise NoPlace(f"what begins with {begin} stands in it {len(found)} times")
+        raise NoPlace(f"what begins with {begin} occurs in it {len(found)} times")
     return text[: found[0].end(1)] + new + text[found[0].end() :]
 
 

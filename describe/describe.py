@@ -154,10 +154,10 @@ def command_difference(commands, path):
 
 def compared(path, wanted):
     """How a file differs from its wanted contents, as a list of one sentence, or of none."""
-    stands = read(path)
-    if stands == wanted:
+    current = read(path)
+    if current == wanted:
         return []
-    lines = enumerate(zip([*stands.split("\n"), None], [*wanted.split("\n"), None]), 1)
+    lines = enumerate(zip([*current.split("\n"), None], [*wanted.split("\n"), None]), 1)
     number, one, other = next((number, one, other) for number, (one, other) in lines if one != other)
     return [f"{path}: line {number} is {one!r}, described as {other!r}"]
 
@@ -185,7 +185,7 @@ def misplaced(description):
 
 def wrong_parts(path, found, wanted):
     """Which of the wanted parts a file does not have exactly once, and which of its parts are not described."""
-    yield from (f"{path}: {it} stands in {found.count(it)} parts" for it in wanted if found.count(it) != 1)
+    yield from (f"{path}: {it} is in {found.count(it)} parts" for it in wanted if found.count(it) != 1)
     yield from (f"{path}: {it} is not described" for it in found if it not in wanted)
 
 

@@ -299,7 +299,7 @@ class Description:
 
     def _add_value(self, it: Value) -> None:
         if any(it.name == other.name or int(it.number, 0) == int(other.number, 0) for other in self._values.values):
-            raise Mistake(f"{it.name} or {it.number} stands twice")
+            raise Mistake(f"{it.name} or {it.number} is there twice")
         if int(it.number, 0) not in range(256 ** SIZES[self._values.type]):
             raise Mistake(f"{it.number} does not fit {self._values.type}")
         self._values.values.append(it)

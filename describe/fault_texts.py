@@ -58,7 +58,7 @@ def source(faults: Faults, path: str, text: str) -> str:
     name, kind, texts = TABLES[path]
     found = list(re.finditer(rf"^static {name}\b.*?^\];$", text, re.M | re.S))
     if len(found) != 1:
-        raise NoTable(f"the table {name} stands in it {len(found)} times")
+        raise NoTable(f"the table {name} occurs in it {len(found)} times")
     all_faults = faults.by_number()
     rows = [line for it in all_faults for line in _row([str(it.number), *texts(it)])]
     table = "\n".join([f"static {name}: [{kind}; {len(all_faults)}] = [", *rows, "];"])

@@ -66,7 +66,7 @@ class Faults:
         if indent == 0:
             self._heading(words)
         elif not self.tables:
-            raise Mistake("it stands in no table")
+            raise Mistake("it is in no table")
         elif indent == 2:
             self._add_fault(words)
         elif indent == 4:
@@ -105,7 +105,7 @@ class Faults:
         numbers = [it.number for it in self.by_number()]
         twice = sorted({it for it in numbers if numbers.count(it) > 1})
         if not numbers or twice:
-            raise Mistake(f"fault {twice[0]} stands twice" if twice else "it has no faults")
+            raise Mistake(f"fault {twice[0]} is there twice" if twice else "it has no faults")
         for it in self.by_number():
             wanted = [row for row in ROWS if row in it.rows or row not in OPTIONAL]
             if list(it.rows) != wanted or "|" in "".join([it.subject, it.rule, *it.rows.values()]):

@@ -213,8 +213,8 @@ DESCRIBED = [
     ("  written by tables.add_fixup\n", "  written by tables.add_fixups\n", "crates/pe_json/src/tables.rt"),
     ("    SMALL     4  too", "    SMALL     7  too", STATUSES),
     ("    SMALL     4  too", "    SMALL     7  too", "bindings/rust/petool-sys/src/lib.rs"),
-    ("    SMALL     4  too", "    SMALL     3  too", "SMALL or 3 stands twice"),
-    ("    SMALL     4  too", "    ABSENT    4  too", "ABSENT or 4 stands twice"),
+    ("    SMALL     4  too", "    SMALL     3  too", "SMALL or 3 is there twice"),
+    ("    SMALL     4  too", "    ABSENT    4  too", "ABSENT or 4 is there twice"),
     ("    SMALL     4  too", "    SMALL     four  too", "line "),
     ("    SMALL     4  too", "    SMALL     -4  too", "-4 does not fit u32"),
     ("    SMALL     4  too", "    SMALL     4 too", "line "),
@@ -277,7 +277,7 @@ FAULTS_DESCRIBED = [
     ("    explained  The table has 40 bytes.\n", "", EXPLAINED),
     ("    condition  n is under 64\n", "", "fault 2: its rows"),
     ("  85 object: a part", "  84 object: a part", "line "),
-    ("  61 end of the file", "  41 end of the file", "fault 41 stands twice"),
+    ("  61 end of the file", "  41 end of the file", "fault 41 is there twice"),
     ("    place      `File(60)`\n", "", "fault 4: its rows"),
     ("    place      `File(60)`\n", "    place      `File(60)`\n    places     `File(60)`\n", "line "),
     ("    place      `File(60)`", "    place      `File(60)` | `File(64)`", "fault 4: its rows"),
@@ -286,7 +286,7 @@ FAULTS_DESCRIBED = [
     ("1 to 38    an image", "1 to 39    an image", "39, which is no fault"),
     ("name plan fault              53         the plan of an image to be written\n", "", "fault 53 is in no range"),
     ("faults exports\n", "fault exports\n", "line "),
-    ("faults headers\n", "", "it stands in no table"),
+    ("faults headers\n", "", "it is in no table"),
     ("    condition  n is under 64", "   condition  n is under 64", "a fault has an indent of 2"),
 ]
 
