@@ -28,7 +28,7 @@ fn is_bad_raw(raw: RawData, flags: u32) -> bool
     }
 }
 
-/// Whether a section does not fit the format, if the symbol table has so many records.
+/// Whether a section does not fit the format; `records` is how many records the symbol table has.
 fn is_bad_section<A: Allocator>(section: &ObjSection<A>, records: u64) -> bool
     ensures { result ≡ is_bad_section records (section_view section.now) }
 {
@@ -39,7 +39,7 @@ fn is_bad_section<A: Allocator>(section: &ObjSection<A>, records: u64) -> bool
             .any(|relocation| is_bad_relocation(relocation, records))
 }
 
-/// Whether a symbol's section number is no section's, if there are so many sections; 0xfffe and 0xffff are reserved.
+/// Whether a symbol's section number is that of none of `count` sections; 0xfffe and 0xffff are reserved.
 fn is_bad_number(section: SymbolSection, count: usize) -> bool
     ensures { result ≡ is_bad_number count section }
 {
@@ -51,7 +51,7 @@ fn is_bad_number(section: SymbolSection, count: usize) -> bool
     }
 }
 
-/// Whether a symbol does not fit the format, if there are so many sections.
+/// Whether a symbol of an object with `count` sections does not fit the format.
 fn is_bad_symbol(symbol: &Symbol, count: usize) -> bool
     ensures { result ≡ is_bad_symbol count (symbol_view symbol.now) }
 {
@@ -74,7 +74,8 @@ fn any_bad_symbol(symbols: &[Symbol], count: usize) -> bool
     symbols.iter().any(|symbol| is_bad_symbol(symbol, count))
 }
 
-/// Whether a section or a symbol of an object does not fit the format, if its symbols have so many records: a part of fault 85.
+/// Whether a section or a symbol of an object does not fit the format: a part of fault 85. `records` is how many records the
+/// symbols have.
 pub fn has_bad_part<A: Allocator>(object: &Object<A>, records: u64) -> bool
     ensures { result ≡ (list_any (is_bad_section records) (object_view object.now).sections || list_any (is_bad_symbol (length (object_view object.now).sections)) (object_view object.now).symbols) }
 {

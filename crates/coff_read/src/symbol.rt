@@ -133,7 +133,7 @@ pub(crate) fn symbol_at<'a>(view: View<'a>, at: u64, name: &'a [u8]) -> Symbol<'
     }
 }
 
-/// A list of the symbols, so many, in table order, if none has one of faults 69 to 71.
+/// A list of the `count` symbols in table order, if none has one of faults 69 to 71.
 pub(crate) fn read_symbols<'a, A: Allocator + Copy>(
     alloc: A,
     ends: &mut TextEnds<A>,

@@ -115,10 +115,10 @@ fn print_line<A: Allocator + Copy, W: Sink>(
 /// `Done` means that it has none of these, and `Refused` has the first that it has. The text of the line is not part of the
 /// contract.
 ///
-/// At most 2^32 + 1 bytes are read; an outcome and `Write` come only after so many, or after the reader's end. The error is `Read`
-/// or `Write` exactly if a call of that device failed, and `Memory` never comes if the reader returned no byte. On `Read` nothing
-/// was written. On `Write` and `Memory` bytes may have been: the line is written row by row, and a row may need memory. Condition:
-/// each device has counted fewer than 2^64 - 1 failures so far.
+/// At most 2^32 + 1 bytes are read; an outcome and `Write` come only after that many, or after the reader's end. The error is
+/// `Read` or `Write` exactly if a call of that device failed, and `Memory` never comes if the reader returned no byte. On `Read`
+/// nothing was written. On `Write` and `Memory` bytes may have been: the line is written row by row, and a row may need memory.
+/// Condition: each device has counted fewer than 2^64 - 1 failures so far.
 pub fn json<A: Allocator + Copy, R: Source, W: Sink>(
     alloc: A,
     name: &[u8],

@@ -115,7 +115,7 @@ fn slot_ranges<A: Allocator + Copy>(
     Ok(ranges)
 }
 
-/// Whether it is known that no field of a block with this PageRVA and so many entries shares a byte with a slot.
+/// Whether it is known that no field of a block with this PageRVA and `count` entries shares a byte with a slot.
 fn is_clear<A: Allocator + Copy>(slots: &Ranges<A>, page: u32, count: u32) -> bool
     ensures { IsTrue result → IsClear page (ranges_in slots.now) }
 {

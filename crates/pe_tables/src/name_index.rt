@@ -43,7 +43,7 @@ impl<'a, A: Allocator + Copy> NameIndex<'a, A> {
         }
     }
 
-    /// No names, with capacity for so many.
+    /// No names yet, with capacity for `names` of them.
     pub fn with_capacity(alloc: A, names: usize) -> Result<NameIndex<'a, A>, AllocError>
         ensures exports { IfOk result (λ index. index.exports.items ≡ []) }
         ensures ordinals { IfOk result (λ index. index.ordinals.items ≡ []) }

@@ -16,7 +16,7 @@ pub struct NameTrail<A: Allocator> {
     pub(crate) nodes: Vec<Option<usize>, A>,
 }
 
-/// The node after so many blocks of a trail, if the index has one and the trail has as many blocks.
+/// The node after `blocks` blocks of a trail, if the index has one and the trail has as many blocks.
 pub(crate) fn node_after(trail: &[Option<usize>], blocks: usize) -> Option<usize>
     ensures { result ≡ node_after trail.now blocks }
 {

@@ -53,7 +53,7 @@ fn search<'a>(run: &[(&[u8], Option<Target<'a>>)], text: &[u8]) -> Option<Option
     Some(run[index].1)
 }
 
-/// Whether a string is in a run; `behind` says that it comes after all of them.
+/// Whether a string is in a run; `behind` says that it comes after all strings of the run.
 fn is_in(run: &[(&[u8], Option<Target>)], text: &[u8], behind: bool) -> bool
     requires ascending { TextsAscend run.now }
     requires tells { IsTrue behind → All (λ entry. IsBefore entry.0.now text.now) run.now }
@@ -78,7 +78,7 @@ impl<'a, A: Allocator + Copy> TextMap<'a, A> {
         }
     }
 
-    /// No strings, with capacity for so many that ascend.
+    /// No strings yet, with capacity for `texts` of them if they ascend.
     pub fn with_capacity(alloc: A, texts: usize) -> Result<TextMap<'a, A>, AllocError>
         ensures { IfOk result (λ map. entries_in map ≡ []) }
     {

@@ -18,7 +18,7 @@ pub enum Part<'a> {
     Name(Option<&'a [u8]>),
     /// A number in decimal.
     Decimal(u64),
-    /// A number in at least so many hexadecimal digits.
+    /// A number in hexadecimal, and the least number of digits.
     Hex(u64, u8),
     /// A number in 2 hexadecimal digits.
     Hex2(u8),
