@@ -45,9 +45,10 @@ def item_of(call: Call) -> str:
 
 def _said(call: Call, table: Table) -> List[str]:
     """The comment of the call."""
+    faults = " and ".join(call.faults.rsplit(", ", 1))
     status = (
         f"The status is 0; 4 if there are more {table.items} than rows, which then hold the first of them; 1 with the first of faults"
-        f" {call.faults}; or 2, out of memory: memory is allocated {call.memory}. The count is that of all {table.items};"
+        f" {faults}; or 2, out of memory: memory is allocated {call.memory}. The count is that of all {table.items};"
         f' 1 and 2 leave it and the rows unchanged. ("PE Format": {table.section}.)'
     )
     first = f"Reads the {table.items} of an image, in the order of its {table.table}, into the caller's rows."

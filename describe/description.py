@@ -356,9 +356,9 @@ class Description:
         self._record.fields.append(Field(name, kind, unit, named, meaning, is_joined, place=_place(place) if place else None))
 
     def _call(self, line: str) -> None:
-        if line.strip().startswith("asks "):
+        if line.strip().startswith("checks "):
             call = self.calls[-1]
-            call.faults, call.memory = line.strip()[len("asks ") :].split("; memory ")
+            call.faults, call.memory = line.strip()[len("checks ") :].split("; memory ")
         elif line.strip().startswith("reads "):
             self.calls[-1].reads = line.strip()[len("reads ") :]
         else:

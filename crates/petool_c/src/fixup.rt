@@ -19,8 +19,8 @@ use std::alloc::Global;
 /// Reads the base relocations of an image, in the order of its base relocation table, into the caller's rows.
 ///
 /// The status is 0; 4 if there are more base relocations than rows, which then hold the first of them; 1 with the first of faults 1
-/// to 15, 24 to 38; or 2, out of memory: memory is allocated as for the imports, or after the head of the first block. The count is
-/// that of all base relocations; 1 and 2 leave it and the rows unchanged. ("PE Format": The .reloc Section.)
+/// to 15 and 24 to 38; or 2, out of memory: memory is allocated as for the imports, or after the head of the first block. The count
+/// is that of all base relocations; 1 and 2 leave it and the rows unchanged. ("PE Format": The .reloc Section.)
 #[unsafe(no_mangle)]
 pub extern "C" fn petool_fixups(
     alloc: Global,

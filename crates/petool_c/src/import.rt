@@ -18,9 +18,9 @@ use std::alloc::Global;
 
 /// Reads the imports of an image, in the order of its import table, into the caller's rows.
 ///
-/// The status is 0; 4 if there are more imports than rows, which then hold the first of them; 1 with the first of faults 1 to 15,
-/// 24 to 32; or 2, out of memory: memory is allocated after faults 1 to 15 and the first import. The count is that of all imports;
-/// 1 and 2 leave it and the rows unchanged. ("PE Format": The .idata Section.)
+/// The status is 0; 4 if there are more imports than rows, which then hold the first of them; 1 with the first of faults 1 to 15
+/// and 24 to 32; or 2, out of memory: memory is allocated after faults 1 to 15 and the first import. The count is that of all
+/// imports; 1 and 2 leave it and the rows unchanged. ("PE Format": The .idata Section.)
 #[unsafe(no_mangle)]
 pub extern "C" fn petool_imports<'a>(
     alloc: Global,
