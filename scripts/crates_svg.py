@@ -92,7 +92,7 @@ def picture():
         for at, name in enumerate(row):
             places[name] = left + at * (WIDTH + GAP), height - MARGIN - HEIGHT - number * (HEIGHT + RISE)
     lines = [f'<svg xmlns="http://www.w3.org/2000/svg" viewBox="0 0 {width} {height}" width="{width}" height="{height}" {STYLE}>']
-    lines.append("  <title>petool: its crates, and which stands on which</title>")
+    lines.append("  <title>petool: its crates, and which uses which</title>")
     lines.append(f'  <rect width="{width}" height="{height}" fill="#ffffff"/>')
     for name, (left, top) in places.items():
         for low in direct(name, below):
