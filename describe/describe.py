@@ -16,6 +16,7 @@ import call_texts
 import command_texts
 import fault_texts
 import header_texts
+import module_texts
 import page_texts
 import plan_texts
 import python_texts
@@ -78,6 +79,19 @@ FIELDS = {
 }
 #: The definitions of pe_records_c of which rows are written, and the records of each.
 ROWS = {"crates/pe_records_c/specs/HeaderRows.antt": ["section", "headers"]}
+
+
+def module_part(path):
+    """The part of a crate's root that has its modules, which are the files beside it."""
+
+    def form(_, what):
+        if what != "modules":
+            raise KeyError(what)
+        return module_texts.ROOTS[path]((TOP / path).parent)
+
+    return form
+
+
 #: The files of which parts are written from the records, each between two comments.
 PARTS = {
     HEADER: c_texts.declarations,
@@ -88,6 +102,7 @@ PARTS = {
     "docs/C.md": page_texts.c_part,
     **{path: form for path, (form, _) in FIELDS.items()},
     **{path: rattle_records.definition_part for path in ROWS},
+    **{path: module_part(path) for path in module_texts.ROOTS},
 }
 
 
@@ -181,6 +196,8 @@ def misplaced(description):
         yield from wrong_parts(path, regions.parts(read(path), RECORDS), [f"{it} of headers" for it in wanted])
     for path, records in ROWS.items():
         yield from wrong_parts(path, regions.parts(read(path), RECORDS), [f"rows of {it}" for it in records])
+    for path in module_texts.ROOTS:
+        yield from wrong_parts(path, regions.parts(read(path), RECORDS), ["modules"])
 
 
 def wrong_parts(path, found, wanted):

@@ -43,7 +43,7 @@ COPIED = [
     "packaging/debian/libpetool0.symbols",
     "crates/pe_head/specs/Head.antt",
     "crates/pe_reach/proofs/Headers.antt",
-    "crates/pe_records_c/specs/HeaderRows.antt",
+    "crates/pe_records_c/specs",
     "crates/pe_text/specs/HeaderFields.antt",
     "crates/pe_write/proofs/PlanHead.antt",
     "crates/pe_write/specs/PlanHeaders.antt",
@@ -103,6 +103,10 @@ VALUES_WRITTEN = [
 ]
 #: Another place, name, width or order of a field, in each file that has the fields of the headers, and parts that are missing.
 FIELDS_WRITTEN = [
+    ("crates/petool_c/src/lib.rt", "\nmod fixup;\n", "\n"),
+    ("crates/petool_c/src/lib.rt", "#[cfg(test)]\nmod tests;\n", ""),
+    ("crates/pe_records_c/src/lib.rt", "pub mod import;\n", "mod import;\n"),
+    ("crates/pe_records_c/specs/Lib.antt", "pub mod HeaderRows\n", ""),
     ("crates/pe_head/src/headers.rt", "    pub size_of_stack_commit: u64,", "    pub size_of_stack_commit: u32,"),
     ("crates/pe_head/src/headers.rt", "/// How many bytes of stack to commit.", "/// The bytes of stack to commit."),
     ("crates/pe_head/src/headers.rt", "    // from describe/records.txt: fields of headers\n", ""),

@@ -1,3 +1,4 @@
+-- from describe/records.txt: modules
 pub mod Counts
 pub mod ExportRows
 pub mod Faults
@@ -14,3 +15,5 @@ pub mod Spaces
 pub mod SymbolRows
 pub mod TableTests
 pub mod Wants
+
+-- end of describe/records.txt

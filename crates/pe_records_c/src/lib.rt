@@ -9,6 +9,7 @@
 //! ```
 #![tactic(auto)]
 
+// from describe/records.txt: modules
 pub mod export;
 pub mod fault;
 pub mod fixup;
@@ -28,3 +29,4 @@ pub mod status;
 pub mod symbol;
 pub mod tables;
 pub mod text;
+// end of describe/records.txt

@@ -10,6 +10,7 @@
 //! ```
 #![tactic(auto)]
 
+// from describe/records.txt: modules
 mod export;
 mod fixup;
 mod headers;
@@ -28,3 +29,4 @@ mod tables;
 #[cfg(test)]
 mod tests;
 mod words;
+// end of describe/records.txt
