@@ -34,6 +34,7 @@ FAULTS = "describe/faults.txt"
 COMMANDS = command_texts.SOURCE
 HEADER = "bindings/c/petool.h"
 RUST = "bindings/rust/petool-sys/src/lib.rs"
+SHOWN = "bindings/rust/petool/src/lib.rs"
 PACKAGE = "bindings/python/petool"
 #: The modules of the package that have values, or classes with the fields of records.
 MODULES = ("_fault", "_image", "_library", "_object", "_space")
@@ -59,6 +60,13 @@ def rust_part(description, what):
     """A part of the crate petool-sys, with a blank line at both ends."""
     form = {"values": rust_texts.values, "records": rust_texts.records, "calls": rust_texts.calls}[what]
     return ["", *form(description), ""]
+
+
+def shown_part(description, what):
+    """The part of the crate petool that has records of petool-sys."""
+    if what != "shown records":
+        raise KeyError(what)
+    return rust_texts.shown(description)
 
 
 def plan_part(description, what):
@@ -96,6 +104,7 @@ def module_part(path):
 PARTS = {
     HEADER: c_texts.declarations,
     RUST: rust_part,
+    SHOWN: shown_part,
     **{f"{PACKAGE}/{module}.py": python_texts.module_part for module in MODULES},
     MAN: lambda description, _: page_texts.synopsis(description),
     JSON: page_texts.json_part,
@@ -196,8 +205,8 @@ def misplaced(description):
         yield from wrong_parts(path, regions.parts(read(path), RECORDS), [f"{it} of headers" for it in wanted])
     for path, records in ROWS.items():
         yield from wrong_parts(path, regions.parts(read(path), RECORDS), [f"rows of {it}" for it in records])
-    for path in module_texts.ROOTS:
-        yield from wrong_parts(path, regions.parts(read(path), RECORDS), ["modules"])
+    for path, wanted in {**dict.fromkeys(module_texts.ROOTS, "modules"), SHOWN: "shown records"}.items():
+        yield from wrong_parts(path, regions.parts(read(path), RECORDS), [wanted])
 
 
 def wrong_parts(path, found, wanted):

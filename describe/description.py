@@ -87,6 +87,7 @@ class Record:
     fields: List[Field] = field(default_factory=list)
     python_module: str = ""  #: of the class that has its fields
     python_order: List[str] = field(default_factory=list)
+    rust_shown: str = ""  #: its name in the crate petool, which shows it as petool-sys has it
     rattle_file: str = ""  #: the source of pe_records_c that has it, which is written
     rattle_source: Tuple[str, str, str] = ("", "", "")  #: crate, module and type of the values that it shows
     rattle_filler: str = ""  #: the function that fills rows with those of a list
@@ -320,6 +321,8 @@ class Description:
             self._record.python_order = rest[6:].split(", ")
         elif first == "python":
             self._record.fields[-1].python = (*COLUMNS.split(rest.strip()), "")[:3]
+        elif first == "rust":
+            self._record.rust_shown = _matched(r"shown as (\w+)", rest)[0]
         elif first == "rattle":
             file, crate, module, kind, filler = _matched(r"in (\w+) of (\w+)\.(\w+)\.(\w+)(?:, (\w+))?", rest)
             self._record.rattle_file, self._record.rattle_source, self._record.rattle_filler = file, (crate, module, kind), filler

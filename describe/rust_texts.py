@@ -53,6 +53,13 @@ def _constants(found: Values) -> List[str]:
     return lines
 
 
+def shown(description: Description) -> List[str]:
+    """The records that the crate petool shows as petool-sys has them, with their names there."""
+    found = sorted((it.camel(), it.rust_shown) for it in description.records.values() if it.rust_shown)
+    names = [name if name == new else f"{name} as {new}" for name, new in found]
+    return ["#[doc(inline)]", f"pub use petool_sys::{{{', '.join(names)}}};"]
+
+
 def values(description: Description) -> List[str]:
     """The constants of all enums, with a blank line between two."""
     lines: List[str] = []

@@ -25,6 +25,7 @@ FAULT_CRATES = (
 #: The crates that have words of commands.
 WORD_CRATES = ("pe_words", "pe_bench")
 COPIED = [
+    "bindings/rust/petool/src/lib.rs",
     "README.md",
     "bindings/c/layout.c",
     "bindings/c/petool.h",
@@ -103,6 +104,7 @@ VALUES_WRITTEN = [
 ]
 #: Another place, name, width or order of a field, in each file that has the fields of the headers, and parts that are missing.
 FIELDS_WRITTEN = [
+    ("bindings/rust/petool/src/lib.rs", "ObjectRelocation as Relocation, ", "ObjectRelocation, "),
     ("crates/petool_c/src/lib.rt", "\nmod fixup;\n", "\n"),
     ("crates/petool_c/src/lib.rt", "#[cfg(test)]\nmod tests;\n", ""),
     ("crates/pe_records_c/src/lib.rt", "pub mod import;\n", "mod import;\n"),

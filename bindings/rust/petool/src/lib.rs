@@ -42,8 +42,10 @@ pub use headers::{Headers, Section};
 pub use image::Image;
 pub use object::{Object, ObjectSection, Symbol};
 pub use opened::OpenImage;
+// from describe/records.txt: shown records
 #[doc(inline)]
 pub use petool_sys::{Binding, Directory, Fixup, Moved, ObjectHeader, ObjectRelocation as Relocation, SectionHeader};
+// end of describe/records.txt
 pub use set::{judge, Entry, Policy};
 pub use space::{Placed, Space};
 pub use tables::{Import, Key, Tables, Target};
