@@ -1,11 +1,16 @@
 """How much of a file the program reads: what comes after the end of the bytes that the headers name changes nothing, and is not
-read if the file's size is known. A file that comes by a pipe is read whole, so the two ways are compared."""
+read if the file's size is known. A file that comes by a pipe is read whole, so the two ways are compared. A file that another
+process changes meanwhile gives what one of its states gives."""
 
+import contextlib
+import itertools
 import os
 import pathlib
+import re
 import resource
 import subprocess
 import tempfile
+import threading
 import unittest
 
 from .files import library, put
@@ -20,6 +25,10 @@ LATE = bytes(put(bytearray(LIBRARY[:0x200]), (0x14C, (0x2200).to_bytes(4, "littl
 
 #: Where the bytes end that the headers name, and tails that come after them.
 TAILS = [b"", b"\xff", b"MZ" * 5000]
+
+#: A library of 4 MB, large enough to be changed while it is read. If zeros took the place of what was cut off, its forwarders would
+#: have a fault (22), and not its section (13).
+LARGE = library([b"module." + b"x" * (1 << 18)] * 16)
 
 #: How many bytes are read of a file before its headers are looked at.
 FIRST = 4096
@@ -109,3 +118,113 @@ class Reading(unittest.TestCase):
         # the system gives the size 0 for it
         status, printed, _ = self.run_over(["check", "/proc/version"], subprocess.DEVNULL)
         self.assertEqual((status, printed), (1, b"fault 3 image 0 file 0x00000000\n"))
+
+    def test_files_without_a_size_are_read_to_their_end(self):
+        self.path.write_bytes(LATE)
+        texts = {command: self.by_pipe(command) for command in COMMANDS}
+        pipe = str(self.path.with_name("pipe"))
+        os.mkfifo(pipe)
+        for command in COMMANDS:
+            with self.subTest(command=command), subprocess.Popen(["cp", str(self.path), pipe]):
+                status, printed, complained = self.run_over(words_of(command, pipe), subprocess.DEVNULL)
+                self.assertEqual((status, printed.replace(b'"pipe"', b'"-"'), complained), texts[command])
+
+    def test_standard_input_is_read_from_where_it_is(self):
+        self.path.write_bytes(LATE)
+        texts = {command: self.by_pipe(command) for command in COMMANDS}
+        self.path.write_bytes(b"before" + LATE + b"after")
+        for command in COMMANDS:
+            with self.subTest(command=command), open(self.path, "rb", buffering=0) as file:
+                file.seek(len(b"before"))
+                self.assertEqual(self.run_over(words_of(command, "-"), file), texts[command])
+
+    def test_devices_without_an_end_and_folders_end_the_program(self):
+        limited = {"preexec_fn": lambda: resource.setrlimit(resource.RLIMIT_AS, (1 << 28, 1 << 28))}
+        for path, status in (("/dev/null", 1), ("/dev/zero", 4), ("/dev/full", 4), (str(self.path.parent), 3)):
+            for command in COMMANDS:
+                with self.subTest(path=path, command=command):
+                    self.assertEqual(self.run_over(words_of(command, path), subprocess.DEVNULL, **limited)[0], status)
+
+    @contextlib.contextmanager
+    def while_another(self, changes, pause):
+        """Lets another thread change the file by `changes`, again and again, with a pause in seconds between two calls."""
+        ended = threading.Event()
+
+        def work():
+            while not ended.wait(pause):
+                changes()
+
+        thread = threading.Thread(target=work)
+        thread.start()
+        try:
+            yield
+        finally:
+            ended.set()
+            thread.join()
+
+    @staticmethod
+    def without_size(result):
+        """A result without the size of a file that ends within its section, and this size; it is `None` if none is told."""
+        status, printed, complained = result
+        size = re.search(rb", and the file has ([0-9]+)\n$", complained)
+        return (status, printed, complained[: size.start()] if size else complained), int(size[1]) if size else None
+
+    def states(self, files):
+        """What each command gives for these files, without their sizes."""
+        states = {command: [] for command in ("check", "map")}
+        for file in files:
+            self.path.write_bytes(file)
+            for command, results in states.items():
+                results.append(self.without_size(self.by_pipe(command))[0])
+        return states
+
+    def assert_one_of(self, states, count):
+        """Runs each command so many times: each result is one of these. Returns the sizes that were told."""
+        sizes = set()
+        for command, results in states.items():
+            for _ in range(count):
+                result, size = self.without_size(self.by_path(command))
+                self.assertIn(result, results, command)
+                sizes.add(size)
+        return sizes - {None}
+
+    def test_a_file_that_shrinks_and_grows_meanwhile_was_cut_or_whole(self):
+        states = self.states((LARGE, LARGE[:0x200], b""))
+        sizes = itertools.cycle((0x200, FIRST, len(LARGE) // 2, 0))
+
+        def changes():
+            with open(self.path, "r+b", buffering=0) as file:
+                size = next(sizes)
+                file.truncate(size)
+                file.seek(size)
+                for start in range(size, len(LARGE), 1 << 20):
+                    file.write(LARGE[start : start + (1 << 20)])
+
+        self.path.write_bytes(LARGE)
+        with self.while_another(changes, 0.005):
+            self.assertLessEqual(self.assert_one_of(states, 50), set(range(0x200, len(LARGE))))
+
+    def test_a_file_that_is_replaced_or_removed_meanwhile_was_one_of_them_or_none(self):
+        files = (b"", LARGE[:0x200], LIBRARY, LARGE)
+        states = self.states(files)
+        os.remove(self.path)
+        for command, results in states.items():
+            results.append(self.by_path(command))
+            self.assertEqual(results[-1][0], 3)
+        versions = [self.path.with_name(str(index)) for index in range(len(files))]
+        for version, file in zip(versions, files):
+            version.write_bytes(file)
+        self.path.write_bytes(LARGE)
+        beside = self.path.with_name("beside")
+        steps = itertools.cycle((*versions, None))
+
+        def changes():
+            version = next(steps)
+            if version is None:
+                os.remove(self.path)
+            else:
+                os.link(version, beside)
+                os.replace(beside, self.path)
+
+        with self.while_another(changes, 0):
+            self.assertLessEqual(self.assert_one_of(states, 50), {0x200})
