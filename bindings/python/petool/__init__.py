@@ -10,7 +10,9 @@
 
 What is raised:
 
-- ``FormatFault``, a ``ValueError``: a rule of the format is broken; its ``number`` is that of docs/FAULTS.md.
+- ``FormatFault``, a ``ValueError``: a rule of the format is broken; its ``number`` is that of docs/FAULTS.md, and its ``file`` the
+  name of the file that was opened. For 48 to 50 its ``module`` and ``key`` are those that the import names.
+- ``OSError``: ``open`` cannot read a file, whose name is its ``filename``.
 - ``IndexError``: bytes that are not all in an image (``Image.read``, ``read_into``), or an index without an image (``Space.move``)
   or without a section (``Object.relocations``).
 - ``KeyError``: nothing is exported under a key (``Image.exports[key]``). Both are ``LookupError``.

@@ -169,16 +169,17 @@ class FileSet:
     """The entries of a set, (name, file, base) each, in the form that a call takes; holds all of their bytes."""
 
     def __init__(self, images: Sequence[Tuple[Union[str, bytes], Any, int]]) -> None:
-        self._held: List[FileBytes] = []
+        self._names: List[FileBytes] = []
+        self.files: List[FileBytes] = []
         entries = [self._entry(*image) for image in images]
         self.count = len(entries)
         self.entries = (_records.Entry * max(self.count, 1))(*entries)
 
     def _entry(self, name: Union[str, bytes], data: Any, base: int) -> _records.Entry:
-        text = self._text(name.encode() if isinstance(name, str) else name)
-        return _records.Entry(text, self._text(data), unsigned(base, 64, "a base"))
+        text = self._text(self._names, name.encode() if isinstance(name, str) else name)
+        return _records.Entry(text, self._text(self.files, data), unsigned(base, 64, "a base"))
 
-    def _text(self, data: Any) -> _records.Text:
-        held = FileBytes(data)
-        self._held.append(held)
-        return _records.Text(held.address, held.length)
+    @staticmethod
+    def _text(held: List[FileBytes], data: Any) -> _records.Text:
+        held.append(FileBytes(data))
+        return _records.Text(held[-1].address, held[-1].length)

@@ -4,7 +4,7 @@ from __future__ import annotations
 
 import ctypes
 import enum
-from typing import Any, Optional, Tuple
+from typing import Any, Optional, Tuple, Union
 
 from . import _library, _records
 from ._library import library
@@ -55,12 +55,16 @@ class FormatFault(ValueError):
     subject: str  #: what is at the place
     rule: str  #: which rule it breaks
     cycle: Optional[int]  #: for fault 50 the length of the cycle of forwarders; otherwise None
+    file: Optional[str]  #: the name of the file, if it was opened by its name or the caller named it; otherwise None
+    module: Optional[bytes]  #: for faults 48 to 50 the module that the import names, whose slot is at the place; otherwise None
+    key: Union[bytes, int, None]  #: for faults 48 to 50 the name or the ordinal that the import names; otherwise None
 
     def __init__(self, number: int, image: int, place: int, at: int, cycle: Optional[int] = None) -> None:
         super().__init__(number, image, place, at, cycle)
         self.number, self.image, self.place, self.at = number, image, Place(place), at
         self.subject, self.rule = _words(number)
         self.cycle = cycle
+        self.file = self.module = self.key = None
 
     def __str__(self) -> str:
         return f"fault {self.number}: {_line(self)}"
@@ -76,12 +80,14 @@ def raise_for(status: int) -> None:
         raise RuntimeError(f"libpetool returned status {status}")
 
 
-def ask(function: Any, *arguments: Any, cycle: Optional[ctypes.c_uint32] = None) -> int:
-    """The status of a call whose last argument is a fault: OK, ABSENT or SMALL. The others are raised."""
+def ask(function: Any, *arguments: Any, cycle: Optional[ctypes.c_uint32] = None, file: Optional[str] = None) -> int:
+    """The status of a call whose last argument is a fault: OK, ABSENT or SMALL. The others are raised; a fault names the file."""
     fault = _records.Fault()
     status: int = function(*arguments, ctypes.byref(fault))
     if status == _library.FAULT:
         length = cycle.value if cycle is not None and fault.number == 50 else None
-        raise FormatFault(fault.number, fault.image, fault.place, fault.at, length)
+        refused = FormatFault(fault.number, fault.image, fault.place, fault.at, length)
+        refused.file = file
+        raise refused
     raise_for(status)
     return status

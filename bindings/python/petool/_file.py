@@ -2,7 +2,7 @@
 
 from __future__ import annotations
 
-from typing import Any, TypeVar
+from typing import Any, Optional, TypeVar
 
 from ._bytes import Buffer, FileBytes
 from ._fault import ask
@@ -13,13 +13,14 @@ Kind = TypeVar("Kind", bound="OfFile")
 class OfFile:
     """What is read from a file's bytes, which it holds until close(), or until the end of a `with`."""
 
-    def __init__(self, data: Buffer) -> None:
+    def __init__(self, data: Buffer, name: Optional[str]) -> None:
         self._file = FileBytes(data)
+        self._name = name
 
     def _ask(self, function: Any, *arguments: Any) -> int:
         """The status of a call on the file, or its fault as an exception."""
         with self._file.hold():
-            return ask(function, self._file.address, self._file.length, *arguments)
+            return ask(function, self._file.address, self._file.length, *arguments, file=self._name)
 
     def close(self) -> None:
         """Releases the bytes. Results of earlier calls stay valid, except sequences whose rows have strings."""

@@ -3,8 +3,10 @@
 from __future__ import annotations
 
 import ctypes
+import errno
 import mmap
 import os
+import stat
 from collections.abc import Mapping as AbstractMapping
 from ctypes import byref
 from dataclasses import dataclass, fields
@@ -181,11 +183,13 @@ def _export_maker(file: FileBytes, by_name: bool) -> Callable[..., Export]:
     return make
 
 
-def _import_maker(file: FileBytes) -> Callable[..., Import]:
+def imports_of(file: FileBytes, rows: memoryview) -> Rows[Import]:
+    """The imports of an image, whose rows a call has filled."""
+
     def make(module_at: int, module: int, at: int, length: int, slot: int, ordinal: int, by_ordinal: bool) -> Import:
         return Import(file.text(module_at, module), ordinal if by_ordinal else file.text(at, length), slot)
 
-    return make
+    return Rows(rows, LAYOUTS["import"], make)
 
 
 class Exports(AbstractMapping):  # type: ignore[type-arg]
@@ -270,11 +274,11 @@ class Image(OfFile):
 
     With ``check=False`` only the headers and sections are checked (1 to 15), and each table when it is first read. Nothing is
     copied, and nobody may change the bytes while the image is open; a bytearray cannot be resized until ``close()``. After that
-    each use raises ValueError. Any number of threads may use one image.
+    each use raises ValueError. Any number of threads may use one image. ``file`` is the name of the file, for its faults.
     """
 
-    def __init__(self, data: Buffer, *, check: bool = True) -> None:
-        super().__init__(data)
+    def __init__(self, data: Buffer, *, check: bool = True, file: Optional[str] = None) -> None:
+        super().__init__(data, file)
         self._exports: Optional[Exports] = None
         self._imports: Optional[Rows[Import]] = None
         self._fixup_rows: Optional[memoryview] = None
@@ -328,8 +332,7 @@ class Image(OfFile):
     def imports(self) -> Sequence[Import]:
         """In table order, read when first needed. Without ``check`` FormatFault of 24 to 32."""
         if self._imports is None:
-            rows = self._rows(library.petool_imports, LAYOUTS["import"], self._counts.imports)
-            self._imports = Rows(rows, LAYOUTS["import"], _import_maker(self._file))
+            self._imports = imports_of(self._file, self._rows(library.petool_imports, LAYOUTS["import"], self._counts.imports))
         return self._imports
 
     @property
@@ -407,16 +410,30 @@ def check(data: Buffer) -> Optional[FormatFault]:
     return None
 
 
-def open(path: Union[str, "os.PathLike[str]"], *, check: bool = True) -> Image:
-    """The image of a file, which is mapped and not read: it may not be changed or truncated while the image is open."""
-    descriptor = os.open(path, os.O_RDONLY | getattr(os, "O_CLOEXEC", 0))
+def _mapped(name: str) -> Buffer:
+    """The bytes of a file, mapped. OSError with its name if that fails, as from Python's own open()."""
+    descriptor = os.open(name, os.O_RDONLY | getattr(os, "O_CLOEXEC", 0))
     try:
+        status = os.fstat(descriptor)
+        if stat.S_ISDIR(status.st_mode):
+            raise IsADirectoryError(errno.EISDIR, os.strerror(errno.EISDIR))
         # an empty file cannot be mapped
-        empty = os.fstat(descriptor).st_size == 0
-        data: Buffer = b"" if empty else mmap.mmap(descriptor, 0, access=mmap.ACCESS_READ)
+        return mmap.mmap(descriptor, 0, access=mmap.ACCESS_READ) if status.st_size else b""
+    except OSError as error:
+        # the system knows only the descriptor
+        error.filename = name
+        raise
     finally:
         os.close(descriptor)
-    return Image(data, check=check)
+
+
+def open(path: Union[str, "os.PathLike[str]"], *, check: bool = True) -> Image:
+    """The image of a file, which is mapped and not read: it may not be changed or truncated while the image is open.
+
+    Each fault has the name of the file as its ``file``, and each OSError as its ``filename``.
+    """
+    name = os.fspath(path)
+    return Image(_mapped(name), check=check, file=name)
 
 
 def rebase(data: Buffer, base: int) -> bytes:

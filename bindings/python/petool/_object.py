@@ -106,10 +106,10 @@ def _maker(file: FileBytes, kind: Callable[..., Any]) -> Callable[..., Any]:
 
 
 class Object(OfFile):
-    """One COFF object, from the bytes of its file. FormatFault of 61 to 72. What Image says of bytes holds here too."""
+    """One COFF object, from the bytes of its file. FormatFault of 61 to 72. What Image says of bytes and ``file`` holds here too."""
 
-    def __init__(self, data: Buffer) -> None:
-        super().__init__(data)
+    def __init__(self, data: Buffer, *, file: Optional[str] = None) -> None:
+        super().__init__(data, file)
         self._sections: Optional[Tuple[ObjectSection, ...]] = None
         self._starts: Optional[List[int]] = None
         self._window = 0, memoryview(b"")

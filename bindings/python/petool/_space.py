@@ -6,19 +6,22 @@ import ctypes
 import threading
 from ctypes import byref
 from dataclasses import dataclass
-from typing import Any, List, NamedTuple, Sequence, Tuple, Union
+from typing import Any, List, NamedTuple, Optional, Sequence, Tuple, Union
 
 from . import _records
-from ._bytes import LAYOUTS, Buffer, FileSet, Rows, address_of, read_rows, unsigned
-from ._fault import ask, raise_for
-from ._image import writable
+from ._bytes import LAYOUTS, Buffer, FileBytes, FileSet, Rows, address_of, read_rows, unsigned
+from ._fault import FormatFault, ask, raise_for
+from ._image import Import, imports_of, writable
 from ._library import library
 
 #: The name of a module, all bytes of its file, and its base.
 SetEntry = Tuple[Union[str, bytes], Buffer, int]
 
-# room for this many bindings, before they are counted
+# room for this many bindings or imports, before they are counted
 _GUESS = 4096
+
+#: The faults of a set that an import has.
+_IMPORT_FAULTS = range(48, 51)
 
 
 @dataclass(frozen=True)
@@ -49,15 +52,40 @@ class Standing(NamedTuple):
     size: int
 
 
+def _import_at(file: FileBytes, slot: int) -> Optional[Import]:
+    """The import of an image whose slot is at an RVA; None if there is none, or no memory to look for it."""
+
+    def call(*rows: Any) -> int:
+        return ask(library.petool_imports, file.address, file.length, *rows)
+
+    try:
+        found = imports_of(file, read_rows(LAYOUTS["import"], _GUESS, call))
+    except (FormatFault, MemoryError):
+        return None
+    return next((found[row] for row, (*_, at, _, _) in enumerate(found.values()) if at == slot), None)
+
+
+def _ask_set(function: Any, held: FileSet, *arguments: Any) -> int:
+    """The status of a call that checks a set, or its fault as an exception, which for 48 to 50 says what its import names."""
+    cycle = ctypes.c_uint32()
+    try:
+        return ask(function, *arguments, byref(cycle), cycle=cycle)
+    except FormatFault as fault:
+        found = _import_at(held.files[fault.image], fault.at) if fault.number in _IMPORT_FAULTS else None
+        if found is not None:
+            fault.module, fault.key = found.module, found.key
+        raise
+
+
 def judge(images: Sequence[SetEntry], known: bool = False) -> List[Binding]:
     """Checks a set, and returns what each import is bound to. FormatFault of an image or set fault (docs/FAULTS.md).
 
     With ``known``, an import from a module that is not in the set is not a fault.
     """
-    held, cycle = FileSet(images), ctypes.c_uint32()
+    held = FileSet(images)
 
-    def call(rows: int, room: int, count: Any) -> int:
-        return ask(library.petool_judge, held.entries, held.count, known, rows, room, count, byref(cycle), cycle=cycle)
+    def call(*rows: Any) -> int:
+        return _ask_set(library.petool_judge, held, held.entries, held.count, known, *rows)
 
     return list(Rows(read_rows(LAYOUTS["binding"], _GUESS, call), LAYOUTS["binding"], Binding))
 
@@ -74,9 +102,8 @@ class Space:
     def __init__(self, images: Sequence[SetEntry], *, known: bool = False) -> None:
         self._lock = threading.Lock()
         self._space = _records.Space(None, False)
-        held, cycle = FileSet(images), ctypes.c_uint32()
-        entries = (held.entries, held.count, known)
-        ask(library.petool_space_map, byref(self._space), *entries, byref(cycle), cycle=cycle)
+        held = FileSet(images)
+        _ask_set(library.petool_space_map, held, byref(self._space), held.entries, held.count, known)
         self._count = held.count
         self._largest = max((it.size for it in self.images), default=0)
 
