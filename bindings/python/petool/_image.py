@@ -12,7 +12,7 @@ from ctypes import byref
 from dataclasses import dataclass, fields
 from typing import Any, Callable, Dict, Iterator, Optional, Sequence, Tuple, Union
 
-from . import _library, _records
+from . import _library, _records, _section_names
 from ._bytes import LAYOUTS, Buffer, FileBytes, RowLayout, Rows, address_of, read_rows, unsigned, view_of
 from ._fault import FormatFault, ask
 from ._file import OfFile
@@ -76,8 +76,14 @@ class Headers:
     # end of describe/records.txt
 
 
+#: No part of a string table.
+_NO_PLACE: _section_names.Place = b"", 0
+
+
 @dataclass(frozen=True)
 class Section:
+    """A section of an image. Two are equal if their headers are."""
+
     # from describe/records.txt: section
     name: bytes  #: the name, without the zero bytes after it
     rva: int  #: the RVA of the first byte
@@ -88,6 +94,20 @@ class Section:
     virtual_size: int  #: the size in the laid-out image, as in the header
     characteristics: int  #: the section's flags
     # end of describe/records.txt
+
+    # where the long name is; no field, since it is not in the header
+    _place = _NO_PLACE
+
+    @property
+    def _short_name(self) -> bytes:
+        return self.name.split(b"\0")[0]
+
+    @property
+    def long_name(self) -> bytes:
+        """The name up to its first zero byte, also if it is in the string table of the image, where linkers put names of over 8
+        bytes: ``name`` is then its offset there, such as ``b"/4"`` (docs/FORMAT.md)."""
+        strings, at = self._place
+        return strings[at : strings.index(0, at)] if strings else self._short_name
 
 
 @dataclass(frozen=True)
@@ -285,6 +305,7 @@ class Image(OfFile):
         try:
             self._counts = self._judge() if check else _records.Counts()
             self._headers, self._sections = self._read_headers()
+            self._are_named = not any(_section_names.is_offset(it._short_name) for it in self._sections)
         except BaseException:
             self.close()
             raise
@@ -309,7 +330,18 @@ class Image(OfFile):
 
     @property
     def sections(self) -> Tuple[Section, ...]:
+        """In the order of the section table. Their long names are read when they are first needed."""
+        if not self._are_named:
+            self._read_long_names()
         return self._sections
+
+    def _read_long_names(self) -> None:
+        symbols, count = self._headers.pointer_to_symbol_table, self._headers.number_of_symbols
+        with self._file.hold() as file:
+            found = _section_names.places(file, symbols, count, (it._short_name for it in self._sections))
+        for it in self._sections:
+            object.__setattr__(it, "_place", found.get(it._short_name, _NO_PLACE))
+        self._are_named = True
 
     @property
     def exports(self) -> Exports:
