@@ -151,18 +151,39 @@ class Rows(AbstractSequence, Generic[Row]):  # type: ignore[type-arg]
         return [self._at(it) for it in found] if isinstance(found, range) else self._at(found)
 
     def _at(self, index: int) -> Row:
-        return self._make(*self._layout.struct.unpack_from(self._rows, index * self._layout.size))
+        return self._make(*self.row(index))
+
+    def row(self, index: int) -> Tuple[int, ...]:
+        """The numbers of one row: no item is made, and no string is copied."""
+        return self._layout.struct.unpack_from(self._rows, index * self._layout.size)
 
     def values(self) -> Iterator[Tuple[int, ...]]:
-        """The numbers of each row: no item is made, and no string is copied."""
+        """The same of each row."""
         return self._layout.struct.iter_unpack(self._rows)
 
     def __iter__(self) -> Iterator[Row]:
         for values in self.values():
             yield self._make(*values)
 
+    def __reduce__(self) -> Tuple[Any, ...]:
+        """A copy, by pickle too, is a tuple, which needs no file."""
+        return tuple, (tuple(self),)
+
     def __repr__(self) -> str:
         return f"<{len(self)} rows>"
+
+
+class NumberedRows(Rows[Row]):
+    """Rows whose items are made from their indexes too."""
+
+    __slots__ = ()
+
+    def _at(self, index: int) -> Row:
+        return self._make(index, *self.row(index))
+
+    def __iter__(self) -> Iterator[Row]:
+        for index, values in enumerate(self.values()):
+            yield self._make(index, *values)
 
 
 class FileSet:

@@ -9,13 +9,14 @@ import os
 import stat
 from collections.abc import Mapping as AbstractMapping
 from ctypes import byref
-from dataclasses import dataclass, fields
-from typing import Any, Callable, Dict, Iterator, Optional, Sequence, Tuple, Union
+from dataclasses import dataclass, field, fields
+from typing import Any, Callable, Dict, Iterator, List, Optional, Sequence, Tuple, Union
 
 from . import _library, _records, _section_names
-from ._bytes import LAYOUTS, Buffer, FileBytes, RowLayout, Rows, address_of, read_rows, unsigned, view_of
+from ._bytes import LAYOUTS, Buffer, FileBytes, NumberedRows, RowLayout, Rows, address_of, read_rows, unsigned, view_of
 from ._fault import FormatFault, ask
 from ._file import OfFile
+from ._joined import Joined, Piece
 from ._library import library
 
 
@@ -131,9 +132,13 @@ Key = Union[bytes, str, int]
 
 @dataclass(frozen=True)
 class Export:
-    name: Optional[bytes]  #: the name of an export by name, as bytes, since names have no encoding in the format
-    ordinal: Optional[int]  #: the ordinal of an export by ordinal
+    """A row by name or by ordinal: two are equal if they have one name, ordinal and target."""
+
+    name: Optional[bytes]  #: the name, as bytes, since names have no encoding in the format; by ordinal the first, or None
+    ordinal: int  #: its ordinal, which may exceed 2^32
     target: Target
+    #: all names of the ordinal, in the order of the name pointer table: a tuple, unless names share strings
+    names: Sequence[bytes] = field(default=(), compare=False, repr=False)
 
 
 @dataclass(frozen=True)
@@ -177,6 +182,10 @@ _TARGET_NAME = 2  #: a name of another module
 # end of describe/records.txt
 
 
+#: How many numbers of an export's row come before its target: the ordinal, and the pointer and the length of the name.
+_NAMED = 3
+
+
 def _headers_of(record: _records.Headers) -> Headers:
     values = {it.name: getattr(record, it.name) for it in fields(Headers)}
     values["directories"] = tuple(Directory(it.rva, it.size) for it in record.directories)
@@ -195,10 +204,18 @@ def _target_of(file: FileBytes, kind: int, value: int, *texts: int) -> Target:
     return Forward(file.text(*texts[:2]), value if kind == _TARGET_ORDINAL else file.text(*texts[2:]))
 
 
-def _export_maker(file: FileBytes, by_name: bool) -> Callable[..., Export]:
-    def make(ordinal: int, at: int, length: int, *target: int) -> Export:
-        found = _target_of(file, *target)
-        return Export(file.text(at, length), None, found) if by_name else Export(None, ordinal, found)
+def _maker_by_name(file: FileBytes, joined: Joined) -> Callable[..., Export]:
+    def make(row: int, _: int, at: int, length: int, *target: int) -> Export:
+        ordinal = joined.ordinals[row]
+        return Export(file.text(at, length), ordinal, _target_of(file, *target), joined.names_of(ordinal))
+
+    return make
+
+
+def _maker_by_ordinal(file: FileBytes, joined: Joined) -> Callable[..., Export]:
+    def make(ordinal: int, _at: int, _length: int, *target: int) -> Export:
+        names = joined.names_of(ordinal)
+        return Export(names[0] if names else None, ordinal, _target_of(file, *target), names)
 
     return make
 
@@ -216,26 +233,35 @@ class Exports(AbstractMapping):  # type: ignore[type-arg]
     """What an image exports: targets by name (bytes, or str as UTF-8) and by ordinal (int).
 
     KeyError if nothing is exported under a key. Its keys are the names, in the order of the name pointer table, and then the
-    ordinals, in the order of the export address table, so ``len()`` counts both. The first look-up makes a dict of where each key
-    is, and an RVA that was found is kept. The names of a crafted file may share strings, and be longer together than the file:
-    then no name is copied, and each that is looked up is a call of the library, which reads the table.
+    ordinals, in the order of the export address table. ``len()`` is the number of keys, of which an export with a name has two or
+    more; ``ordinals()`` has each export once, so ``len(exports.ordinals())`` is the number of exports.
+
+    The first look-up makes a dict of where each key is, and an RVA that was found is kept. The names of a crafted file may share
+    strings, and be longer together than the file: then no name is copied, and each that is looked up is a call of the library,
+    which reads the table.
     """
 
-    def __init__(self, file: FileBytes, names: memoryview, ordinals: memoryview, look_up: Callable[[bytes], Optional[Target]]) -> None:
-        self._file, self._look_up = file, look_up
-        self._names = Rows(names, LAYOUTS["export"], _export_maker(file, True))
-        self._ordinals = Rows(ordinals, LAYOUTS["export"], _export_maker(file, False))
+    def __init__(
+        self,
+        file: FileBytes,
+        names: memoryview,
+        ordinals: memoryview,
+        joined: Joined,
+        look_up: Callable[[bytes], Optional[Target]],
+    ) -> None:
+        self._file, self._joined, self._look_up = file, joined, look_up
+        self._names = NumberedRows(names, LAYOUTS["export"], _maker_by_name(file, joined))
+        self._ordinals = Rows(ordinals, LAYOUTS["export"], _maker_by_ordinal(file, joined))
         self._name_rows: Optional[Dict[bytes, int]] = None
-        self._are_shared: Optional[bool] = None
         self._ordinal_rows: Optional[Dict[int, int]] = None
         self._found: Dict[Union[bytes, int], Target] = {}
 
     def names(self) -> Sequence[Export]:
-        """The exports by name, each name once."""
+        """A row for each name, each name once, in the order of the name pointer table."""
         return self._names
 
     def ordinals(self) -> Sequence[Export]:
-        """The exports by ordinal."""
+        """A row for each export, in the order of the export address table."""
         return self._ordinals
 
     def _each_name(self) -> Iterator[bytes]:
@@ -244,24 +270,20 @@ class Exports(AbstractMapping):  # type: ignore[type-arg]
     def _each_ordinal(self) -> Iterator[int]:
         return (ordinal for ordinal, *_ in self._ordinals.values())
 
-    def _share_strings(self) -> bool:
-        if self._are_shared is None:
-            self._are_shared = sum(length for _, _, length, *_ in self._names.values()) > self._file.length
-        return self._are_shared
+    def _target(self, rows: Rows[Export], row: Optional[int]) -> Optional[Target]:
+        return None if row is None else _target_of(self._file, *rows.row(row)[_NAMED:])
 
     def _by_name(self, name: bytes) -> Optional[Target]:
-        if self._share_strings():
+        if self._joined.are_shared:
             return self._look_up(name)
         if self._name_rows is None:
             self._name_rows = {it: row for row, it in enumerate(self._each_name())}
-        row = self._name_rows.get(name)
-        return None if row is None else self._names[row].target
+        return self._target(self._names, self._name_rows.get(name))
 
     def _by_ordinal(self, ordinal: int) -> Optional[Target]:
         if self._ordinal_rows is None:
             self._ordinal_rows = {it: row for row, it in enumerate(self._each_ordinal())}
-        row = self._ordinal_rows.get(ordinal)
-        return None if row is None else self._ordinals[row].target
+        return self._target(self._ordinals, self._ordinal_rows.get(ordinal))
 
     def __getitem__(self, key: Key) -> Target:
         try:
@@ -274,7 +296,7 @@ class Exports(AbstractMapping):  # type: ignore[type-arg]
             if found is None:
                 raise KeyError(key)
             # no copy is kept of a string that others may share
-            if isinstance(found, Rva) and not (isinstance(wanted, bytes) and self._share_strings()):
+            if isinstance(found, Rva) and not (isinstance(wanted, bytes) and self._joined.are_shared):
                 self._found[wanted] = found
         return found
 
@@ -349,8 +371,14 @@ class Image(OfFile):
         if self._exports is None:
             names = self._rows(library.petool_export_names, LAYOUTS["export"], self._counts.names)
             ordinals = self._rows(library.petool_exports, LAYOUTS["export"], self._counts.exports)
-            self._exports = Exports(self._file, names, ordinals, self._look_up)
+            joined = Joined(self._file, self._headers.directories[0].rva, self._pieces(), names)
+            self._exports = Exports(self._file, names, ordinals, joined, self._look_up)
         return self._exports
+
+    def _pieces(self) -> List[Piece]:
+        """The headers, and each section that takes bytes of the laid-out image, in the order of their RVAs."""
+        sections = [(it.rva, it.file_size, it.pointer_to_raw_data) for it in self._sections if it.extent]
+        return [(0, self._headers.size_of_headers, 0), *sections]
 
     def _look_up(self, name: bytes) -> Optional[Target]:
         """What a name exports, looked up by the library, which reads the table for it."""

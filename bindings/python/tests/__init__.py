@@ -3,6 +3,7 @@
 import importlib.util
 import pathlib
 import sys
+from types import ModuleType
 
 sys.dont_write_bytecode = True
 
@@ -10,11 +11,18 @@ PACKAGE = pathlib.Path(__file__).resolve().parents[1]
 TOP = PACKAGE.parents[1]
 DATA = TOP / "crates" / "test_cases" / "data"
 
-_found = importlib.util.spec_from_file_location("crafted", TOP / "scripts" / "crafted.py")
-assert _found and _found.loader
+
+def script(name: str) -> ModuleType:
+    """A module of the folder scripts."""
+    found = importlib.util.spec_from_file_location(name, TOP / "scripts" / f"{name}.py")
+    assert found and found.loader
+    module = importlib.util.module_from_spec(found)
+    found.loader.exec_module(module)
+    return module
+
+
 #: The script that makes files crafted to be expensive.
-crafted = importlib.util.module_from_spec(_found)
-_found.loader.exec_module(crafted)
+crafted = script("crafted")
 
 
 def data(name: str) -> bytes:

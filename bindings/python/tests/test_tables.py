@@ -335,7 +335,9 @@ class LargestExports(unittest.TestCase):
         with petool.Image(file) as image:
             exports = image.exports
             self.assertEqual((len(exports.ordinals()), len(exports.names())), (65_536, 65_536))
-            self.assertEqual(exports.names()[0], petool.Export(b"0000", None, petool.Rva(0x10FFFF)))
+            for row, (name, ordinal, rva) in zip((0, 0x1234, MOST - 1), FOUND):
+                export = petool.Export(name, ordinal, petool.Rva(rva))
+                self.assertEqual((exports.names()[row], exports.ordinals()[MOST - 1 - row]), (export, export))
 
     def bound(self, piece):
         """What the import of VC, changed by a piece, is bound to in the library; None if the library has no such export."""

@@ -1,5 +1,6 @@
 """The types of the package, which type checkers read: each field of a result has the type that its class declares."""
 
+import collections.abc
 import typing
 import unittest
 
@@ -9,12 +10,14 @@ from . import data
 
 
 def holds(value, kind):
-    """Whether a value has a type: one of a union, a tuple of it, or exactly it."""
+    """Whether a value has a type: one of a union, a tuple or a sequence of it, or exactly it."""
     arguments = typing.get_args(kind)
     if typing.get_origin(kind) is typing.Union:
         return any(holds(value, it) for it in arguments)
     if typing.get_origin(kind) is tuple:
         return type(value) is tuple and all(holds(it, arguments[0]) for it in value)
+    if typing.get_origin(kind) is collections.abc.Sequence:
+        return isinstance(value, collections.abc.Sequence) and all(holds(it, arguments[0]) for it in value)
     return type(value) is kind
 
 
