@@ -7,7 +7,13 @@
 #![no_std]
 #![deny(missing_docs)]
 
-use core::ffi::{c_char, c_int, c_void};
+use core::ffi::c_void;
+
+// C's `char` and `int` on x86-64, where the library is built; `core::ffi` has them only since Rust 1.64
+#[allow(non_camel_case_types)]
+type c_char = i8;
+#[allow(non_camel_case_types)]
+type c_int = i32;
 
 // from describe/records.txt: values
 

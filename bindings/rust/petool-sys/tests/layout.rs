@@ -3,15 +3,22 @@
 
 #![cfg(target_pointer_width = "64")]
 
-use core::mem::{align_of, offset_of, size_of};
+use core::mem::{align_of, size_of, MaybeUninit};
+use core::ptr::addr_of;
 use petool_sys::*;
 
-/// Asserts a record's size and alignment, and the offset of each of its fields.
+/// Asserts a record's size and alignment, and the offset of each of its fields. `offset_of` needs Rust 1.77.
 macro_rules! layout {
     ($record:ty, $size:literal, $alignment:literal, $($field:ident $offset:literal),*) => {
         assert_eq!(size_of::<$record>(), $size, concat!("size of ", stringify!($record)));
         assert_eq!(align_of::<$record>(), $alignment, concat!("alignment of ", stringify!($record)));
-        $(assert_eq!(offset_of!($record, $field), $offset, concat!(stringify!($record), ".", stringify!($field)));)*
+        let record = MaybeUninit::<$record>::uninit();
+        let start = record.as_ptr();
+        $(
+            // SAFETY: the address of a field is inside the record, and nothing is read there
+            let field = unsafe { addr_of!((*start).$field) };
+            assert_eq!(field as usize - start as usize, $offset, concat!(stringify!($record), ".", stringify!($field)));
+        )*
     };
 }
 

@@ -4,7 +4,6 @@
 //! A DLL that is refused is reported on standard error, and counts as missing.
 
 use petool::{Image, Key, OutOfMemory, Tables, Target};
-use std::cell::OnceCell;
 use std::collections::{BTreeMap, BTreeSet};
 use std::error::Error;
 use std::fmt::Display;
@@ -19,26 +18,21 @@ A DLL that is refused is reported on standard error, and counts as missing.";
 /// A search that follows more forwarders is given up.
 const MOST_FORWARDERS: usize = 32;
 
-/// The program, or a file of the folder: its bytes are read when they are first needed.
+/// The program, or a file of the folder.
 struct File {
     path: PathBuf,
-    bytes: OnceCell<Vec<u8>>,
 }
 
 impl File {
-    fn of(path: PathBuf) -> File {
-        let bytes = OnceCell::new();
-        File { path, bytes }
-    }
-
     fn name(&self) -> String {
         self.path.file_name().unwrap_or_default().to_string_lossy().into_owned()
     }
 
-    /// The image of the file; if it cannot be read or is refused, that is reported, and the error is the exit status.
-    fn image(&self) -> Result<Image<'_>, i32> {
+    /// The image of the file, whose bytes are kept until the program ends; if it cannot be read or is refused, that is
+    /// reported, and the error is the exit status.
+    fn image(&self) -> Result<Image<'static>, i32> {
         let bytes = fs::read(&self.path).map_err(|error| self.tell(3, &error))?;
-        Image::new(self.bytes.get_or_init(|| bytes)).map_err(|error| match error {
+        Image::new(bytes.leak()).map_err(|error| match error {
             petool::Error::Fault(fault) => self.tell(1, &format!("fault {}: {fault}", fault.number)),
             petool::Error::Memory => self.tell(4, &error),
         })
@@ -69,8 +63,9 @@ impl<'a> Folder<'a> {
     fn exporter(&mut self, module: &[u8], key: Key<'a>) -> Result<(String, String), OutOfMemory> {
         let (mut module, mut key) = (module_of(module), key);
         for _ in 0..MOST_FORWARDERS {
-            let Some((_, image)) = self.image(&module) else {
-                return Ok((module, "no such file".into()));
+            let image = match self.image(&module) {
+                Some((_, image)) => image,
+                None => return Ok((module, "no such file".into())),
             };
             match export_of(&image, key)? {
                 None => return Ok((module, "no such export".into())),
@@ -133,13 +128,13 @@ fn files_of(folder: &Path) -> io::Result<BTreeMap<String, File>> {
     let mut paths = paths.collect::<io::Result<Vec<_>>>()?;
     paths.retain(|path| path.is_file());
     paths.sort();
-    let files = paths.into_iter().rev().map(File::of);
+    let files = paths.into_iter().rev().map(|path| File { path });
     Ok(files.map(|file| (file.name().to_lowercase(), file)).collect())
 }
 
 /// Follows the imports of a program; returns the exit status.
 fn run(program: &Path, folder: &Path) -> Result<i32, Box<dyn Error>> {
-    let program = File::of(program.into());
+    let program = File { path: program.into() };
     let image = match program.image() {
         Ok(image) => image,
         Err(status) => return Ok(status),
@@ -165,9 +160,12 @@ fn main() {
         println!("{USAGE}");
         return;
     }
-    let [program, folder] = &words[..] else {
-        eprintln!("{USAGE}");
-        process::exit(2);
+    let (program, folder) = match &words[..] {
+        [program, folder] => (program, folder),
+        _ => {
+            eprintln!("{USAGE}");
+            process::exit(2);
+        }
     };
     process::exit(run(program.as_ref(), folder.as_ref()).unwrap_or_else(|error| {
         eprintln!("imports_closure: {error}");

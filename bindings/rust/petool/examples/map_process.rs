@@ -115,9 +115,12 @@ fn main() {
         Some((first, rest)) if first == "--known" => (Policy::Known, rest),
         _ => (Policy::Strict, &words[..]),
     };
-    let [out, _, ..] = rest else {
-        eprintln!("{USAGE}");
-        process::exit(2);
+    let out = match rest {
+        [out, _, ..] => out,
+        _ => {
+            eprintln!("{USAGE}");
+            process::exit(2);
+        }
     };
     process::exit(run(policy, out.as_ref(), &rest[1..]).unwrap_or_else(|error| tell(3, &error)));
 }

@@ -58,7 +58,7 @@ fn run(folder: &Path, out: &Path, first: u64) -> Result<(), Box<dyn Error>> {
                 fs::write(out.join(name), moved)?;
                 println!("{shown}: {base:#x}");
                 // no image can be at the last address, where the address space ends
-                base = base.saturating_add(size.div_ceil(UNIT) * UNIT);
+                base = base.saturating_add((size + UNIT - 1) / UNIT * UNIT);
             }
             Err(petool::Error::Fault(fault)) => println!("{shown}: fault {}: {fault}", fault.number),
             Err(error) => return Err(error.into()),
@@ -85,10 +85,10 @@ fn main() {
         println!("{USAGE}");
         return;
     }
-    let Some((first, folder, out)) = parsed(&words) else {
+    let (first, folder, out) = parsed(&words).unwrap_or_else(|| {
         eprintln!("{USAGE}");
         process::exit(2);
-    };
+    });
     if let Err(error) = run(folder.as_ref(), out.as_ref(), first) {
         eprintln!("rebase_folder: {error}");
         process::exit(3);

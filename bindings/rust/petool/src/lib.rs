@@ -17,8 +17,7 @@
 //!     println!("{ordinal}: {target:?}");
 //! }
 //! // an error says which rule is broken, and where
-//! let Err(Error::Fault(fault)) = Image::new(&file[..63]) else { panic!() };
-//! assert_eq!(fault.number, 2);
+//! assert!(matches!(Image::new(&file[..63]), Err(Error::Fault(fault)) if fault.number == 2));
 //! # Ok::<(), Error>(())
 //! ```
 //!

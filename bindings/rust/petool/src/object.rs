@@ -197,8 +197,9 @@ impl<'a> Object<'a> {
         if window.starts.is_empty() {
             window.starts = self.starts()?;
         }
-        let Some(&[start, end]) = window.starts.get(section..section.saturating_add(2)) else {
-            return Ok(None);
+        let (start, end) = match window.starts.get(section..section.saturating_add(2)) {
+            Some(&[start, end]) => (start, end),
+            _ => return Ok(None),
         };
         if start == end {
             return Ok(Some(Vec::new()));

@@ -163,8 +163,9 @@ fn headers_have_the_values_of_the_file() {
 #[test]
 fn sections_have_the_values_of_the_file() {
     let image = Image::new(VR).unwrap();
-    let [a, b, c] = image.sections() else {
-        panic!("{:?}", image.sections())
+    let (a, b, c) = match image.sections() {
+        [a, b, c] => (a, b, c),
+        _ => panic!("{:?}", image.sections()),
     };
     assert_eq!(
         (a.text(), b.text(), c.text()),

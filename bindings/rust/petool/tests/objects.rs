@@ -148,8 +148,9 @@ fn an_object_without_sections_has_no_relocations() {
 #[test]
 fn symbols_have_the_values_of_the_file() {
     let symbols = Object::new(O1).unwrap().symbols().unwrap();
-    let [file, inner, outer, last] = &symbols[..] else {
-        panic!("{symbols:?}")
+    let (file, inner, outer, last) = match &symbols[..] {
+        [file, inner, outer, last] => (file, inner, outer, last),
+        _ => panic!("{symbols:?}"),
     };
     assert_eq!(
         (file.name, file.index, file.section_number, file.class),
