@@ -51,9 +51,9 @@ crates/petool/out/petool: $(SOURCES)
 	touch $@
 
 # made each time, since another checkout may have made the old ones
-$(O)/completions.%: $(PROGRAM) anew
+$(O)/completions.%: anew
 	mkdir -p $(O)
-	python3 scripts/completions.py $(PROGRAM) $* > $@
+	python3 scripts/completions.py $* > $@
 
 install: all
 	install -d $(BIN) $(LIB)/pkgconfig $(INCLUDE) $(SHARE)/man/man1 $(SHARE)/man/man3 $(SHARE)/doc/petool/docs \

@@ -24,6 +24,15 @@ PURPOSES = {
     "rebase": ("rebase_words.rt", r"const ABOUT: &str =\s+"),
     "explain": ("at_words.rt", r"const EXPLAIN_ABOUT: &str =\s+"),
 }
+#: The same for what help says of each option, except those of `show`.
+OPTIONS = {
+    "most": ("file_words.rt", r"const MOST: &str =\s+"),
+    "address": ("at_words.rt", r"const ADDRESS: &str =\s+"),
+    "file": ("at_words.rt", r"const OFFSET: &str =\s+"),
+    "known": ("map_words.rt", r"const KNOWN: &str =\s+"),
+    "window": ("map_words.rt", r"const WINDOW: &str =\s+"),
+    "count": ("map_words.rt", r'argument\(alloc, "count", '),
+}
 
 
 class NoPlace(Exception):
@@ -43,14 +52,15 @@ def _literal(text: str) -> str:
     return f'"{escaped}"'
 
 
-def _with_purposes(commands: Commands, file: str, text: str) -> str:
-    """A source of command words with the purposes that help prints. NoPlace if other commands are described."""
-    described = [it.name() for it in commands.of("command")]
-    if sorted(described) != sorted(PURPOSES):
-        raise NoPlace(f"it has the commands {', '.join(PURPOSES)}, and described are {', '.join(described)}")
-    for name, (source, begin) in PURPOSES.items():
-        if source == file:
-            text = _replaced(text, begin, r'"(?:[^"\\]|\\.)*"', "[,;]", _literal(commands.named(name).rows["help"]))
+def _with_help(commands: Commands, file: str, text: str) -> str:
+    """A source of command words with what help prints of commands and options. NoPlace if others are described."""
+    for kind, places in (("command", PURPOSES), ("word", OPTIONS)):
+        described = {it.name(): it.rows["help"] for it in commands.of(kind)}
+        if sorted(described) != sorted(places):
+            raise NoPlace(f"it has the {kind}s {', '.join(places)}, and described are {', '.join(described)}")
+        for name, (source, begin) in places.items():
+            if source == file:
+                text = _replaced(text, begin, r'"(?:[^"\\]|\\.)*"', "[,;)]", _literal(described[name]))
     return text
 
 
@@ -72,7 +82,7 @@ def _file_words(commands: Commands, text: str) -> str:
     text = _replaced(text, r"^const SHOW_OPTIONS: .* = \[\n", r"[^;]*", r"\];$", _lines(rows))
     found = [f'        {it.name()}: is_all || found.get_flag("{it.name()}"),' for it in options]
     text = _replaced(text, r"^    ShowOptions \{\n", r"(?:.*is_all \|\| .*\n)*", "        is_coloured: false,$", _lines(found))
-    return _with_purposes(commands, "file_words.rt", text)
+    return _with_help(commands, "file_words.rt", text)
 
 
 def _show_options(commands: Commands, text: str) -> str:
@@ -169,7 +179,7 @@ def _in_parts(form: Callable[[Commands, str], List[str]]) -> Callable[[Commands,
 
 
 def _words(file: str) -> Callable[[Commands, str], str]:
-    return lambda commands, text: _with_purposes(commands, file, text)
+    return lambda commands, text: _with_help(commands, file, text)
 
 
 #: How each file is written, from the commands and its old text.

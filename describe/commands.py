@@ -1,4 +1,4 @@
-"""What commands.txt says: the options of `show`, the exit statuses, and the commands with their arguments and texts."""
+"""What commands.txt says: the options, the exit statuses, and the commands with their arguments and texts."""
 
 import re
 from dataclasses import dataclass, field
@@ -9,6 +9,7 @@ from description import Mistake
 #: The rows below each kind of heading, in order; a command has `options` if it has any.
 ROWS = {
     "option": ("field", "help"),
+    "word": ("help",),
     "status": ("means",),
     "command": ("options", "help", "readme", "guide"),
     "other": ("guide",),
@@ -18,18 +19,18 @@ ROW = re.compile(r"(\w+) +(.+)")
 
 @dataclass
 class Item:
-    """An option, a status, a command or other words, with its rows."""
+    """An option of `show`, another option, a status, a command or other words, with its rows."""
 
     kind: str
     words: str  #: after the kind
     rows: Dict[str, str] = field(default_factory=dict)
 
     def name(self) -> str:
-        """The word of an option, the number of a status, the name of a command."""
+        """The word of an option, the number of a status, or the name of a command."""
         return self.words.partition(" ")[0]
 
     def rest(self) -> str:
-        """The arguments of a command, the constant of a status."""
+        """The value of an option, the arguments of a command, or the constant of a status."""
         return self.words.partition(" ")[2]
 
 
@@ -50,6 +51,15 @@ class Commands:
             missing = [row for row in ROWS[it.kind] if row not in it.rows and row != "options"]
             if missing:
                 raise Mistake(f"{it.kind} {it.words} has no row {missing[0]}")
+        self._check_options()
+
+    def _check_options(self) -> None:
+        """Whether each option of a command is described, with the same value."""
+        words = [it.words for it in self.of("word")]
+        for it in self.of("command"):
+            for option in re.findall(r"--(\w+(?: [A-Z]+)?)", it.rows.get("options", "")):
+                if option not in words:
+                    raise Mistake(f"command {it.words} has the option {option}, which no word describes")
 
     def _read(self, indent: int, line: str) -> None:
         if indent == 0:

@@ -1,29 +1,37 @@
 #!/usr/bin/env python3
-"""Prints the script that completes petool's words in a shell: completions.py PETOOL bash|zsh|fish
+"""Prints the script that completes petool's words in a shell: completions.py bash|zsh|fish
 
-The commands, their options and their descriptions are read from the help of the program.
+The commands, their options and their arguments are those of describe/commands.txt.
 """
 
+import pathlib
 import re
-import subprocess
 import sys
 from dataclasses import dataclass
-from typing import List, Optional
+from typing import Iterator, List, Optional
 
-# the value of an option, or an argument, that is not the name of a file
-NO_FILES = {"HEX", "N", "ADDRESS"}
+TOP = pathlib.Path(__file__).resolve().parents[1]
+sys.dont_write_bytecode = True
+sys.path.append(str(TOP / "describe"))
+
+from commands import Commands, Item
+
+#: The arguments that are files; `HEX=FILE` is one after `=`.
+FILES = {"FILE", "IN", "OUT"}
+AFTER_BASE = "HEX=FILE"
 
 
 @dataclass
 class Option:
     name: str
-    short: Optional[str]
-    value: Optional[str]
     does: str
+    value: Optional[str] = None  #: what it takes, which is never a file
+    short: Optional[str] = None
 
-    def takes_text(self):
-        """Whether it takes a value that is not a file."""
-        return self.value in NO_FILES
+
+#: What every command has, and the program alone.
+HELP = Option("help", "Print help", short="h")
+VERSION = Option("version", "Print version", short="V")
 
 
 @dataclass
@@ -31,90 +39,130 @@ class Command:
     name: str
     does: str
     options: List[Option]
-    takes_files: bool
+    arguments: List[str]  #: without brackets and dots
+    is_repeated: bool  #: whether there may be more of its argument
+
+    def places(self) -> List[str]:
+        """Where its files are, as a pattern of a shell for how many arguments are before one."""
+        if self.is_repeated:
+            return ["*"]
+        return [str(place) for place, it in enumerate(self.arguments) if it in FILES]
+
+    def is_after_base(self) -> bool:
+        return self.arguments == [AFTER_BASE]
 
 
-def help_of(program, *words):
-    return subprocess.run([program, *words, "--help"], stdout=subprocess.PIPE, check=True, text=True).stdout
+def options_of(described: Commands, command: Item) -> Iterator[Option]:
+    """The options of a command, in the order of its usage."""
+    helps = {it.name(): it.rows["help"] for kind in ("option", "word") for it in described.of(kind)}
+    for usage in described.usage(command):
+        for name, value in re.findall(r"--(\w+)(?: ([A-Z]+))?", usage):
+            yield Option(name, described.all_help if name == "all" else helps[name], value or None)
+    yield HELP
 
 
-def rows(text, heading):
-    """The rows below a heading: a word or an option, and what it does."""
-    part = text.split(f"{heading}:\n", 1)[1].split("\n\n", 1)[0] if f"{heading}:\n" in text else ""
-    return [(row[1], row[2]) for row in re.finditer(r"^ {2,}(\S.*?) {2,}(\S.*)$", part, re.M)]
+def commands_of(described: Commands) -> Iterator[Command]:
+    """The commands, and `help`, which has neither options nor files."""
+    for it in described.of("command"):
+        arguments = re.findall(r"[A-Z=]+", it.rest())
+        yield Command(it.name(), it.rows["help"], list(options_of(described, it)), arguments, it.rest().endswith("..."))
+    yield Command("help", "Print this message or the help of the given subcommand(s)", [], [], False)
 
 
-def options_of(text):
-    for words, does in rows(text, "Options"):
-        found = re.match(r"(?:-(\w), )?--([\w-]+)(?: <(\w+)>)?$", words)
-        yield Option(found[2], found[1], found[3], does)
-
-
-def takes_files(text):
-    """Whether an argument that the help of a command names is a file, as FILE or HEX=FILE."""
-    arguments = re.findall(r"[A-Z=]+", " ".join(words for words, _ in rows(text, "Arguments")))
-    return not NO_FILES.issuperset(arguments)
-
-
-def commands_of(program):
-    """The commands; `help` has neither options nor files."""
-    for name, does in rows(help_of(program), "Commands"):
-        text = "" if name == "help" else help_of(program, name)
-        yield Command(name, does, list(options_of(text)), takes_files(text))
-
-
-def words_of(options):
+def words_of(options: List[Option]) -> str:
     return " ".join([f"--{it.name}" for it in options] + [f"-{it.short}" for it in options if it.short])
 
 
-def bash(commands, options):
+def valued(commands: List[Command]) -> List[str]:
+    """The options that take a value, each once."""
+    return sorted({f"--{option.name}" for it in commands for option in it.options if option.value})
+
+
+def bash(commands: List[Command]) -> str:
     names = " ".join(it.name for it in commands)
-    cases = "\n".join(f"        {it.name}) words='{words_of(it.options)}' ;;" for it in commands if it.options)
-    values = " | ".join(f"'{it.name} --{option.name}'" for it in commands for option in it.options if option.takes_text())
-    without = " | ".join(it.name for it in commands if not it.takes_files)
+    cases = "\n".join(f"        {it.name}) options='{words_of(it.options)}' ;;" for it in commands if it.options)
+    plain = " | ".join(f"'{it.name} '{place}" for it in commands if not it.is_after_base() for place in it.places())
+    based = " | ".join(f"'{it.name} '*" for it in commands if it.is_after_base())
     return f"""# completion of petool for bash
 _petool() {{
-    local word=${{COMP_WORDS[COMP_CWORD]}} command=${{COMP_WORDS[1]}} words=
+    local part word=${{COMP_WORDS[COMP_CWORD]}} options= base=
+    local -a words=()
     COMPREPLY=()
-    if [ "$COMP_CWORD" -eq 1 ]; then
-        COMPREPLY=($(compgen -W '{names} {words_of(options)}' -- "$word"))
+    # bash splits a word before and after `=`: the last of these words is completed, and readline replaces no more than `word`
+    for part in "${{COMP_WORDS[@]:1:COMP_CWORD}}"; do
+        if [[ ${{#words[@]}} -gt 0 && ( $part == = || ${{words[-1]}} == *= ) ]]; then
+            words[-1]+=$part
+        else
+            words+=("$part")
+        fi
+    done
+    local last=${{words[-1]}} command=${{words[0]}} before
+    if [[ $word == = ]]; then word=; fi
+    before=${{last%"$word"}}
+    # nor does it replace an open quote
+    word=${{word#[\\"\\']}} last=$before$word
+    if [[ ${{#words[@]}} -eq 1 ]]; then
+        mapfile -t COMPREPLY < <(compgen -W '{names} {words_of([HELP, VERSION])}' -- "$word")
         return
     fi
     case $command in
-        help) words='{names}' ;;
+        help)
+            if [[ ${{#words[@]}} -eq 2 ]]; then mapfile -t COMPREPLY < <(compgen -W '{names}' -- "$word"); fi
+            return ;;
 {cases}
     esac
-    case "$command ${{COMP_WORDS[COMP_CWORD - 1]}}" in
-        {values}) return ;; # its value is no file
+    # how many arguments are before it
+    local place=0 is_value= has_ended=
+    for part in "${{words[@]:1:${{#words[@]}}-2}}"; do
+        if [[ $is_value ]]; then
+            is_value=
+        elif [[ $has_ended || $part != -?* ]]; then
+            place=$((place + 1))
+        else
+            case $part in
+                --) has_ended=yes ;;
+                {' | '.join(valued(commands))}) is_value=yes ;;
+            esac
+        fi
+    done
+    if [[ $is_value ]]; then return; fi # no value is a file
+    if [[ ! $has_ended && $last == -* ]]; then
+        mapfile -t COMPREPLY < <(compgen -W "$options" -- "$last")
+        return
+    fi
+    case "$command $place" in
+        {plain}) ;;
+        {based})
+            if [[ $last != *=* ]]; then return; fi
+            base=${{last%%=*}}= ;;
+        *) return ;;
     esac
-    case "$command $word" in
-        'help '* | *' -'*) COMPREPLY=($(compgen -W "$words" -- "$word")); return ;;
-    esac
-    case $command in
-        {without}) return ;;
-    esac
-    # a file behind `=`, where bash splits a word; a name a line, since names have spaces
-    mapfile -t COMPREPLY < <(compgen -f -- "${{word#*=}}")
+    # a name a line, since names have spaces
+    mapfile -t COMPREPLY < <(compgen -f -P "$base" -- "${{last#"$base"}}")
+    COMPREPLY=("${{COMPREPLY[@]#"$before"}}")
 }}
 complete -o filenames -F _petool petool
 """
 
 
-def quoted(text):
+def quoted(text: str) -> str:
     """A string in single quotes, for zsh's descriptions and fish."""
     return text.replace("'", "'\\''")
 
 
-def zsh_words(command):
+def zsh_words(command: Command) -> Iterator[str]:
     """What zsh's _arguments takes for a command."""
     for it in command.options:
         does = quoted(it.does).replace("[", "(").replace("]", ")")
-        yield "'--{}[{}]{}'".format(it.name, does, f":{it.value}:" if it.value else "")
-    if command.takes_files:
-        yield "'*:file:_files'"
+        short = f"'(-{it.short} --{it.name})'{{-{it.short},--{it.name}}}" if it.short else f"'--{it.name}"
+        begin = f"{short}'" if it.short else short
+        yield f"{begin}[{does}]{f':{it.value}:' if it.value else ''}'"
+    for place, argument in enumerate(command.arguments, 1):
+        action = '{compset -P "*=" && _files}' if argument == AFTER_BASE else "_files" if argument in FILES else ""
+        yield f"'{'*' if command.is_repeated else place}:{argument}:{action}'"
 
 
-def zsh(commands, options):
+def zsh(commands: List[Command]) -> str:
     names = "\n".join(f"        '{it.name}:{quoted(it.does)}'" for it in commands)
     cases = "\n".join(f"        {it.name}) _arguments {' '.join(zsh_words(it))} ;;" for it in commands if it.name != "help")
     return f"""#compdef petool
@@ -126,7 +174,7 @@ _petool() {{
     )
     if (( CURRENT == 2 )); then
         _describe 'command' commands
-        compadd -- {words_of(options)}
+        compadd -- {words_of([HELP, VERSION])}
         return
     fi
     local command=$words[2]
@@ -141,31 +189,61 @@ _petool "$@"
 """
 
 
-def fish_lines(commands, options):
-    for it in options:
+def fish_lines(commands: List[Command]) -> Iterator[str]:
+    yield "-f"
+    yield "-n __petool_takes_file -F"
+    for it in (HELP, VERSION):
         yield f"-n __fish_use_subcommand -s {it.short} -l {it.name} -d '{quoted(it.does)}'"
     for command in commands:
-        yield f"-n __fish_use_subcommand -f -a {command.name} -d '{quoted(command.does)}'"
+        yield f"-n __fish_use_subcommand -a {command.name} -d '{quoted(command.does)}'"
     for command in commands:
         seen = f"-n '__fish_seen_subcommand_from {command.name}'"
         if command.name == "help":
-            yield f"{seen} -f -a '{' '.join(it.name for it in commands)}'"
-        elif not command.takes_files:
-            yield f"{seen} -f"
+            yield f"{seen} -a '{' '.join(it.name for it in commands)}'"
         for it in command.options:
             one = f" -s {it.short}" if it.short else ""
-            wants = " -x" if it.takes_text() else " -r" if it.value else ""
+            wants = " -x" if it.value else ""
             yield f"{seen}{one} -l {it.name}{wants} -d '{quoted(it.does)}'"
 
 
-def fish(commands, options):
-    return "".join(["# completion of petool for fish\n", *(f"complete -c petool {it}\n" for it in fish_lines(commands, options))])
+def fish(commands: List[Command]) -> str:
+    places = [f"'{it.name} {place}'" for it in commands if not it.is_after_base() for place in it.places()]
+    based = [f"'{it.name} *'" for it in commands if it.is_after_base()]
+    lines = "\n".join(f"complete -c petool {it}" for it in fish_lines(commands))
+    return f"""# completion of petool for fish
+function __petool_takes_file
+    set -l words (commandline -opc)
+    set -l command $words[2]
+    set -l place -2 # petool and the command are no arguments
+    set -l is_value no
+    set -l has_ended no
+    for word in $words
+        if test $is_value = yes
+            set is_value no
+        else if test $has_ended = yes; or not string match -q -- '-?*' $word
+            set place (math $place + 1)
+        else if test $word = --
+            set has_ended yes
+        else if contains -- $word {' '.join(valued(commands))}
+            set is_value yes
+        end
+    end
+    switch "$command $place"
+        case {' '.join(places)}
+            return 0
+        case {' '.join(based)}
+            string match -q -- '*=*' (commandline -ct)
+            return
+    end
+    return 1
+end
+{lines}
+"""
 
 
-def main(program, shell):
-    commands = list(commands_of(program))
-    options = list(options_of(help_of(program)))
-    print({"bash": bash, "zsh": zsh, "fish": fish}[shell](commands, options), end="")
+def main(shell: str) -> None:
+    commands = list(commands_of(Commands((TOP / "describe" / "commands.txt").read_text())))
+    print({"bash": bash, "zsh": zsh, "fish": fish}[shell](commands), end="")
 
 
 if __name__ == "__main__":

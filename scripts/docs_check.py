@@ -22,7 +22,6 @@ import sys
 
 sys.dont_write_bytecode = True
 
-from completions import options_of, rows as help_rows
 from table_files import count_faults
 
 TOP = pathlib.Path(__file__).resolve().parents[1]
@@ -230,13 +229,19 @@ def said(program, *words):
     return subprocess.run([program, *words], stdout=subprocess.PIPE, check=True, text=True).stdout
 
 
+def rows_of_help(text, heading):
+    """What each row of help below a heading begins with: a word, or an option and its value."""
+    part = text.partition(f"{heading}:\n")[2].partition("\n\n")[0]
+    return re.findall(r"^ {2,}(\S.*?) {2,}\S", part, re.M)
+
+
 def words_of_help(program):
     """The options and the arguments of each command by its help; those of the program itself have an empty name."""
     helped = {"": said(program, "--help")}
-    helped.update({name: said(program, "help", name) for name, _ in help_rows(helped[""], "Commands")})
+    helped.update({name: said(program, "help", name) for name in rows_of_help(helped[""], "Commands")})
     found = {}
     for name, text in helped.items():
-        options = {f"--{it.name} {it.value or ''}".strip() for it in options_of(text)}
+        options = {re.sub(r"^-\w, |[<>]", "", it) for it in rows_of_help(text, "Options")}
         usage = re.search(r"^Usage: petool ?(.*)$", text, re.M)[1].split()
         arguments = [re.sub("[<>]", "", it) for it in usage if it not in (name, "[OPTIONS]", "<COMMAND>")]
         # one row of the pages describes the --help of all commands

@@ -1,6 +1,8 @@
-"""Tests scripts/completions.py: bash completes words by its output for a program whose help is given here."""
+"""Tests scripts/completions.py: bash completes words by its output, whose words are those of the program of PETOOL_PROGRAM."""
 
+import os
 import pathlib
+import re
 import shutil
 import subprocess
 import sys
@@ -8,30 +10,9 @@ import tempfile
 import unittest
 
 COMPLETIONS = pathlib.Path(__file__).resolve().parents[1] / "completions.py"
-PROGRAM = """#!/bin/sh
-case $1 in
-map) cat <<'END'
-Arguments:
-  <HEX=FILE>...  The base of an image and its file
-
-Options:
-      --known         Leaves slots
-      --window <HEX>  Prints the bytes from this address on
-  -h, --help          Print help
-END
-;;
-explain) printf 'Arguments:\\n  [N]  The number\\n\\nOptions:\\n  -h, --help  Print help\\n' ;;
-*) cat <<'END'
-Commands:
-  map      Maps images
-  explain  Explains a fault
-  help     Print this message
-
-Options:
-  -h, --help  Print help
-END
-esac
-"""
+PROGRAM = os.environ.get("PETOOL_PROGRAM")
+COMMANDS = ["at", "check", "dump", "explain", "help", "json", "map", "object", "rebase", "show"]
+FILES = ["a file.dll", "a.dll", "b=1.dll", "b=2.dll", "d.dll"]
 # prints what bash would offer for words, of which the last is completed
 ASK = """source ./completion
 COMP_WORDS=(petool "$@") COMP_CWORD=$#
@@ -40,54 +21,104 @@ printf '%s\\n' "${COMPREPLY[@]}"
 """
 
 
+def printed(shell):
+    return subprocess.run([sys.executable, COMPLETIONS, shell], stdout=subprocess.PIPE, check=True, text=True).stdout
+
+
 @unittest.skipUnless(shutil.which("bash"), "left out without bash")
 class Bash(unittest.TestCase):
     def setUp(self):
         self.room = pathlib.Path(tempfile.mkdtemp())
         self.addCleanup(shutil.rmtree, self.room)
-        program = self.room / "program"
-        program.write_text(PROGRAM)
-        program.chmod(0o755)
-        self.printed = {
-            shell: subprocess.run([sys.executable, COMPLETIONS, program, shell], stdout=subprocess.PIPE, check=True, text=True).stdout
-            for shell in ("bash", "zsh", "fish")
-        }
-        (self.room / "completion").write_text(self.printed["bash"])
-        for name in ("a file.dll", "a.dll", "b.dll"):
+        (self.room / "completion").write_text(printed("bash"))
+        for name in FILES:
             (self.room / name).touch()
 
     def offered(self, *words):
         run = subprocess.run(["bash", "-c", ASK, "ask", *words], cwd=self.room, stdout=subprocess.PIPE, check=True, text=True)
         return sorted(run.stdout.split("\n")[:-1]) if run.stdout != "\n" else []
 
+    def assert_offered(self, wanted, *lines):
+        for words in lines:
+            with self.subTest(words=words):
+                self.assertEqual(self.offered(*words), wanted)
+
     def test_a_first_word_is_a_command_or_an_option(self):
-        self.assertEqual(self.offered(""), ["--help", "-h", "explain", "help", "map"])
+        self.assertEqual(self.offered(""), sorted(["--help", "--version", "-V", "-h", *COMMANDS]))
         self.assertEqual(self.offered("e"), ["explain"])
 
     def test_a_name_with_a_space_is_one_name(self):
-        self.assertEqual(self.offered("map", "a"), ["a file.dll", "a.dll"])
+        self.assert_offered(["a file.dll", "a.dll"], ["check", "a"], ["show", "d.dll", "a"])
 
     def test_a_file_stands_behind_its_base(self):
-        self.assertEqual(self.offered("map", "10000000=b"), ["b.dll"])
-        self.assertEqual(self.offered("map", "10000000", "=", "b"), ["b.dll"])
+        # bash splits a word at `=`, unless COMP_WORDBREAKS has none
+        self.assert_offered(["d.dll"], ["map", "10000000", "=", "d"], ["map", "10000000", "=", "a.dll", "20000000", "=", "d"])
+        self.assert_offered(["10000000=d.dll"], ["map", "10000000=d"])
+        self.assertEqual(self.offered("map", "10000000", "="), sorted([*FILES, "completion"]))
+        self.assert_offered([], ["map", "a"], ["map", ""], ["map", "10000000", "=", "a.dll", "a"])
+
+    def test_a_name_in_a_quote_is_completed_after_the_quote(self):
+        self.assert_offered(["a file.dll"], ["check", '"a f'], ["check", "'a f"], ["map", "10000000", "=", '"a f'])
+        self.assert_offered(["10000000=a file.dll"], ["map", '"10000000=a f'])
+
+    def test_a_name_with_an_equals_sign_is_completed_where_it_was_split(self):
+        self.assert_offered(["1.dll", "2.dll"], ["check", "b", "="], ["map", "10000000", "=", "b", "="])
+        self.assert_offered(["b=2.dll"], ["check", "b=2"])
+        self.assert_offered(["10000000=b=2.dll"], ["map", "10000000=b=2"])
 
     def test_options_are_those_of_the_command(self):
-        self.assertEqual(self.offered("map", "--"), ["--help", "--known", "--window"])
-        self.assertEqual(self.offered("explain", "-"), ["--help", "-h"])
+        self.assert_offered(["--count", "--help", "--known", "--window"], ["map", "--"], ["map", "10000000=a.dll", "--"])
+        self.assert_offered(["--help", "-h"], ["explain", "-"], ["check", "a.dll", "-"])
+        self.assert_offered(["--imports"], ["show", "--i"])
 
     def test_where_no_file_can_stand_none_is_offered(self):
-        for words in (["explain", ""], ["explain", "a"], ["map", "--window", ""], ["map", "--window", "a"]):
-            self.assertEqual(self.offered(*words), [], words)
+        self.assert_offered([], ["explain", ""], ["explain", "a"])
+        self.assert_offered([], ["map", "--window", "a"], ["map", "--count", ""], ["map", "--window", "=", "a"])
+        for command in ("show", "json", "dump", "object"):
+            self.assert_offered([], [command, "--most", ""], [command, "--most", "a"], [command, "--most", "="])
+        self.assert_offered([], ["at", "a.dll", "a"], ["at", "--file", "a.dll", "a"], ["dump", "a.dll", "d"])
+        self.assert_offered([], ["rebase", "a"], ["rebase", "10000000", "a.dll", "o.dll", "d"])
+
+    def test_a_file_is_offered_wherever_one_can_stand(self):
+        self.assert_offered(["d.dll"], ["at", "d"], ["at", "--address", "d"], ["rebase", "10000000", "d"])
+        self.assert_offered(["d.dll"], ["rebase", "10000000", "a.dll", "d"], ["json", "--most", "4K", "d"], ["json", "--most=4K", "d"])
+        self.assert_offered(["d.dll"], ["show", "a.dll", "--all", "d"], ["show", "--most", "=", "4K", "d"], ["check", "-", "d"])
+
+    def test_what_comes_after_two_dashes_is_a_file(self):
+        (self.room / "--help.dll").touch()
+        self.assert_offered(["--help.dll"], ["check", "--", "--h"], ["check", "--", "d.dll", "-"])
 
     def test_help_takes_a_command(self):
-        self.assertEqual(self.offered("help", ""), ["explain", "help", "map"])
-        self.assertEqual(self.offered("help", "a"), [])
+        self.assertEqual(self.offered("help", ""), COMMANDS)
+        self.assert_offered([], ["help", "x"], ["help", "map", ""])
 
-    def test_other_shells_offer_no_file_either(self):
-        self.assertIn("explain) _arguments '--help[Print help]' ;;", self.printed["zsh"])
-        self.assertIn("map) _arguments '--known[Leaves slots]' '--window[Prints the bytes from this address on]:HEX:'", self.printed["zsh"])
-        self.assertIn("complete -c petool -n '__fish_seen_subcommand_from explain' -f\n", self.printed["fish"])
-        self.assertNotIn("__fish_seen_subcommand_from map' -f\n", self.printed["fish"])
+
+class OtherShells(unittest.TestCase):
+    def test_no_file_is_offered_either_where_none_can_stand(self):
+        zsh, fish = printed("zsh"), printed("fish")
+        self.assertIn("explain) _arguments '(-h --help)'{-h,--help}'[Print help]' '1:N:' ;;", zsh)
+        self.assertIn("--window[Prints the bytes from this address on, 16 per line]:HEX:'", zsh)
+        self.assertIn("'1:HEX:' '2:IN:_files' '3:OUT:_files' ;;", zsh)
+        self.assertIn("'*:HEX=FILE:{compset -P \"*=\" && _files}' ;;", zsh)
+        self.assertIn("'dump 0' 'at 0' 'object 0' 'json *' 'rebase 1' 'rebase 2'\n", fish)
+        self.assertIn("__fish_seen_subcommand_from map' -l window -x ", fish)
+        self.assertIn("complete -c petool -f\ncomplete -c petool -n __petool_takes_file -F\n", fish)
+
+
+@unittest.skipUnless(PROGRAM, "left out without program: PETOOL_PROGRAM names none")
+class Program(unittest.TestCase):
+    def rows(self, heading, *words):
+        """The first words of the rows of help below a heading."""
+        text = subprocess.run([PROGRAM, *words, "--help"], stdout=subprocess.PIPE, check=True, text=True).stdout
+        return re.findall(r"^ {2,}(?:-\w, )?(\S+)", text.partition(f"{heading}:\n")[2].partition("\n\n")[0], re.M)
+
+    def test_commands_and_options_are_those_of_the_program(self):
+        self.assertEqual(sorted(self.rows("Commands")), COMMANDS)
+        shown = dict(re.findall(r"^ {8}(\w+)\) options='(.*)' ;;$", printed("bash"), re.M))
+        self.assertEqual(sorted([*shown, "help"]), COMMANDS)
+        for command, options in shown.items():
+            with self.subTest(command=command):
+                self.assertEqual(sorted(options.split()), sorted([*self.rows("Options", command), "-h"]))
 
 
 if __name__ == "__main__":

@@ -310,6 +310,10 @@ COMMANDS_WRITTEN = [
     (FILE_WORDS, "        imports: is_all", "        exports: is_all"),
     ("crates/pe_words/src/at_words.rt", "Explains a fault by its number, or", "Explains a fault, or"),
     ("crates/pe_words/src/map_words.rt", "Maps images together", "Maps images"),
+    ("crates/pe_words/src/map_words.rt", '"How many bytes the window has', '"The bytes of the window'),
+    ("crates/pe_words/src/map_words.rt", "Prints the bytes from this address on", "Prints the bytes here"),
+    ("crates/pe_words/src/at_words.rt", '"ADDRESS is a file offset"', '"ADDRESS is an offset"'),
+    (FILE_WORDS, "Prints at most so many bytes of each file's text", "Prints so many bytes"),
     ("crates/pe_words/src/rebase_words.rt", "Writes an image's file for another base", "Moves an image"),
     ("crates/pe_words/src/commands.rt", "  3  reading or writing failed", "  4  reading or writing failed"),
     ("crates/pe_text/src/show_options.rt", "    pub imports: bool,", "    pub import: bool,"),
@@ -328,6 +332,9 @@ COMMANDS_DESCRIBED = [
     ("option symbols\n", "option symbols\n  column     Symbols\n", "line "),
     ("  readme     what fault N means\n", "", "command explain [N] has no row readme"),
     ("command object FILE", "command objects FILE", "crates/pe_words/src/file_words.rt"),
+    ("word count N\n", "word counts N\n", "has the option count N, which no word describes"),
+    ("[--known] [--window HEX]", "[--known] [--window N]", "has the option window N, which no word describes"),
+    ("word known\n", "word known\n  help  It is not used\n\nword unknown\n", "crates/pe_words/src/map_words.rt"),
     ("status 4 OUT_OF_MEMORY", "statuses 4 OUT_OF_MEMORY", "line "),
 ]
 
