@@ -45,6 +45,11 @@ Each source begins with a comment that says what it holds: `scripts/file_rows.py
 """
 
 
+def unlinked(text):
+    """A comment whose links of documentation are shown as their words."""
+    return re.sub(r"\[(`[^`]+`)\](?:\([^)]*\))?", r"\1", text)
+
+
 def first_paragraph(path):
     """The first paragraph of the comment that begins a file. LookupError if there is none."""
     text = path.read_text()
@@ -58,8 +63,7 @@ def first_paragraph(path):
         lines = re.match(rf"(?:{mark} .*\n)*", text)[0].replace(f"{mark} ", "").splitlines()
     if not lines:
         raise LookupError(f"{path.relative_to(TOP)}: no first line says what the file holds")
-    # a link of documentation is shown as its words
-    return re.sub(r"\[(`[^`]+`)\]", r"\1", " ".join(lines)).replace("|", r"\|")
+    return unlinked(" ".join(lines)).replace("|", r"\|")
 
 
 def names_of(path):
@@ -157,7 +161,7 @@ def law_lines():
             if name not in laws:
                 raise LookupError(f"{path.relative_to(TOP)}: no comment says what {name} means")
         if laws:
-            yield from ("", f"Of `{crate}`:", "", *(f"- `{name}`: {' '.join(lines).strip()}" for name, lines in laws.items()))
+            yield from ("", f"Of `{crate}`:", "", *(f"- `{name}`: {unlinked(' '.join(lines).strip())}" for name, lines in laws.items()))
     yield ""
 
 

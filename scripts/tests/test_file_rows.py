@@ -12,7 +12,7 @@ FILES = {
     "crates.txt": "high: low bytes\nlow: bytes\n",
     "docs/MAP.md": "# Map\n\n<!-- from crates.txt -->\n<!-- end of crates.txt -->\nMore.\n",
     "docs/PROVED.md": "# Proved\n\n<!-- from the laws of the crates -->\n<!-- end of the laws of the crates -->\n",
-    "crates/low/src/laws.rt": "//! Laws.\n\n/// Bytes\n/// last.\npub fn bytes_last()\n{}\n",
+    "crates/low/src/laws.rt": "//! Laws.\n\n/// [`Bytes`](crate::Bytes)\n/// last.\npub fn bytes_last()\n{}\n",
     "crates/low/src/lib.rt": "//! Bytes of\n//! a file.\n//!\n//! More.\n\nmod view;\npub use view::View;\n",
     "crates/low/src/view/first.rt": "//! The first byte.\n",
     "crates/low/src/view.rt": "//! [`View`]: one|another.\n\npub struct View {}\n\npub(crate) fn inside() {}\n\nfn own() {}\n",
@@ -73,7 +73,7 @@ LAWS = """<!-- from the laws of the crates -->
 
 Of `low`:
 
-- `bytes_last`: Bytes last.
+- `bytes_last`: `Bytes` last.
 
 <!-- end of the laws of the crates -->
 """
