@@ -8,11 +8,13 @@
   leave out options; without that program this is left out
 - README.md and GUIDE.md: the test command of .ci/run
 - the versions of the program, the library, its bindings and its package: that of the file VERSION
+- the dates of the manual pages: that of the last version in Debian's changelog
 - PROVED.md and README.md: the ported crates of crates.txt, those of tests and of the benchmark apart
 
 Each sentence names the page and the thing; the last line is 'N passed, M failed', and the status is 1 if something differs.
 """
 
+import email.utils
 import os
 import pathlib
 import re
@@ -28,6 +30,7 @@ TOP = pathlib.Path(__file__).resolve().parents[1]
 PROVED, TESTS, MAP = "docs/PROVED.md", "docs/TESTS.md", "docs/MAP.md"
 GUIDE, README, MAN = "docs/GUIDE.md", "README.md", "man/petool.1"
 RUN = ".ci/run"
+CHANGELOG, MANUALS = "packaging/debian/changelog", ("man/petool.1", "man/petool.h.3")
 #: Folders of what is made, which no page names.
 MADE = {".git", "out", "target", "__pycache__"}
 #: The folders of tests that a page names without one, by their endings, and the lists of cases that PROVED.md names by one word.
@@ -340,6 +343,16 @@ def version_faults():
             yield f"{path}: the version is {found[1] if found else 'missing'}, and that of VERSION {version}"
 
 
+def date_faults():
+    """Whether the manual pages have the date of the last version in the changelog."""
+    told = re.search(r"^ -- .*>  (.+)$", read(CHANGELOG), re.M)[1]
+    date = email.utils.parsedate_to_datetime(told).date().isoformat()
+    for path in MANUALS:
+        found = re.match(r'\.TH \S+ \d "(.*?)"', read(path))[1]
+        if found != date:
+            yield f"{path}: the date is {found or 'missing'}, and that of {CHANGELOG} {date}"
+
+
 def ported(all_crates):
     """The libraries that are not crates of the repository: of the program and the library, and of other crates only."""
     below = list(MADE_OF)
@@ -367,7 +380,7 @@ def trust_faults(page):
 def comparisons(program):
     """What is wrong by each comparison: nothing if page and source agree."""
     yield condition_faults()
-    yield from (file_faults(), proof_faults(), list_faults(), command_faults(), version_faults())
+    yield from (file_faults(), proof_faults(), list_faults(), command_faults(), version_faults(), date_faults())
     yield count_faults(read(MAP))
     yield from map(test_faults, (PROVED, TESTS))
     yield from map(trust_faults, (PROVED, README))

@@ -68,6 +68,8 @@ VERSIONS = [
     ("bindings/rust/petool-sys/Cargo.toml", '"1.0.0"', '"1"', "bindings/rust/petool-sys/Cargo.toml: the version is missing"),
     ("docs/CHANGES.md", "## 1.0\n", "## 1.1\n", "docs/CHANGES.md: the version is 1.1, and that of VERSION 1.0"),
     ("packaging/debian/changelog", "petool (1.0-1)", "petool (1.1-1)", "packaging/debian/changelog: the version is 1.1"),
+    ("packaging/debian/changelog", "25 Nov 2026", "26 Nov 2026", "man/petool.1: the date is 2026-11-25, and that of packaging"),
+    ("man/petool.h.3", '.H 3 "2026-11-25"', '.H 3 ""', "man/petool.h.3: the date is missing"),
     ("man/petool.1", "petool 1.0", "petool 1.1", "man/petool.1: the version is 1.1"),
     ("man/petool.h.3", "libpetool 1.0", "libpetool 1.1", "man/petool.h.3: the version is 1.1"),
 ]
