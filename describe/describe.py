@@ -36,6 +36,7 @@ HEADER = "bindings/c/petool.h"
 RUST = "bindings/rust/petool-sys/src/lib.rs"
 SHOWN = "bindings/rust/petool/src/lib.rs"
 PACKAGE = "bindings/python/petool"
+SHOWN_IN_PYTHON = f"{PACKAGE}/__init__.py"
 #: The modules of the package that have values, or classes with the fields of records.
 MODULES = ("_fault", "_image", "_library", "_object", "_space")
 MAN = "man/petool.h.3"
@@ -105,6 +106,7 @@ PARTS = {
     HEADER: c_texts.declarations,
     RUST: rust_part,
     SHOWN: shown_part,
+    SHOWN_IN_PYTHON: python_texts.shown_part,
     **{f"{PACKAGE}/{module}.py": python_texts.module_part for module in MODULES},
     MAN: lambda description, _: page_texts.synopsis(description),
     JSON: page_texts.json_part,
@@ -207,6 +209,7 @@ def misplaced(description):
         yield from wrong_parts(path, regions.parts(read(path), RECORDS), [f"rows of {it}" for it in records])
     for path, wanted in {**dict.fromkeys(module_texts.ROOTS, "modules"), SHOWN: "shown records"}.items():
         yield from wrong_parts(path, regions.parts(read(path), RECORDS), [wanted])
+    yield from wrong_parts(SHOWN_IN_PYTHON, regions.parts(read(SHOWN_IN_PYTHON), RECORDS), ["imports of _image", "names of _image"])
 
 
 def wrong_parts(path, found, wanted):

@@ -116,3 +116,11 @@ def module_part(description: Description, what: str) -> List[str]:
     if what in description.values:
         return _values(description.values[what])
     return _row_fields(description, description.records[what])
+
+
+def shown_part(description: Description, what: str) -> List[str]:
+    """A part of the package's first file: `imports of MODULE`, the classes of a module with fields of records, or `names` of these."""
+    form, _, module = what.partition(" of ")
+    line = {"imports": "{},", "names": '"{}",'}[form]
+    found = sorted(it.camel() for it in description.records.values() if it.python_module == module)
+    return [line.format(it) for it in found]

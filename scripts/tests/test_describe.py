@@ -104,6 +104,8 @@ VALUES_WRITTEN = [
 ]
 #: Another place, name, width or order of a field, in each file that has the fields of the headers, and parts that are missing.
 FIELDS_WRITTEN = [
+    ("bindings/python/petool/__init__.py", "    Fixup,\n", ""),
+    ("bindings/python/petool/__init__.py", '    "Section",\n', ""),
     ("bindings/rust/petool/src/lib.rs", "ObjectRelocation as Relocation, ", "ObjectRelocation, "),
     ("crates/petool_c/src/lib.rt", "\nmod fixup;\n", "\n"),
     ("crates/petool_c/src/lib.rt", "#[cfg(test)]\nmod tests;\n", ""),

@@ -30,16 +30,18 @@ call runs. Calls do not hold the interpreter's lock. Make no call in a forked ch
 from ._bytes import Buffer
 from ._fault import FormatFault, Place
 from ._image import (
+    # from describe/records.txt: imports of _image
     Directory,
+    Fixup,
+    Headers,
+    Section,
+    # end of describe/records.txt
     Export,
     Exports,
-    Fixup,
     Forward,
-    Headers,
     Image,
     Import,
     Rva,
-    Section,
     Target,
     check,
     open,
@@ -67,15 +69,18 @@ def version() -> str:
 
 
 __all__ = [
+    # from describe/records.txt: names of _image
+    "Directory",
+    "Fixup",
+    "Headers",
+    "Section",
+    # end of describe/records.txt
     "Binding",
     "Buffer",
-    "Directory",
     "Export",
     "Exports",
-    "Fixup",
     "FormatFault",
     "Forward",
-    "Headers",
     "Image",
     "Import",
     "Moved",
@@ -89,7 +94,6 @@ __all__ = [
     "SECTION_ABSOLUTE",
     "SECTION_DEBUG",
     "SECTION_UNDEFINED",
-    "Section",
     "SectionHeader",
     "Space",
     "Standing",
