@@ -106,7 +106,8 @@ def _maker(file: FileBytes, kind: Callable[..., Any]) -> Callable[..., Any]:
 
 
 class Object(OfFile):
-    """One COFF object, from the bytes of its file. FormatFault of 61 to 72. What Image says of bytes and ``file`` holds here too."""
+    """One COFF object, from the bytes of its file. FormatFault of 61 to 72. What Image says of bytes and of ``file`` holds here
+    too."""
 
     def __init__(self, data: Buffer, *, file: Optional[str] = None) -> None:
         super().__init__(data, file)

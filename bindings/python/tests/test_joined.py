@@ -1,4 +1,4 @@
-"""Exports by name and by ordinal: each row has its ordinal and all names of it, as a reader that shares no code with petool finds."""
+"""Exports by name and by ordinal: each row has its ordinal and all its names, as a reader finds that shares no code with petool."""
 
 import itertools
 import pickle
@@ -24,7 +24,7 @@ CUT, WHOLE, FILL, GAP = 0x3000, 0x4000, 0x3007, 0x5000
 
 
 def exporting(base, addresses, names):
-    """An image with this ordinal base, these addresses, and names as the RVAs of their strings with the entries that they export."""
+    """An image with this ordinal base, these addresses, and these names: the RVA of a string, and the entry that it exports."""
     table = numbers(0, 0, 0, 0, base, len(addresses), len(names), 0x1028)
     table += numbers(0x1028 + 4 * len(addresses), 0x1028 + 4 * (len(addresses) + len(names)))
     table += numbers(*addresses, *(rva for rva, _ in names)) + struct.pack(f"<{len(names)}H", *(entry for _, entry in names))
@@ -39,7 +39,13 @@ def exporting(base, addresses, names):
 #: Ordinal base, addresses, names, and what is found: the names by their rows, and the names of each exported ordinal.
 CASES = [
     # several names of an ordinal, not in its order, and an ordinal without a name
-    (5, [0x10, 0x20, 0x30], [(WHOLE + 12, 2), (WHOLE, 0), (WHOLE + 14, 2)], {b"c": 7, b"abc": 5, b"bc": 7}, {5: [b"abc"], 6: [], 7: [b"c", b"bc"]}),
+    (
+        5,
+        [0x10, 0x20, 0x30],
+        [(WHOLE + 12, 2), (WHOLE, 0), (WHOLE + 14, 2)],
+        {b"c": 7, b"abc": 5, b"bc": 7},
+        {5: [b"abc"], 6: [], 7: [b"c", b"bc"]},
+    ),
     # equal strings: at one place, at two, and at two of one file offset; the first counts
     (1, [0x10, 0x20], [(WHOLE, 1), (WHOLE, 0), (WHOLE + 4, 0)], {b"abc": 2, b"abcabc": 1}, {1: [b"abcabc"], 2: [b"abc"]}),
     (1, [0x10, 0x20], [(WHOLE + 7, 0), (WHOLE, 1), (CUT, 1), (CUT + 4, 1)], {b"abc": 1}, {1: [b"abc"], 2: []}),

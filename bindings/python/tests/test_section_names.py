@@ -48,6 +48,7 @@ NAMES = [
     (b"/4 ", b"/4 "),
     (b"/ 4", b"/ 4"),
     (b"/4\n", b"/4\n"),
+    (b"/000004\n", b"/000004\n"),
     (b"//AAAAAA", b"//AAAAAA"),
     (b".text", b".text"),
     (b".tex\0\0ab", b".tex"),
@@ -85,7 +86,8 @@ def with_sections(fields, strings):
     """An image with a section without bytes for each of these fields, and a string table."""
     file = bytearray(data("v1.dll")[:0x138])
     headers = 0x138 + 40 * len(fields)
-    put(file, (0x46, struct.pack("<H", len(fields))), (SYMBOLS, numbers(headers)), (0x94, numbers(headers)), (0x90, numbers(0x10000)))
+    put(file, (0x46, struct.pack("<H", len(fields))), (SYMBOLS, numbers(headers)))
+    put(file, (0x90, numbers(0x10000)), (0x94, numbers(headers)))
     table = b"".join(struct.pack("<8sIIII16x", field, 0, 0x10000, 0, 0) for field in fields)
     return bytes(file) + table + numbers(4 + len(strings)) + strings
 
