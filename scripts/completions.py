@@ -20,6 +20,123 @@ from commands import Commands, Item
 FILES = {"FILE", "IN", "OUT"}
 AFTER_BASE = "HEX=FILE"
 
+#: The script for bash, whose parts between @ are filled in.
+BASH = r"""# completion of petool for bash
+_petool() {
+    local part word=${COMP_WORDS[COMP_CWORD]} options= base=
+    local -a words=()
+    COMPREPLY=()
+    # bash splits a word before and after `=`: the last of these words is completed, and readline replaces no more than `word`
+    for part in "${COMP_WORDS[@]:1:COMP_CWORD}"; do
+        if [[ ${#words[@]} -gt 0 && ( $part == = || ${words[-1]} == *= ) ]]; then
+            words[-1]+=$part
+        else
+            words+=("$part")
+        fi
+    done
+    local last=${words[-1]} command=${words[0]} before
+    if [[ $word == = ]]; then word=; fi
+    before=${last%"$word"}
+    # nor does it replace an open quote
+    word=${word#[\"\']} last=$before$word
+    if [[ ${#words[@]} -eq 1 ]]; then
+        mapfile -t COMPREPLY < <(compgen -W '@first@' -- "$word")
+        return
+    fi
+    case $command in
+        help)
+            if [[ ${#words[@]} -eq 2 ]]; then mapfile -t COMPREPLY < <(compgen -W '@names@' -- "$word"); fi
+            return ;;
+@options@
+    esac
+    # how many arguments are before it
+    local place=0 is_value= has_ended=
+    for part in "${words[@]:1:${#words[@]}-2}"; do
+        if [[ $is_value ]]; then
+            is_value=
+        elif [[ $has_ended || $part != -?* ]]; then
+            place=$((place + 1))
+        else
+            case $part in
+                --) has_ended=yes ;;
+                @valued@) is_value=yes ;;
+            esac
+        fi
+    done
+    if [[ $is_value ]]; then return; fi # no value is a file
+    if [[ ! $has_ended && $last == -* ]]; then
+        mapfile -t COMPREPLY < <(compgen -W "$options" -- "$last")
+        return
+    fi
+    case "$command $place" in
+        @plain@) ;;
+        @based@)
+            if [[ $last != *=* ]]; then return; fi
+            base=${last%%=*}= ;;
+        *) return ;;
+    esac
+    # a name a line, since names have spaces
+    mapfile -t COMPREPLY < <(compgen -f -P "$base" -- "${last#"$base"}")
+    COMPREPLY=("${COMPREPLY[@]#"$before"}")
+}
+complete -o filenames -F _petool petool
+"""
+
+#: The same for zsh.
+ZSH = r"""#compdef petool
+# completion of petool for zsh
+_petool() {
+    local -a commands
+    commands=(
+@commands@
+    )
+    if (( CURRENT == 2 )); then
+        _describe 'command' commands
+        compadd -- @options@
+        return
+    fi
+    local command=$words[2]
+    shift words
+    (( CURRENT-- ))
+    case $command in
+        help) _describe 'command' commands ;;
+@cases@
+    esac
+}
+_petool "$@"
+"""
+
+#: The same for fish.
+FISH = r"""# completion of petool for fish
+function __petool_takes_file
+    set -l words (commandline -opc)
+    set -l command $words[2]
+    set -l place -2 # petool and the command are no arguments
+    set -l is_value no
+    set -l has_ended no
+    for word in $words
+        if test $is_value = yes
+            set is_value no
+        else if test $has_ended = yes; or not string match -q -- '-?*' $word
+            set place (math $place + 1)
+        else if test $word = --
+            set has_ended yes
+        else if contains -- $word @valued@
+            set is_value yes
+        end
+    end
+    switch "$command $place"
+        case @plain@
+            return 0
+        case @based@
+            string match -q -- '*=*' (commandline -ct)
+            return
+    end
+    return 1
+end
+@completions@
+"""
+
 
 @dataclass
 class Option:
@@ -78,71 +195,22 @@ def valued(commands: List[Command]) -> List[str]:
     return sorted({f"--{option.name}" for it in commands for option in it.options if option.value})
 
 
+def filled(text: str, **parts: str) -> str:
+    """A script with its parts."""
+    return re.sub(r"@(\w+)@", lambda it: parts[it[1]], text)
+
+
 def bash(commands: List[Command]) -> str:
     names = " ".join(it.name for it in commands)
-    cases = "\n".join(f"        {it.name}) options='{words_of(it.options)}' ;;" for it in commands if it.options)
-    plain = " | ".join(f"'{it.name} '{place}" for it in commands if not it.is_after_base() for place in it.places())
-    based = " | ".join(f"'{it.name} '*" for it in commands if it.is_after_base())
-    return f"""# completion of petool for bash
-_petool() {{
-    local part word=${{COMP_WORDS[COMP_CWORD]}} options= base=
-    local -a words=()
-    COMPREPLY=()
-    # bash splits a word before and after `=`: the last of these words is completed, and readline replaces no more than `word`
-    for part in "${{COMP_WORDS[@]:1:COMP_CWORD}}"; do
-        if [[ ${{#words[@]}} -gt 0 && ( $part == = || ${{words[-1]}} == *= ) ]]; then
-            words[-1]+=$part
-        else
-            words+=("$part")
-        fi
-    done
-    local last=${{words[-1]}} command=${{words[0]}} before
-    if [[ $word == = ]]; then word=; fi
-    before=${{last%"$word"}}
-    # nor does it replace an open quote
-    word=${{word#[\\"\\']}} last=$before$word
-    if [[ ${{#words[@]}} -eq 1 ]]; then
-        mapfile -t COMPREPLY < <(compgen -W '{names} {words_of([HELP, VERSION])}' -- "$word")
-        return
-    fi
-    case $command in
-        help)
-            if [[ ${{#words[@]}} -eq 2 ]]; then mapfile -t COMPREPLY < <(compgen -W '{names}' -- "$word"); fi
-            return ;;
-{cases}
-    esac
-    # how many arguments are before it
-    local place=0 is_value= has_ended=
-    for part in "${{words[@]:1:${{#words[@]}}-2}}"; do
-        if [[ $is_value ]]; then
-            is_value=
-        elif [[ $has_ended || $part != -?* ]]; then
-            place=$((place + 1))
-        else
-            case $part in
-                --) has_ended=yes ;;
-                {' | '.join(valued(commands))}) is_value=yes ;;
-            esac
-        fi
-    done
-    if [[ $is_value ]]; then return; fi # no value is a file
-    if [[ ! $has_ended && $last == -* ]]; then
-        mapfile -t COMPREPLY < <(compgen -W "$options" -- "$last")
-        return
-    fi
-    case "$command $place" in
-        {plain}) ;;
-        {based})
-            if [[ $last != *=* ]]; then return; fi
-            base=${{last%%=*}}= ;;
-        *) return ;;
-    esac
-    # a name a line, since names have spaces
-    mapfile -t COMPREPLY < <(compgen -f -P "$base" -- "${{last#"$base"}}")
-    COMPREPLY=("${{COMPREPLY[@]#"$before"}}")
-}}
-complete -o filenames -F _petool petool
-"""
+    return filled(
+        BASH,
+        names=names,
+        first=f"{names} {words_of([HELP, VERSION])}",
+        options="\n".join(f"        {it.name}) options='{words_of(it.options)}' ;;" for it in commands if it.options),
+        valued=" | ".join(valued(commands)),
+        plain=" | ".join(f"'{it.name} '{place}" for it in commands if not it.is_after_base() for place in it.places()),
+        based=" | ".join(f"'{it.name} '*" for it in commands if it.is_after_base()),
+    )
 
 
 def quoted(text: str) -> str:
@@ -154,39 +222,21 @@ def zsh_words(command: Command) -> Iterator[str]:
     """What zsh's _arguments takes for a command."""
     for it in command.options:
         does = quoted(it.does).replace("[", "(").replace("]", ")")
-        short = f"'(-{it.short} --{it.name})'{{-{it.short},--{it.name}}}" if it.short else f"'--{it.name}"
-        begin = f"{short}'" if it.short else short
-        yield f"{begin}[{does}]{f':{it.value}:' if it.value else ''}'"
+        names = f"'(-{it.short} --{it.name})'{{-{it.short},--{it.name}}}'" if it.short else f"'--{it.name}"
+        yield f"{names}[{does}]{f':{it.value}:' if it.value else ''}'"
     for place, argument in enumerate(command.arguments, 1):
         action = '{compset -P "*=" && _files}' if argument == AFTER_BASE else "_files" if argument in FILES else ""
         yield f"'{'*' if command.is_repeated else place}:{argument}:{action}'"
 
 
 def zsh(commands: List[Command]) -> str:
-    names = "\n".join(f"        '{it.name}:{quoted(it.does)}'" for it in commands)
-    cases = "\n".join(f"        {it.name}) _arguments {' '.join(zsh_words(it))} ;;" for it in commands if it.name != "help")
-    return f"""#compdef petool
-# completion of petool for zsh
-_petool() {{
-    local -a commands
-    commands=(
-{names}
+    named = [it for it in commands if it.name != "help"]
+    return filled(
+        ZSH,
+        commands="\n".join(f"        '{it.name}:{quoted(it.does)}'" for it in commands),
+        options=words_of([HELP, VERSION]),
+        cases="\n".join(f"        {it.name}) _arguments -S {' '.join(zsh_words(it))} ;;" for it in named),
     )
-    if (( CURRENT == 2 )); then
-        _describe 'command' commands
-        compadd -- {words_of([HELP, VERSION])}
-        return
-    fi
-    local command=$words[2]
-    shift words
-    (( CURRENT-- ))
-    case $command in
-        help) _describe 'command' commands ;;
-{cases}
-    esac
-}}
-_petool "$@"
-"""
 
 
 def fish_lines(commands: List[Command]) -> Iterator[str]:
@@ -207,38 +257,13 @@ def fish_lines(commands: List[Command]) -> Iterator[str]:
 
 
 def fish(commands: List[Command]) -> str:
-    places = [f"'{it.name} {place}'" for it in commands if not it.is_after_base() for place in it.places()]
-    based = [f"'{it.name} *'" for it in commands if it.is_after_base()]
-    lines = "\n".join(f"complete -c petool {it}" for it in fish_lines(commands))
-    return f"""# completion of petool for fish
-function __petool_takes_file
-    set -l words (commandline -opc)
-    set -l command $words[2]
-    set -l place -2 # petool and the command are no arguments
-    set -l is_value no
-    set -l has_ended no
-    for word in $words
-        if test $is_value = yes
-            set is_value no
-        else if test $has_ended = yes; or not string match -q -- '-?*' $word
-            set place (math $place + 1)
-        else if test $word = --
-            set has_ended yes
-        else if contains -- $word {' '.join(valued(commands))}
-            set is_value yes
-        end
-    end
-    switch "$command $place"
-        case {' '.join(places)}
-            return 0
-        case {' '.join(based)}
-            string match -q -- '*=*' (commandline -ct)
-            return
-    end
-    return 1
-end
-{lines}
-"""
+    return filled(
+        FISH,
+        valued=" ".join(valued(commands)),
+        plain=" ".join(f"'{it.name} {place}'" for it in commands if not it.is_after_base() for place in it.places()),
+        based=" ".join(f"'{it.name} *'" for it in commands if it.is_after_base()),
+        completions="\n".join(f"complete -c petool {it}" for it in fish_lines(commands)),
+    )
 
 
 def main(shell: str) -> None:

@@ -81,7 +81,8 @@ class Bash(unittest.TestCase):
 
     def test_a_file_is_offered_wherever_one_can_stand(self):
         self.assert_offered(["d.dll"], ["at", "d"], ["at", "--address", "d"], ["rebase", "10000000", "d"])
-        self.assert_offered(["d.dll"], ["rebase", "10000000", "a.dll", "d"], ["json", "--most", "4K", "d"], ["json", "--most=4K", "d"])
+        self.assert_offered(["d.dll"], ["rebase", "10000000", "a.dll", "d"])
+        self.assert_offered(["d.dll"], ["json", "--most", "4K", "d"], ["json", "--most=4K", "d"])
         self.assert_offered(["d.dll"], ["show", "a.dll", "--all", "d"], ["show", "--most", "=", "4K", "d"], ["check", "-", "d"])
 
     def test_what_comes_after_two_dashes_is_a_file(self):
@@ -96,7 +97,7 @@ class Bash(unittest.TestCase):
 class OtherShells(unittest.TestCase):
     def test_no_file_is_offered_either_where_none_can_stand(self):
         zsh, fish = printed("zsh"), printed("fish")
-        self.assertIn("explain) _arguments '(-h --help)'{-h,--help}'[Print help]' '1:N:' ;;", zsh)
+        self.assertIn("explain) _arguments -S '(-h --help)'{-h,--help}'[Print help]' '1:N:' ;;", zsh)
         self.assertIn("--window[Prints the bytes from this address on, 16 per line]:HEX:'", zsh)
         self.assertIn("'1:HEX:' '2:IN:_files' '3:OUT:_files' ;;", zsh)
         self.assertIn("'*:HEX=FILE:{compset -P \"*=\" && _files}' ;;", zsh)
