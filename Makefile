@@ -6,7 +6,8 @@
 #   make uninstall [PREFIX=..] ..          removes what was installed
 #
 # LIBDIR and ZSHDIR name other folders for the library and for zsh's completion. Results of `rt ci` are used if they are newer than
-# the sources. PROGRAM and CALLS may name a program and an archive of the calls that exist already.
+# the sources. PROGRAM and CALLS may name a program and an archive of the calls that exist already; with PROGRAM and LIBRARY, which
+# names a libpetool.a, `rt` is not needed. Give whole paths.
 #
 # What `rt` builds is in crates/*/out, and scripts/prove.py keeps it for other checkouts; all else is made in $(O), outside the
 # repository.
@@ -36,7 +37,7 @@ NOT_INSTALLED := (\.\./)?((docs/)?(CHANGES|DECISIONS|MAP|PERF|TESTS)\.md|(bindin
 .DELETE_ON_ERROR:
 .PHONY: all petool install uninstall anew
 all: $(PROGRAM) $(SHELLS:%=$(O)/completions.%)
-	$(MAKE) -C bindings/c O=$(O)/c PREFIX=$(PREFIX) LIBDIR=$(LIBDIR)
+	$(MAKE) -C bindings/c O=$(O)/c PREFIX=$(PREFIX) LIBDIR=$(LIBDIR) library
 
 petool: $(PROGRAM)
 

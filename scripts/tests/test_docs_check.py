@@ -34,7 +34,7 @@ FILES = [
     (MAP, "1. `pe_view/specs/Faults.antt`", "1. `pe_view/specs/AllFaults.antt`", f"{MAP}: there is no pe_view/specs/AllFaults.antt"),
     (MAP, "](crates.svg)", "](crate.svg)", f"{MAP}: there is no crate.svg"),
     (MAP, "| `.ci/run` |", "| `.ci/runs` |", f"{MAP}: there is no .ci/runs"),
-    (MAP, "`packaging/debian/build`, `test`", "`packaging/debian/build`, `tests`", f"{MAP}: there is no packaging/debian/tests"),
+    (MAP, "`packaging/debian/build`, `rules`", "`packaging/debian/build`, `rule`", f"{MAP}: there is no packaging/debian/rule"),
     (MAP, "## Outside the crates\n", "## Other folders\n", "there is no heading '## Outside the crates'"),
     (MAP, "`new` and `add` of `Told`", "`new` of `Told`", f"{MAP}: the proof by hand of pe_text Told add is not named"),
     (MAP, "`hold` and `release` of", "`hold`, `free` and `release` of", f"{MAP}: there is no proof by hand of pe_handle Handle free"),
