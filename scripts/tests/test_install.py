@@ -65,15 +65,15 @@ class Room(unittest.TestCase):
 
     def make(self, goal, *words, top=TOP):
         folders = [f"O={self.room / 'made'}", f"PREFIX={self.room / 'at'}"]
-        command = ["make", "-C", top, goal, *words, *folders]
+        command = ["make", "-C", top, goal, *folders, *words]
         run = subprocess.run(command, env=self.environment, stdout=subprocess.PIPE, stderr=subprocess.STDOUT, text=True)
         self.assertEqual(run.returncode, 0, run.stdout)
 
     def find_first(self, kit):
         self.environment["PATH"] = f"{kit}:{self.environment['PATH']}"
 
-    def installed(self):
-        at = self.room / "at"
+    def installed(self, folder="at"):
+        at = self.room / folder
         return {str(it.relative_to(at)) for it in at.rglob("*") if not it.is_dir()}
 
 
@@ -95,6 +95,16 @@ class Install(Room):
         self.make("install", f"PROGRAM={PROGRAM}", f"LIBRARY={LIBRARY}")
         self.assertEqual(self.installed(), FILES)
         self.assertEqual((self.room / "at" / "lib" / "libpetool.a").read_bytes(), LIBRARY.read_bytes())
+
+    @unittest.skipUnless(LIBRARY.is_file(), "left out without calls: PETOOL_LIB_DIR has no libpetool.a")
+    def test_other_folders_get_the_files_and_lose_them_again(self):
+        folders = [f"DESTDIR={self.room / 'root'}", "PREFIX=/usr", "LIBDIR=/usr/lib/many", "ZSHDIR=/usr/share/zsh/vendor"]
+        moved = {f"usr/{it}".replace("usr/lib/", "usr/lib/many/").replace("site-functions", "vendor") for it in FILES}
+        self.make("install", f"PROGRAM={PROGRAM}", f"LIBRARY={LIBRARY}", *folders)
+        self.assertEqual(self.installed("root"), moved)
+        self.assertIn("\nlibdir=${prefix}/lib/many\n", (self.room / "root/usr/lib/many/pkgconfig/petool.pc").read_text())
+        self.make("uninstall", *folders)
+        self.assertEqual(self.installed("root"), set())
 
     @unittest.skipUnless(LIBRARY.is_file(), "left out without calls: PETOOL_LIB_DIR has no libpetool.a")
     def test_links_of_installed_pages_lead_to_installed_pages(self):
