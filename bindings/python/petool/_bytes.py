@@ -63,12 +63,13 @@ def view_of(data: Any) -> memoryview:
 class FileBytes:
     """All bytes of a file, which are held until close(): a bytearray cannot change its size meanwhile."""
 
-    __slots__ = ("_view", "address", "length")
+    __slots__ = ("_view", "address", "length", "is_held")
 
     def __init__(self, data: Any) -> None:
         self._view = view_of(data)
         self.address = address_of(self._view)
         self.length = len(self._view)
+        self.is_held = True
 
     def hold(self) -> memoryview:
         """Keeps the bytes in place for one call: until it is released they do not move, even if another thread calls close()."""
@@ -85,6 +86,7 @@ class FileBytes:
         return bytes(self._view[start : start + length])
 
     def close(self) -> None:
+        self.is_held = False
         self._view.release()
 
 

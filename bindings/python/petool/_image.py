@@ -78,7 +78,7 @@ class Headers:
 
 
 #: No part of a string table.
-_NO_PLACE: _section_names.Place = b"", 0
+_NO_PLACE: Optional[_section_names.Place] = (b"", 0)
 
 
 @dataclass(frozen=True)
@@ -96,7 +96,7 @@ class Section:
     characteristics: int  #: the section's flags
     # end of describe/records.txt
 
-    # where the long name is; no field, since it is not in the header
+    # where the long name is, or None until it is looked for; no field, since it is not in the header
     _place = _NO_PLACE
 
     @property
@@ -106,7 +106,10 @@ class Section:
     @property
     def long_name(self) -> bytes:
         """The name up to its first zero byte, also if it is in the string table of the image, where linkers put names of over 8
-        bytes: ``name`` is then its offset there, such as ``b"/4"`` (docs/FORMAT.md)."""
+        bytes: ``name`` is then its offset there, such as ``b"/4"`` (docs/FORMAT.md). ValueError for such a name if the image was
+        closed before its ``sections`` were first used."""
+        if self._place is None:
+            raise ValueError("it is closed")
         strings, at = self._place
         return strings[at : strings.index(0, at)] if strings else self._short_name
 
@@ -195,7 +198,10 @@ def _headers_of(record: _records.Headers) -> Headers:
 def _section_of(record: _records.Section) -> Section:
     values = {it.name: getattr(record, it.name) for it in fields(Section)}
     values["name"] = bytes(record.name).rstrip(b"\0")
-    return Section(**values)
+    section = Section(**values)
+    if _section_names.is_offset(section._short_name):
+        object.__setattr__(section, "_place", None)
+    return section
 
 
 def _target_of(file: FileBytes, kind: int, value: int, *texts: int) -> Target:
@@ -327,7 +333,6 @@ class Image(OfFile):
         try:
             self._counts = self._judge() if check else _records.Counts()
             self._headers, self._sections = self._read_headers()
-            self._are_named = not any(_section_names.is_offset(it._short_name) for it in self._sections)
         except BaseException:
             self.close()
             raise
@@ -352,18 +357,17 @@ class Image(OfFile):
 
     @property
     def sections(self) -> Tuple[Section, ...]:
-        """In the order of the section table. Their long names are read when they are first needed."""
-        if not self._are_named:
-            self._read_long_names()
+        """In the order of the section table. Their long names are looked for when they are first used."""
+        if self._file.is_held and any(it._place is None for it in self._sections):
+            self._find_long_names()
         return self._sections
 
-    def _read_long_names(self) -> None:
+    def _find_long_names(self) -> None:
         symbols, count = self._headers.pointer_to_symbol_table, self._headers.number_of_symbols
         with self._file.hold() as file:
             found = _section_names.places(file, symbols, count, (it._short_name for it in self._sections))
         for it in self._sections:
             object.__setattr__(it, "_place", found.get(it._short_name, _NO_PLACE))
-        self._are_named = True
 
     @property
     def exports(self) -> Exports:
