@@ -65,7 +65,7 @@ def text_in(strings, offset):
 
 def long_name_at(field):
     """The offset of a long name, if a section's field has one."""
-    found = re.match(rb"/([0-9]{1,7})(?:\0|$)", field)
+    found = re.match(rb"/([0-9]{1,7})(?:\0|\Z)", field)
     return int(found[1]) if found else None
 
 
