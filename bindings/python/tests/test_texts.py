@@ -7,7 +7,7 @@ with an RVA before the file, that command's; `refusal` the line of a page that s
 set's report, with a window if there is one. `rebase` and a base print its line and the length of the new file, `rebased` also what
 differs in it. All of them print the status. `head` and `layout` print the first fault of a file's headers, and of its section table
 too; `find` and names or ordinals what they export. `faults` prints the words of each number, `kind` the kind of file that its first
-bytes show, and `names` the name of each value and flag.
+bytes show, and `names` the name of each value and flag. Files whose tables have over 1,000 rows are built here instead.
 """
 
 import collections
@@ -25,7 +25,7 @@ from petool import _library
 
 from . import data
 from .cases import SetOfWords, cases, module_name, run, write_set
-from .files import edited, put
+from .files import edited, library, numbers, put, with_data
 from .lookups import look_up
 
 PROGRAM = os.environ.get("PETOOL_PROGRAM")
@@ -127,6 +127,39 @@ class Calls(Cases):
         self.each("faults", self.faults)
 
 
+def with_imports(first, others):
+    """An image with `first` imports of the module `M`, and one of each of `others` modules, which are `A` and `B` by turns. The
+    lookup tables of these are the end of that of `M`, and the slots come after the section."""
+    lookup = 0x1000 + 20 * (others + 2)
+    name, one, slot = lookup + 4 * (first + 1), lookup + 4 * (first - 1), 0x20000
+    rows = [numbers(lookup, 0, 0, name, slot)]
+    rows += [numbers(one, 0, 0, name + 2 + index % 2 * 2, slot + 4 * (first + index)) for index in range(others)]
+    section = b"".join(rows) + bytes(20) + numbers(*[0x80000001] * first, 0) + b"M\0A\0B\0"
+    return with_data([(0x90, numbers(0x40000)), (0xC0, numbers(0x1000, 20))], section)
+
+
+def with_fixups(pages):
+    """An image with two base relocations in each of so many pages."""
+    blocks = [numbers(page << 12, 12) + struct.pack("<HH", 0x3000, 0x3008) for page in range(pages)]
+    return with_data([(0x90, numbers(pages << 12)), (0xE0, numbers(0x1000, 12 * pages))], b"".join(blocks))
+
+
+def with_relocations(count):
+    """An object whose section has so many relocations, all of its only symbol."""
+    header = struct.pack("<HHIIIHH", 0x8664, 1, 0, 60 + 10 * count, 1, 0, 0)
+    section = struct.pack("<8s6IHHI", b".text", 0, 0, 0, 0, 60, 0, count, 0, 0)
+    return header + section + bytes(10 * count) + struct.pack("<8sIHHBB", b"s", 0, 1, 0, 2, 0) + numbers(4)
+
+
+#: Files, and how lines of their pages end that have a count over 999; each is the end of one line.
+COUNTED = [
+    (library([b"m.x"] * 1001 + [b""] * 1004), ["   2,005 exports, 1,001 forwarders", "Exports (2,005)"]),
+    (with_imports(1002, 1007), ["   2,009 imports: M 1,002, A 1, B 1, A 1 and 1,004 more", "Imports (2,009)", "  M (1,002)"]),
+    (with_fixups(1001), ["   2,002 fixups in 1,001 pages", "Base relocations (2,002)"]),
+    (with_relocations(1001), ["Relocations (1,001)", "  .text (1,001)"]),
+]
+
+
 def split_options(words):
     """The options at the beginning of words, and the other words."""
     options = list(itertools.takewhile(lambda word: word.startswith("--"), words))
@@ -195,6 +228,13 @@ class Program(Cases):
 
     def test_pages(self):
         self.each("show", self.show)
+
+    def test_each_count_on_a_page_has_commas(self):
+        for number, (file, ends) in enumerate(COUNTED):
+            with self.subTest(number):
+                pathlib.Path(self.folder, "many").write_bytes(file)
+                lines, status = self.lines("show", "--all", "many")
+                self.assertEqual(([sum(line.endswith(end) for line in lines) for end in ends], status), ([1] * len(ends), 0))
 
     def test_faults_on_pages(self):
         self.each("refusal", self.of_file("show", kept=lambda _, line: line.startswith("Fault ")))
