@@ -61,7 +61,7 @@ class Room(unittest.TestCase):
         self.room = pathlib.Path(tempfile.mkdtemp())
         self.addCleanup(shutil.rmtree, self.room)
         # not the variables of a make that runs this
-        self.environment = {name: it for name, it in os.environ.items() if name not in ("MAKEFLAGS", "MAKELEVEL", "O")}
+        self.environment = {name: it for name, it in os.environ.items() if name not in ("MAKEFLAGS", "MAKELEVEL", "O", "CALLS")}
 
     def make(self, goal, *words, top=TOP):
         folders = [f"O={self.room / 'made'}", f"PREFIX={self.room / 'at'}"]
