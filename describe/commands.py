@@ -4,7 +4,7 @@ import re
 from dataclasses import dataclass, field
 from typing import Dict, List
 
-from description import Mistake
+from description import Mistake, read_lines
 
 #: The rows below each kind of heading, in order; a command has `options` if it has any.
 ROWS = {
@@ -40,13 +40,7 @@ class Commands:
     def __init__(self, text: str) -> None:
         self.items: List[Item] = []
         self.all_help = ""
-        for number, line in enumerate(text.splitlines(), 1):
-            if not line.strip() or line.startswith("#"):
-                continue
-            try:
-                self._read(len(line) - len(line.lstrip()), line.strip())
-            except (Mistake, ValueError, KeyError, IndexError) as error:
-                raise Mistake(f"line {number}: {error!r}: {line.strip()}") from error
+        read_lines(text, self._read)
         for it in self.items:
             missing = [row for row in ROWS[it.kind] if row not in it.rows and row != "options"]
             if missing:

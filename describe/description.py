@@ -2,7 +2,7 @@
 
 import re
 from dataclasses import dataclass, field
-from typing import Dict, List, Optional, Tuple
+from typing import Callable, Dict, List, Optional, Tuple
 
 #: How many bytes each type has, and how it is aligned, on a machine of 64 bits.
 SIZES = {"u8": 1, "bool": 1, "u16": 2, "u32": 4, "u64": 8, "usize": 8, "bytes": 8, "state": 8}
@@ -454,6 +454,17 @@ class Description:
     def kinds(self, name: str) -> List[Object]:
         """The kinds of an object."""
         return [it for it in self.objects.values() if it.kind_of == name]
+
+
+def read_lines(text: str, read: Callable[[int, str], None]) -> None:
+    """Reads each line that is not blank and no comment, by its indent and its words. Mistake, with its number, if it cannot be read."""
+    for number, line in enumerate(text.splitlines(), 1):
+        if not line.strip() or line.startswith("#"):
+            continue
+        try:
+            read(len(line) - len(line.lstrip()), line.strip())
+        except (Mistake, ValueError, KeyError, IndexError) as error:
+            raise Mistake(f"line {number}: {error!r}: {line.strip()}") from error
 
 
 def _matched(form: str, text: str) -> Tuple[str, ...]:

@@ -4,7 +4,7 @@ import re
 from dataclasses import dataclass, field
 from typing import Dict, List, Tuple
 
-from description import COLUMNS, Mistake
+from description import COLUMNS, Mistake, read_lines
 
 #: The rows below a fault, in order, and those that it may lack: `image` unless it chooses the image itself, and `explained`.
 ROWS = ("condition", "place", "image", "code", "explained", "met by")
@@ -52,13 +52,7 @@ class Faults:
     def __init__(self, text: str) -> None:
         self.tables: Dict[str, List[Fault]] = {}
         self.names: List[Name] = []
-        for number, line in enumerate(text.splitlines(), 1):
-            if not line.strip() or line.startswith("#"):
-                continue
-            try:
-                self._read(len(line) - len(line.lstrip()), line.strip())
-            except (Mistake, ValueError, KeyError, IndexError) as error:
-                raise Mistake(f"line {number}: {error!r}: {line.strip()}") from error
+        read_lines(text, self._read)
         self._check()
 
     def _read(self, indent: int, words: str) -> None:
