@@ -2,4 +2,5 @@ pub mod Early
 pub mod Faults
 pub mod Headers
 pub mod Images
+pub mod RawEnds
 pub mod Sizes

@@ -4,4 +4,3 @@ pub use Rattle.pe_image.specs.ImageTests
 pub use Rattle.pe_text.specs.Engine
 pub mod Reach
 pub mod Sized
-pub mod Ends

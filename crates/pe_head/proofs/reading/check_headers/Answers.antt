@@ -3,9 +3,8 @@ use Rattle.std.proofs.Common.{◌∙◌, ap, lit≤}
 use Rattle.std.proofs.lemmas.Result.{err_from_is_err_and}
 use Rattle.pe_view.specs.View.{bytes_of}
 use Rattle.pe_view.specs.FirstStanding.{first-step, first-stop}
-use Rattle.pe_head.specs.Head.{head_of}
 use Rattle.pe_head.specs.HeaderFaults.{head_tests}
-use Rattle.pe_head.proofs.reading.read_headers.Goals as goal
+use Rattle.pe_head.proofs.reading.check_headers.Goals as goal
 
 pub returns : goal.returns
 returns c =
@@ -14,7 +13,7 @@ returns c =
           ∙ first-step tests 5 8 (lit≤ tt) c.in_ok-magic.ensures.exact.0
           ∙ first-step tests 8 10 (lit≤ tt) c.in_ok-table_end.ensures.exact.0
           ∙ c.in_ok-check_sizes.ensures.0,
-      c.headers.ensures ∙ ap (λ v. head_of (bytes_of v)) c.new-fields.ensures,
+      ap (λ v. bytes_of v) (c.new.ensures ∙ c.new-fields.ensures),
     )
 
 pub returns-in_err-offset : goal.returns-in_err-offset
