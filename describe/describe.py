@@ -192,7 +192,8 @@ def parts(description):
     """The parts that files must have: each enum and record in petool.h, each table in JSON.md, what each module of Python has."""
     declared = {**description.values, **description.records}
     yield HEADER, list(declared)
-    yield JSON, [it.name for it in description.objects.values() if not it.kind_of and not it.is_in_words]
+    apart = [it.name for it in description.objects.values() if not (it.kind_of or it.is_in_words or it.heads)]
+    yield JSON, [*apart, "rows"]
     yield RUST, ["values", "records", "calls"]
     yield "docs/C.md", ["statuses", "calls", "fields"]
     for module in sorted({it.python_module for it in declared.values()} - {""} | {*MODULES}):

@@ -191,6 +191,9 @@ class Object:
     kind_of: str
     about: str
     is_in_words: bool = False  #: docs/JSON.md has no table of it
+    heads: str = ""  #: of a row of an image, what docs/JSON.md has before its table
+    examples: List[str] = field(default_factory=list)  #: lines after the table
+    note: str = ""  #: what comes after these
     places: List[str] = field(default_factory=list)
     members: List[Member] = field(default_factory=list)
 
@@ -384,6 +387,12 @@ class Description:
         words = line.strip()
         if words.startswith("written by "):
             self._object.places = words[len("written by ") :].split(", ")
+        elif words.startswith("heads "):
+            self._object.heads = words[len("heads ") :]
+        elif words.startswith("example "):
+            self._object.examples.append(words[len("example ") :])
+        elif words.startswith("note "):
+            self._object.note = words[len("note ") :]
         elif words.startswith("* "):
             self._object.members += self.objects[words[2:]].members[1:]
         elif words.startswith("fields of "):

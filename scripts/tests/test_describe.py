@@ -69,7 +69,7 @@ WRITTEN = [
     ("bindings/python/petool/_space.py", "    exporter: int", "    exporter: str"),
     ("man/petool.h.3", 'petool_fixup *" rows', 'petool_import *" rows'),
     ("docs/JSON.md", "| `bits` | number |", "| `bits` | string |"),
-    ("docs/JSON.md", "<!-- from describe/records.txt: fixup -->\n", ""),
+    ("docs/JSON.md", "<!-- from describe/records.txt: rows -->\n", ""),
     ("docs/C.md", "| `petool_fixup` | `field` | `uint32_t` | RVA |", "| `petool_fixup` | `field` | `uint32_t` | offset |"),
     ("packaging/debian/libpetool0.symbols", " petool_fixups@PETOOL_0 1.0\n", ""),
 ]
@@ -319,7 +319,7 @@ COMMANDS_WRITTEN = [
     ("crates/pe_words/src/rebase_words.rt", "Writes an image's file for another base", "Moves an image"),
     ("crates/pe_words/src/commands.rt", "  3  reading or writing failed", "  4  reading or writing failed"),
     ("crates/pe_text/src/show_options.rt", "    pub imports: bool,", "    pub import: bool,"),
-    ("crates/pe_bench/src/texts.rt", "    symbols: true,\n", ""),
+    ("crates/pe_text/src/show_options.rt", "        symbols: true,\n", ""),
 ]
 COMMANDS_COMPARED = [
     ("crates/pe_program/src/statuses.rt", "CUT: u8 = 5", "CUT: u8 = 6"),

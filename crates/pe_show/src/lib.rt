@@ -13,6 +13,7 @@
 //! imports, base relocations, relocations and symbols; the rest of a page is in no contract.
 #![tactic(auto)]
 
+// from describe/records.txt: modules
 mod at_place;
 mod cell;
 mod date;
@@ -33,6 +34,7 @@ mod place;
 mod sections;
 mod style;
 mod symbols;
+// end of describe/records.txt
 
 pub use at_place::at;
 pub use engine::show;
