@@ -40,7 +40,8 @@ class Origin:
 
     name: str = ""  #: of the field of the type whose values the record shows
     default: str = ""  #: its value where the field is absent
-    function: str = ""  #: of the type, or what gives a number for each variant of the enum
+    function: str = ""  #: of the type, of the field's type, or what gives a number for each variant of the enum
+    definition: str = ""  #: of the function of the field's type
     enum: str = ""  #: the field's type, if that is an enum
     numbers: List[Tuple[str, str]] = field(default_factory=list)  #: each variant of the enum with its number
 
@@ -495,9 +496,12 @@ def _place(words: str) -> Place:
 def _origin(words: str) -> Origin:
     """The value of a field from its words in a row."""
     called = re.fullmatch(r"(\w+)\(\)", words)
+    asked = re.fullmatch(r"(\w+)\.(\w+)\(\) as (\w+)", words)
     numbered = re.fullmatch(r"(\w+) by (\w+) of (\w+): (\w+ \w+(?:, \w+ \w+)*)", words)
     if called:
         return Origin(function=called[1])
+    if asked:
+        return Origin(name=asked[1], function=asked[2], definition=asked[3])
     if numbered:
         numbers = [(variant, number) for variant, number in (arm.split() for arm in numbered[4].split(", "))]
         return Origin(name=numbered[1], function=numbered[2], enum=numbered[3], numbers=numbers)

@@ -61,7 +61,8 @@ def _value(description: Description, it: Field, value: str) -> List[str]:
     if origin.numbers:
         arms = [f"    {origin.enum}::{variant} => {number}," for variant, number in origin.numbers]
         return [f"match {value}.{origin.name} {{", *arms, "}"]
-    return [f"{value}.{origin.name}" if origin.name else f"{value}.{origin.function}()"]
+    names = [origin.name, f"{origin.function}()" if origin.function else ""]
+    return [".".join([value, *filter(None, names)])]
 
 
 def _literal(description: Description, record: Record, value: str) -> List[str]:
