@@ -15,6 +15,7 @@
 
 // from describe/records.txt: modules
 mod at_place;
+mod auxiliary;
 mod cell;
 mod date;
 mod directories;
