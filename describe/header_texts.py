@@ -68,8 +68,17 @@ def _read(it: Field) -> str:
     return f"self.{BITS[wide[1]]}_either({offset}, {wide[0]})"
 
 
+def _at_start(it: Field) -> str:
+    """A field of a record that begins at `start`."""
+    offset, width = place_of(it).narrow
+    return f"{it.name}: {BITS[width]}_in(self.view, start{f' + {offset}' if offset else ''}),"
+
+
 def head_part(description: Description, what: str) -> List[str]:
-    """A part of pe_head: `fields of headers`, and `counts of headers` and `reading of headers`, which fills them."""
+    """A part of pe_head: `fields of headers`, and `counts of headers` and `reading of headers`, which fills them; or `reading of
+    directory`, whose fields are at their places from `start` on."""
+    if what == "reading of directory":
+        return [_at_start(it) for it in description.records["directory"].placed()]
     fields = read_fields(description)
     if what == "fields of headers":
         return _struct(description)

@@ -120,7 +120,7 @@ def _filler(record: Record) -> List[str]:
 def _single(description: Description, record: Record) -> List[str]:
     """The function that makes a record that is no row."""
     return [
-        f"/// The {record.name} as C has them.",
+        f"/// The record for C of `{_source_type(record)}`.",
         f"pub fn {record.name}_record({record.name}: &{_source_type(record)}) -> {record.struct}",
         f"    ensures {{ result ≡ {record.name}_record {record.name}.now }}",
         "{",

@@ -175,8 +175,10 @@ impl<'a> Fields<'a> {
     {
         let start = self.optional(self.magic.fixed_size() + 8 * index);
         Directory {
+            // from describe/records.txt: reading of directory
             rva: u32_in(self.view, start),
             size: u32_in(self.view, start + 4),
+            // end of describe/records.txt
         }
     }
 

@@ -169,7 +169,7 @@ pub fn put_sections(rows: &mut [SectionRow], sections: &[SectionHeader])
     fill_rows(rows, sections);
 }
 
-/// The headers as C has them.
+/// The record for C of `Headers`.
 pub fn headers_record(headers: &Headers) -> HeadersRecord
     ensures { result ≡ headers_record headers.now }
 {
