@@ -16,6 +16,7 @@
 //! that was found, 65,536 names that are ends of one string of 1 MB, takes 0.2 seconds and 21 MB of memory.
 #![tactic(auto)]
 
+mod apart;
 mod bytes;
 mod encode;
 mod entry_run;
