@@ -51,4 +51,5 @@ pub mod Slots
 pub mod Targets
 pub mod TextMap
 pub mod TextRun
+pub mod TextSlots
 pub mod Unordered
