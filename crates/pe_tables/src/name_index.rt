@@ -131,7 +131,7 @@ impl<'a, A: Allocator + Copy> NameIndex<'a, A> {
     pub fn expect(&mut self, alloc: A, names: &[Name<'a>])
         ensures { IsSame self.old self.new }
     {
-        if self.has_asked || self.short.ascends() {
+        if self.short.ascends() || self.has_asked {
             return;
         }
         self.make_places(alloc, names);

@@ -103,6 +103,9 @@ impl<'a, A: Allocator + Copy> TextMap<'a, A> {
         if is_in(self.run.as_slice(), text, is_behind) {
             return true;
         }
+        if self.others.is_empty() {
+            return false;
+        }
         self.others.get(text).copied().is_some()
     }
 
