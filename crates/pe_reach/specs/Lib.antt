@@ -5,3 +5,6 @@ pub use Rattle.pe_text.specs.Engine
 pub mod Reach
 pub mod Sized
 pub mod Ends
+pub mod Views
+pub mod ViewBytes
+pub mod Settled

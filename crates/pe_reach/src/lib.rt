@@ -6,10 +6,17 @@
 #![tactic(auto)]
 
 pub mod laws;
+mod names;
 mod reach;
 mod reading;
 mod sized;
+mod view_file;
+mod view_reading;
+mod view_report;
 
 pub use reach::{early_fault, needed};
 pub use reading::read_enough;
 pub use sized::run_sized;
+pub use view_file::ViewFile;
+pub use view_reading::{ViewBytes, read_view};
+pub use view_report::{ViewReport, WholeView, run_view};
