@@ -18,8 +18,9 @@ use std::alloc::Allocator;
 
 /// A file as views see it: its size, and the bytes that decide what they show of it.
 ///
-/// Of an image these may be only a beginning, so a view can ask for nothing but its headers, its laid-out image with the tables,
-/// and the names of its sections: these are the same for each file of this size that begins so. Of an object it is all bytes.
+/// Of an image these may be only a beginning, so a view can ask for nothing but its headers, its laid-out image with the tables, the
+/// names of its sections, and the numbers of a fault: these are the same for each file of this size that begins so. Of an object
+/// they are all.
 #[derive(Clone, Copy)]
 pub struct ViewFile<'a> {
     bytes: &'a [u8],
@@ -92,7 +93,8 @@ impl<'a> ViewFile<'a> {
         read_image(alloc, self.bytes, 0)
     }
 
-    /// The string table of an image with these headers, if it has one and a section has a long name.
+    /// The string table of an image with these headers, if it has one. If no section has a long name it may be left out, and
+    /// [`coff_read::section_name`] returns the same.
     pub fn strings(&self, headers: &Headers) -> Option<ImageStrings<'a>>
         ensures { option_map table_of result ≡ image_strings (seen_of self.now) headers.now }
     {
