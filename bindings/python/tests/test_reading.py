@@ -1,6 +1,7 @@
-"""How much of a file the program reads: what comes after the end of the bytes that the headers name changes nothing, and is not
-read if the file's size is known. A file that comes by a pipe is read whole, so the two ways are compared. A file that another
-process changes meanwhile gives what one of its states gives."""
+"""How much of a file the program reads: what comes after the end of the bytes that the headers name changes nothing but the size
+on a page, and is not read if the file's size is known, except for the string table of an image whose sections have long names. A
+file that comes by a pipe is read whole, so the two ways are compared. A file that another process changes meanwhile gives what one
+of its states gives."""
 
 import contextlib
 import itertools
@@ -13,7 +14,7 @@ import tempfile
 import threading
 import unittest
 
-from .files import library, put
+from .files import library, numbers, put
 
 PROGRAM = os.environ.get("PETOOL_PROGRAM")
 
@@ -35,11 +36,30 @@ FIRST = 4096
 
 
 #: The commands that read no more than they need.
-COMMANDS = ("check", "dump", "map")
+COMMANDS = ("check", "dump", "map", "show", "json", "at")
+
+#: Those whose output does not have the file's size.
+SIZELESS = ("check", "dump", "map", "json", "at")
+
+#: The words of a command, if these are not the command and the path.
+WORDS = {"map": ("map", "10000000={}"), "show": ("show", "--all", "{}"), "at": ("at", "{}", "1000")}
 
 
 def words_of(command, path):
-    return ["map", f"10000000={path}"] if command == "map" else [command, path]
+    return [word.format(path) for word in WORDS.get(command, (command, "{}"))]
+
+
+def named(image, table, strings, field=b"/4"):
+    """An image whose section has a name in a string table at an offset. The table is written over the image, or after zeros; as many
+    bytes as 3 symbols take come before it."""
+    file = bytearray(image).ljust(table + len(strings), b"\0")
+    return bytes(put(file, (0x4C, numbers(table - 3 * 18, 3)), (0x138, field.ljust(8, b"\0")), (table, strings)))
+
+
+def string_table(*strings):
+    """A string table with these strings."""
+    body = b"".join(string + b"\0" for string in strings)
+    return numbers(4 + len(body)) + body
 
 
 @unittest.skipUnless(PROGRAM, "PETOOL_PROGRAM names no program")
@@ -54,8 +74,9 @@ class Reading(unittest.TestCase):
     def run_over(self, words, file, **options):
         """Its status and its outputs, with the names that standard input has in them."""
         done = subprocess.run([PROGRAM, *words], stdin=file, stdout=subprocess.PIPE, stderr=subprocess.PIPE, **options)
-        printed = done.stdout.replace(b'"a.dll"', b'"-"')
-        return done.returncode, printed, done.stderr.replace(str(self.path).encode(), b"standard input")
+        name, other = str(self.path).encode(), b"standard input"
+        printed = done.stdout.replace(b'"a.dll"', b'"-"').replace(name, other)
+        return done.returncode, printed, done.stderr.replace(name, other)
 
     def by_path(self, command, **options):
         return self.run_over(words_of(command, str(self.path)), subprocess.DEVNULL, **options)
@@ -72,12 +93,13 @@ class Reading(unittest.TestCase):
     def test_bytes_after_the_end_change_nothing(self):
         for image in (LIBRARY, LATE):
             self.path.write_bytes(image)
-            texts = {command: self.by_pipe(command) for command in COMMANDS}
+            texts = {command: self.by_pipe(command) for command in SIZELESS}
             self.assertEqual({status for status, _, _ in texts.values()}, {0})
             for tail in TAILS:
                 self.path.write_bytes(image + tail)
                 with self.subTest(size=len(image), tail=len(tail)):
                     self.assertEqual({command: self.by_path(command) for command in texts}, texts)
+                    self.assertEqual(self.by_path("show"), self.by_pipe("show"))
 
     def test_files_that_end_early_are_refused_alike(self):
         for image in (LIBRARY, LATE):
@@ -90,16 +112,47 @@ class Reading(unittest.TestCase):
         for offset in range(0x200):
             for value in (0, 0xFF):
                 with self.subTest(offset=offset, value=value):
-                    self.assert_alike(bytes(put(bytearray(file), (offset, bytes([value])))), "dump")
+                    self.assert_alike(bytes(put(bytearray(file), (offset, bytes([value])))), "dump", "show")
+
+    def test_names_of_sections_are_read_after_the_end(self):
+        strings = string_table(b"a name of the section", b"another")
+        for image, table in itertools.product((LIBRARY, LATE), (0x180, 0x1400, len(LATE), len(LATE) + 54, 0x8000)):
+            for field, name in ((b"/4", b"a name of the section"), (b"/26", b"another"), (b"/99", b"/99"), (b"/x", b"/x")):
+                for tail in TAILS:
+                    file = named(image, table, strings, field)
+                    with self.subTest(image=len(image), table=table, field=field, tail=len(tail)):
+                        self.assert_alike(file + tail, "show", "json", "at")
+                        if table != 0x1400:  # there it is written over strings of the exports
+                            self.assertIn(b'"name":"%s"' % name, self.by_path("json")[1])
+                            self.assertIn(b"  %s  " % name, self.by_path("show")[1])
+                            self.assertIn(b"  %s+0x0 " % name, self.by_path("at")[1])
+
+    def test_string_tables_that_end_early_are_none(self):
+        strings = string_table(b"a name of the section")
+        file = named(LIBRARY, len(LIBRARY) + 54, strings)
+        for size in (len(LIBRARY), len(LIBRARY) + 54, len(file) - len(strings) + 3, len(file) - len(strings) + 4, len(file) - 1):
+            with self.subTest(size=size):
+                self.assert_alike(file[:size], "show", "json", "at")
+                self.assertIn(b'"name":"/4"', self.by_path("json")[1])
+        for size in (0, 3, 4, 5, len(strings) - 1, len(strings) + 1, 0x7FFFFFFF, 0xFFFFFFFF):
+            with self.subTest(table=size):
+                self.assert_alike(file[: -len(strings)] + numbers(size) + strings[4:], "show", "json", "at")
+        for start, count in ((0, 3), (1, 0), (0xFFFFFFFF, 0), (0xFFFFFFFF, 0xFFFFFFFF), (len(LIBRARY), 0xFFFFFFFF)):
+            with self.subTest(start=start, count=count):
+                self.assert_alike(bytes(put(bytearray(file), (0x4C, numbers(start, count)))), "show", "json", "at")
 
     def test_a_long_tail_takes_no_memory(self):
-        self.path.write_bytes(LIBRARY)
-        texts = {command: self.by_pipe(command) for command in COMMANDS}
-        os.truncate(self.path, 1 << 30)
         most = 1 << 28
         limited = {"preexec_fn": lambda: resource.setrlimit(resource.RLIMIT_AS, (most, most))}
-        self.assertEqual({command: self.by_path(command, **limited) for command in COMMANDS}, texts)
-        self.assertEqual(self.by_path("show", **limited)[0], 4)
+        for file in (LIBRARY, named(LIBRARY, 0x8000, string_table(b"a name of the section"))):
+            self.path.write_bytes(file)
+            texts = {command: self.by_pipe(command) for command in SIZELESS}
+            page = self.by_pipe("show")
+            os.truncate(self.path, 1 << 30)
+            self.assertEqual({command: self.by_path(command, **limited) for command in SIZELESS}, texts)
+            sizes = (b" %s bytes\n" % format(size, ",").encode() for size in (len(file), 1 << 30))
+            self.assertEqual(self.by_path("show", **limited), (page[0], page[1].replace(*sizes, 1), page[2]))
+            self.assertEqual(self.by_path("object", **limited)[0], 4)
 
     def test_long_files_that_are_no_images_take_no_memory(self):
         most = 1 << 28
@@ -164,14 +217,20 @@ class Reading(unittest.TestCase):
 
     @staticmethod
     def without_size(result):
-        """A result without the size of a file that ends within its section, and this size; it is `None` if none is told."""
+        """A result without the size of a file that ends within its section, and this size; it is `None` if none is told. Nor does
+        it have the size on the first row of a page."""
         status, printed, complained = result
-        size = re.search(rb", and the file has ([0-9]+)\n$", complained)
-        return (status, printed, complained[: size.start()] if size else complained), int(size[1]) if size else None
+        printed = re.sub(rb"^(standard input: .*) [0-9,]+ bytes?\n", rb"\1\n", printed)
+        told = printed if printed.startswith(b"standard input: ") else complained
+        size = re.search(rb", and the file has ([0-9]+)\n$", told)
+        if size is None:
+            return (status, printed, complained), None
+        cut = told[: size.start()]
+        return (status, *((cut, complained) if told is printed else (printed, cut))), int(size[1])
 
     def states(self, files):
         """What each command gives for these files, without their sizes."""
-        states = {command: [] for command in ("check", "map")}
+        states = {command: [] for command in ("check", "map", "show", "json", "at")}
         for file in files:
             self.path.write_bytes(file)
             for command, results in states.items():

@@ -9,6 +9,8 @@ use Rattle.pe_image.specs.ImageTests.{image_tests}
 use Rattle.coff_read.specs.ObjectFaults.{object_tests}
 use Rattle.pe_text.specs.FileKind.{tests_by_kind}
 use Rattle.pe_text.specs.Outcome.{IsOutcomeOf}
+use Rattle.pe_reach.specs.Reach.{IsEnough}
+use Rattle.pe_reach.specs.Sized.{IsKnown}
 
 -- the tests of a file: those of an object if its first bytes are those of one, otherwise those of an image with the number 0
 abbrev pub file_tests : List ℕ → List Test
@@ -42,4 +44,22 @@ pub record Ran (given given' taken taken' : List ℕ) (ended : Bool) (result : R
   pub judged : Judged input written result
   pub limit : length input ≤ 2 ^ 32 + 1
   pub whole : OnJudged result (IsWhole ended input)
+  pub memory : IsErrOf result Memory → 0 < length input
+
+-- what holds of a file of a known size and of the written bytes, by the engine's result
+abbrev pub JudgedSized : Bool → ℕ → List ℕ → List ℕ → Result Outcome ToolError → Type 0
+JudgedSized ended len input written (Ok outcome) = IsKnown ended len input (λ file. IsOutcomeOf (file_tests file) outcome)
+JudgedSized ended len input written (Err Read) = written ≡ []
+JudgedSized ended len input written (Err Write) = Unit {0}
+JudgedSized ended len input written (Err Memory) = Unit {0}
+
+-- what the engine read and wrote over a file of a known size
+pub record RanSized (len : ℕ) (given given' taken taken' : List ℕ) (ended : Bool) (result : Result Outcome ToolError) : Type 0 where
+  pub input : List ℕ
+  pub written : List ℕ
+  pub reads : given' ≡ given ++ input
+  pub writes : taken' ≡ taken ++ written
+  pub judged : JudgedSized ended len input written result
+  pub limit : length input ≤ 2 ^ 32 + 1
+  pub enough : OnJudged result (IsEnough ended len input)
   pub memory : IsErrOf result Memory → 0 < length input

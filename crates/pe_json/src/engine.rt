@@ -4,7 +4,8 @@ ghost use Rattle.std.specs.Prelude.{◌-◌, ◌^◌, ◌<◌, ◌↔◌, length
 ghost use Rattle.coff_read.specs.ObjectFaults.{object_tests};
 ghost use Rattle.pe_image.specs.ImageTests.{image_tests};
 ghost use Rattle.pe_json.specs.Growing.{Grows};
-ghost use Rattle.pe_json.specs.JsonReport.{file_tests, Prints, Ran};
+ghost use Rattle.pe_json.specs.JsonReport.{file_tests, Prints, Ran, RanSized};
+ghost use Rattle.pe_reach.specs.Views.{seen_of};
 ghost use Rattle.pe_text.specs.TextWriter.{IsReady};
 ghost use Rattle.pe_text.specs.Outcome.{IsOutcomeOf};
 
@@ -13,9 +14,10 @@ use crate::image::write_image;
 use crate::json_text::JsonText;
 use crate::object::write_object;
 use coff_read::ObjectFile;
-use pe_image::read_image;
+use pe_reach::laws::faults_agree;
+use pe_reach::{ViewFile, read_view};
 use pe_tables::TableError;
-use pe_text::{Outcome, Sink, Source, TextWriter, ToolError, is_object, read_whole};
+use pe_text::{Outcome, Sink, Source, TextWriter, ToolError, read_whole};
 use std::alloc::{AllocError, Allocator};
 
 /// Checks an object, and writes its line.
@@ -47,14 +49,14 @@ fn write_image_line<A: Allocator + Copy, W: Sink>(
     alloc: A,
     text: &mut TextWriter<W>,
     name: &[u8],
-    file: &[u8],
+    file: ViewFile,
 ) -> Result<Outcome, AllocError>
     requires { IsReady W.failures text.old }
-    ensures verdict { IfOk result (IsOutcomeOf (image_tests 0 file.now)) }
+    ensures verdict { IfOk result (IsOutcomeOf (image_tests 0 (seen_of file.entry))) }
     ensures grows { Grows W.taken W.failures text.old text.new }
-    ensures memory { OnErr result (0 < length file.now) }
+    ensures memory { OnErr result (0 < length (seen_of file.entry)) }
 {
-    match read_image(alloc, file, 0) {
+    match file.read_image(alloc) {
         Ok(image) => {
             begin(text, name, true);
             let mut json = JsonText::new(alloc);
@@ -72,17 +74,16 @@ fn write_line<A: Allocator + Copy, W: Sink>(
     alloc: A,
     text: &mut TextWriter<W>,
     name: &[u8],
-    file: &[u8],
+    file: ViewFile,
 ) -> Result<Outcome, AllocError>
     requires { IsReady W.failures text.old }
-    ensures verdict { IfOk result (IsOutcomeOf (file_tests file.now)) }
+    ensures verdict { IfOk result (IsOutcomeOf (file_tests (seen_of file.entry))) }
     ensures grows { Grows W.taken W.failures text.old text.new }
-    ensures memory { OnErr result (0 < length file.now) }
+    ensures memory { OnErr result (0 < length (seen_of file.entry)) }
 {
-    if is_object(file) {
-        write_object_line(alloc, text, name, file)
-    } else {
-        write_image_line(alloc, text, name, file)
+    match file.object() {
+        Some(object) => write_object_line(alloc, text, name, object),
+        None => write_image_line(alloc, text, name, file),
     }
 }
 
@@ -91,11 +92,11 @@ fn print_line<A: Allocator + Copy, W: Sink>(
     alloc: A,
     writer: &mut W,
     name: &[u8],
-    file: &[u8],
+    file: ViewFile,
 ) -> Result<Outcome, ToolError>
     requires { W.failures writer.old < 2 ^ 64 - 1 }
-    ensures prints { Prints file.now (W.taken writer.old) (W.taken writer.new) (W.failures writer.old) (W.failures writer.new) result }
-    ensures memory { IsErrOf result ToolError.Memory → 0 < length file.now }
+    ensures prints { Prints (seen_of file.entry) (W.taken writer.old) (W.taken writer.new) (W.failures writer.old) (W.failures writer.new) result }
+    ensures memory { IsErrOf result ToolError.Memory → 0 < length (seen_of file.entry) }
 {
     let mut text = TextWriter::new(writer);
     let answer = write_line(alloc, &mut text, name, file);
@@ -133,5 +134,29 @@ pub fn json<A: Allocator + Copy, R: Source, W: Sink>(
     ensures write { IsErrOf result ToolError.Write ↔ (W.failures writer.old < W.failures writer.new) }
 {
     let file = read_whole(alloc, reader)?;
-    print_line(alloc, writer, name, &file)
+    print_line(alloc, writer, name, ViewFile::whole(&file))
+}
+
+/// [`json`] for a file of `len` bytes. Of an image no more is read than the bytes before the end that its headers name, and those
+/// before the end of its string table if a name of a section may be in it; the outcome is that of each file of `len` bytes that
+/// begins so. A file that does not begin with `MZ`, and one whose first 4,096 bytes do not say where that end is, is read whole.
+///
+/// The line, the errors and the conditions are those of [`json`].
+pub fn json_sized<A: Allocator + Copy, R: Source, W: Sink>(
+    alloc: A,
+    name: &[u8],
+    reader: &mut R,
+    len: u64,
+    writer: &mut W,
+) -> Result<Outcome, ToolError>
+    requires reads { R.failures reader.old < 2 ^ 64 - 1 }
+    requires writes { W.failures writer.old < 2 ^ 64 - 1 }
+    ensures ran { RanSized len (R.given reader.old) (R.given reader.new)
+        (W.taken writer.old) (W.taken writer.new) (R.ended reader.new) result }
+    ensures read { IsErrOf result ToolError.Read ↔ (R.failures reader.old < R.failures reader.new) }
+    ensures write { IsErrOf result ToolError.Write ↔ (W.failures writer.old < W.failures writer.new) }
+{
+    let seen = read_view(alloc, reader, len)?;
+    faults_agree();
+    print_line(alloc, writer, name, seen.file())
 }

@@ -13,8 +13,8 @@ use crate::value::text_if;
 use coff_read::{FileHeader, ImageStrings, section_name};
 use pe_head::{Headers, Magic, SectionHeader, directory_name};
 use pe_image::Image;
+use pe_reach::ViewFile;
 use pe_text::{Sink, TextWriter};
-use pe_view::View;
 use std::alloc::Allocator;
 
 /// Adds the headers and the list of data directories ("PE Format", Optional Header Data Directories).
@@ -80,7 +80,7 @@ fn write_sections<A: Allocator + Copy, W: Sink>(
 pub(crate) fn write_image<A: Allocator + Copy, W: Sink>(
     json: &mut JsonText<A>,
     text: &mut TextWriter<W>,
-    file: &[u8],
+    file: ViewFile,
     image: &Image<A>,
 )
     requires { IsReady W.failures text.old }
@@ -89,7 +89,7 @@ pub(crate) fn write_image<A: Allocator + Copy, W: Sink>(
     let headers = image.layout.headers();
     add_headers(json, headers);
     json.put(text);
-    let strings = ImageStrings::new(View::new(file), headers);
+    let strings = file.strings(headers);
     write_sections(json, text, strings, headers.sections.as_slice());
     write_exports(json, text, &image.exports);
     write_imports(json, text, &image.imports);

@@ -8,6 +8,8 @@
 //! let answer = json(alloc, b"zlib1.dll", &mut reader, &mut writer);
 //! ```
 //!
+//! [`json_sized`] takes the file's size too, and reads only as much of an image as the line shows.
+//!
 //! The line's members are those of docs/JSON.md. It is written as its rows are made, with at most 16 of them in memory; after a
 //! failed write no further row is made. Its beginning, and the whole line of a refused file, allocate nothing.
 #![tactic(auto)]
@@ -23,4 +25,4 @@ mod sections;
 mod tables;
 mod value;
 
-pub use engine::json;
+pub use engine::{json, json_sized};

@@ -1,10 +1,12 @@
 //! Engines run with standard output as their output.
 
+ghost use Rattle.std.specs.Prelude.{◌-◌, ◌^◌, ◌<◌};
+
 use crate::headed::Headed;
 use crate::output::Output;
 use pe_tool::{
-    Counted, Outcome, Policy, SetEntry, ShowOptions, ToolError, at, check, check_sized, dump,
-    dump_object, dump_sized, json, map_report, show,
+    Counted, Outcome, Policy, SetEntry, ShowOptions, Sink, Source, ToolError, at, at_sized, check,
+    check_sized, dump, dump_object, dump_sized, json, json_sized, map_report, show, show_sized,
 };
 use pe_view::Place;
 use std::alloc::Allocator;
@@ -98,6 +100,49 @@ fn heading_of(engine: Engine, name: &str, is_headed: bool) -> (&str, &str) {
     }
 }
 
+/// Runs an engine over a file whose size is not known, which is read whole.
+fn write_whole<A: Allocator + Copy, R: Source, W: Sink>(
+    alloc: A,
+    engine: Engine,
+    name: &[u8],
+    reader: &mut R,
+    writer: &mut W,
+) -> Result<Outcome, ToolError>
+    requires reads { R.failures reader.old < 2 ^ 64 - 1 }
+    requires writes { W.failures writer.old < 2 ^ 64 - 1 }
+{
+    match engine {
+        Engine::Check => check(alloc, reader, writer),
+        Engine::Dump => dump(alloc, reader, writer),
+        Engine::Object => dump_object(alloc, reader, writer),
+        Engine::Show(options) => show(alloc, name, &options, reader, writer),
+        Engine::Json => json(alloc, name, reader, writer),
+        Engine::At(place) => at(alloc, place, reader, writer),
+    }
+}
+
+/// Runs an engine over a file of `size` bytes, of which no more is read than its output needs.
+fn write_sized<A: Allocator + Copy, R: Source, W: Sink>(
+    alloc: A,
+    engine: Engine,
+    name: &[u8],
+    reader: &mut R,
+    size: u64,
+    writer: &mut W,
+) -> Result<Outcome, ToolError>
+    requires reads { R.failures reader.old < 2 ^ 64 - 1 }
+    requires writes { W.failures writer.old < 2 ^ 64 - 1 }
+{
+    match engine {
+        Engine::Check => check_sized(alloc, reader, size, writer),
+        Engine::Dump => dump_sized(alloc, reader, size, writer),
+        Engine::Object => dump_object(alloc, reader, writer),
+        Engine::Show(options) => show_sized(alloc, name, &options, reader, size, writer),
+        Engine::Json => json_sized(alloc, name, reader, size, writer),
+        Engine::At(place) => at_sized(alloc, place, reader, size, writer),
+    }
+}
+
 /// Runs an engine.
 fn write_text<A: Allocator + Copy>(
     alloc: A,
@@ -117,17 +162,9 @@ fn write_text<A: Allocator + Copy>(
             let (heading, rest) = heading_of(engine, name, is_headed);
             let mut writer = Counted::new(Headed::new(writer, heading, rest));
             let name = name.as_bytes();
-            match (engine, size) {
-                (Engine::Check, Some(size)) => {
-                    check_sized(alloc, &mut reader, size, &mut writer)
-                }
-                (Engine::Check, None) => check(alloc, &mut reader, &mut writer),
-                (Engine::Dump, Some(size)) => dump_sized(alloc, &mut reader, size, &mut writer),
-                (Engine::Dump, None) => dump(alloc, &mut reader, &mut writer),
-                (Engine::Object, _) => dump_object(alloc, &mut reader, &mut writer),
-                (Engine::Show(options), _) => show(alloc, name, &options, &mut reader, &mut writer),
-                (Engine::Json, _) => json(alloc, name, &mut reader, &mut writer),
-                (Engine::At(place), _) => at(alloc, place, &mut reader, &mut writer),
+            match size {
+                Some(size) => write_sized(alloc, engine, name, &mut reader, size, &mut writer),
+                None => write_whole(alloc, engine, name, &mut reader, &mut writer),
             }
         }
         Text::Map {

@@ -1,5 +1,5 @@
 -- What an engine reads and writes that knows the size of its file.
-use Rattle.std.proofs.Common.{◌≡◌, ℕ, ◌+◌, ◌^◌, ◌<◌, ◌≤◌, Bool, List, [], ◌++◌, length, Some, Result, Ok, Err, refl, sym, subst, append-nil, inl, inr}
+use Rattle.std.proofs.Common.{◌≡◌, ℕ, ◌+◌, ◌^◌, ◌<◌, ◌≤◌, Bool, List, [], ◌++◌, length, Result, Ok, Err, refl, sym, subst, append-nil, inl, inr}
 use Rattle.std.specs.Prelude.{IsErrAnd, IsErrOf, ◌⊎◌}
 use Rattle.pe_view.specs.declared.fault.Fault.{Fault}
 use Rattle.pe_text.specs.declared.outcome.Outcome.{Outcome}
@@ -8,22 +8,32 @@ use Rattle.pe_text.specs.declared.outcome.ToolError.{ToolError}
 use Rattle.pe_text.specs.declared.outcome.ToolError.TheVariants.{Read, Write, Memory}
 use Rattle.pe_text.specs.FaultLine.{fault_line}
 use Rattle.pe_text.specs.Engine.{FailsAfter, IsRefusal, Puts, BeginsText}
-use Rattle.pe_reach.specs.Reach.{Decide, Refuse, IsEnough}
-use Rattle.pe_reach.specs.Sized.{Follows, RefusesByFaults, IsKnown, WrittenSized, RanSized}
+use Rattle.pe_text.specs.Engine.{IsWhole}
+use Rattle.pe_reach.specs.Reach.{Begins, Refuse}
+use Rattle.pe_reach.specs.Sized.{RefusesByFaults, IsKnown, WrittenSized, RanSized}
 
-module _ (IsText : List ℕ → Outcome → List ℕ → Type 0) (ended : Bool) (len : ℕ) (input : List ℕ) where
+-- the texts of files that are alike are the same
+abbrev pub Carries : (List ℕ → List ℕ → Type 0) → (List ℕ → Outcome → List ℕ → Type 0) → Type 0
+Carries Alike IsText = (f g : List ℕ) → Alike f g → (outcome : Outcome) (text : List ℕ) → IsText g outcome text → IsText f outcome text
+
+-- bytes are the whole file, or like each file of a length that begins with them
+abbrev pub Suffice : (List ℕ → List ℕ → Type 0) → Bool → ℕ → List ℕ → Type 0
+Suffice Alike ended len input = IsWhole ended input ⊎ ((file : List ℕ) → Begins input len file → Alike file input)
+
+module _ (Alike : List ℕ → List ℕ → Type 0) (ended : Bool) (len : ℕ) (input : List ℕ) where
   -- what holds of enough bytes is known of the file
-  known : (Holds : List ℕ → Type 0) → ((file : List ℕ) → Rattle.pe_reach.specs.Reach.SameAnswers file input → Holds input → Holds file) → IsEnough ended len input → Holds input → IsKnown ended len input Holds
-  known Holds carries enough holds = elim enough [ inl whole ↦ inl (whole, holds) | inr decide ↦ inr (λ file b. carries file (decide file b) holds) ]
+  pub known : (Holds : List ℕ → Type 0) → ((file : List ℕ) → Alike file input → Holds input → Holds file) → Suffice Alike ended len input → Holds input → IsKnown ended len input Holds
+  known Holds carries enough holds = elim enough [ inl whole ↦ inl (whole, holds) | inr alike ↦ inr (λ file b. carries file (alike file b) holds) ]
 
   -- the text of enough bytes
-  put : Follows IsText → IsEnough ended len input → (before now : List ℕ) (count count' : ℕ) (result : Result Outcome ToolError) → (puts : Puts (IsText input) before now count count' result) → WrittenSized IsText ended len input result puts.0
-  put follows enough before now count count' (Ok outcome) puts = known (λ file. IsText file outcome puts.0) (λ file same is. follows file input same outcome puts.0 is) enough puts.2.0
-  put follows enough before now count count' (Err Read) puts = absurd puts.2
-  put follows enough before now count count' (Err Write) puts =
+  put : (IsText : List ℕ → Outcome → List ℕ → Type 0) → Carries Alike IsText → Suffice Alike ended len input → (before now : List ℕ) (count count' : ℕ) (result : Result Outcome ToolError) → (puts : Puts (IsText input) before now count count' result) → WrittenSized IsText ended len input result puts.0
+  put IsText follows enough before now count count' (Ok outcome) puts = known (λ file. IsText file outcome puts.0) (λ file same is. follows file input same outcome puts.0 is) enough puts.2.0
+  put IsText follows enough before now count count' (Err Read) puts = absurd puts.2
+  put IsText follows enough before now count count' (Err Write) puts =
       known (λ file. BeginsText (IsText file) puts.0) (λ file same is. (is.0, (is.1.0, follows file input same is.0 is.1.0 is.1.1, is.1.2))) enough puts.2.1
-  put follows enough before now count count' (Err Memory) puts = puts.2.1
+  put IsText follows enough before now count count' (Err Memory) puts = puts.2.1
 
+module _ (IsText : List ℕ → Outcome → List ℕ → Type 0) (ended : Bool) (len : ℕ) (input : List ℕ) where
   -- the line of a fault that the bytes decide
   put_refusal : RefusesByFaults IsText → (fault : Fault) → Refuse len input fault → (before now : List ℕ) (count count' : ℕ) (result : Result Outcome ToolError) → (puts : Puts (IsRefusal fault) before now count count' result)
       → WrittenSized IsText ended len input result puts.0
@@ -35,16 +45,16 @@ module _ (IsText : List ℕ → Outcome → List ℕ → Type 0) (ended : Bool) 
   put_refusal refuses fault refuse before now count count' (Err Memory) puts = puts.2.1
 
 -- an engine that read enough
-pub ran : (IsText : List ℕ → Outcome → List ℕ → Type 0) → Follows IsText → (len : ℕ) (given given' taken taken' : List ℕ) (ended : Bool) (count count' : ℕ) (result : Result Outcome ToolError) (bytes input : List ℕ) → bytes ≡ input
-    → given' ≡ given ++ input → IsEnough ended len input → length input ≤ 2 ^ 32 + 1 → Puts (IsText bytes) taken taken' count count' result → (IsErrOf result Memory → 0 < length bytes) → RanSized IsText len given given' taken taken' ended result
-ran IsText follows len given given' taken taken' ended count count' result bytes input same reads enough limit puts memory =
+pub ran : (Alike : List ℕ → List ℕ → Type 0) (IsText : List ℕ → Outcome → List ℕ → Type 0) → Carries Alike IsText → (len : ℕ) (given given' taken taken' : List ℕ) (ended : Bool) (count count' : ℕ) (result : Result Outcome ToolError) (bytes input : List ℕ) → bytes ≡ input
+    → given' ≡ given ++ input → Suffice Alike ended len input → length input ≤ 2 ^ 32 + 1 → Puts (IsText bytes) taken taken' count count' result → (IsErrOf result Memory → 0 < length bytes) → RanSized IsText len given given' taken taken' ended result
+ran Alike IsText follows len given given' taken taken' ended count count' result bytes input same reads enough limit puts memory =
     let puts' : Puts (IsText input) taken taken' count count' result = subst (λ (xs : List ℕ). Puts (IsText xs) taken taken' count count' result) same puts in
     record {
       input = input;
       written = puts'.0;
       reads = reads;
       writes = puts'.1;
-      text = put IsText ended len input follows enough taken taken' count count' result puts';
+      text = put Alike ended len input IsText follows enough taken taken' count count' result puts';
       limit = limit;
       memory = subst (λ (xs : List ℕ). IsErrOf result Memory → 0 < length xs) same memory;
     }

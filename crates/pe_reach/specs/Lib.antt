@@ -3,4 +3,7 @@ pub use Rattle.pe_layout.specs.SectionFaults
 pub use Rattle.pe_image.specs.ImageTests
 pub use Rattle.pe_text.specs.Engine
 pub mod Reach
+pub mod Settled
 pub mod Sized
+pub mod ViewBytes
+pub mod Views

@@ -3,13 +3,23 @@
 //! The answers are the headers, the first fault and the laid-out image. [`needed`] says where that end is, and [`read_enough`]
 //! reads a file of a known size up to there. [`early_fault`] is a fault that the first bytes decide. [`run_sized`] is the engine of
 //! a report over such a file.
+//!
+//! Views also show the names of sections, which may come after that end. [`read_view`] reads as much as they show, and they see it
+//! as a [`ViewFile`], which hands out no bytes of an image. [`run_view`] is the engine of a [`ViewReport`] over such a file.
 #![tactic(auto)]
 
 pub mod laws;
+mod names;
 mod reach;
 mod reading;
 mod sized;
+mod view_file;
+mod view_reading;
+mod view_report;
 
 pub use reach::{early_fault, needed};
 pub use reading::read_enough;
 pub use sized::run_sized;
+pub use view_file::ViewFile;
+pub use view_reading::{ViewBytes, read_view};
+pub use view_report::{ViewReport, WholeView, run_view};

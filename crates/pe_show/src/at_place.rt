@@ -1,6 +1,7 @@
 //! `at`: the engine of `petool at`, which shows what is at one place of an image.
 
 ghost use Rattle.std.specs.Prelude.{◌-◌, ◌^◌, ◌<◌, ◌↔◌, IsErrOf};
+ghost use Rattle.pe_reach.specs.Sized.{RanSized};
 ghost use Rattle.pe_text.specs.Engine.{Ran};
 ghost use Rattle.pe_text.specs.TextWriter.{IsReady};
 ghost use Rattle.pe_show.specs.Judged.{IsImageJudged};
@@ -8,16 +9,16 @@ ghost use Rattle.pe_show.specs.Page.{AddsSome};
 
 use crate::cell::Cell::{self, Plain};
 use crate::cell::{NOTHING, write_cells};
+use crate::laws::outcomes_agree;
 use crate::place::SectionNames;
 use crate::sections::permissions;
-use pe_image::{Image, read_image};
+use pe_image::Image;
 use pe_layout::{Layout, Located};
+use pe_reach::{ViewFile, ViewReport, WholeView, run_view};
 use pe_tables::{Exports, Fixup, FixupKind, Import, TableError, Target};
 use pe_text::Part::{Decimal, Hex, Hex2, Text};
-use pe_text::{
-    Outcome, Report, Sink, Source, TextWriter, ToolError, refuse, run_report, write_parts,
-};
-use pe_view::{Place, View};
+use pe_text::{Outcome, Sink, Source, TextWriter, ToolError, refuse, run_report, write_parts};
+use pe_view::Place;
 use std::alloc::{AllocError, Allocator};
 
 /// How many bytes are shown.
@@ -273,18 +274,18 @@ fn write_place<A: Allocator + Copy, W: Sink>(
     }
 }
 
-impl Report for AtReport {
+impl ViewReport for AtReport {
     ghost is_text = { IsImageJudged };
 
     fn write<A: Allocator + Copy, W: Sink>(
         &self,
         alloc: A,
         text: &mut TextWriter<W>,
-        file: &[u8],
+        file: ViewFile,
     ) -> Result<Outcome, AllocError> {
-        match read_image(alloc, file, 0) {
+        match file.read_image(alloc) {
             Ok(image) => {
-                let names = SectionNames::new(View::new(file), image.layout.headers());
+                let names = SectionNames::new(file, image.layout.headers());
                 write_place(text, &image, &names, self.place);
                 Ok(Outcome::Done)
             }
@@ -313,5 +314,24 @@ pub fn at<A: Allocator + Copy, R: Source, W: Sink>(
     ensures read { IsErrOf result ToolError.Read ↔ (R.failures reader.old < R.failures reader.new) }
     ensures write { IsErrOf result ToolError.Write ↔ (W.failures writer.old < W.failures writer.new) }
 {
-    run_report(&AtReport { place }, alloc, reader, writer)
+    run_report(&WholeView(&AtReport { place }), alloc, reader, writer)
+}
+
+/// [`at`] for a file of `len` bytes, of which no more is read than [`crate::show_sized`] reads.
+pub fn at_sized<A: Allocator + Copy, R: Source, W: Sink>(
+    alloc: A,
+    place: Place,
+    reader: &mut R,
+    len: u64,
+    writer: &mut W,
+) -> Result<Outcome, ToolError>
+    requires reads { R.failures reader.old < 2 ^ 64 - 1 }
+    requires writes { W.failures writer.old < 2 ^ 64 - 1 }
+    ensures ran { RanSized IsImageJudged len (R.given reader.old) (R.given reader.new)
+        (W.taken writer.old) (W.taken writer.new) (R.ended reader.new) result }
+    ensures read { IsErrOf result ToolError.Read ↔ (R.failures reader.old < R.failures reader.new) }
+    ensures write { IsErrOf result ToolError.Write ↔ (W.failures writer.old < W.failures writer.new) }
+{
+    outcomes_agree();
+    run_view(&AtReport { place }, alloc, reader, len, writer)
 }

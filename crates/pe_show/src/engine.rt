@@ -1,30 +1,30 @@
 //! `show`: the engine of `petool show`, which writes the page of an image or an object.
 
 ghost use Rattle.std.specs.Prelude.{◌-◌, ◌^◌, ◌<◌, ◌↔◌, IsErrOf};
+ghost use Rattle.pe_reach.specs.Sized.{RanSized};
 ghost use Rattle.pe_text.specs.Engine.{Ran};
 ghost use Rattle.pe_show.specs.Judged.{IsJudged};
 
 use crate::heading::Page;
 use crate::image::show_image;
+use crate::laws::outcomes_agree;
 use crate::object::show_object;
-use pe_text::{
-    Outcome, Report, ShowOptions, Sink, Source, TextWriter, ToolError, is_object, run_report,
-};
+use pe_reach::{ViewFile, ViewReport, WholeView, run_view};
+use pe_text::{Outcome, ShowOptions, Sink, Source, TextWriter, ToolError, run_report};
 use std::alloc::{AllocError, Allocator};
 
-impl<'p> Report for Page<'p> {
+impl<'p> ViewReport for Page<'p> {
     ghost is_text = { IsJudged };
 
     fn write<A: Allocator + Copy, W: Sink>(
         &self,
         alloc: A,
         text: &mut TextWriter<W>,
-        file: &[u8],
+        file: ViewFile,
     ) -> Result<Outcome, AllocError> {
-        if is_object(file) {
-            show_object(alloc, self, text, file)
-        } else {
-            show_image(alloc, self, text, file)
+        match file.object() {
+            Some(object) => show_object(alloc, self, text, object),
+            None => show_image(alloc, self, text, file),
         }
     }
 }
@@ -53,5 +53,29 @@ pub fn show<A: Allocator + Copy, R: Source, W: Sink>(
     ensures read { IsErrOf result ToolError.Read ↔ (R.failures reader.old < R.failures reader.new) }
     ensures write { IsErrOf result ToolError.Write ↔ (W.failures writer.old < W.failures writer.new) }
 {
-    run_report(&Page { name, options }, alloc, reader, writer)
+    run_report(&WholeView(&Page { name, options }), alloc, reader, writer)
+}
+
+/// [`show`] for a file of `len` bytes. Of an image no more is read than the bytes before the end that its headers name, and those
+/// before the end of its string table if a name of a section may be in it; the outcome is that of each file of `len` bytes that
+/// begins so. A file that does not begin with `MZ`, and one whose first 4,096 bytes do not say where that end is, is read whole.
+///
+/// The page, the errors and the conditions are those of [`show`].
+pub fn show_sized<A: Allocator + Copy, R: Source, W: Sink>(
+    alloc: A,
+    name: &[u8],
+    options: &ShowOptions,
+    reader: &mut R,
+    len: u64,
+    writer: &mut W,
+) -> Result<Outcome, ToolError>
+    requires reads { R.failures reader.old < 2 ^ 64 - 1 }
+    requires writes { W.failures writer.old < 2 ^ 64 - 1 }
+    ensures ran { RanSized IsJudged len (R.given reader.old) (R.given reader.new)
+        (W.taken writer.old) (W.taken writer.new) (R.ended reader.new) result }
+    ensures read { IsErrOf result ToolError.Read ↔ (R.failures reader.old < R.failures reader.new) }
+    ensures write { IsErrOf result ToolError.Write ↔ (W.failures writer.old < W.failures writer.new) }
+{
+    outcomes_agree();
+    run_view(&Page { name, options }, alloc, reader, len, writer)
 }

@@ -4,12 +4,12 @@ ghost use Rattle.pe_text.specs.TextWriter.{IsReady};
 ghost use Rattle.pe_show.specs.Page.{AddsSome};
 
 use crate::style::{end_style, refusal_style};
-use pe_head::fault_detail;
+use pe_reach::ViewFile;
 use pe_text::Part::{self, Decimal, Hex, Text};
 use pe_text::{
     Amount, DetailText, Outcome, ShowOptions, Sink, TextWriter, fault_sentence, write_parts,
 };
-use pe_view::{Fault, View};
+use pe_view::Fault;
 
 /// Words, and the number after them.
 fn amount_parts(words: &'static str, amount: Amount) -> [Part<'static>; 3] {
@@ -22,11 +22,11 @@ fn amount_parts(words: &'static str, amount: Amount) -> [Part<'static>; 3] {
 }
 
 /// Adds the numbers that the rule of a fault compares after a colon, if there are any.
-fn write_detail<W: Sink>(text: &mut TextWriter<W>, file: View, fault: &Fault)
+fn write_detail<W: Sink>(text: &mut TextWriter<W>, file: ViewFile, fault: &Fault)
     requires { IsReady W.failures text.old }
     ensures { AddsSome W.taken W.failures text.old text.new }
 {
-    let Some(detail) = fault_detail(file, file.len(), fault) else {
+    let Some(detail) = file.fault_detail(fault) else {
         return;
     };
     let [first, second, third] = DetailText(detail).parts();
@@ -42,7 +42,7 @@ pub(crate) fn write_refusal<W: Sink>(
     text: &mut TextWriter<W>,
     options: &ShowOptions,
     outcome: Outcome,
-    file: View,
+    file: ViewFile,
 )
     requires { IsReady W.failures text.old }
     ensures { AddsSome W.taken W.failures text.old text.new }

@@ -3,6 +3,7 @@
 ghost use Rattle.std.specs.Prelude.{◌≡◌, ◌<◌, List, length, IfOk, OnErr};
 ghost use Rattle.pe_view.specs.Faults.{Test, first_standing};
 ghost use Rattle.pe_image.specs.ImageTests.{image_tests};
+ghost use Rattle.pe_reach.specs.Views.{seen_of};
 ghost use Rattle.pe_text.specs.TextWriter.{IsReady};
 ghost use Rattle.pe_show.specs.Page.{AddsSome};
 ghost use Rattle.pe_text.specs.Outcome.{IsOutcomeOf};
@@ -16,13 +17,13 @@ use crate::heading::{Page, write_title};
 use crate::imports::write_imports;
 use crate::place::SectionNames;
 use crate::sections::write_sections;
-use pe_head::read_headers;
-use pe_image::{Tables, lay_out, read_tables};
+use pe_image::{Tables, read_tables};
 use pe_layout::Layout;
+use pe_reach::ViewFile;
 use pe_tables::NamesByOrdinal;
 use pe_text::Part::Text;
 use pe_text::{Outcome, Sink, TextWriter};
-use pe_view::{Fault, View};
+use pe_view::Fault;
 use std::alloc::{AllocError, Allocator};
 
 /// The outcome of an image whose headers and sections have no fault, from the first fault of its tables.
@@ -48,19 +49,19 @@ fn order_names<A: Allocator + Copy>(
 }
 
 /// Adds the page of an image with one of faults 1 to 15, with its headers if they have no fault.
-fn write_refused<W: Sink>(text: &mut TextWriter<W>, page: &Page, view: View, outcome: Outcome)
+fn write_refused<W: Sink>(text: &mut TextWriter<W>, page: &Page, file: ViewFile, outcome: Outcome)
     requires { IsReady W.failures text.old }
     ensures { AddsSome W.taken W.failures text.old text.new }
 {
-    match read_headers(view, 0) {
+    match file.headers() {
         Ok(headers) => {
-            write_title(text, page, outcome, image_kind(&headers), view.len());
+            write_title(text, page, outcome, image_kind(&headers), file.len());
             write_headers(text, &headers, None);
-            write_refusal(text, page.options, outcome, view);
+            write_refusal(text, page.options, outcome, file);
         }
         Err(_) => {
-            write_title(text, page, outcome, [Text(b""); 4], view.len());
-            write_refusal(text, page.options, outcome, view);
+            write_title(text, page, outcome, [Text(b""); 4], file.len());
+            write_refusal(text, page.options, outcome, file);
         }
     }
 }
@@ -69,7 +70,7 @@ fn write_refused<W: Sink>(text: &mut TextWriter<W>, page: &Page, view: View, out
 fn write_image<A: Allocator + Copy, W: Sink>(
     text: &mut TextWriter<W>,
     page: &Page,
-    view: View,
+    file: ViewFile,
     layout: &Layout,
     tables: &Tables<A>,
     names_by_ordinal: &NamesByOrdinal<A>,
@@ -79,16 +80,16 @@ fn write_image<A: Allocator + Copy, W: Sink>(
 {
     let outcome = outcome_of(tables.fault);
     let headers = layout.headers();
-    let names = SectionNames::new(view, headers);
+    let names = SectionNames::new(file, headers);
     let entry = names.place(layout, headers.address_of_entry_point);
-    write_title(text, page, outcome, image_kind(headers), view.len());
+    write_title(text, page, outcome, image_kind(headers), file.len());
     write_headers(text, headers, Some(entry));
     write_sections(text, page.options, headers, &names);
     write_directories(text, page.options, layout, &names, tables);
     write_exports(text, page.options, layout, &names, tables, names_by_ordinal);
     write_imports(text, page.options, tables);
     write_fixups(text, page.options, tables);
-    write_refusal(text, page.options, outcome, view);
+    write_refusal(text, page.options, outcome, file);
 }
 
 /// Checks an image's file, and adds its page. It allocates only before it adds the first byte.
@@ -96,26 +97,25 @@ pub(crate) fn show_image<A: Allocator + Copy, W: Sink>(
     alloc: A,
     page: &Page,
     text: &mut TextWriter<W>,
-    file: &[u8],
+    file: ViewFile,
 ) -> Result<Outcome, AllocError>
     requires { IsReady W.failures text.old }
-    ensures judged { IfOk result (IsOutcomeOf (image_tests 0 file.now)) }
+    ensures judged { IfOk result (IsOutcomeOf (image_tests 0 (seen_of file.entry))) }
     ensures adds { IfOk result (λ _. AddsSome W.taken W.failures text.old text.new) }
     ensures same { text.new.writer.ghost_name ≡ text.old.writer.ghost_name }
     ensures adds_none { OnErr result (text.new ≡ text.old) }
-    ensures reads { OnErr result (0 < length file.now) }
+    ensures reads { OnErr result (0 < length (seen_of file.entry)) }
 {
-    let view = View::new(file);
-    match lay_out(file, 0) {
+    match file.lay_out() {
         Ok(layout) => {
             let tables = read_tables(alloc, &layout)?;
             let names = order_names(alloc, &tables, page.options.exports)?;
-            write_image(text, page, view, &layout, &tables, &names);
+            write_image(text, page, file, &layout, &tables, &names);
             Ok(outcome_of(tables.fault))
         }
         Err(fault) => {
             let outcome = Outcome::Refused(fault);
-            write_refused(text, page, view, outcome);
+            write_refused(text, page, file, outcome);
             Ok(outcome)
         }
     }

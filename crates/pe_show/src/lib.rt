@@ -9,6 +9,9 @@
 //! let answer = show(alloc, b"zlib1.dll", &options, &mut reader, &mut writer);
 //! ```
 //!
+//! [`show_sized`] takes the file's size too, and reads only as much of an image as the page shows. [`at`] and [`at_sized`] write
+//! what is at a place.
+//!
 //! The outcome is specified by contract. So are, internally, how a name is shown, the place of an RVA, and the rows of exports,
 //! imports, base relocations, relocations and symbols; the rest of a page is in no contract.
 #![tactic(auto)]
@@ -28,6 +31,7 @@ mod header_rows;
 mod heading;
 mod image;
 mod imports;
+mod laws;
 mod name;
 mod object;
 mod object_sections;
@@ -37,6 +41,6 @@ mod style;
 mod symbols;
 // end of describe/records.txt
 
-pub use at_place::at;
-pub use engine::show;
+pub use at_place::{at, at_sized};
+pub use engine::{show, show_sized};
 pub use pe_text::ShowOptions;

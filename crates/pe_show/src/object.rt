@@ -15,9 +15,9 @@ use crate::object_sections::{read_sections, write_relocations, write_sections};
 use crate::symbols::{SymbolNames, write_symbols};
 use coff_read::{FileSection, ObjectFile};
 use pe_head::{FlagKind, machine_name};
+use pe_reach::ViewFile;
 use pe_text::Part::Text;
 use pe_text::{Outcome, Sink, TextWriter};
-use pe_view::View;
 use std::alloc::{AllocError, Allocator};
 
 /// Adds the rows of an object's header.
@@ -66,7 +66,7 @@ fn write_object<A: Allocator + Copy, W: Sink>(
 }
 
 /// Adds the page of a refused object.
-fn write_refused<W: Sink>(text: &mut TextWriter<W>, page: &Page, outcome: Outcome, file: View)
+fn write_refused<W: Sink>(text: &mut TextWriter<W>, page: &Page, outcome: Outcome, file: ViewFile)
     requires { IsReady W.failures text.old }
     ensures { AddsSome W.taken W.failures text.old text.new }
 {
@@ -100,7 +100,7 @@ pub(crate) fn show_object<A: Allocator + Copy, W: Sink>(
         }
         Err(fault) => {
             let outcome = Outcome::Refused(fault);
-            write_refused(text, page, outcome, View::new(file));
+            write_refused(text, page, outcome, ViewFile::whole(file));
             Ok(outcome)
         }
     }

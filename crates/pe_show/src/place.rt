@@ -9,11 +9,11 @@ ghost use Rattle.pe_show.specs.Rows.{place_text};
 
 use crate::name::{name_width, write_name};
 use arrayvec::ArrayVec;
-use coff_read::{ImageStrings, section_name};
+use coff_read::section_name;
 use pe_head::Headers;
 use pe_layout::{Layout, Located};
+use pe_reach::ViewFile;
 use pe_text::{Sink, TextWriter, hex_width};
-use pe_view::View;
 
 /// The most bytes of a section's name that are shown.
 const NAME_LIMIT: usize = 40;
@@ -63,8 +63,8 @@ fn named_place(name: &[u8]) -> SectionPlace
 
 impl<'a> SectionNames<'a> {
     /// The names of the sections of an image's file. Each long name is searched for its end once.
-    pub fn new(view: View<'a>, headers: &'a Headers) -> SectionNames<'a> {
-        let strings = ImageStrings::new(view, headers);
+    pub fn new(file: ViewFile<'a>, headers: &'a Headers) -> SectionNames<'a> {
+        let strings = file.strings(headers);
         let mut names = ArrayVec::new();
         for section in headers.sections.as_slice() {
             let _ = names.try_push(cut(section_name(strings, &section.name)));

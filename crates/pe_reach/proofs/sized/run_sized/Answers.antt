@@ -1,4 +1,5 @@
-use Rattle.std.proofs.Common.{◌≡◌, ◌∙◌, ◌++◌, ℕ, List, [], arith, sym, ap, append_assoc, append-nil}
+use Rattle.std.proofs.Common.{◌∙◌, ◌++◌, ℕ, List, [], arith, sym, ap, append_assoc, append-nil}
+use Rattle.pe_reach.specs.Reach.{SameAnswers}
 use Rattle.pe_reach.proofs.Sizes.{ran, ran_early, ran-unread}
 use Rattle.pe_reach.proofs.sized.run_sized.Goals as goal
 
@@ -21,6 +22,6 @@ returns-clause-ran g c =
     let given = g.R.Source.given c.args.reader.now in
     let bytes = c.in_ok-first.first.bytes.items in
     let rest = c.in_ok-file.ensures in
-    ran g.T.Report.is_text c.requires.follows c.args.len given _ _ _ _ _ _ c.write_report.result c.deref-2.result.now (bytes ++ rest.0) (c.deref-2.ensures.value ∙ rest.3.0)
+    ran SameAnswers g.T.Report.is_text c.requires.follows c.args.len given _ _ _ _ _ _ c.write_report.result c.deref-2.result.now (bytes ++ rest.0) (c.deref-2.ensures.value ∙ rest.3.0)
     (rest.1 ∙ ap (λ (gs : List ℕ). gs ++ rest.0) (first.1 ∙ ap (λ (xs : List ℕ). given ++ xs) (sym first.3.0)) ∙ append_assoc given bytes rest.0)
     rest.3.1 rest.2 c.write_report.ensures.puts c.write_report.ensures.memory

@@ -1,0 +1,11 @@
+-- What was read of a file for a view.
+use Rattle.std.specs.Prelude.{ℕ, List}
+use Rattle.pe_reach.specs.declared.view_reading.ViewBytes.{ViewBytes}
+
+-- the bytes that were read
+abbrev pub bytes_read : {A : Type 0} → ViewBytes A → List ℕ
+bytes_read seen = seen.bytes.items
+
+-- the size of the file
+abbrev pub size_told : {A : Type 0} → ViewBytes A → ℕ
+size_told seen = seen.len

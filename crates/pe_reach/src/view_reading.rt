@@ -1,0 +1,146 @@
+//! `read_view`: as much of a file of a known size as views show of it.
+
+ghost use Rattle.std.specs.Prelude.{◌≡◌, ◌-◌, ◌+◌, ◌^◌, ◌<◌, ◌≤◌, ℕ, List, ◌++◌, length, MatchResult, true};
+ghost use Rattle.pe_text.specs.Engine.{FailsAfter};
+ghost use Rattle.pe_reach.specs.Views.{IsSeen};
+ghost use Rattle.pe_reach.specs.Settled.{IsSettled, IsRead, IsNamed};
+ghost use Rattle.pe_reach.specs.ViewBytes.{bytes_read, size_told};
+
+use crate::names::names_end;
+use crate::reach::needed;
+use crate::reading::read_begin;
+use crate::view_file::ViewFile;
+use pe_head::read_headers;
+use pe_text::{READ_LIMIT, ReadBytes, Source, ToolError, read_up_to};
+use pe_view::View;
+use std::alloc::Allocator;
+
+/// What was read of a file for a view.
+#[derive(Drop)]
+pub struct ViewBytes<A: Allocator> {
+    /// The file's first bytes.
+    pub(crate) bytes: Vec<u8, A>,
+    /// The file's size in bytes.
+    pub(crate) len: u64,
+}
+
+impl<A: Allocator> ViewBytes<A> {
+    ghost use Rattle.pe_reach.specs.Views.{seen_of, told_of};
+
+    /// The file.
+    pub fn file(&self) -> ViewFile<'_>
+        ensures seen { seen_of result ≡ bytes_read self.now }
+        ensures told { told_of result ≡ size_told self.now }
+    {
+        ViewFile::new(&self.bytes, self.len)
+    }
+}
+
+/// How many bytes are read of a file of `len` bytes that begins with these, which were read: those before the end that the headers
+/// of an image name. A file that is no image, and one of which [`needed`] does not say where that end is, is read whole.
+fn image_limit(begin: &[u8], len: u64) -> usize
+    requires { length begin.now ≤ 2 ^ 12 }
+    ensures least { length begin.now ≤ result }
+    ensures most { result ≤ 2 ^ 32 + 1 }
+    ensures settled { (more : List ℕ) → length (begin.now ++ more) ≡ result → IsSettled len (begin.now ++ more) }
+{
+    if !begin.starts_with(b"MZ") {
+        return READ_LIMIT;
+    }
+    match needed(begin, len) {
+        Some(end) if begin.len() as u64 <= len => begin.len().max(end as usize),
+        _ => READ_LIMIT,
+    }
+}
+
+/// Reads the rest of a file of `len` bytes after its first bytes: of an image up to the end that its headers name, of another file
+/// all.
+fn read_image<A: Allocator + Copy, R: Source>(
+    reader: &mut R,
+    first: ReadBytes<A>,
+    len: u64,
+) -> Result<ReadBytes<A>, ToolError>
+    requires counts { R.failures reader.old < 2 ^ 64 - 1 }
+    requires few { length first.bytes.items ≤ 2 ^ 12 }
+    requires ends { first.has_ended ≡ true → R.ended reader.old ≡ true }
+    ensures { (more : List ℕ) × (R.given reader.new ≡ R.given reader.old ++ more)
+        × (length (first.bytes.items ++ more) ≤ 2 ^ 32 + 1)
+        × MatchResult result
+        (λ read. (read.bytes.items ≡ first.bytes.items ++ more) × IsRead read.has_ended (R.ended reader.new) len read.bytes.items × (R.failures reader.new ≡ R.failures reader.old))
+        (FailsAfter (first.bytes.items ++ more) (R.failures reader.old) (R.failures reader.new)) }
+{
+    if first.has_ended {
+        return Ok(first);
+    }
+    let limit = image_limit(&first.bytes, len);
+    read_up_to(reader, first.bytes, limit)
+}
+
+/// How many bytes of a file of `len` bytes that begins with these are wanted for the names of its sections.
+fn names_limit(begin: &[u8], len: u64) -> usize
+    ensures most { result ≤ 2 ^ 32 + 1 }
+    ensures named { result ≤ length begin.now → IsNamed len begin.now }
+{
+    if begin.len() as u64 > len {
+        return READ_LIMIT;
+    }
+    match read_headers(View::new(begin), 0) {
+        Ok(headers) => names_end(begin, &headers, len).min(READ_LIMIT as u64) as usize,
+        Err(_) => READ_LIMIT,
+    }
+}
+
+/// Reads on in a file of `len` bytes, to the end of the string table if the names of its sections need it.
+fn read_names<A: Allocator + Copy, R: Source>(
+    reader: &mut R,
+    read: ReadBytes<A>,
+    len: u64,
+) -> Result<ViewBytes<A>, ToolError>
+    requires counts { R.failures reader.old < 2 ^ 64 - 1 }
+    requires few { length read.bytes.items ≤ 2 ^ 32 + 1 }
+    requires read { IsRead read.has_ended (R.ended reader.old) len read.bytes.items }
+    ensures { (more : List ℕ) × (R.given reader.new ≡ R.given reader.old ++ more)
+        × (length (read.bytes.items ++ more) ≤ 2 ^ 32 + 1)
+        × MatchResult result
+        (λ seen. (bytes_read seen ≡ read.bytes.items ++ more) × IsSeen (R.ended reader.new) len (read.bytes.items ++ more) (size_told seen) × (R.failures reader.new ≡ R.failures reader.old))
+        (FailsAfter (read.bytes.items ++ more) (R.failures reader.old) (R.failures reader.new)) }
+{
+    let mut bytes = read.bytes;
+    let mut has_ended = read.has_ended;
+    while !has_ended {
+        let limit = names_limit(&bytes, len);
+        if limit <= bytes.len() {
+            let is_whole = bytes.len() == READ_LIMIT;
+            let len = if is_whole { bytes.len() as u64 } else { len };
+            return Ok(ViewBytes { bytes, len });
+        }
+        let more = read_up_to(reader, bytes, limit)?;
+        bytes = more.bytes;
+        has_ended = more.has_ended;
+    }
+    let len = bytes.len() as u64;
+    Ok(ViewBytes { bytes, len })
+}
+
+/// Reads as many first bytes of a file of `len` bytes as decide what views show of it. Of an image these are the bytes before the
+/// end that its headers name, as [`read_enough`](crate::read_enough) says, at least 4,096 if the file has as many; and, if a name of
+/// a section may be in the string table, those before the table's end. A file that does not begin with `MZ`, or of which
+/// [`needed`] returns `None`, is read whole: to its end, or to 2^32 + 1 bytes.
+///
+/// The errors and the condition are those of [`read_enough`](crate::read_enough).
+pub fn read_view<A: Allocator + Copy, R: Source>(
+    alloc: A,
+    reader: &mut R,
+    len: u64,
+) -> Result<ViewBytes<A>, ToolError>
+    requires { R.failures reader.old < 2 ^ 64 - 1 }
+    ensures { (input : List ℕ) × (R.given reader.new ≡ R.given reader.old ++ input)
+        × MatchResult result
+        (λ seen. (bytes_read seen ≡ input) × IsSeen (R.ended reader.new) len input (size_told seen) × (R.failures reader.new ≡ R.failures reader.old))
+        (FailsAfter input (R.failures reader.old) (R.failures reader.new))
+        × (length input ≤ 2 ^ 32 + 1) }
+{
+    let first = read_begin(alloc, reader)?;
+    let read = read_image(reader, first, len)?;
+    read_names(reader, read, len)
+}
