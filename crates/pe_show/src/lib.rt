@@ -36,4 +36,5 @@ mod symbols;
 
 pub use at_place::at;
 pub use engine::show;
+pub use name::{ShownName, is_safe_text};
 pub use pe_text::ShowOptions;
