@@ -1,6 +1,6 @@
 //! Engines run with standard output as their output.
 
-use crate::headed::Headed;
+use crate::headed::{Headed, Heading};
 use crate::output::Output;
 use pe_tool::{
     Counted, Outcome, Policy, SetEntry, ShowOptions, ToolError, at, check, check_sized, dump,
@@ -38,7 +38,7 @@ pub(crate) enum Text<'a, F> {
     /// says whether a heading comes before the output.
     File {
         engine: Engine,
-        name: &'a str,
+        name: &'a [u8],
         size: Option<u64>,
         is_headed: bool,
         most: Option<u64>,
@@ -90,11 +90,11 @@ fn write_note(output: &mut Output<impl Write>, colours_end: &str, most: u64) -> 
 }
 
 /// What comes before the output for a file: its name, or a blank line before a page.
-fn heading_of(engine: Engine, name: &str, is_headed: bool) -> (&str, &str) {
+fn heading_of(engine: Engine, name: &[u8], is_headed: bool) -> Heading<'_> {
     match engine {
-        _ if !is_headed => ("", ""),
-        Engine::Check => (name, ": "),
-        _ => ("\n", ""),
+        _ if !is_headed => Heading::Nothing,
+        Engine::Check => Heading::Name(name),
+        _ => Heading::BlankLine,
     }
 }
 
@@ -114,9 +114,8 @@ fn write_text<A: Allocator + Copy>(
             file,
         } => {
             let mut reader = Counted::new(file);
-            let (heading, rest) = heading_of(engine, name, is_headed);
-            let mut writer = Counted::new(Headed::new(writer, heading, rest));
-            let name = name.as_bytes();
+            let heading = heading_of(engine, name, is_headed);
+            let mut writer = Counted::new(Headed::new(writer, heading));
             match (engine, size) {
                 (Engine::Check, Some(size)) => {
                     check_sized(alloc, &mut reader, size, &mut writer)
