@@ -43,4 +43,5 @@ mod symbols;
 
 pub use at_place::{at, at_sized};
 pub use engine::{show, show_sized};
+pub use name::{ShownName, is_safe_text};
 pub use pe_text::ShowOptions;
