@@ -10,8 +10,13 @@ use std::rt::Files;
 /// How many names are tried for a draft.
 const DRAFT_NAMES: u32 = 100;
 
-/// The number by which Linux knows the limit on the size of files.
-const FILE_SIZE_LIMIT: i32 = 1;
+/// The file in which Linux lists the limits of a process, and what the line of the size of files begins with.
+const LIMITS: &str = "/proc/self/limits";
+
+const FILE_SIZE_LIMIT: &str = "Max file size";
+
+/// The number of Linux's error for a file that is larger than its limit: EFBIG.
+const FILE_TOO_LARGE: i32 = 27;
 
 /// A new file in the folder of the place where it is to be.
 #[derive(Drop)]
@@ -67,16 +72,18 @@ fn keep_permissions<R: Files>(
     file.set_permissions(Permissions::from_mode(mode))
 }
 
-/// The greatest size of a file that this process may write. A write past it would end the process.
-fn size_limit() -> u64 {
-    let mut limit = libc::types::rlimit {
-        rlim_cur: u64::MAX,
-        rlim_max: u64::MAX,
+/// The limit in a line of Linux's list of limits, if it is that of the size of files, and not `unlimited`.
+fn limit_in(line: &str) -> Option<u64> {
+    let numbers = line.strip_prefix(FILE_SIZE_LIMIT)?;
+    numbers.split_whitespace().next()?.parse().ok()
+}
+
+/// The greatest size of a file that this process may write, if the system says one. A write past it would end the process.
+fn size_limit<R: Files + Alloc>(rt: &R) -> u64 {
+    let Ok(limits) = fs::read_to_string(rt, LIMITS) else {
+        return u64::MAX;
     };
-    match libc::getrlimit(FILE_SIZE_LIMIT, &mut limit) {
-        0 => limit.rlim_cur,
-        _ => u64::MAX,
-    }
+    limits.lines().find_map(limit_in).unwrap_or(u64::MAX)
 }
 
 impl<F: Write + OpenFile + Drop, A: Allocator> Draft<F, A> {
@@ -91,7 +98,7 @@ impl<F: Write + OpenFile + Drop, A: Allocator> Draft<F, A> {
             file,
             path,
             place,
-            left: size_limit(),
+            left: size_limit(rt),
         };
         match draft.keep_permissions(rt) {
             Ok(()) => Ok(draft),
@@ -134,7 +141,7 @@ impl<F: Write + OpenFile + Drop, A: Allocator> Draft<F, A> {
 impl<F: Write, A: Allocator> Write for Draft<F, A> {
     fn write(&mut self, bytes: &[u8]) -> io::Result<usize> {
         if bytes.len() as u64 > self.left {
-            return Err(Error::from_raw_os_error(libc::EFBIG));
+            return Err(Error::from_raw_os_error(FILE_TOO_LARGE));
         }
         let count = self.file.write(bytes)?;
         self.left = self.left.saturating_sub(count as u64);

@@ -5,6 +5,7 @@ use pe_tool::{DetailText, FaultText, FileKind, ShownName, ToolError, fault_detai
 use pe_view::{Fault, View};
 use std::fmt::{self, Display};
 use std::io::{Error, ErrorKind};
+use std::str;
 
 /// The name of standard input in messages.
 pub(crate) const STANDARD_INPUT: &[u8] = b"standard input";
@@ -28,10 +29,15 @@ pub(crate) fn tell_failure(
     };
 }
 
-/// Reports on standard error that a file cannot be opened, and returns the exit status.
+/// Reports on standard error that a file cannot be opened, and returns the exit status. One whose name is not UTF-8 never can.
 pub(crate) fn refuse_path(rt: &impl Eprint, name: &[u8], error: Error) -> u8 {
+    let is_text = str::from_utf8(name).is_ok();
     let name = ShownName(name);
-    let _ = eprintln!(rt; "petool: {name}: cannot be opened: {error}");
+    let _ = if is_text {
+        eprintln!(rt; "petool: {name}: cannot be opened: {error}")
+    } else {
+        eprintln!(rt; "petool: {name}: cannot be opened, since its name is not UTF-8")
+    };
     DEVICE_FAILED
 }
 

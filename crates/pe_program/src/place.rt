@@ -9,6 +9,9 @@ use std::rt::Files;
 /// The most links that lead from one to the next; Linux follows no more.
 const MAX_LINKS: u32 = 40;
 
+/// The number of Linux's error for more links than that: ELOOP.
+const TOO_MANY_LINKS: i32 = 40;
+
 /// Where a file is to be.
 #[derive(Drop)]
 pub(crate) enum Place<A: Allocator> {
@@ -71,7 +74,7 @@ fn end_of_links<R: Files + Alloc>(rt: &R, path: &str) -> io::Result<Place<R::A>>
             Step::End => return Ok(Place::Path(path)),
         }
     }
-    Err(Error::from_raw_os_error(libc::ELOOP))
+    Err(Error::from_raw_os_error(TOO_MANY_LINKS))
 }
 
 /// Where the file at a path is to be.
