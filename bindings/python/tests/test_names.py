@@ -1,5 +1,5 @@
 """Names that the command line or a file gives, as the program's texts show them: none that a terminal would obey is written as it is.
-And files whose names are not UTF-8."""
+And that a file whose name is not UTF-8 is refused alone."""
 
 import os
 import re
@@ -29,7 +29,21 @@ SHOWN = [
 ]
 
 NO_FILE = "No such file or directory (os error 2)"
+NOT_TEXT = "cannot be opened, since its name is not UTF-8"
 NO_BYTES = "end of the file at 0x0: the file has fewer than the 64 bytes of an MS-DOS header: it has 0"
+
+
+def is_text(name):
+    """Whether a name is UTF-8."""
+    try:
+        return bool(name.decode())
+    except UnicodeDecodeError:
+        return False
+
+
+#: The names of files that can be opened, and the others.
+TEXTS = [it for it in SHOWN if is_text(it[0])]
+BYTES = [it for it in SHOWN if not is_text(it[0])]
 
 
 def quoted(name):
@@ -58,36 +72,46 @@ class Names(unittest.TestCase):
         return done.returncode, done.stdout.decode(), done.stderr.decode()
 
     def test_check_of_several_files_shows_the_name_of_each(self):
-        lines = "".join(f"{shown}: accepted PE32 sections 0\n" for _, shown in SHOWN)
-        self.assertEqual(self.run_words("check", *(name for name, _ in SHOWN)), (0, lines, ""))
+        lines = "".join(f"{shown}: accepted PE32 sections 0\n" for _, shown in TEXTS)
+        self.assertEqual(self.run_words("check", *(name for name, _ in TEXTS)), (0, lines, ""))
 
     def test_check_of_one_file_shows_no_name(self):
-        for name, _ in SHOWN:
+        for name, _ in TEXTS:
             self.assertEqual(self.run_words("check", name), (0, "accepted PE32 sections 0\n", ""))
 
+    def test_a_name_that_is_not_utf_8_is_refused_by_each_command(self):
+        self.assertEqual(len(BYTES), 4)
+        for name, shown in BYTES:
+            for words in (("check", name), ("dump", name), ("show", name), ("json", name), ("object", name), ("at", name, "0"),
+                          ("map", b"10000000=" + name), ("map", b"10000000:a.dll=" + name), ("rebase", "0", name, "new.dll")):
+                with self.subTest(words=words):
+                    self.assertEqual(self.run_words(*words), (3, "", f"petool: {shown}: {NOT_TEXT}\n"))
+        self.assertFalse(os.path.exists(os.path.join(self.folder, b"new.dll")))
+
     def test_a_page_begins_with_the_name(self):
-        for name, shown in SHOWN:
+        for name, shown in TEXTS:
             status, printed, complained = self.run_words("show", name)
             self.assertEqual((status, printed.split("\n")[0], complained), (0, f"{shown}: accepted: PE32 library for I386, 184 bytes", ""))
 
-    def test_a_line_of_json_has_the_name_or_its_bytes(self):
-        for name, _ in SHOWN:
-            try:
-                member = '"file":"%s"' % name.decode().replace("\\", "\\\\").replace('"', '\\"')
-            except UnicodeDecodeError:
-                member = '"file_hex":"%s"' % name.hex()
+    def test_a_line_of_json_has_the_name(self):
+        for name, _ in TEXTS:
+            member = '"file":"%s"' % name.decode().replace("\\", "\\\\").replace('"', '\\"')
             member = member.replace("\n", "\\n").replace("\x1b", "\\u001b")
             self.assertEqual(self.run_words("json", name)[1].split(",")[1].split(',"accepted')[0], member)
 
     def test_map_quotes_each_name(self):
-        for name, _ in SHOWN:
+        for name, _ in TEXTS:
             line = f"image 0 {quoted(name)} base 0x0000000010000000 size 0x00001000\nend\n"
             self.assertEqual(self.run_words("map", b"10000000=" + name), (0, line, ""))
             self.assertEqual(self.run_words("map", b"10000000=../" + os.path.basename(self.folder) + b"/" + name), (0, line, ""))
-            self.assertEqual(self.run_words("map", b"10000000:" + name.replace(b"=", b"") + b"=a.dll")[1].split(" ")[2][:1], '"')
+
+    def test_map_quotes_a_name_that_the_word_gives(self):
+        for name in (name.replace(b"=", b"") for name, _ in SHOWN):
+            line = f"image 0 {quoted(name)} base 0x0000000010000000 size 0x00001000\nend\n"
+            self.assertEqual(self.run_words("map", b"10000000:" + name + b"=a.dll"), (0, line, ""))
 
     def test_messages_show_the_name(self):
-        for name, shown in SHOWN:
+        for name, shown in TEXTS:
             self.write(name, b"")
             for words in (("check", name), ("dump", name), ("at", name, "0"), ("map", b"10000000=" + name), ("rebase", "0", name, "new.dll")):
                 with self.subTest(words=words):
@@ -100,14 +124,13 @@ class Names(unittest.TestCase):
 
     def test_one_name_of_many_stops_no_other(self):
         words = ["a.dll", b"\xfe\xff", *(name for name, _ in SHOWN[1:])]
-        lines = "".join(f"{shown}: accepted PE32 sections 0\n" for _, shown in SHOWN)
-        self.assertEqual(self.run_words("check", *words), (3, lines, f'petool: "\\xfe\\xff": cannot be opened: {NO_FILE}\n'))
+        lines = "".join(f"{shown}: accepted PE32 sections 0\n" for _, shown in TEXTS)
+        told = "".join(f"petool: {shown}: {NOT_TEXT}\n" for shown in ('"\\xfe\\xff"', *(shown for _, shown in BYTES)))
+        self.assertEqual(self.run_words("check", *words), (3, lines, told))
 
-    def test_pipes_with_names_that_are_not_utf_8_are_read(self):
-        path = os.path.join(self.folder, b"\xe9.pipe")
-        os.mkfifo(path)
-        with subprocess.Popen(["sh", "-c", 'cat a.dll >"$0"', path], cwd=self.folder):
-            self.assertEqual(self.run_words("check", b"\xe9.pipe", timeout=60), (0, "accepted PE32 sections 0\n", ""))
+    def test_such_a_file_is_read_from_standard_input(self):
+        with open(os.path.join(self.folder, BYTES[0][0]), "rb") as file:
+            self.assertEqual(self.run_words("check", "-", stdin=file), (0, "accepted PE32 sections 0\n", ""))
 
     def test_a_new_file_needs_a_name_that_is_utf_8(self):
         told = 'petool: "\\xff": cannot be written, since its name is not UTF-8\n'

@@ -177,7 +177,7 @@ ENDS = [
         complained="petool: a.dll: COFF file header at 0x0: the file begins like an image, an archive or an import object; it is an image\n",
     ),
     replace(SILENT, words=["check"], status=2, complained=NO_FILE_GIVEN),
-    replace(SILENT, words=["check", b"\xff"], status=3, complained=NO_SUCH_FILE.replace("b.dll", r'"\xff"')),
+    replace(SILENT, words=["check", b"\xff"], status=3, complained='petool: "\\xff": cannot be opened, since its name is not UTF-8\n'),
     replace(SILENT, words=["dump", "b.dll"], status=3, complained=NO_SUCH_FILE),
     replace(SILENT, words=DUMP, file=BROKEN, status=3, complained=READING_FAILED),
     FULL,
