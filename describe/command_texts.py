@@ -87,12 +87,9 @@ def _file_words(commands: Commands, text: str) -> str:
 
 def _show_options(commands: Commands, text: str) -> str:
     fields = [line for it in commands.of("option") for line in (f"    /// {it.rows['field']}", f"    pub {it.name()}: bool,")]
-    return _replaced(text, r"^pub struct ShowOptions \{\n", r"[^}]*?", "    /// Headings are bold", _lines(fields))
-
-
-def _whole_page(commands: Commands, text: str) -> str:
-    fields = [f"    {it.name()}: true," for it in commands.of("option")]
-    return _replaced(text, r"^const WHOLE_PAGE: ShowOptions = ShowOptions \{\n", r"[^}]*?", "    is_coloured: false,", _lines(fields))
+    text = _replaced(text, r"^pub struct ShowOptions \{\n", r"[^}]*?", "    /// Headings are bold", _lines(fields))
+    all_rows = [f"        {it.name()}: true," for it in commands.of("option")]
+    return _replaced(text, r"^    pub const ALL_ROWS: ShowOptions = ShowOptions \{\n", r"[^}]*?", "        is_coloured: false,", _lines(all_rows))
 
 
 def _notes(commands: Commands, text: str) -> str:
@@ -188,7 +185,6 @@ FILES: Dict[str, Callable[[Commands, str], str]] = {
     GUIDE: _in_parts(_guide),
     MAN: _in_parts(_man),
     "crates/pe_text/src/show_options.rt": _show_options,
-    "crates/pe_bench/src/texts.rt": _whole_page,
     f"{WORDS}/commands.rt": _notes,
     f"{WORDS}/file_words.rt": _file_words,
     **{f"{WORDS}/{file}": _words(file) for file in ("at_words.rt", "map_words.rt", "rebase_words.rt")},

@@ -78,7 +78,7 @@ def plan_part(description, what):
 #: The sources in Rattle, and the page, that have the fields of the headers in parts: what writes these, and which each must have.
 FIELDS = {
     "crates/pe_head/src/headers.rt": (header_texts.head_part, ["fields"]),
-    "crates/pe_head/src/fields.rt": (header_texts.head_part, ["counts", "reading"]),
+    "crates/pe_head/src/fields.rt": (header_texts.head_part, ["counts", "reading", "reading of directory"]),
     "crates/pe_text/src/header_fields.rt": (header_texts.dump_part, ["coff", "standard", "windows"]),
     "crates/pe_text/specs/HeaderFields.antt": (header_texts.dump_definition_part, ["coff", "standard", "windows"]),
     "crates/pe_json/src/headers.rt": (header_texts.json_part, ["coff", "optional"]),
@@ -192,7 +192,8 @@ def parts(description):
     """The parts that files must have: each enum and record in petool.h, each table in JSON.md, what each module of Python has."""
     declared = {**description.values, **description.records}
     yield HEADER, list(declared)
-    yield JSON, [it.name for it in description.objects.values() if not it.kind_of and not it.is_in_words]
+    apart = [it.name for it in description.objects.values() if not (it.kind_of or it.is_in_words or it.heads)]
+    yield JSON, [*apart, "rows"]
     yield RUST, ["values", "records", "calls"]
     yield "docs/C.md", ["statuses", "calls", "fields"]
     for module in sorted({it.python_module for it in declared.values()} - {""} | {*MODULES}):
@@ -204,7 +205,7 @@ def misplaced(description):
     for path, wanted in parts(description):
         yield from wrong_parts(path, regions.names(read(path), RECORDS), wanted)
     for path, (_, wanted) in FIELDS.items():
-        yield from wrong_parts(path, regions.parts(read(path), RECORDS), [f"{it} of headers" for it in wanted])
+        yield from wrong_parts(path, regions.parts(read(path), RECORDS), [it if " of " in it else f"{it} of headers" for it in wanted])
     for path, records in ROWS.items():
         yield from wrong_parts(path, regions.parts(read(path), RECORDS), [f"rows of {it}" for it in records])
     for path, wanted in {**dict.fromkeys(module_texts.ROOTS, "modules"), SHOWN: "shown records"}.items():

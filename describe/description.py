@@ -40,7 +40,8 @@ class Origin:
 
     name: str = ""  #: of the field of the type whose values the record shows
     default: str = ""  #: its value where the field is absent
-    function: str = ""  #: of the type, or what gives a number for each variant of the enum
+    function: str = ""  #: of the type, of the field's type, or what gives a number for each variant of the enum
+    definition: str = ""  #: of the function of the field's type
     enum: str = ""  #: the field's type, if that is an enum
     numbers: List[Tuple[str, str]] = field(default_factory=list)  #: each variant of the enum with its number
 
@@ -191,6 +192,9 @@ class Object:
     kind_of: str
     about: str
     is_in_words: bool = False  #: docs/JSON.md has no table of it
+    heads: str = ""  #: of a row of an image, what docs/JSON.md has before its table
+    examples: List[str] = field(default_factory=list)  #: lines after the table
+    note: str = ""  #: what comes after these
     places: List[str] = field(default_factory=list)
     members: List[Member] = field(default_factory=list)
 
@@ -384,6 +388,12 @@ class Description:
         words = line.strip()
         if words.startswith("written by "):
             self._object.places = words[len("written by ") :].split(", ")
+        elif words.startswith("heads "):
+            self._object.heads = words[len("heads ") :]
+        elif words.startswith("example "):
+            self._object.examples.append(words[len("example ") :])
+        elif words.startswith("note "):
+            self._object.note = words[len("note ") :]
         elif words.startswith("* "):
             self._object.members += self.objects[words[2:]].members[1:]
         elif words.startswith("fields of "):
@@ -486,9 +496,12 @@ def _place(words: str) -> Place:
 def _origin(words: str) -> Origin:
     """The value of a field from its words in a row."""
     called = re.fullmatch(r"(\w+)\(\)", words)
+    asked = re.fullmatch(r"(\w+)\.(\w+)\(\) as (\w+)", words)
     numbered = re.fullmatch(r"(\w+) by (\w+) of (\w+): (\w+ \w+(?:, \w+ \w+)*)", words)
     if called:
         return Origin(function=called[1])
+    if asked:
+        return Origin(name=asked[1], function=asked[2], definition=asked[3])
     if numbered:
         numbers = [(variant, number) for variant, number in (arm.split() for arm in numbered[4].split(", "))]
         return Origin(name=numbered[1], function=numbered[2], enum=numbered[3], numbers=numbers)

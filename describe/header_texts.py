@@ -68,8 +68,17 @@ def _read(it: Field) -> str:
     return f"self.{BITS[wide[1]]}_either({offset}, {wide[0]})"
 
 
+def _at_start(it: Field) -> str:
+    """A field of a record that begins at `start`."""
+    offset, width = place_of(it).narrow
+    return f"{it.name}: {BITS[width]}_in(self.view, start{f' + {offset}' if offset else ''}),"
+
+
 def head_part(description: Description, what: str) -> List[str]:
-    """A part of pe_head: `fields of headers`, and `counts of headers` and `reading of headers`, which fills them."""
+    """A part of pe_head: `fields of headers`, and `counts of headers` and `reading of headers`, which fills them; or `reading of
+    directory`, whose fields are at their places from `start` on."""
+    if what == "reading of directory":
+        return [_at_start(it) for it in description.records["directory"].placed()]
     fields = read_fields(description)
     if what == "fields of headers":
         return _struct(description)
@@ -104,9 +113,9 @@ def _dumped(description: Description, what: str) -> List[Field]:
     return groups[what.removesuffix(" of headers")]
 
 
-def _dumped_value(it: Field, value: str, form: str) -> str:
-    """A field's value as a number: `form` calls a function with an argument."""
-    return form.format(it.origin.function, value) if it.origin and it.origin.numbers else value
+def _number(it: Field, value: str) -> str:
+    """A field's value as a number."""
+    return f"{value}.{it.origin.function}()" if it.origin and it.origin.definition else value
 
 
 def _dumped_code(it: Field) -> List[str]:
@@ -114,7 +123,7 @@ def _dumped_code(it: Field) -> List[str]:
     if it.dumped:
         return [f"{it.name}({value}),"]
     width = "extended" if place.is_extended() else str(place.narrow[1])
-    words = [f'b"{format_name(it)}"', width, _dumped_value(it, value, "{}({})")]
+    words = [f'b"{format_name(it)}"', width, _number(it, value)]
     if len(", ".join(words)) <= ARGUMENTS:
         return [f"field!({', '.join(words)}),"]
     return ["field!(", *(f"    {word}," for word in words[:-1]), f"    {words[-1]}", "),"]
@@ -130,7 +139,8 @@ def _dumped_definition(it: Field) -> str:
     if it.dumped:
         return f"{it.name} {value}"
     width = "(extended_width h.magic)" if place.is_extended() else str(place.narrow[1])
-    return f'field (codes "{format_name(it)}") {width} {_dumped_value(it, value, "({} {})")}'
+    number = f"({it.origin.definition} {value})" if it.origin and it.origin.definition else value
+    return f'field (codes "{format_name(it)}") {width} {number}'
 
 
 def dump_definition_part(description: Description, what: str) -> List[str]:
@@ -146,9 +156,8 @@ def _matched_member(it: Field, value: str, arms: List[str]) -> List[str]:
 def _member(it: Field, header: str) -> List[str]:
     """A field as a member of JSON."""
     place = place_of(it)
-    if it.origin and it.origin.numbers:
-        arms = [f"{it.origin.enum}::{variant} => Number({number})" for variant, number in it.origin.numbers]
-        return _matched_member(it, f"{header}.{it.name}", arms)
+    if it.origin and it.origin.definition:
+        return [f'("{it.name}", Number({_number(it, f"{header}.{it.name}")} as u64)),']
     if place.wide is None:
         return _matched_member(it, f"{header}.{it.name}", ["Some(rva) => Number(rva as u64)", "None => Absent"])
     return [f"{'wide' if place.is_extended() else 'number'}!({header}, {it.name}),"]

@@ -27,6 +27,7 @@ def definitions(folder: pathlib.Path) -> List[str]:
 #: The roots whose modules are written, with what writes them.
 ROOTS: Dict[str, Callable[[pathlib.Path], List[str]]] = {
     "crates/petool_c/src/lib.rt": private_modules,
+    "crates/pe_show/src/lib.rt": private_modules,
     "crates/pe_records_c/src/lib.rt": public_modules,
     "crates/pe_records_c/specs/Lib.antt": definitions,
 }

@@ -77,8 +77,21 @@ def _kinds(description: Description, name: str) -> List[str]:
     return ["| `kind` | Other keys |", "|---|---|", *rows]
 
 
+def _row(found: Object) -> List[str]:
+    """A row of an image: what comes before its table, the table, the examples and a note, each but the first after a blank line."""
+    parts = [[found.heads], _table(found), [f"    {it}" for it in found.examples], [found.note] if found.note else []]
+    return [line for part in parts if part for line in ["", *part]][1:]
+
+
+def json_rows(description: Description) -> List[Object]:
+    """The objects of which docs/JSON.md has all in one part: the rows of an image, in order."""
+    return [it for it in description.objects.values() if it.heads]
+
+
 def json_part(description: Description, what: str) -> List[str]:
-    """A part of docs/JSON.md: the table of an object, `all of OBJECT` as a sentence, or `kinds of OBJECT`."""
+    """A part of docs/JSON.md: the table of an object, `all of OBJECT` as a sentence, `kinds of OBJECT`, or all `rows` of an image."""
+    if what == "rows":
+        return [line for it in json_rows(description) for line in ["", *_row(it)]] + [""]
     if what.startswith("all of "):
         return [", ".join(map(_listed, description.objects[what[len("all of ") :]].members)) + "."]
     if what.startswith("kinds of "):

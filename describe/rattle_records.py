@@ -61,7 +61,8 @@ def _value(description: Description, it: Field, value: str) -> List[str]:
     if origin.numbers:
         arms = [f"    {origin.enum}::{variant} => {number}," for variant, number in origin.numbers]
         return [f"match {value}.{origin.name} {{", *arms, "}"]
-    return [f"{value}.{origin.name}" if origin.name else f"{value}.{origin.function}()"]
+    names = [origin.name, f"{origin.function}()" if origin.function else ""]
+    return [".".join([value, *filter(None, names)])]
 
 
 def _literal(description: Description, record: Record, value: str) -> List[str]:
@@ -119,7 +120,7 @@ def _filler(record: Record) -> List[str]:
 def _single(description: Description, record: Record) -> List[str]:
     """The function that makes a record that is no row."""
     return [
-        f"/// The {record.name} as C has them.",
+        f"/// The record for C of `{_source_type(record)}`.",
         f"pub fn {record.name}_record({record.name}: &{_source_type(record)}) -> {record.struct}",
         f"    ensures {{ result ≡ {record.name}_record {record.name}.now }}",
         "{",

@@ -17,13 +17,14 @@ import itertools
 import os
 import re
 import shlex
+import struct
 import subprocess
 import sys
 
 sys.dont_write_bytecode = True
 
-from pages_names import (CLASSES, DIRECTORIES, DLL_FLAGS, FIXUPS, IMAGE_FLAGS, MACHINES, RELOCATIONS, SECTION_FLAGS,  # noqa: E402
-                         SUBSYSTEMS)
+from pages_names import (CLASSES, DIRECTORIES, DLL_FLAGS, FIXUPS, IMAGE_FLAGS, MACHINES, RELOCATIONS, SEARCHES,  # noqa: E402
+                         SECTION_FLAGS, SELECTIONS, SUBSYSTEMS)
 from pages_reader import FIXUP_WIDTHS, Headers, Image, Object, Refused, is_object, uint  # noqa: E402
 
 FAULTS = os.path.join(os.path.dirname(os.path.abspath(__file__)), "..", "docs", "FAULTS.md")
@@ -282,20 +283,48 @@ def object_rows(it, wanted):
 def relocation_rows(it, names):
     symbols = {symbol[0]: " " + shown(symbol[1]) for symbol in it.symbols}
     yield f"\nRelocations ({sum(len(section.relocations) for section in it.sections):,})"
-    for section, name in zip(it.sections, names):
+    for number, (section, name) in enumerate(zip(it.sections, names), 1):
         if section.relocations:
-            yield f"  {name} ({len(section.relocations):,})"
+            yield f"  {number} {name} ({len(section.relocations):,})"
         for at, symbol, kind in section.relocations:
-            yield f"    0x{at:06x}  {name_of(RELOCATIONS[it.machine], kind)}  #{symbol}{symbols.get(symbol, '')}"
+            held = 0 <= at - section.rva < section.in_file
+            file = f"  file 0x{section.pointer + at - section.rva:06x}" if held else ""
+            yield f"    0x{at:06x}{file}  {name_of(RELOCATIONS[it.machine], kind)}  #{symbol}{symbols.get(symbol, '')}"
 
 
 def symbol_rows(it, names):
-    width = max(4, len(str(len(it.symbols))))
+    width, digits = max(4, len(str(it.records))), len(str(len(it.sections)))
     yield f"\nSymbols ({len(it.symbols):,})"
-    for index, name, value, section, kind, storage in it.symbols:
-        place = SECTION_WORDS.get(section) or names[section - 1]
+    for index, name, value, section, kind, storage, records in it.symbols:
+        is_in = section not in SECTION_WORDS
+        place = f"{section if is_in else '':>{digits}} {names[section - 1] if is_in else SECTION_WORDS[section]:<12}"
         word = CLASSES.get(storage, f"class {storage:7}")
-        yield f"{index:{width}}  0x{value:08x}  {place:<12}  {word:<13}  {'function' if kind == 0x20 else '':8}  {shown(name)}"
+        yield f"{index:{width}}  0x{value:08x}  {place}  {word:<13}  {'function' if kind == 0x20 else '':8}  {shown(name)}"
+        for k, record in enumerate(records, 1):
+            yield f"{index + k:{width}}    {record_words(record, storage, kind, is_in)}"
+
+
+def named(number, names):
+    return f"{number} {names[number]}" if number in names else f"{number}"
+
+
+def record_words(record, storage, kind, is_in_section):
+    """What an auxiliary record says, by its symbol's class."""
+    if storage == 2 and kind == 0x20 and is_in_section:
+        tag, size, lines, following = struct.unpack_from("<4I", record)
+        return f"function of 0x{size:x} bytes, begins #{tag}, line numbers at 0x{lines:x}, next #{following}"
+    if storage == 3:
+        size, relocations, lines, checksum, number, selection = struct.unpack_from("<IHHIHB", record)
+        words = f"section of 0x{size:x} bytes, relocations {relocations}, line numbers {lines}, checksum 0x{checksum:08x}"
+        comdat = f", COMDAT {named(selection, SELECTIONS)}" if selection else ""
+        return words + comdat + (f" with section {number}" if selection == 5 else "")
+    if storage == 101:
+        return f"line {uint(record, 4, 2)}, next #{uint(record, 12, 4)}"
+    if storage == 103:
+        return f"file {shown(record.partition(bytes(1))[0])}"
+    if storage == 105:
+        return f"else #{uint(record, 0, 4)}, search {named(uint(record, 4, 4), SEARCHES)}"
+    return f"bytes {record.hex(' ')}"
 
 
 def object_page(file, wanted):

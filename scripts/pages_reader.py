@@ -260,7 +260,7 @@ class Object:
         must(table + 18 * records <= len(file), 67, "file", 8)
         strings = self.read_strings(file, table + 18 * records) if table else b""
         self.sections = [self.read_section(file, 20 + optional_size + 40 * i, strings) for i in range(count)]
-        self.symbols = self.read_symbols(file, table, records, strings)
+        self.records, self.symbols = records, self.read_symbols(file, table, records, strings)
         for section in self.sections:
             places = [section.relocations_at + 10 * i for i in range(section.relocation_count)]
             section.relocations = [struct.unpack_from("<IIH", file, at) for at in places]
@@ -287,7 +287,7 @@ class Object:
         return section
 
     def read_symbols(self, file, table, records, strings):
-        """The index, the name, the value, the section, the type and the class of each symbol."""
+        """The index, the name, the value, the section, the type, the class and the auxiliary records of each symbol."""
         index, symbols = 0, []
         while index < records:
             at = table + 18 * index
@@ -297,7 +297,8 @@ class Object:
             must(name is not None, 69, "file", at)
             must(index + auxiliary < records, 70, "file", at)
             must(section <= len(self.sections) or section >= 0xFFFE, 71, "file", at)
-            symbols.append((index, name, value, section, kind, storage))
+            beside = [file[at + 18 * k : at + 18 * (k + 1)] for k in range(1, auxiliary + 1)]
+            symbols.append((index, name, value, section, kind, storage, beside))
             index += 1 + auxiliary
         return symbols
 

@@ -22,8 +22,8 @@ FAULT_CRATES = (
     "coff_read",
     "coff_object",
 )
-#: The crates that have words of commands.
-WORD_CRATES = ("pe_words", "pe_bench")
+#: The crates that have words of commands, or only modules that are written.
+WORD_CRATES = ("pe_words", "pe_show")
 COPIED = [
     "bindings/rust/petool/src/lib.rs",
     "README.md",
@@ -69,7 +69,7 @@ WRITTEN = [
     ("bindings/python/petool/_space.py", "    exporter: int", "    exporter: str"),
     ("man/petool.h.3", 'petool_fixup *" rows', 'petool_import *" rows'),
     ("docs/JSON.md", "| `bits` | number |", "| `bits` | string |"),
-    ("docs/JSON.md", "<!-- from describe/records.txt: fixup -->\n", ""),
+    ("docs/JSON.md", "<!-- from describe/records.txt: rows -->\n", ""),
     ("docs/C.md", "| `petool_fixup` | `field` | `uint32_t` | RVA |", "| `petool_fixup` | `field` | `uint32_t` | offset |"),
     ("packaging/debian/libpetool0.symbols", " petool_fixups@PETOOL_0 1.0\n", ""),
 ]
@@ -110,6 +110,7 @@ FIELDS_WRITTEN = [
     ("crates/petool_c/src/lib.rt", "\nmod fixup;\n", "\n"),
     ("crates/petool_c/src/lib.rt", "#[cfg(test)]\nmod tests;\n", ""),
     ("crates/pe_records_c/src/lib.rt", "pub mod import;\n", "mod import;\n"),
+    ("crates/pe_show/src/lib.rt", "\nmod fixups;\n", "\n"),
     ("crates/pe_records_c/specs/Lib.antt", "pub mod HeaderRows\n", ""),
     ("crates/pe_head/src/headers.rt", "    pub size_of_stack_commit: u64,", "    pub size_of_stack_commit: u32,"),
     ("crates/pe_head/src/headers.rt", "/// How many bytes of stack to commit.", "/// The bytes of stack to commit."),
@@ -127,7 +128,7 @@ FIELDS_WRITTEN = [
     ("crates/pe_json/src/headers.rt", "Flags(FlagKind::Dll,", "Flags(FlagKind::File,"),
     ("crates/pe_records_c/src/headers.rt", "rva: item.virtual_address", "rva: item.virtual_size"),
     ("crates/pe_records_c/src/headers.rt", "base_of_data.unwrap_or(0)", "base_of_data.unwrap_or(1)"),
-    ("crates/pe_records_c/src/headers.rt", "Magic::Pe32Plus => 0x20b", "Magic::Pe32Plus => 0x10b"),
+    ("crates/pe_records_c/src/headers.rt", "magic: headers.magic.number()", "magic: headers.magic.fixed_size()"),
     ("crates/pe_records_c/src/fixup.rt", "FixupKind::Low => 2", "FixupKind::Low => 1"),
     ("crates/pe_records_c/specs/HeaderRows.antt", "virtual_size = s.virtual_size;", "virtual_size = s.size_of_raw_data;"),
     ("crates/pe_records_c/specs/HeaderRows.antt", "  -- from describe/records.txt: rows of headers\n", ""),
@@ -319,7 +320,7 @@ COMMANDS_WRITTEN = [
     ("crates/pe_words/src/rebase_words.rt", "Writes an image's file for another base", "Moves an image"),
     ("crates/pe_words/src/commands.rt", "  3  reading or writing failed", "  4  reading or writing failed"),
     ("crates/pe_text/src/show_options.rt", "    pub imports: bool,", "    pub import: bool,"),
-    ("crates/pe_bench/src/texts.rt", "    symbols: true,\n", ""),
+    ("crates/pe_text/src/show_options.rt", "        symbols: true,\n", ""),
 ]
 COMMANDS_COMPARED = [
     ("crates/pe_program/src/statuses.rt", "CUT: u8 = 5", "CUT: u8 = 6"),

@@ -4,6 +4,9 @@ import importlib.util
 import pathlib
 import sys
 from types import ModuleType
+from typing import Any, List
+
+import petool
 
 sys.dont_write_bytecode = True
 
@@ -27,3 +30,14 @@ crafted = script("crafted")
 
 def data(name: str) -> bytes:
     return (DATA / name).read_bytes()
+
+
+#: The tables of an image, as the package names them: its sections, its exports, and each list of rows.
+TABLES = [name for name, it in vars(petool.Image).items() if isinstance(it, property) and name[0] != "_" and name != "headers"]
+
+
+def rows_of(table: Any) -> List[Any]:
+    """All rows of a table of an image: those of the exports by name, by ordinal, and what each key exports."""
+    if isinstance(table, petool.Exports):
+        return [*table.names(), *table.ordinals(), *table.values()]
+    return list(table)

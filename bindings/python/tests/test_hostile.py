@@ -9,7 +9,7 @@ import unittest
 
 import petool
 
-from . import data
+from . import TABLES, data, rows_of
 
 NAMES = ["v1.dll", "v2.dll", "v3.dll", "va.dll", "vb.dll", "vc.dll", "vd.dll", "vr.dll", "vs.dll", "o1.obj"]
 PROGRAM = os.environ.get("PETOOL_PROGRAM")
@@ -30,16 +30,18 @@ def changed(count):
 
 def read_all(file):
     """Reads all of an image, as far as it has no fault; returns the number of its fault, or 0."""
-    for read in (lambda image: dict(image.exports), lambda image: list(image.imports), lambda image: list(image.fixups)):
+    for table in TABLES:
         try:
             with petool.Image(file, check=False) as image:
                 image.read(0, image.headers.size_of_headers)
-                read(image)
+                rows_of(getattr(image, table))
         except petool.FormatFault:
             pass
     try:
         with petool.Image(file) as image:
-            dict(image.exports), list(image.imports), list(image.fixups), image.text(0x1000), image.locate(0x1000)
+            for table in TABLES:
+                rows_of(getattr(image, table))
+            image.text(0x1000), image.locate(0x1000)
     except petool.FormatFault as fault:
         return fault.number
     return 0

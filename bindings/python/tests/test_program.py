@@ -177,7 +177,7 @@ ENDS = [
         complained="petool: a.dll: COFF file header at 0x0: the file begins like an image, an archive or an import object; it is an image\n",
     ),
     replace(SILENT, words=["check"], status=2, complained=NO_FILE_GIVEN),
-    replace(SILENT, words=["check", b"\xff"], status=2, complained="petool: word 2 of the command line is not UTF-8\n"),
+    replace(SILENT, words=["check", b"\xff"], status=3, complained='petool: "\\xff": cannot be opened, since its name is not UTF-8\n'),
     replace(SILENT, words=["dump", "b.dll"], status=3, complained=NO_SUCH_FILE),
     replace(SILENT, words=DUMP, file=BROKEN, status=3, complained=READING_FAILED),
     FULL,
@@ -348,13 +348,10 @@ DASHES = [
     replace(
         SILENT, words=["map", "10000000=-"], printed='image 0 "-" base 0x0000000010000000 size 0x00001000\nend\n'
     ),
-    # here `-` is a path, at which there is no file
     replace(
-        SILENT,
-        words=["rebase", "20000000", "-", "new.dll"],
-        status=3,
-        complained=f"petool: -: cannot be opened: {told(errno.ENOENT)}\n",
+        SILENT, words=["map", "10000000:b.dll=-"], printed='image 0 "b.dll" base 0x0000000010000000 size 0x00001000\nend\n'
     ),
+    replace(REBASED, words=["rebase", "20000000", "-", "new.dll"]),
     # a pipe that its reader has closed
     replace(SILENT, output="lost", status=3),
     replace(SILENT, words=["--help"], output="lost", status=3),
@@ -738,14 +735,14 @@ class Colours(unittest.TestCase):
 
 
 #: A command, what it prints if no allocation fails, and the subjects of its errors if each fails in turn: none for the words, the
-#: file, and for `map` the set and its output. Without some allocations the command succeeds all the same.
+#: file, for `map` the set and its output, and for `rebase` the new file. Without some allocations the command succeeds all the same.
 WANTS = [
     (CHECK, "accepted PE32 sections 0\n", ["", "a.dll: "]),
     (["show", "a.dll"], None, ["", "a.dll: "]),
     (["json", "a.dll"], None, ["", "a.dll: "]),
     (DUMP, None, ["", "a.dll: "]),
     (MAP, 'image 0 "a.dll" base 0x0000000010000000 size 0x00001000\nend\n', ["", "a.dll: ", "map: "]),
-    (REBASE, "rebased 0x0000000020000000\n", ["", "a.dll: "]),
+    (REBASE, "rebased 0x0000000020000000\n", ["", "a.dll: ", "new.dll: "]),
 ]
 
 

@@ -21,6 +21,7 @@ mod texts;
 mod workloads;
 
 use crate::digest::Digest;
+use crate::shape::round_seed;
 use crate::workloads::{
     run_awkward, run_map, run_objects, run_open, run_rebase, run_texts, run_written,
 };
@@ -31,8 +32,44 @@ use std::process::ExitCode;
 use std::rt::Env;
 use std::{env, io};
 
-/// The names of the workloads.
-const WORKLOADS: [&str; 6] = ["map", "open", "texts", "objects", "rebase", "awkward"];
+/// A workload that makes its own files.
+#[derive(Clone, Copy)]
+enum Workload {
+    Map,
+    Open,
+    Texts,
+    Objects,
+    Rebase,
+    Awkward,
+}
+
+/// The workloads, each with its name.
+const WORKLOADS: [(&str, Workload); 6] = [
+    ("map", Workload::Map),
+    ("open", Workload::Open),
+    ("texts", Workload::Texts),
+    ("objects", Workload::Objects),
+    ("rebase", Workload::Rebase),
+    ("awkward", Workload::Awkward),
+];
+
+/// Runs one round of a workload; `None` if a call failed.
+fn run_round(
+    alloc: Global,
+    digest: &mut Digest,
+    workload: Workload,
+    seed: u64,
+    round: u32,
+) -> Option<()> {
+    match workload {
+        Workload::Map => run_map(alloc, digest, seed, round),
+        Workload::Open => run_open(alloc, digest, seed, round),
+        Workload::Texts => run_texts(alloc, digest, seed, round),
+        Workload::Objects => run_objects(alloc, digest, seed),
+        Workload::Rebase => run_rebase(alloc, digest, seed, round),
+        Workload::Awkward => run_awkward(alloc, digest, seed),
+    }
+}
 
 /// Runs a workload; `None` if there is none with this name or a call failed.
 fn run_workload(
@@ -42,15 +79,11 @@ fn run_workload(
     rounds: u32,
     seed: u64,
 ) -> Option<()> {
-    match name {
-        "map" => run_map(alloc, digest, seed, rounds),
-        "open" => run_open(alloc, digest, seed, rounds),
-        "texts" => run_texts(alloc, digest, seed, rounds),
-        "objects" => run_objects(alloc, digest, seed, rounds),
-        "rebase" => run_rebase(alloc, digest, seed, rounds),
-        "awkward" => run_awkward(alloc, digest, seed, rounds),
-        _ => None,
+    let (_, workload) = WORKLOADS.iter().find(|row| row.0 == name)?;
+    for round in 0..rounds {
+        run_round(alloc, digest, *workload, round_seed(seed, round), round)?;
     }
+    Some(())
 }
 
 /// Prints the name of a workload and its number, or that it was not run. Returns whether it was.
@@ -97,7 +130,7 @@ fn number_of(word: Option<&String>) -> Option<u32> {
 /// Runs each workload once, and returns whether all were run.
 fn print_all<R: Print + AllocGlobal>(rt: &R, seed: u64) -> io::Result<bool> {
     let mut all_were_run = true;
-    for name in WORKLOADS {
+    for (name, _) in WORKLOADS {
         if !print_workload(rt, name, 1, seed)? {
             all_were_run = false;
         }

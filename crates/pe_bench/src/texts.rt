@@ -6,15 +6,6 @@ use pe_tool::{
 };
 use std::alloc::Global;
 
-/// A page with all rows of tables.
-const WHOLE_PAGE: ShowOptions = ShowOptions {
-    exports: true,
-    imports: true,
-    relocations: true,
-    symbols: true,
-    is_coloured: false,
-};
-
 /// An engine.
 #[derive(Clone, Copy)]
 pub(crate) enum Engine {
@@ -38,7 +29,13 @@ fn write_text(
         Engine::Check => check(alloc, &mut reader, &mut writer),
         Engine::Dump => dump(alloc, &mut reader, &mut writer),
         Engine::Object => dump_object(alloc, &mut reader, &mut writer),
-        Engine::Page => show(alloc, b"made-up", &WHOLE_PAGE, &mut reader, &mut writer),
+        Engine::Page => show(
+            alloc,
+            b"made-up",
+            &ShowOptions::ALL_ROWS,
+            &mut reader,
+            &mut writer,
+        ),
         Engine::Json => json(alloc, b"made-up", &mut reader, &mut writer),
     }
 }

@@ -4,6 +4,7 @@ pub use Rattle.pe_view.specs.Number
 pub use Rattle.pe_view.specs.Text
 pub use Rattle.pe_view.specs.View
 pub mod Accepted
+pub mod Checked
 pub mod FaultDetail
 pub mod Head
 pub mod HeaderFaults

@@ -3,6 +3,11 @@ use Rattle.std.specs.Prelude.{ℕ}
 use Rattle.pe_head.specs.declared.optional.Magic.{Magic}
 use Rattle.pe_head.specs.declared.optional.Magic.TheVariants.{Pe32, Pe32Plus}
 
+-- the field Magic
+abbrev pub magic_number : Magic → ℕ
+magic_number Pe32 = 0x10b
+magic_number Pe32Plus = 0x20b
+
 -- the size of the optional header before its directories
 abbrev pub fixed_size_of : Magic → ℕ
 fixed_size_of Pe32 = 96

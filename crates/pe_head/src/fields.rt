@@ -8,6 +8,7 @@ ghost use Rattle.pe_head.specs.Head.{head_of, directory_count, pe_offset, option
 
 use crate::directory::Directory;
 use crate::headers::Headers;
+use crate::offsets::{COFF_HEADER_END, SECTION_HEADER_SIZE, SIZE_OF_HEADERS, SIZE_OF_IMAGE};
 use crate::optional::Magic;
 use crate::section::SectionHeader;
 use arrayvec::ArrayVec;
@@ -91,7 +92,7 @@ impl<'a> Fields<'a> {
         requires { offset < 2 ^ 32 }
         ensures { result ≡ optional_start (bytes_of self.now.view) + offset }
     {
-        u64::from(self.offset) + 24 + offset
+        u64::from(self.offset) + COFF_HEADER_END + offset
     }
 
     /// A 1-byte field at the same offset in PE32 and PE32+.
@@ -146,14 +147,14 @@ impl<'a> Fields<'a> {
     pub fn size_of_image(&self) -> u32
         ensures { result ≡ field (bytes_of self.now.view) 56 4 }
     {
-        self.u32_at(56)
+        self.u32_at(SIZE_OF_IMAGE)
     }
 
     /// How many bytes of the laid-out image are headers.
     pub fn size_of_headers(&self) -> u32
         ensures { result ≡ field (bytes_of self.now.view) 60 4 }
     {
-        self.u32_at(60)
+        self.u32_at(SIZE_OF_HEADERS)
     }
 
     /// BaseOfData, which PE32+ lacks.
@@ -174,18 +175,20 @@ impl<'a> Fields<'a> {
     {
         let start = self.optional(self.magic.fixed_size() + 8 * index);
         Directory {
+            // from describe/records.txt: reading of directory
             rva: u32_in(self.view, start),
             size: u32_in(self.view, start + 4),
+            // end of describe/records.txt
         }
     }
 
     /// The header of section `index`, which is inside the file.
-    fn section(&self, index: u64) -> SectionHeader
+    pub fn section(&self, index: u64) -> SectionHeader
         requires small { index < 96 }
         requires held { section_start (bytes_of self.now.view) (index + 1) ≤ size_of self.now.view }
         ensures { result ≡ section_at (bytes_of self.now.view) index }
     {
-        let start = self.optional(u64::from(self.coff_u16(16)) + 40 * index);
+        let start = self.optional(u64::from(self.coff_u16(16)) + SECTION_HEADER_SIZE * index);
         SectionHeader::read(self.view, start)
     }
 

@@ -3,6 +3,7 @@
 ghost use Rattle.std.specs.Prelude.{◌≡◌, ◌+◌, ◌*◌};
 
 use crate::directory::Directory;
+use crate::offsets::{COFF_HEADER_END, SECTION_HEADER_SIZE};
 use crate::optional::Magic;
 use crate::section::SectionHeader;
 use arrayvec::ArrayVec;
@@ -114,5 +115,8 @@ impl Headers {
 fn row_offset(pe_offset: u32, size_of_optional_header: u16, index: u8) -> u64
     ensures { result ≡ pe_offset + 24 + size_of_optional_header + 40 * index }
 {
-    u64::from(pe_offset) + 24 + u64::from(size_of_optional_header) + 40 * u64::from(index)
+    u64::from(pe_offset)
+        + COFF_HEADER_END
+        + u64::from(size_of_optional_header)
+        + SECTION_HEADER_SIZE * u64::from(index)
 }

@@ -11,7 +11,17 @@ pub enum Magic {
 
 impl Magic {
     ghost use Rattle.std.specs.Prelude.{◌≡◌};
-    ghost use Rattle.pe_head.specs.Optional.{fixed_size_of, image_base_offset, image_base_width};
+    ghost use Rattle.pe_head.specs.Optional.{magic_number, fixed_size_of, image_base_offset, image_base_width};
+
+    /// The value of the field Magic: 0x10b or 0x20b.
+    pub fn number(self) -> u16
+        ensures { result ≡ magic_number self }
+    {
+        match self {
+            Magic::Pe32 => 0x10b,
+            Magic::Pe32Plus => 0x20b,
+        }
+    }
 
     /// The size in bytes of the optional header before its data directories: 96 or 112.
     pub fn fixed_size(self) -> u64

@@ -3,7 +3,7 @@
 use crate::value::Value::{Absent, Flags, Number, Wide};
 use crate::value::{Member, text_if};
 use coff_read::FileHeader;
-use pe_head::{FlagKind, Headers, Magic, machine_name, subsystem_name};
+use pe_head::{FlagKind, Headers, machine_name, subsystem_name};
 
 /// A member that is a number.
 macro_rules! number {
@@ -43,13 +43,7 @@ pub(crate) fn coff_members(header: &FileHeader) -> [Member<'static>; 9] {
 pub(crate) fn optional_members(headers: &Headers) -> [Member<'static>; 32] {
     [
         // from describe/records.txt: optional of headers
-        (
-            "magic",
-            match headers.magic {
-                Magic::Pe32 => Number(0x10b),
-                Magic::Pe32Plus => Number(0x20b),
-            },
-        ),
+        ("magic", Number(headers.magic.number() as u64)),
         number!(headers, major_linker_version),
         number!(headers, minor_linker_version),
         number!(headers, size_of_code),

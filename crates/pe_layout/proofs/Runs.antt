@@ -65,7 +65,7 @@ module _ (h : Headers) (file : List ℕ) (s : SectionHeader) where
       let test : nat_lt (r' + k - s.virtual_address) (rawlen s) ≡ false = le-ltb _ _ (omega arith) in
       plain-behind h file (r' + k) (Some s) (omega arith) (found.section (r' + k) here) ∙ rw test refl)
 
-  raw_run : (r n : ℕ) → h.size_of_headers ≤ r → IsInSection h (length file) r s → 0 < n → r - s.virtual_address + n ≤ rawlen s
+  pub raw_run : (r n : ℕ) → h.size_of_headers ≤ r → IsInSection h (length file) r s → 0 < n → r - s.virtual_address + n ≤ rawlen s
       → IsRawRun h file r (s.pointer_to_raw_data + (r - s.virtual_address)) n
   raw_run r n past found some lt =
       let low = found.inside.low in

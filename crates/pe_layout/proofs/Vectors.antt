@@ -9,7 +9,7 @@ use Rattle.pe_view.specs.declared.fault.Place.TheVariants.{File}
 use Rattle.pe_layout.specs.SectionFaults.{layout_tests, sections_tests}
 use Rattle.pe_layout.specs.Plain.{plain}
 use Rattle.pe_layout.specs.PieceText.{text}
-use Rattle.pe_layout.specs.Locating.{located}
+use Rattle.pe_layout.specs.Locating.{located, raw_left}
 use Rattle.pe_layout.specs.declared.locate.Located.TheVariants.{Raw, Gap}
 
 last_raw : plain (head_of v1) v1 0x100F ≡ 0x0f
@@ -34,3 +34,18 @@ gap = refl
 
 section_name : text (head_of v1) v1 0x138 ≡ Some (codes ".data")
 section_name = refl
+
+left_of_headers : raw_left (head_of v1) 0x1c0 ≡ 0x40
+left_of_headers = refl
+
+left_of_raw_data : raw_left (head_of v1) 0x1008 ≡ 8
+left_of_raw_data = refl
+
+none_in_zero_fill : raw_left (head_of v1) 0x1010 ≡ 0
+none_in_zero_fill = refl
+
+none_in_a_gap : raw_left (head_of v1) 0x800 ≡ 0
+none_in_a_gap = refl
+
+none_outside : raw_left (head_of v1) 0x4000_0000 ≡ 0
+none_outside = refl

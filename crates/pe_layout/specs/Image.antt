@@ -9,6 +9,7 @@ use Rattle.pe_head.specs.Optional.{image_base_width}
 use Rattle.pe_head.specs.declared.directory.Directory.{Directory}
 use Rattle.pe_head.specs.declared.headers.Headers.{Headers}
 use Rattle.pe_head.specs.Head.{head_of}
+use Rattle.pe_layout.specs.Locating.{raw_left}
 use Rattle.pe_layout.specs.Plain.{plain}
 use Rattle.pe_layout.specs.PieceText.{text}
 
@@ -16,6 +17,7 @@ pub record LaidOut : Type 0 where
   pub number : ℕ  -- the number by which its faults name it
   pub size : ℕ  -- SizeOfImage
   pub byte : ℕ → ℕ  -- the laid-out byte at each RVA below the size
+  pub raw_left : ℕ → ℕ  -- how many bytes from an RVA on come from the file in one run
   pub text : ℕ → Option (List ℕ)  -- the zero-terminated string at an RVA, if there is one
   pub directory : ℕ → Option Directory  -- the directory of an index, if its table is present
   pub slot_width : ℕ  -- the size of an import address table entry
@@ -37,6 +39,7 @@ image_from number h file = record {
   number = number;
   size = h.size_of_image;
   byte = plain h file;
+  raw_left = raw_left h;
   text = text h file;
   directory = directory_of h;
   slot_width = slot_width_of h.magic;

@@ -34,3 +34,14 @@ located_byte file (Raw k offset) = Some (byte_of file offset)
 located_byte file (Zero k) = Some 0
 located_byte file Gap = Some 0
 located_byte file Outside = None
+
+-- how many bytes of a section's raw data come from an RVA on
+abbrev pub raw_left_in : ℕ → Option SectionHeader → ℕ
+raw_left_in r None = 0
+raw_left_in r (Some s) = rawlen s - (r - s.virtual_address)
+
+-- how many bytes from an RVA on come from the file in one run: of the headers, or of a section's raw data
+abbrev pub raw_left : Headers → ℕ → ℕ
+raw_left h r =
+    if nat_le h.size_of_image r then 0
+    else (if nat_lt r h.size_of_headers then h.size_of_headers - r else raw_left_in r (section_of h r))

@@ -61,7 +61,9 @@ fn first_ending_after(sections: &[SectionHeader], rva: u32) -> usize
 }
 
 impl<'a> Layout<'a> {
-    ghost use Rattle.pe_layout.specs.Layout.{headers_of};
+    ghost use Rattle.std.specs.Prelude.{◌+◌, length};
+    ghost use Rattle.pe_layout.specs.Image.{bytes_at};
+    ghost use Rattle.pe_layout.specs.Layout.{headers_of, image_of};
     ghost use Rattle.pe_layout.specs.Locating.{located};
     ghost use Rattle.pe_layout.specs.Sections.{IsSpot};
 
@@ -86,6 +88,36 @@ impl<'a> Layout<'a> {
         Spot::Section {
             index: index as u8,
             section,
+        }
+    }
+
+    /// The bytes from an RVA on that come from the file in one run, of the headers or of a section's raw data: none in zero fill, in
+    /// a gap, and outside the image. A table whose records are read there is never longer than the file.
+    #[tactic(auto, unfolding(crate::specs::Layout::image_of))]
+    pub fn raw_bytes(&self, rva: u32) -> &'a [u8]
+        ensures bytes { result.now ≡ bytes_at (image_of self.now) rva (length result.now) }
+        ensures len { length result.now ≡ (image_of self.now).raw_left rva }
+        ensures inside { 0 < length result.now → rva + length result.now ≤ (image_of self.now).size }
+    {
+        if rva >= self.headers.size_of_image {
+            return &[];
+        }
+        let header_bytes = self.headers.size_of_headers;
+        if rva < header_bytes {
+            let count = header_bytes - rva;
+            return self.view.slice(u64::from(rva), u64::from(count)).unwrap();
+        }
+        match self.spot(rva) {
+            Spot::Gap { end: _ } => &[],
+            Spot::Section { index: _, section } => {
+                let offset = rva - section.virtual_address;
+                let rawlen = section.rawlen();
+                if offset >= rawlen {
+                    return &[];
+                }
+                let start = u64::from(section.pointer_to_raw_data) + u64::from(offset);
+                self.view.slice(start, u64::from(rawlen - offset)).unwrap()
+            }
         }
     }
 

@@ -1,21 +1,21 @@
 //! The words of the command line, and the message if they cannot be read.
 
-use crate::messages::{STANDARD_OUTPUT, tell_failure};
-use crate::statuses::{BAD_WORDS, DEVICE_FAILED, DONE, OUT_OF_MEMORY};
-use pe_tool::{ToolError, WordsError};
-use std::alloc::AllocError;
-use std::env::FillError;
+use crate::messages::{STANDARD_OUTPUT, refuse_memory, tell_failure};
+use crate::statuses::{BAD_WORDS, DEVICE_FAILED, DONE};
+use crate::word_bytes::{bytes_of, string_of};
+use pe_tool::{ShownName, ToolError, WordsError, is_safe_text, parse_words};
+use std::alloc::{AllocError, AllocFailed, Global};
+use std::env::{self, FillError};
 use std::io::ErrorKind;
 use std::rt::Env;
-use std::{env, str};
 
 /// The size of the buffer for a word of the command line, in bytes. Linux passes no longer words.
 const WORD_BUFFER: usize = 1 << 17;
 
 /// Why the command line has no words.
 pub enum NoWords {
-    /// A word is not UTF-8: its number after the program's name, if it is known.
-    Unreadable(Option<usize>),
+    /// A word is longer than the system passes.
+    Unreadable,
     /// Out of memory.
     Memory,
 }
@@ -26,45 +26,99 @@ impl From<AllocError> for NoWords {
     }
 }
 
-/// The number of the first word that is not UTF-8; the program's name is 0.
-fn unreadable_word(rt: &impl Env) -> Option<usize> {
-    let mut buffer = [0; WORD_BUFFER];
-    for number in 0..usize::MAX {
-        match rt.arg(number, &mut buffer) {
-            Ok(len) if str::from_utf8(&buffer[..len]).is_err() => return Some(number),
-            Ok(_) | Err(FillError::TooLong) => {}
-            Err(FillError::NotPresent) => return None,
-        }
+impl<T: Drop> From<AllocFailed<T>> for NoWords {
+    fn from(_error: AllocFailed<T>) -> NoWords {
+        NoWords::Memory
     }
-    None
 }
 
-/// The words of the command line after the program's name.
-pub fn words_of<R: Env + Alloc>(rt: &R) -> Result<Vec<String<R::A>, R::A>, NoWords> {
-    let words = env::args(rt).map_err(|error| match error.kind() {
-        ErrorKind::OutOfMemory => NoWords::Memory,
-        _ => NoWords::Unreadable(unreadable_word(rt)),
-    })?;
-    Ok(words.skip(1).collect(rt.alloc())?)
+/// The words after the program's name if one of all words is not UTF-8.
+fn marked_words<R: Env + Alloc>(rt: &R) -> Result<Vec<String<R::A>, R::A>, NoWords>
+where
+    R::A: Copy,
+{
+    let mut buffer = [0; WORD_BUFFER];
+    let mut words = Vec::new(rt.alloc());
+    for number in 1..usize::MAX {
+        match rt.arg(number, &mut buffer) {
+            Ok(len) => words.push(string_of(rt.alloc(), &buffer[..len])?)?,
+            Err(FillError::NotPresent) => return Ok(words),
+            Err(FillError::TooLong) => return Err(NoWords::Unreadable),
+        }
+    }
+    Err(NoWords::Unreadable)
+}
+
+/// The words of the command line after the program's name, as strings; [`crate::word_bytes`] says what is in one that is not UTF-8.
+pub fn words_of<R: Env + Alloc>(rt: &R) -> Result<Vec<String<R::A>, R::A>, NoWords>
+where
+    R::A: Copy,
+{
+    match env::args(rt) {
+        Ok(words) => Ok(words.skip(1).collect(rt.alloc())?),
+        Err(error) if error.kind() == ErrorKind::OutOfMemory => Err(NoWords::Memory),
+        Err(_) => marked_words(rt),
+    }
 }
 
 /// Reports why there are no words, and returns the exit status.
-pub fn refuse_command_line(rt: &(impl Print + Eprint), error: NoWords) -> u8 {
+pub fn refuse_command_line(rt: &impl Eprint, error: NoWords) -> u8 {
     match error {
-        NoWords::Unreadable(Some(number)) => {
-            let _ = eprintln!(rt; "petool: word {number} of the command line is not UTF-8");
-            BAD_WORDS
-        }
-        NoWords::Unreadable(None) => {
+        NoWords::Unreadable => {
             let _ = eprintln!(rt; "petool: the command line cannot be read");
             BAD_WORDS
         }
-        NoWords::Memory => refuse_words(rt, WordsError::Memory),
+        NoWords::Memory => refuse_memory(rt),
     }
 }
 
-/// Reports why the words describe no job, and returns the exit status.
-pub(crate) fn refuse_words(rt: &(impl Print + Eprint), error: WordsError) -> u8 {
+/// A word as messages show it in quotes of their own: as it is if it may be written to a terminal, otherwise with escapes.
+fn shown_word(alloc: Global, word: &str) -> Result<String, AllocError> {
+    let bytes = bytes_of(alloc, word)?;
+    if is_safe_text(&bytes) {
+        return String::from_str(alloc, word);
+    }
+    let name = ShownName(&bytes);
+    let quoted = format!(in alloc; "{name}")?;
+    let inner = quoted.as_str().trim_matches('"');
+    String::from_str(alloc, inner)
+}
+
+/// The words as messages show them.
+fn shown_words(alloc: Global, words: &[String]) -> Result<Vec<String>, AllocError> {
+    let mut shown = Vec::new(alloc);
+    for word in words {
+        shown.push(shown_word(alloc, word.as_str())?)?;
+    }
+    Ok(shown)
+}
+
+/// Why words as messages show them describe no job. They describe none if the words themselves don't: an escape makes no value valid,
+/// and changes no `-`, `=` or `/`.
+fn refusal_of(alloc: Global, shown: &[String]) -> WordsError {
+    match parse_words(alloc, shown) {
+        Err(error) => error,
+        Ok(_) => match String::from_str(alloc, "error: a word cannot be shown\n") {
+            Ok(text) => WordsError::Bad(text),
+            Err(_) => WordsError::Memory,
+        },
+    }
+}
+
+/// What to print if the words describe no job. The text of an error has words in it, so it is made once more, from the words as
+/// messages show them, if one may not be written to a terminal.
+fn shown_refusal(alloc: Global, words: &[String], error: WordsError) -> WordsError {
+    if words.iter().all(|word| is_safe_text(word.as_bytes())) {
+        return error;
+    }
+    match shown_words(alloc, words) {
+        Ok(shown) => refusal_of(alloc, &shown),
+        Err(_) => WordsError::Memory,
+    }
+}
+
+/// Prints why the words describe no job, and returns the exit status.
+fn print_refusal(rt: &(impl Print + Eprint), error: WordsError) -> u8 {
     match error {
         WordsError::Help(text) => match print!(rt; "{text}") {
             Ok(()) => DONE,
@@ -77,9 +131,15 @@ pub(crate) fn refuse_words(rt: &(impl Print + Eprint), error: WordsError) -> u8 
             let _ = eprint!(rt; "{text}");
             BAD_WORDS
         }
-        WordsError::Memory => {
-            let _ = eprintln!(rt; "petool: out of memory");
-            OUT_OF_MEMORY
-        }
+        WordsError::Memory => refuse_memory(rt),
     }
+}
+
+/// Reports why the words describe no job, and returns the exit status.
+pub(crate) fn refuse_words<R: Print + Eprint + AllocGlobal>(
+    rt: &R,
+    words: &[String],
+    error: WordsError,
+) -> u8 {
+    print_refusal(rt, shown_refusal(rt.alloc(), words, error))
 }

@@ -1,23 +1,17 @@
 //! The commands that read files one at a time: `run_file` and `run_files`.
 
 use crate::input::{InputFile, name_of, open_file};
-use crate::messages::{STANDARD_OUTPUT, tell_failure, tell_fault};
-use crate::statuses::{CUT, DEVICE_FAILED, DONE, REFUSED};
+use crate::messages::{STANDARD_OUTPUT, refuse_memory, refuse_path, tell_failure, tell_fault};
+use crate::statuses::{CUT, DONE, REFUSED};
 use crate::texts::{Engine, Printed, Text, print_text};
 use pe_tool::{Outcome, ToolError, status};
-use std::io::{Error, Input, Read};
+use std::io::{Input, Read};
 use std::rt::Files;
-
-/// Reports on standard error that a file cannot be opened, and returns the exit status.
-pub(crate) fn refuse_path(rt: &impl Eprint, path: &str, error: Error) -> u8 {
-    let _ = eprintln!(rt; "petool: {path}: cannot be opened: {error}");
-    DEVICE_FAILED
-}
 
 /// Reports on standard error the fault of a file or the failure of an engine, and returns the exit status.
 pub(crate) fn tell<F: Read, S: Read>(
     rt: &impl Eprint,
-    name: &str,
+    name: &[u8],
     file: &InputFile<F, S>,
     printed: Printed,
 ) -> u8 {
@@ -47,11 +41,14 @@ fn run_behind<R: Files + Input + Print + Eprint + Alloc>(
 where
     R::A: Copy,
 {
+    let Ok(name) = name_of(rt.alloc(), path) else {
+        return Ok(refuse_memory(rt));
+    };
     match open_file(rt, path) {
         Ok(mut file) => {
             let text = Text::File {
                 engine,
-                name: name_of(path),
+                name: &name,
                 size: file.size(),
                 is_headed,
                 most,
@@ -61,11 +58,11 @@ where
             match printed.answer {
                 Ok(Outcome::Refused(_)) if tells_faults(engine) => Ok(status(&printed.answer)),
                 Err(ToolError::Write) if printed.is_cut => Ok(CUT),
-                Err(ToolError::Write) => Err(tell(rt, name_of(path), &file, printed)),
-                _ => Ok(tell(rt, name_of(path), &file, printed)),
+                Err(ToolError::Write) => Err(tell(rt, &name, &file, printed)),
+                _ => Ok(tell(rt, &name, &file, printed)),
             }
         }
-        Err(error) => Ok(refuse_path(rt, path, error)),
+        Err(error) => Ok(refuse_path(rt, &name, error)),
     }
 }
 

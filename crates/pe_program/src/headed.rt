@@ -1,32 +1,44 @@
 //! `Headed`: a writer that writes a heading before the first byte.
 
+use pe_tool::ShownName;
 use std::io::{self, Write};
-use std::mem;
 
-/// A writer that writes a heading, in two parts, just before the first byte.
+/// What comes before the output for a file.
+#[derive(Clone, Copy)]
+pub(crate) enum Heading<'a> {
+    /// Nothing.
+    Nothing,
+    /// A blank line.
+    BlankLine,
+    /// The file's name, as a page shows it, and a colon.
+    Name(&'a [u8]),
+}
+
+/// A writer that writes a heading just before the first byte.
 #[derive(Drop)]
 pub(crate) struct Headed<'a, W> {
     inner: W,
-    heading: &'a str,
-    rest: &'a str,
+    heading: Heading<'a>,
 }
 
 impl<'a, W: Write> Headed<'a, W> {
     /// A writer to which nothing was written yet.
-    pub fn new(inner: W, heading: &'a str, rest: &'a str) -> Headed<'a, W> {
-        Headed {
-            inner,
-            heading,
-            rest,
-        }
+    pub fn new(inner: W, heading: Heading<'a>) -> Headed<'a, W> {
+        Headed { inner, heading }
     }
 
     /// Writes the heading the first time.
     fn write_heading(&mut self) -> io::Result<()> {
-        let heading = mem::replace(&mut self.heading, "");
-        let rest = mem::replace(&mut self.rest, "");
-        self.inner.write_all(heading.as_bytes())?;
-        self.inner.write_all(rest.as_bytes())
+        let heading = self.heading;
+        self.heading = Heading::Nothing;
+        match heading {
+            Heading::Nothing => Ok(()),
+            Heading::BlankLine => self.inner.write_all(b"\n"),
+            Heading::Name(name) => {
+                let name = ShownName(name);
+                write!(self.inner, "{name}: ")
+            }
+        }
     }
 }
 

@@ -2,7 +2,7 @@
 
 use pe_image::{import_at, lay_out};
 use pe_tables::{Import, Key};
-use pe_tool::FaultText;
+use pe_tool::{FaultText, ShownName};
 use pe_view::{Fault, Place};
 use std::alloc::Allocator;
 
@@ -30,8 +30,9 @@ pub(crate) fn import_of<'a, A: Allocator + Copy>(
 }
 
 /// Reports a fault of a binding, with the import's module and its name, or `#` and its ordinal.
-pub(crate) fn tell_import_fault(rt: &impl Eprint, subject: &str, fault: Fault, import: &Import) {
-    let module = import.module.escape_ascii();
+pub(crate) fn tell_import_fault(rt: &impl Eprint, subject: &[u8], fault: Fault, import: &Import) {
+    let subject = ShownName(subject);
+    let module = ShownName(import.module);
     let text = FaultText(fault);
     let way = if fault.number == NO_MODULE {
         "; with --known such slots are left as they are"
@@ -40,7 +41,7 @@ pub(crate) fn tell_import_fault(rt: &impl Eprint, subject: &str, fault: Fault, i
     };
     let _ = match import.key {
         Key::Name(name) => {
-            let name = name.escape_ascii();
+            let name = ShownName(name);
             eprintln!(rt; "petool: {subject}: {text}: {module} {name}{way}")
         }
         Key::Ordinal(ordinal) => {

@@ -2,7 +2,12 @@
 
 ghost use Rattle.std.specs.Prelude.{◌≤◌, length, IfOk};
 
-use std::fs::{self, OpenFile};
+use crate::messages::STANDARD_INPUT;
+use crate::opening::open_word;
+use crate::word_bytes::bytes_of;
+use std::alloc::{AllocError, Allocator};
+use std::borrow::CowSlice;
+use std::fs::OpenFile;
 use std::io::{self, Error, Input, Read};
 use std::rt::Files;
 
@@ -99,28 +104,26 @@ fn size_of(file: &impl OpenFile) -> Option<u64> {
     }
 }
 
-/// The file at a path.
-pub(crate) fn open_path<R: Files + Input>(
-    rt: &R,
-    path: &str,
-) -> io::Result<InputFile<R::File, R::Reader>> {
-    let file = fs::open(rt, path)?;
-    let size = size_of(&file);
-    Ok(InputFile::new(Stream::File(file), size))
-}
-
-/// The file at a path, or standard input for the path `-`.
-pub(crate) fn open_file<R: Files + Input>(
+/// The file that a word names, or standard input for the word `-`.
+pub(crate) fn open_file<R: Files + Input + Alloc>(
     rt: &R,
     path: &str,
 ) -> io::Result<InputFile<R::File, R::Reader>> {
     if path == "-" {
         return Ok(InputFile::new(Stream::Standard(rt.reader()), None));
     }
-    open_path(rt, path)
+    let file = open_word(rt, path)?;
+    let size = size_of(&file);
+    Ok(InputFile::new(Stream::File(file), size))
 }
 
-/// The name in messages of the file at a path.
-pub(crate) fn name_of(path: &str) -> &str {
-    if path == "-" { "standard input" } else { path }
+/// The name in texts of the file that a word names.
+pub(crate) fn name_of<A: Allocator>(
+    alloc: A,
+    path: &str,
+) -> Result<CowSlice<'_, u8, A>, AllocError> {
+    if path == "-" {
+        return Ok(CowSlice::Borrowed(STANDARD_INPUT));
+    }
+    bytes_of(alloc, path)
 }

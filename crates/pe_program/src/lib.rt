@@ -8,19 +8,23 @@
 #![tactic(auto)]
 
 mod command_line;
+mod draft;
 mod explain;
 mod file_job;
 mod headed;
 mod import_fault;
 mod input;
-mod late_file;
 mod map_job;
 mod messages;
+mod opening;
 mod output;
+mod place;
 mod program;
 mod rebase_job;
 mod statuses;
+mod target;
 mod texts;
+mod word_bytes;
 
 pub use command_line::{NoWords, refuse_command_line, words_of};
 pub use file_job::{run_file, run_files};

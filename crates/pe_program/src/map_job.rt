@@ -1,16 +1,17 @@
 //! The command `map`: reads files, maps them and prints the report.
 
-use crate::file_job::refuse_path;
 use crate::import_fault::{import_of, tell_import_fault};
 use crate::input::{name_of, open_file};
-use crate::messages::{STANDARD_OUTPUT, tell_failure, tell_fault};
+use crate::messages::{STANDARD_OUTPUT, refuse_memory, refuse_path, tell_failure, tell_fault};
 use crate::statuses::OUT_OF_MEMORY;
 use crate::texts::{Printed, Text, print_text};
+use crate::word_bytes::bytes_of;
 use pe_tool::{
     Counted, MapFile, Outcome, Policy, SetEntry, ToolError, read_enough, read_whole, status,
 };
 use pe_view::Fault;
 use std::alloc::{AllocError, Allocator};
+use std::borrow::CowSlice;
 use std::io::{Input, Read};
 use std::rt::Files;
 
@@ -32,21 +33,24 @@ fn read_file<R: Files + Input + Eprint + Alloc>(rt: &R, path: &str) -> Result<Ve
 where
     R::A: Copy,
 {
+    let Ok(name) = name_of(rt.alloc(), path) else {
+        return Err(refuse_memory(rt));
+    };
     let mut file = match open_file(rt, path) {
         Ok(file) => file,
-        Err(error) => return Err(refuse_path(rt, path, error)),
+        Err(error) => return Err(refuse_path(rt, &name, error)),
     };
     let size = file.size();
     let answer = read_bytes(rt.alloc(), &mut file, size);
     answer.map_err(|failure| {
-        tell_failure(rt, name_of(path), failure, file.error());
+        tell_failure(rt, &name, failure, file.error());
         status(&Err(failure))
     })
 }
 
 /// Reports on standard error that memory for `map` ran out, and returns the exit status.
 fn refuse_map(rt: &impl Eprint) -> u8 {
-    tell_failure(rt, "map", ToolError::Memory, None);
+    tell_failure(rt, b"map", ToolError::Memory, None);
     OUT_OF_MEMORY
 }
 
@@ -68,37 +72,56 @@ where
     Ok(contents)
 }
 
-/// The set of files with these contents.
+/// The names of modules, as bytes.
+type Names<'a, A> = Vec<CowSlice<'a, u8, A>, A>;
+
+/// The names of the files' modules.
+fn names_of<A: Allocator + Copy>(alloc: A, files: &[MapFile]) -> Result<Names<'_, A>, AllocError> {
+    let mut names = Vec::new(alloc);
+    for file in files {
+        names.push(bytes_of(alloc, file.name.as_str())?)?;
+    }
+    Ok(names)
+}
+
+/// The set of files with these names of modules and contents.
 fn set_of<'a, A: Allocator>(
     alloc: A,
     files: &'a [MapFile],
+    names: &'a [CowSlice<'a, u8, A>],
     contents: &'a [Vec<u8, A>],
 ) -> Result<Vec<SetEntry<'a>, A>, AllocError> {
-    let files = files.iter().zip(contents.iter());
+    let files = files.iter().zip(names.iter().zip(contents.iter()));
     files
-        .map(|(file, bytes)| SetEntry {
-            name: file.name.as_bytes(),
+        .map(|(file, (name, bytes))| SetEntry {
+            name,
             file: bytes,
             base: file.base,
         })
         .collect(alloc)
 }
 
-/// Reports a fault of a set: of the file that it names, or of the command.
+/// Reports a fault of an image of a set.
+fn tell_image_fault<R: Eprint + Alloc>(rt: &R, name: &[u8], file: &[u8], fault: Fault)
+where
+    R::A: Copy,
+{
+    match import_of(rt.alloc(), file, &fault) {
+        Some(import) => tell_import_fault(rt, name, fault, &import),
+        None => tell_fault(rt, name, fault, file, file.len() as u64),
+    }
+}
+
+/// Reports a fault of a set: of the file that it names, or of the command, also if memory for the name is refused.
 fn tell_set_fault<R: Eprint + Alloc>(rt: &R, files: &[MapFile], set: &[SetEntry], fault: Fault)
 where
     R::A: Copy,
 {
     let image = usize::from(fault.image);
-    match (files.get(image), set.get(image)) {
-        (Some(file), Some(entry)) => {
-            let name = name_of(file.path.as_str());
-            match import_of(rt.alloc(), entry.file, &fault) {
-                Some(import) => tell_import_fault(rt, name, fault, &import),
-                None => tell_fault(rt, name, fault, entry.file, entry.file.len() as u64),
-            }
-        }
-        _ => tell_fault(rt, "map", fault, b"", 0),
+    let path = files.get(image).map_or("", |file| file.path.as_str());
+    match (set.get(image), name_of(rt.alloc(), path)) {
+        (Some(entry), Ok(name)) => tell_image_fault(rt, &name, entry.file, fault),
+        _ => tell_fault(rt, b"map", fault, b"", 0),
     }
 }
 
@@ -111,7 +134,7 @@ where
         Ok(Outcome::Done) => {}
         Ok(Outcome::Refused(fault)) => tell_set_fault(rt, files, set, fault),
         Err(ToolError::Write) => tell_failure(rt, STANDARD_OUTPUT, ToolError::Write, printed.error),
-        Err(failure) => tell_failure(rt, "map", failure, None),
+        Err(failure) => tell_failure(rt, b"map", failure, None),
     }
     status(&printed.answer)
 }
@@ -130,7 +153,10 @@ where
         Ok(contents) => contents,
         Err(status) => return status,
     };
-    let Ok(set) = set_of(rt.alloc(), files, &contents) else {
+    let Ok(names) = names_of(rt.alloc(), files) else {
+        return refuse_map(rt);
+    };
+    let Ok(set) = set_of(rt.alloc(), files, &names, &contents) else {
         return refuse_map(rt);
     };
     let text: Text<'_, R::File> = Text::Map {

@@ -1,26 +1,50 @@
 //! The messages on standard error.
 
-use pe_tool::{DetailText, FaultText, FileKind, ToolError, fault_detail, file_kind};
+use crate::statuses::{DEVICE_FAILED, OUT_OF_MEMORY};
+use pe_tool::{DetailText, FaultText, FileKind, ShownName, ToolError, fault_detail, file_kind};
 use pe_view::{Fault, View};
 use std::fmt::{self, Display};
 use std::io::{Error, ErrorKind};
+use std::str;
+
+/// The name of standard input in messages.
+pub(crate) const STANDARD_INPUT: &[u8] = b"standard input";
 
 /// The name of standard output in messages.
-pub(crate) const STANDARD_OUTPUT: &str = "standard output";
+pub(crate) const STANDARD_OUTPUT: &[u8] = b"standard output";
 
 /// Reports that a file, an output or a command failed, with the system's error if there is one. For a closed pipe it reports
 /// nothing.
 pub(crate) fn tell_failure(
     rt: &impl Eprint,
-    subject: &str,
+    subject: &[u8],
     failure: ToolError,
     error: Option<Error>,
 ) {
+    let subject = ShownName(subject);
     let _ = match error {
         Some(error) if error.kind() == ErrorKind::BrokenPipe => Ok(()),
         Some(error) => eprintln!(rt; "petool: {subject}: {failure}: {error}"),
         None => eprintln!(rt; "petool: {subject}: {failure}"),
     };
+}
+
+/// Reports on standard error that a file cannot be opened, and returns the exit status. One whose name is not UTF-8 never can.
+pub(crate) fn refuse_path(rt: &impl Eprint, name: &[u8], error: Error) -> u8 {
+    let is_text = str::from_utf8(name).is_ok();
+    let name = ShownName(name);
+    let _ = if is_text {
+        eprintln!(rt; "petool: {name}: cannot be opened: {error}")
+    } else {
+        eprintln!(rt; "petool: {name}: cannot be opened, since its name is not UTF-8")
+    };
+    DEVICE_FAILED
+}
+
+/// Reports on standard error that memory ran out before there was a subject, and returns the exit status.
+pub(crate) fn refuse_memory(rt: &impl Eprint) -> u8 {
+    let _ = eprintln!(rt; "petool: out of memory");
+    OUT_OF_MEMORY
 }
 
 /// How many of its first bytes show the kind of a file.
@@ -60,7 +84,8 @@ impl Display for Told {
 
 /// Reports a fault of a file or a command in words. `first` has the file's first bytes, and `len` is how many bytes were read. That
 /// is its size if the message states one: a file with such a fault is read whole.
-pub(crate) fn tell_fault(rt: &impl Eprint, subject: &str, fault: Fault, first: &[u8], len: u64) {
+pub(crate) fn tell_fault(rt: &impl Eprint, subject: &[u8], fault: Fault, first: &[u8], len: u64) {
+    let subject = ShownName(subject);
     let told = Told {
         fault: FaultText(fault),
         detail: fault_detail(View::new(first), len, &fault).map(DetailText),

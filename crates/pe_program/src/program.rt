@@ -72,6 +72,6 @@ pub fn run<R: Files + Input + Env + Print + Eprint + AllocGlobal>(rt: &R, is_ter
                 target,
             },
         ) => run_rebase(rt, base, source.as_str(), target.as_str()),
-        Err(error) => refuse_words(rt, error),
+        Err(error) => refuse_words(rt, &words, error),
     }
 }

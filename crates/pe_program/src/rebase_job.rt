@@ -1,44 +1,43 @@
 //! The command `rebase`: writes the file of an image for another base.
 
-use crate::file_job::{refuse_path, tell};
-use crate::input::open_path;
-use crate::late_file::{LateFile, is_same_file};
-use crate::messages::tell_failure;
-use crate::output::Output;
-use crate::statuses::{DEVICE_FAILED, DONE};
-use crate::texts::{NO_ROOM, Printed, flushed};
-use pe_tool::{Counted, ToolError, rebase};
+use crate::file_job::tell;
+use crate::input::{InputFile, name_of, open_file};
+use crate::messages::{STANDARD_OUTPUT, refuse_memory, refuse_path, tell_failure};
+use crate::statuses::{DEVICE_FAILED, DONE, OUT_OF_MEMORY};
+use crate::target::Target;
+use crate::texts::Printed;
+use crate::word_bytes::{bytes_of, is_marked};
+use pe_tool::{Counted, Outcome, ShownName, ToolError, rebase};
 use pe_view::View;
-use std::io;
-use std::io::{BufWriter, Input, Read, Write};
+use std::alloc::{AllocError, Allocator};
+use std::borrow::CowSlice;
+use std::io::{Error, ErrorKind, Input, Read, Write};
+use std::os::unix::fs::MetadataExt;
 use std::rt::Files;
+use std::{fs, str};
 
-/// The size of the buffer for the line, in bytes.
-const LINE_BUFFER: usize = 1 << 8;
+/// The size of the room for the line, in bytes.
+const LINE_ROOM: usize = 1 << 8;
 
-/// Writes the file of an image for another base and then its line, which thus means that the file is complete, and returns the
-/// engine's result.
-fn print_rebase<R: Print + Alloc>(
-    rt: &R,
+/// Writes the file of an image for another base to the target, and its line into the room for it. Returns the engine's result, and how
+/// long the line is.
+fn rebase_into<A: Allocator + Copy>(
+    alloc: A,
     base: u64,
     source: impl Read + Drop,
     target: impl Write + Drop,
-) -> Printed
-where
-    R::A: Copy,
-{
-    let Ok(buffer) = BufWriter::with_capacity(rt.alloc(), LINE_BUFFER, io::writer(rt)) else {
-        return NO_ROOM;
-    };
-    let mut output = Output::new(buffer);
+    room: &mut [u8],
+) -> (Result<Outcome, ToolError>, usize) {
+    let size = room.len();
+    let mut rest = room;
     let answer = rebase(
-        rt.alloc(),
+        alloc,
         &mut Counted::new(source),
         base,
         &mut Counted::new(target),
-        &mut Counted::new(&mut output),
+        &mut Counted::new(&mut rest),
     );
-    flushed(answer, &mut output)
+    (answer, size.saturating_sub(rest.len()))
 }
 
 /// CheckSum of the image with these first bytes, if they contain it ("PE Format", Optional Header Windows-Specific Fields).
@@ -64,7 +63,8 @@ fn certificate_size(first: View) -> Option<u32> {
 
 /// Reports what the new file lost from the old one, which has these first bytes: its CheckSum, and the validity of its
 /// certificate.
-fn tell_changes(rt: &impl Eprint, target: &str, first: View) {
+fn tell_changes(rt: &impl Eprint, target: &[u8], first: View) {
+    let target = ShownName(target);
     if check_sum(first) != Some(0) {
         let _ = eprintln!(rt; "petool: {target}: CheckSum is now 0");
     }
@@ -72,6 +72,111 @@ fn tell_changes(rt: &impl Eprint, target: &str, first: View) {
         let _ = eprintln!(rt;
             "petool: {target}: the certificate is that of the old file and no longer fits"
         );
+    }
+}
+
+/// The name in messages of the file that a word names as the target.
+fn target_name<A: Allocator>(alloc: A, target: &str) -> Result<CowSlice<'_, u8, A>, AllocError> {
+    if target == "-" {
+        return Ok(CowSlice::Borrowed(STANDARD_OUTPUT));
+    }
+    bytes_of(alloc, target)
+}
+
+/// The path at which the system has the file of a word; `stream` is that of the stream which `-` is.
+fn path_of<'a>(word: &'a str, stream: &'static str) -> &'a str {
+    if word == "-" { stream } else { word }
+}
+
+/// Whether source and target are one file, also by links. Streams are one file only if that is a regular file, since two may come from
+/// and go to one terminal. What is not there is no file.
+fn is_same_file(rt: &impl Files, source: &str, target: &str) -> bool {
+    let is_stream = source == "-" || target == "-";
+    let from = fs::metadata(rt, path_of(source, "/dev/stdin"));
+    let to = fs::metadata(rt, path_of(target, "/dev/stdout"));
+    let (Ok(from), Ok(to)) = (from, to) else {
+        return source == target && !is_stream;
+    };
+    from.dev() == to.dev() && from.ino() == to.ino() && (from.is_file() || !is_stream)
+}
+
+/// Why source and target cannot be those of `rebase`, if they cannot.
+fn refusal_of(rt: &impl Files, source: &str, target: &str) -> Option<&'static str> {
+    if is_marked(target) {
+        return Some("cannot be written, since its name is not UTF-8");
+    }
+    is_same_file(rt, source, target).then_some("is the input file")
+}
+
+/// Prints the line of the engine: on standard output, or on standard error if the new file is there. Returns the system's error if
+/// standard output failed.
+fn print_line(rt: &(impl Print + Eprint), target: &str, line: &[u8]) -> Option<Error> {
+    if target == "-" {
+        let line = str::from_utf8(line).unwrap_or("");
+        let _ = eprint!(rt; "{line}");
+        return None;
+    }
+    rt.write_all(line).err()
+}
+
+/// Reports that the new file could not be written, and returns the exit status.
+fn refuse_target(rt: &impl Eprint, name: &[u8], error: Error) -> u8 {
+    if error.kind() == ErrorKind::OutOfMemory {
+        tell_failure(rt, name, ToolError::Memory, None);
+        return OUT_OF_MEMORY;
+    }
+    tell_failure(rt, name, ToolError::Write, Some(error));
+    DEVICE_FAILED
+}
+
+/// Prints the line of the engine, reports what is to be reported, and returns the exit status.
+fn tell_rebase<F: Read, S: Read>(
+    rt: &(impl Print + Eprint),
+    names: (&[u8], &[u8]),
+    file: &InputFile<F, S>,
+    answer: Result<Outcome, ToolError>,
+    error: Option<Error>,
+) -> u8 {
+    let printed = Printed {
+        answer: if error.is_some() {
+            Err(ToolError::Write)
+        } else {
+            answer
+        },
+        error,
+        is_cut: false,
+    };
+    let status = tell(rt, names.0, file, printed);
+    if status == DONE {
+        tell_changes(rt, names.1, View::new(file.first()));
+    }
+    status
+}
+
+/// Writes the file of an image for another base, then its line, which thus means that the file is in its place, and returns the exit
+/// status.
+fn rebase_file<R: Files + Print + Eprint + Alloc, S: Read + Drop>(
+    rt: &R,
+    base: u64,
+    names: (&[u8], &[u8]),
+    mut file: InputFile<R::File, S>,
+    target: &str,
+) -> u8
+where
+    R::A: Copy,
+{
+    let mut room = [0; LINE_ROOM];
+    let mut output = Target::new(rt, target);
+    let (answer, len) = rebase_into(rt.alloc(), base, &mut file, &mut output, &mut room);
+    let error = output.error();
+    let finished = output.finish(matches!(answer, Ok(Outcome::Done)));
+    match error.or(finished.err()) {
+        Some(error) => refuse_target(rt, names.1, error),
+        None => {
+            let line = room.get(..len).unwrap_or(&room);
+            let error = print_line(rt, target, line);
+            tell_rebase(rt, names, &file, answer, error)
+        }
     }
 }
 
@@ -85,27 +190,19 @@ pub(crate) fn run_rebase<R: Files + Input + Print + Eprint + Alloc>(
 where
     R::A: Copy,
 {
-    let mut file = match open_path(rt, source) {
-        Ok(file) => file,
-        Err(error) => return refuse_path(rt, source, error),
+    let (Ok(from), Ok(to)) = (name_of(rt.alloc(), source), target_name(rt.alloc(), target)) else {
+        return refuse_memory(rt);
     };
-    if is_same_file(rt, source, target) {
-        let _ = eprintln!(rt; "petool: {target}: is the input file");
-        return DEVICE_FAILED;
-    }
-    let mut late = Output::new(LateFile::new(rt, target));
-    let printed = print_rebase(rt, base, &mut file, &mut late);
-    match late.error() {
-        Some(error) => {
-            tell_failure(rt, target, ToolError::Write, Some(error));
+    let file = match open_file(rt, source) {
+        Ok(file) => file,
+        Err(error) => return refuse_path(rt, &from, error),
+    };
+    match refusal_of(rt, source, target) {
+        Some(reason) => {
+            let to = ShownName(&to);
+            let _ = eprintln!(rt; "petool: {to}: {reason}");
             DEVICE_FAILED
         }
-        None => {
-            let status = tell(rt, source, &file, printed);
-            if status == DONE {
-                tell_changes(rt, target, View::new(file.first()));
-            }
-            status
-        }
+        None => rebase_file(rt, base, (&from, &to), file, target),
     }
 }

@@ -2,7 +2,7 @@
 
 ghost use Rattle.std.specs.Prelude.{◌-◌, ◌^◌, ◌<◌};
 
-use crate::headed::Headed;
+use crate::headed::{Headed, Heading};
 use crate::output::Output;
 use pe_tool::{
     Counted, Outcome, Policy, SetEntry, ShowOptions, Sink, Source, ToolError, at, at_sized, check,
@@ -40,7 +40,7 @@ pub(crate) enum Text<'a, F> {
     /// says whether a heading comes before the output.
     File {
         engine: Engine,
-        name: &'a str,
+        name: &'a [u8],
         size: Option<u64>,
         is_headed: bool,
         most: Option<u64>,
@@ -92,11 +92,11 @@ fn write_note(output: &mut Output<impl Write>, colours_end: &str, most: u64) -> 
 }
 
 /// What comes before the output for a file: its name, or a blank line before a page.
-fn heading_of(engine: Engine, name: &str, is_headed: bool) -> (&str, &str) {
+fn heading_of(engine: Engine, name: &[u8], is_headed: bool) -> Heading<'_> {
     match engine {
-        _ if !is_headed => ("", ""),
-        Engine::Check => (name, ": "),
-        _ => ("\n", ""),
+        _ if !is_headed => Heading::Nothing,
+        Engine::Check => Heading::Name(name),
+        _ => Heading::BlankLine,
     }
 }
 
@@ -159,9 +159,8 @@ fn write_text<A: Allocator + Copy>(
             file,
         } => {
             let mut reader = Counted::new(file);
-            let (heading, rest) = heading_of(engine, name, is_headed);
-            let mut writer = Counted::new(Headed::new(writer, heading, rest));
-            let name = name.as_bytes();
+            let heading = heading_of(engine, name, is_headed);
+            let mut writer = Counted::new(Headed::new(writer, heading));
             match size {
                 Some(size) => write_sized(alloc, engine, name, &mut reader, size, &mut writer),
                 None => write_whole(alloc, engine, name, &mut reader, &mut writer),

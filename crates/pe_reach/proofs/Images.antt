@@ -20,6 +20,7 @@ use Rattle.pe_head.specs.declared.optional.Magic.{Magic}
 use Rattle.pe_head.specs.declared.optional.Magic.TheVariants.{Pe32, Pe32Plus}
 use Rattle.pe_head.specs.Head.{head_of, magic_of, pe_offset, coff_field, field, directory_count, fixed_size}
 use Rattle.pe_head.specs.HeaderFaults.{head_tests}
+use Rattle.pe_layout.specs.Locating.{raw_left}
 use Rattle.pe_layout.specs.Piece.{end_of, holds, section_of}
 use Rattle.pe_layout.specs.Plain.{plain, section_byte}
 use Rattle.pe_layout.specs.PieceText.{text}
@@ -113,6 +114,7 @@ image_agrees number f g a =
       number = number;
       size = h.size_of_image;
       byte = bytes i;
+      raw_left = raw_left h;
       text = texts i;
       directory = directory_of h;
       slot_width = slot_width_of h.magic;

@@ -3,8 +3,7 @@ pub use Rattle.pe_layout.specs.SectionFaults
 pub use Rattle.pe_image.specs.ImageTests
 pub use Rattle.pe_text.specs.Engine
 pub mod Reach
-pub mod Sized
-pub mod Ends
-pub mod Views
-pub mod ViewBytes
 pub mod Settled
+pub mod Sized
+pub mod ViewBytes
+pub mod Views

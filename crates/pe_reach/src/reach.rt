@@ -1,10 +1,12 @@
 //! `needed`: how many first bytes of a file decide its answers; and `early_fault`: a fault that its first bytes decide.
 
-ghost use Rattle.std.specs.Prelude.{◌≡◌, ◌≤◌, ◌^◌, ℕ, List, length, max, ◌++◌, IfSome};
+ghost use Rattle.std.specs.Prelude.{◌≡◌, ◌≤◌, ◌^◌, ℕ, List, length, max, map, ◌++◌, IfSome};
+ghost use Rattle.std.specs.List.{range_with_len};
+ghost use Rattle.pe_head.specs.Checked.{checked_file};
+ghost use Rattle.pe_head.specs.Head.{coff_field, section_at};
 ghost use Rattle.pe_reach.specs.Reach.{headers_end, raw_end, image_end, Decide, Refuse};
-ghost use Rattle.pe_reach.specs.Ends.{headers_end_of};
 
-use pe_head::{Headers, SectionHeader, read_headers};
+use pe_head::{CheckedHeaders, check_headers};
 use pe_view::{Fault, Place, View};
 
 /// The most bytes that a file may have.
@@ -14,25 +16,23 @@ const MOST: u64 = 1 << 32;
 const OPTIONAL: u64 = 240;
 
 /// Where the MS-DOS header, the optional header with all directories, and the section table end.
-fn headers_end(headers: &Headers) -> u64
-    ensures { result ≡ headers_end_of headers.now }
+fn headers_end(headers: CheckedHeaders) -> u64
+    ensures { result ≡ headers_end (checked_file headers.entry) }
 {
-    let signature = headers.pe_offset;
-    let size = headers.size_of_optional_header;
-    let count = headers.number_of_sections;
-    let optional = u64::from(signature) + 24;
-    let table = optional + u64::from(size);
-    (optional + OPTIONAL)
-        .max(64)
-        .max(table + 40 * u64::from(count))
+    let optional = u64::from(headers.pe_offset()) + 24;
+    let table = optional + u64::from(headers.size_of_optional_header());
+    let count = u64::from(headers.number_of_sections());
+    (optional + OPTIONAL).max(64).max(table + 40 * count)
 }
 
 /// The greater of an offset and the end of the sections' raw data.
-fn raw_end(sections: &[SectionHeader], least: u64) -> u64
-    ensures { result ≡ max least (raw_end sections.now) }
+fn raw_end(headers: CheckedHeaders, least: u64) -> u64
+    ensures { let file = checked_file headers.entry in
+        result ≡ max least (raw_end (map (section_at file) (range_with_len 0 (coff_field file 2 2)))) }
 {
     let mut end = least;
-    for section in sections {
+    for index in 0..headers.number_of_sections() {
+        let section = headers.section(index);
         let rawlen = section.rawlen();
         if rawlen > 0 {
             end = end.max(u64::from(section.pointer_to_raw_data) + u64::from(rawlen));
@@ -46,12 +46,10 @@ fn raw_end(sections: &[SectionHeader], least: u64) -> u64
 fn ends(begin: &[u8]) -> Option<(u64, u64)>
     ensures { IfSome result (λ ends. (ends.0 ≡ headers_end begin.now) × (ends.1 ≡ image_end begin.now)) }
 {
-    let Ok(headers) = read_headers(View::new(begin), 0) else {
-        return None;
-    };
-    let headers_end = headers_end(&headers);
-    let least = headers_end.max(u64::from(headers.size_of_headers));
-    Some((headers_end, raw_end(headers.sections.as_slice(), least)))
+    let headers = check_headers(View::new(begin), 0).ok()?;
+    let headers_end = headers_end(headers);
+    let least = headers_end.max(u64::from(headers.size_of_headers()));
+    Some((headers_end, raw_end(headers, least)))
 }
 
 /// How many first bytes of a file of `len` bytes decide its answers. Its headers say so, which are read from `begin`, its first

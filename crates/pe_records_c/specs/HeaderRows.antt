@@ -2,9 +2,8 @@
 use Rattle.std.specs.Prelude.{ℕ, List, replicate, unwrap_or}
 use Rattle.pe_head.specs.declared.directory.Directory.{Directory}
 use Rattle.pe_head.specs.declared.headers.Headers.{Headers}
-use Rattle.pe_head.specs.declared.optional.Magic.{Magic}
-use Rattle.pe_head.specs.declared.optional.Magic.TheVariants.{Pe32, Pe32Plus}
 use Rattle.pe_head.specs.declared.section.SectionHeader.{SectionHeader}
+use Rattle.pe_head.specs.Optional.{magic_number}
 use Rattle.pe_head.specs.Section.{extent, rawlen}
 use Rattle.pe_records_c.specs.declared.headers.DirectoryRow.{DirectoryRow}
 use Rattle.pe_records_c.specs.declared.headers.HeadersRecord.{HeadersRecord}
@@ -28,11 +27,6 @@ section_row s = record {
   characteristics = s.characteristics;
   -- end of describe/records.txt
 }
-
--- the field Magic
-abbrev pub magic_number : Magic → ℕ
-magic_number Pe32 = 0x10b
-magic_number Pe32Plus = 0x20b
 
 -- sixteen directories; those that the headers do not hold are 0
 abbrev pub directory_rows : List Directory → List DirectoryRow

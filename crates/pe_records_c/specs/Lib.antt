@@ -7,6 +7,7 @@ pub mod HeaderRows
 pub mod Images
 pub mod ImportRows
 pub mod Lines
+pub mod MovedRows
 pub mod ObjectHeaderRows
 pub mod ObjectRows
 pub mod Rows

@@ -4,10 +4,10 @@ use Rattle.pe_view.specs.declared.fault.Fault.{Fault}
 use Rattle.pe_set.specs.declared.binding.Binding.{Binding}
 use Rattle.pe_space.specs.Content.{Content, window_at, base_at, size_at}
 use Rattle.pe_space.specs.Moves.{move_fault, moved, moved_counts}
-use Rattle.pe_space.specs.declared.space.Moved.{Moved}
 use Rattle.pe_records_c.specs.Faults.{fault_record}
 use Rattle.pe_records_c.specs.declared.fault.FaultRecord.{FaultRecord}
-use Rattle.pe_records_c.specs.declared.space.MovedRecord.{MovedRecord}
+use Rattle.pe_records_c.specs.declared.moved.MovedRecord.{MovedRecord}
+use Rattle.pe_records_c.specs.MovedRows.{moved_record}
 
 -- a read of n bytes: status 0 and the bytes, 1 and the fault, or 6 if there is no space; the rest is unchanged
 abbrev pub IsWindow : Result (List ℕ) Fault → List ℕ → List ℕ → FaultRecord → FaultRecord → ℕ → Type 0
@@ -17,9 +17,6 @@ IsWindow (Err fault) old new before after status = (status ≡ 1) × (new ≡ ol
 abbrev pub IsReadOf : Option Content → ℕ → ℕ → List ℕ → List ℕ → FaultRecord → FaultRecord → ℕ → Type 0
 IsReadOf None address n old new before after status = (status ≡ 6) × (new ≡ old) × (after ≡ before)
 IsReadOf (Some space) address n old new before after status = IsWindow (window_at space address n) old new before after status
-
-abbrev pub moved_record : Moved → MovedRecord
-moved_record counts = record { fields = counts.fields; slots = counts.slots }
 
 -- the same for a move, by its fault
 abbrev pub IsMoveBy : Option Fault → Content → ℕ → ℕ → Option Content → MovedRecord → MovedRecord → FaultRecord → FaultRecord → ℕ → Type 0

@@ -7,7 +7,7 @@ ghost use Rattle.pe_records_c.specs.HeaderRows.{directory_row, section_row, dire
 ghost use Rattle.pe_records_c.specs.Rows.{filled};
 
 use crate::row::{Row, fill_rows};
-use pe_head::{Directory, Headers, Magic, SectionHeader};
+use pe_head::{Directory, Headers, SectionHeader};
 
 /// One of the 16 data directories. Offsets and sizes count bytes.
 #[repr(C)]
@@ -169,7 +169,7 @@ pub fn put_sections(rows: &mut [SectionRow], sections: &[SectionHeader])
     fill_rows(rows, sections);
 }
 
-/// The headers as C has them.
+/// The record for C of `Headers`.
 pub fn headers_record(headers: &Headers) -> HeadersRecord
     ensures { result ≡ headers_record headers.now }
 {
@@ -197,10 +197,7 @@ pub fn headers_record(headers: &Headers) -> HeadersRecord
         check_sum: headers.check_sum,
         loader_flags: headers.loader_flags,
         number_of_rva_and_sizes: headers.number_of_rva_and_sizes,
-        magic: match headers.magic {
-            Magic::Pe32 => 0x10b,
-            Magic::Pe32Plus => 0x20b,
-        },
+        magic: headers.magic.number(),
         machine: headers.machine,
         number_of_sections: headers.number_of_sections,
         size_of_optional_header: headers.size_of_optional_header,

@@ -17,6 +17,7 @@ pub mod headers;
 pub mod import;
 pub mod laws;
 pub mod mapping;
+pub mod moved;
 pub mod object;
 pub mod object_headers;
 pub mod opened;

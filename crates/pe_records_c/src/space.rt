@@ -9,37 +9,18 @@ ghost use Rattle.pe_space.specs.Moves.{move_fault};
 ghost use Rattle.pe_space.specs.SpaceOf.{IsSpaceOf};
 ghost use Rattle.pe_records_c.specs.Rows.{TellsTable};
 ghost use Rattle.pe_records_c.specs.SetRows.{entry_text, binding_row, policy_of};
-ghost use Rattle.pe_records_c.specs.Spaces.{IsMoveBy, IsWindow, moved_record};
+ghost use Rattle.pe_records_c.specs.Spaces.{IsMoveBy, IsWindow};
 
 use crate::fault::{FaultRecord, refuse};
 use crate::mapping::map_entries;
+use crate::moved::{MovedRecord, moved_record};
 use crate::row::put_table;
 use crate::set::{BindingRow, EntryRecord, policy_of};
 use crate::status;
 use pe_handle::Handle;
 use pe_set::MapError;
-use pe_space::{MappedSpace, Moved, Space};
+use pe_space::{MappedSpace, Space};
 use std::alloc::Global;
-
-/// What a move rewrote.
-#[repr(C)]
-#[derive(Clone, Copy)]
-pub struct MovedRecord {
-    /// How many fields of the image: as many as it has fixups.
-    pub fields: u32,
-    /// How many bound slots, of all images, that lead to it.
-    pub slots: u32,
-}
-
-/// What a move rewrote, as C has it.
-fn moved_record(counts: Moved) -> MovedRecord
-    ensures { result ≡ moved_record counts }
-{
-    MovedRecord {
-        fields: counts.fields,
-        slots: counts.slots,
-    }
-}
 
 /// Closes a space, and frees its memory. A closed one stays closed.
 pub fn close(alloc: Global, space: &mut Handle)
@@ -99,7 +80,7 @@ pub fn move_image(
 {
     match space.move_image(image, base) {
         Ok(counts) => {
-            *moved = moved_record(counts);
+            *moved = moved_record(&counts);
             status::DONE
         }
         Err(first) => refuse(first, fault),

@@ -56,12 +56,16 @@ bare_is_plain bs bare = let p = parts (begins_plain bs) (list_all is_printable b
 pub bare_chars : (bs : List ℕ) → (begins_plain bs && list_all is_printable bs) ≡ true → chars bs ≡ bs
 bare_chars bs bare = chars_are_bytes bs (parts (begins_plain bs) _ bare).1
 
+-- what is not UTF-8 may not be written to a terminal
+pub other_is_not_safe : (bs : List ℕ) → (IsUtf8 bs → ⊥) → is_safe_text bs ≡ false
+other_is_not_safe bs other = elim (cases_Bool (is_utf8 bs)) [
+  | inl some ↦ absurd (other (IsUtf8-from_is_utf8 bs some))
+  | inr none ↦ rw none refl
+]
+
 -- what is not UTF-8 is not plain
 pub other_is_not_plain : (bs : List ℕ) → (IsUtf8 bs → ⊥) → is_plain bs ≡ false
-other_is_not_plain bs other = elim (cases_Bool (is_utf8 bs)) [
-  | inl some ↦ absurd (other (IsUtf8-from_is_utf8 bs some))
-  | inr none ↦ rw none (and_false (begins_plain bs))
-]
+other_is_not_plain bs other = rw (other_is_not_safe bs other) (and_false (begins_plain bs))
 
 -- a name that is plain has no more characters than bytes
 pub plain_has_few_chars : (bs : List ℕ) → is_plain bs ≡ true → length (chars bs) ≤ length bs

@@ -7,6 +7,7 @@ use Rattle.std.specs.Str.{chars, is_utf8}
 use Rattle.pe_text.specs.Text.{hex, width_from, escaped, quoted}
 use Rattle.pe_tables.specs.declared.fixups.FixupKind.TheVariants.{Bits64}
 use Rattle.pe_show.specs.Name.{is_plain, name_text, columns}
+use Rattle.pe_show.specs.Places.{field_offset}
 use Rattle.pe_show.specs.Rows.{fields_row, relocation_row, symbol_row}
 
 -- "é" in UTF-8 is one character, and its first byte alone is not UTF-8
@@ -28,20 +29,30 @@ fields : fields_row 6 (record { entry = 0; field = 0x3010; kind = Bits64 }) (rec
 unfolding fields_row hex width_from
 fields = refl
 
--- a relocation whose symbol has a name, and one whose symbol has none
-named_relocation : relocation_row 0x1f (Some (codes "REL32")) 4 12 (Some (codes "_puts")) ≡ codes "    0x00001f  REL32  #12 _puts\n"
+-- a relocation whose symbol has a name and whose field is in the file, and one without both
+named_relocation : relocation_row 0x1f (Some 0x8f) (Some (codes "REL32")) 4 12 (Some (codes "_puts")) ≡ codes "    0x00001f  file 0x00008f  REL32  #12 _puts\n"
 unfolding relocation_row hex width_from name_text chars is_utf8 encode digits
 named_relocation = refl
 
-other_relocation : relocation_row 0x1000000 None 0x2a 3 None ≡ codes "    0x1000000  0x002a  #3\n"
+other_relocation : relocation_row 0x1000000 None None 0x2a 3 None ≡ codes "    0x1000000  0x002a  #3\n"
 unfolding relocation_row hex width_from digits
 other_relocation = refl
 
--- a function, and a symbol of a class without a name
-function : symbol_row 7 4 0x40 (codes ".text") (Some (codes "EXTERNAL")) 2 0x20 (codes "main") ≡ codes "   7  0x00000040  .text         EXTERNAL       function  main\n"
+-- where the field of a relocation is in the file: the raw data of 0x20 bytes is at 0x100, and addresses count from 0x10
+last_field : field_offset 0x100 0x10 0x20 0x2f ≡ Some 0x11f
+last_field = refl
+
+after_raw_data : field_offset 0x100 0x10 0x20 0x30 ≡ None
+after_raw_data = refl
+
+before_section : field_offset 0x100 0x10 0x20 0xf ≡ None
+before_section = refl
+
+-- a function in section 3 of an object with ten or more, and a symbol of a class without a name outside sections
+function : symbol_row 7 4 0x40 (Some 3) 2 (codes ".text") (Some (codes "EXTERNAL")) 2 0x20 (codes "main") ≡ codes "   7  0x00000040   3 .text         EXTERNAL       function  main\n"
 unfolding symbol_row hex name_text columns chars is_utf8 encode digits
 function = refl
 
-other_class : symbol_row 12 4 0 (codes ".bss") None 130 0 (codes "x") ≡ codes "  12  0x00000000  .bss          class     130            x\n"
+other_class : symbol_row 12 4 0 None 2 (codes "ABSOLUTE") None 130 0 (codes "x") ≡ codes "  12  0x00000000     ABSOLUTE      class     130            x\n"
 unfolding symbol_row hex name_text columns chars is_utf8 encode digits
 other_class = refl

@@ -1,5 +1,5 @@
 -- The place of an RVA as a page shows it, and its columns. No contract of a public function uses this module.
-use Rattle.std.specs.Prelude.{◌≡◌, ℕ, ◌+◌, ◌-◌, List, [], Option, None, Some, codes, slice_get}
+use Rattle.std.specs.Prelude.{◌≡◌, ℕ, ◌+◌, ◌-◌, ◌&&◌, nat_le, nat_lt, List, [], Option, None, Some, codes, slice_get, if◌then◌else◌}
 use denote.Bor.{Bor}
 use Rattle.pe_head.specs.declared.headers.Headers.{Headers}
 use Rattle.pe_head.specs.declared.section.SectionHeader.{SectionHeader}
@@ -51,6 +51,11 @@ Shows names h (exported.Rva rva) (Here shown place) = (shown ≡ rva) × IsPlace
 Shows names h (exported.Forward dll key) (Forward shown_dll shown_key) = (shown_dll.now ≡ dll.now) × (shown_key ≡ key)
 Shows names h (exported.Rva rva) (Forward dll key) = ⊥
 Shows names h (exported.Forward dll key) (Here rva place) = ⊥
+
+-- ---- the place of a relocation's field
+-- in the file, if the section's raw data there, of a size, holds it; addresses count from the section's own
+abbrev pub field_offset : ℕ → ℕ → ℕ → ℕ → Option ℕ
+field_offset pointer base size address = if nat_le base address && nat_lt (address - base) size then Some (pointer + (address - base)) else None
 
 -- ---- columns
 -- how many columns the offset of a place takes, including `+0x`

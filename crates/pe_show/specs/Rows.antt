@@ -93,10 +93,16 @@ abbrev pub symbol_text : Option (List ℕ) → List ℕ
 symbol_text None = []
 symbol_text (Some name) = codes " " ++ name_text name
 
--- a relocation: its offset in the section, its type by name or number, and the index of its symbol, with its name if it has one
-unfoldable pub relocation_row : ℕ → Option (List ℕ) → ℕ → ℕ → Option (List ℕ) → List ℕ
-relocation_row address type_name kind index symbol = joined
-    (codes "    0x" ∷ hex_at_least 6 address ∷ codes "  " ∷ type_text type_name kind ∷ codes "  #" ∷ decimal index
+-- a file offset, if there is one
+abbrev pub file_text : Option ℕ → List ℕ
+file_text None = []
+file_text (Some offset) = codes "  file 0x" ++ hex_at_least 6 offset
+
+-- a relocation: its offset in the section, that of its field in the file, its type by name or number, and the index of its symbol, with
+-- its name if it has one
+unfoldable pub relocation_row : ℕ → Option ℕ → Option (List ℕ) → ℕ → ℕ → Option (List ℕ) → List ℕ
+relocation_row address file type_name kind index symbol = joined
+    (codes "    0x" ∷ hex_at_least 6 address ∷ file_text file ∷ codes "  " ∷ type_text type_name kind ∷ codes "  #" ∷ decimal index
     ∷ symbol_text symbol ∷ codes "\n" ∷ [])
 
 -- the name of a storage class, or its number, in 13 columns
@@ -108,8 +114,13 @@ class_text (Some name) class = column_text name 13
 abbrev pub function_text : ℕ → List ℕ
 function_text kind = if kind == 0x20 then codes "  function  " else codes "            "
 
--- a symbol: the index of its record, value, section, class by name or number, whether it is a function, and name
-unfoldable pub symbol_row : ℕ → ℕ → ℕ → List ℕ → Option (List ℕ) → ℕ → ℕ → List ℕ → List ℕ
-symbol_row index width value section class_name class kind name = joined
-    (right_text index width ∷ codes "  0x" ∷ hex 8 value ∷ codes "  " ∷ column_text section 12 ∷ codes "  " ∷ class_text class_name class
-    ∷ function_text kind ∷ name_text name ∷ codes "\n" ∷ [])
+-- the number of a symbol's section in a column of its own, or blanks
+abbrev pub number_text : Option ℕ → ℕ → List ℕ
+number_text None width = blanks width
+number_text (Some number) width = right_text number width
+
+-- a symbol: the index of its record, value, section by number and name, class by name or number, whether it is a function, and name
+unfoldable pub symbol_row : ℕ → ℕ → ℕ → Option ℕ → ℕ → List ℕ → Option (List ℕ) → ℕ → ℕ → List ℕ → List ℕ
+symbol_row index width value number digits section class_name class kind name = joined
+    (right_text index width ∷ codes "  0x" ∷ hex 8 value ∷ codes "  " ∷ number_text number digits ∷ codes " " ∷ column_text section 12
+    ∷ codes "  " ∷ class_text class_name class ∷ function_text kind ∷ name_text name ∷ codes "\n" ∷ [])

@@ -16,7 +16,9 @@
 //! imports, base relocations, relocations and symbols; the rest of a page is in no contract.
 #![tactic(auto)]
 
+// from describe/records.txt: modules
 mod at_place;
+mod auxiliary;
 mod cell;
 mod date;
 mod directories;
@@ -37,7 +39,9 @@ mod place;
 mod sections;
 mod style;
 mod symbols;
+// end of describe/records.txt
 
 pub use at_place::{at, at_sized};
 pub use engine::{show, show_sized};
+pub use name::{ShownName, is_safe_text};
 pub use pe_text::ShowOptions;

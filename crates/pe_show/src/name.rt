@@ -1,13 +1,15 @@
-//! Names of a file as a page shows them.
+//! Names as a page shows them: of its file, and of what the file holds.
 
-ghost use Rattle.std.specs.Prelude.{◌≡◌, ◌≤◌, ◌+◌, ◌*◌, ◌&&◌, length, IfSome, IfNone, true, false};
+ghost use Rattle.std.specs.Prelude.{◌≡◌, ◌<◌, ◌≤◌, ◌+◌, ◌*◌, ◌&&◌, length, take, flat_map, IfSome, IfNone, Some, true, false};
+ghost use Rattle.std.specs.Fmt.{WritesOnOk};
 ghost use Rattle.std.specs.List.{list_all};
 ghost use Rattle.std.specs.Str.{chars};
-ghost use Rattle.pe_text.specs.Text.{is_printable, escaped, quoted};
+ghost use Rattle.pe_text.specs.Text.{glyph, is_printable, escaped, quoted};
 ghost use Rattle.pe_text.specs.TextWriter.{IsReady, Adds};
-ghost use Rattle.pe_show.specs.Name.{is_safe, begins_plain, is_plain, cut, name_text, columns};
+ghost use Rattle.pe_show.specs.Name.{is_safe, is_safe_text, begins_plain, is_plain, cut, name_text, columns};
 
 use pe_text::{Sink, TextWriter, is_printable};
+use std::fmt::{self, Display};
 use std::str;
 
 /// The most bytes of a name that are shown; compilers seldom write longer ones.
@@ -37,6 +39,17 @@ fn are_safe(text: &str) -> bool
     ensures { result ≡ list_all is_safe (chars text.now) }
 {
     text.chars().all(|character| is_safe(character))
+}
+
+/// Whether a text is UTF-8, of characters that may be written to a terminal: no control character, and none that changes the
+/// direction of the text around it.
+pub fn is_safe_text(text: &[u8]) -> bool
+    ensures { result ≡ is_safe_text text.now }
+{
+    match str::from_utf8(text) {
+        Ok(text) => are_safe(text),
+        Err(_) => false,
+    }
 }
 
 /// Whether a name is not empty and does not begin with a quote.
@@ -91,6 +104,79 @@ pub(crate) fn write_name<W: Sink>(text: &mut TextWriter<W>, name: &[u8])
         text.text(name);
     } else {
         text.quoted(name);
+    }
+}
+
+/// A hexadecimal digit, in lower case.
+fn glyph(digit: u8) -> u8
+    requires { digit < 16 }
+    ensures { result ≡ glyph digit }
+{
+    if digit < 10 {
+        b'0' + digit
+    } else {
+        b'a' - 10 + digit
+    }
+}
+
+/// A byte of a name in quotes: itself, or `\x` and two digits. The second value is how many bytes this takes of the first.
+#[tactic(auto, unfolding(pe_text::specs::Text::escaped, pe_text::specs::Text::hex))]
+fn escaped(byte: u8) -> ([u8; 4], usize)
+    ensures bound { result.1 ≤ 4 }
+    ensures value { take result.1 result.0 ≡ escaped byte }
+{
+    if pe_text::is_plain(byte) {
+        return ([byte, 0, 0, 0], 1);
+    }
+    ([b'\\', b'x', glyph(byte / 16 % 16), glyph(byte % 16)], 4)
+}
+
+/// Writes a byte of a name in quotes.
+fn write_escaped_byte<W: fmt::Write>(f: &mut fmt::Formatter<W>, byte: u8) -> fmt::Result
+    ensures { WritesOnOk W.write_str_gives f.old result (escaped byte) f.new }
+{
+    let (bytes, len) = escaped(byte);
+    match str::from_utf8(&bytes[..len]) {
+        Ok(text) => f.write_str(text),
+        Err(_) => Err(fmt::Error),
+    }
+}
+
+/// Writes what is in the quotes of a name.
+fn write_escaped<W: fmt::Write>(f: &mut fmt::Formatter<W>, name: &[u8]) -> fmt::Result
+    ensures { WritesOnOk W.write_str_gives f.old result (flat_map escaped name.now) f.new }
+{
+    for byte in name {
+        write_escaped_byte(f, *byte)?;
+    }
+    Ok(())
+}
+
+/// Writes a name in quotes.
+#[tactic(auto, unfolding(pe_text::specs::Text::quoted))]
+fn write_quoted<W: fmt::Write>(f: &mut fmt::Formatter<W>, name: &[u8]) -> fmt::Result
+    ensures { WritesOnOk W.write_str_gives f.old result (quoted name.now) f.new }
+{
+    f.write_str("\"")?;
+    write_escaped(f, name)?;
+    f.write_str("\"")
+}
+
+/// A name, which is displayed as a page shows it: at most its first 4,096 bytes; as they are if they are UTF-8 that may be written to
+/// a terminal, not empty, and do not begin with a quote; otherwise in quotes, with `\x` and two digits for each byte that is not
+/// printable ASCII, a quote or a backslash.
+#[derive(Clone, Copy)]
+pub struct ShownName<'a>(pub &'a [u8]);
+
+impl Display for ShownName<'_> {
+    ghost output = { λ shown. Some (name_text shown.0.now) };
+
+    fn fmt<W: fmt::Write>(&self, f: &mut fmt::Formatter<W>) -> fmt::Result {
+        let name = cut(self.0);
+        match plain_text(name) {
+            Some(text) => f.write_str(text),
+            None => write_quoted(f, name),
+        }
     }
 }
 

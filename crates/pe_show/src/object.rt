@@ -61,7 +61,7 @@ fn write_object<A: Allocator + Copy, W: Sink>(
     write_title(text, page, Outcome::Done, kind, len);
     write_header(text, object);
     write_sections(text, page.options, sections);
-    write_relocations(text, page.options, machine, sections, names);
+    write_relocations(text, page.options, object, sections, names);
     write_symbols(alloc, text, page.options, object, sections);
 }
 

@@ -1,9 +1,10 @@
 //! The sections of an object, and their relocations.
 
-ghost use Rattle.std.specs.Prelude.{option_map};
+ghost use Rattle.std.specs.Prelude.{◌≡◌, option_map};
 ghost use Rattle.pe_text.specs.TextWriter.{IsReady, Adds};
 ghost use Rattle.pe_show.specs.Page.{AddsSome};
-ghost use Rattle.pe_show.specs.Rows.{type_text, symbol_text, relocation_row};
+ghost use Rattle.pe_show.specs.Places.{field_offset};
+ghost use Rattle.pe_show.specs.Rows.{file_text, type_text, symbol_text, relocation_row};
 
 use crate::cell::Cell::{self, Plain};
 use crate::cell::{decimal_width, write_cells};
@@ -146,18 +147,42 @@ fn write_symbol_name<W: Sink>(text: &mut TextWriter<W>, name: Option<&[u8]>)
     }
 }
 
-/// Adds the row of a relocation: its offset in the section, its type, and its symbol.
+/// The file offset of the field of a relocation, if the file holds it: where the section's raw data is, its own address, how many
+/// bytes of raw data it has, and the relocation's address.
+fn field_offset(pointer: u32, base: u32, size: u64, address: u32) -> Option<u64>
+    ensures { result ≡ field_offset pointer base size address }
+{
+    if address < base || (address - base) as u64 >= size {
+        return None;
+    }
+    Some(pointer as u64 + (address - base) as u64)
+}
+
+/// Adds a file offset, if there is one.
+fn write_file_offset<W: Sink>(text: &mut TextWriter<W>, offset: Option<u64>)
+    requires { IsReady W.failures text.old }
+    ensures { Adds W.taken W.failures text.old text.new (file_text offset) }
+{
+    if let Some(offset) = offset {
+        text.text(b"  file 0x");
+        text.hex_at_least(6, offset);
+    }
+}
+
+/// Adds the row of a relocation: its offset in the section, that of its field in the file, its type, and its symbol.
 fn write_relocation<W: Sink>(
     text: &mut TextWriter<W>,
+    file: Option<u64>,
     type_name: Option<&str>,
     symbol: Option<&[u8]>,
     relocation: &Relocation,
 )
     requires { IsReady W.failures text.old }
-    ensures { Adds W.taken W.failures text.old text.new (relocation_row relocation.now.address (option_map (λ name. name.now) type_name.entry) relocation.now.kind relocation.now.symbol (option_map (λ name. name.now) symbol.entry)) }
+    ensures { Adds W.taken W.failures text.old text.new (relocation_row relocation.now.address file (option_map (λ name. name.now) type_name.entry) relocation.now.kind relocation.now.symbol (option_map (λ name. name.now) symbol.entry)) }
 {
     text.text(b"    0x");
     text.hex_at_least(6, relocation.address as u64);
+    write_file_offset(text, file);
     text.text(b"  ");
     write_type(text, type_name, relocation.kind);
     text.text(b"  #");
@@ -166,11 +191,20 @@ fn write_relocation<W: Sink>(
     text.text(b"\n");
 }
 
-/// Adds the relocations of a section, if it has some, under its name.
+/// The file offset of the raw data of a section, by its index.
+fn pointer_of(object: &ObjectFile, index: usize) -> u32 {
+    match object.section_header(index) {
+        Some(header) => header.pointer_to_raw_data,
+        None => 0,
+    }
+}
+
+/// Adds the relocations of a section, if it has some, under its number and its name.
 fn write_section_relocations<A: Allocator + Copy, W: Sink>(
     text: &mut TextWriter<W>,
-    machine: u16,
+    object: &ObjectFile,
     names: &SymbolNames<A>,
+    place: usize,
     section: &FileSection,
 )
     requires { IsReady W.failures text.old }
@@ -184,16 +218,22 @@ fn write_section_relocations<A: Allocator + Copy, W: Sink>(
         text,
         &[
             Plain(Text(b"  ")),
+            Cell::Right((place as u64).saturating_add(1), 1),
+            Plain(Text(b" ")),
             Cell::Name(cut(section.name)),
             Plain(Text(b" (")),
             Cell::Count(relocations.len() as u64),
             Plain(Text(b")\n")),
         ],
     );
+    let (pointer, base) = (pointer_of(object, place), section.virtual_address);
+    let (_, in_file) = sizes_of(&section.raw);
     for index in 0..relocations.len() {
         let relocation = relocations.get(index).unwrap();
-        let type_name = relocation_type_name(machine, relocation.kind);
-        write_relocation(text, type_name, names.get(relocation.symbol), &relocation);
+        let file = field_offset(pointer, base, in_file, relocation.address);
+        let type_name = relocation_type_name(object.machine(), relocation.kind);
+        let symbol = names.get(relocation.symbol);
+        write_relocation(text, file, type_name, symbol, &relocation);
     }
 }
 
@@ -211,7 +251,7 @@ fn relocation_count(sections: &[FileSection]) -> usize {
 pub(crate) fn write_relocations<A: Allocator + Copy, W: Sink>(
     text: &mut TextWriter<W>,
     options: &ShowOptions,
-    machine: u16,
+    object: &ObjectFile,
     sections: &[FileSection],
     names: &SymbolNames<A>,
 )
@@ -222,10 +262,10 @@ pub(crate) fn write_relocations<A: Allocator + Copy, W: Sink>(
         return;
     }
     write_heading(text, options, b"Relocations", relocation_count(sections));
-    for section in sections {
+    for (index, section) in sections.iter().enumerate() {
         if text.has_failed() {
             return;
         }
-        write_section_relocations(text, machine, names, section);
+        write_section_relocations(text, object, names, index, section);
     }
 }

@@ -5,9 +5,10 @@ ghost use Rattle.std.specs.List.{find};
 ghost use Rattle.std.specs.List.Sorted.{IsPartitionPoint};
 ghost use Rattle.pe_text.specs.TextWriter.{IsReady, Adds};
 ghost use Rattle.pe_show.specs.Page.{AddsSome};
-ghost use Rattle.pe_show.specs.Rows.{class_text, function_text, symbol_row};
+ghost use Rattle.pe_show.specs.Rows.{class_text, function_text, number_text, symbol_row};
 
-use crate::cell::{decimal_width, write_column, write_right};
+use crate::auxiliary::write_records;
+use crate::cell::{blanks, decimal_width, write_column, write_right};
 use crate::heading::write_heading;
 use crate::name::write_name;
 use crate::place::cut;
@@ -88,6 +89,25 @@ fn section_words<'a>(sections: &[FileSection<'a>], section: SymbolSection) -> &'
     }
 }
 
+/// The number of a symbol's section, if it has one.
+fn number_of(section: SymbolSection) -> Option<u16> {
+    match section {
+        SymbolSection::Section(number) => Some(number),
+        _ => None,
+    }
+}
+
+/// Adds the number of a section in a column of its own, or blanks.
+fn write_number<W: Sink>(text: &mut TextWriter<W>, number: Option<u16>, width: usize)
+    requires { IsReady W.failures text.old }
+    ensures { Adds W.taken W.failures text.old text.new (number_text number width) }
+{
+    match number {
+        Some(number) => write_right(text, number as u64, width),
+        None => text.text(blanks(width)),
+    }
+}
+
 /// Adds the name of a storage class, or its number if the format has no name for it, in 13 columns.
 fn write_class<W: Sink>(text: &mut TextWriter<W>, name: Option<&str>, class: u8)
     requires { IsReady W.failures text.old }
@@ -113,22 +133,32 @@ fn function_word(kind: u16) -> &'static [u8]
     }
 }
 
+/// The widths of the columns of symbols: of indices, and of the numbers of sections.
+#[derive(Clone, Copy)]
+struct Widths {
+    index: usize,
+    number: usize,
+}
+
 /// Adds the row of a symbol.
 fn write_symbol<W: Sink>(
     text: &mut TextWriter<W>,
-    width: usize,
+    widths: Widths,
     index: u32,
+    number: Option<u16>,
     section: &[u8],
     class: Option<&str>,
     symbol: &Symbol,
 )
     requires { IsReady W.failures text.old }
-    ensures { Adds W.taken W.failures text.old text.new (symbol_row index width symbol.now.value section.now (option_map (λ name. name.now) class.entry) symbol.now.class symbol.now.kind symbol.now.name.now) }
+    ensures { Adds W.taken W.failures text.old text.new (symbol_row index widths.index symbol.now.value number widths.number section.now (option_map (λ name. name.now) class.entry) symbol.now.class symbol.now.kind symbol.now.name.now) }
 {
-    write_right(text, index as u64, width);
+    write_right(text, index as u64, widths.index);
     text.text(b"  0x");
     text.hex(8, symbol.value as u64);
     text.text(b"  ");
+    write_number(text, number, widths.number);
+    text.text(b" ");
     write_column(text, section, 12);
     text.text(b"  ");
     write_class(text, class, symbol.class);
@@ -137,7 +167,16 @@ fn write_symbol<W: Sink>(
     text.text(b"\n");
 }
 
-/// Adds a row for each symbol of an object, with the index of its record, if the options select them.
+/// The widths of the columns of an object's symbols.
+fn widths_of(object: &ObjectFile, sections: &[FileSection]) -> Widths {
+    Widths {
+        index: decimal_width(object.header().number_of_symbols as u64).max(4),
+        number: decimal_width(sections.len() as u64),
+    }
+}
+
+/// Adds a row for each symbol of an object and for each of its auxiliary records, with the index of its record, if the options select
+/// them.
 pub(crate) fn write_symbols<A: Allocator + Copy, W: Sink>(
     alloc: A,
     text: &mut TextWriter<W>,
@@ -151,17 +190,19 @@ pub(crate) fn write_symbols<A: Allocator + Copy, W: Sink>(
     if !options.symbols {
         return;
     }
-    let width = decimal_width(object.symbol_count() as u64).max(4);
+    let widths = widths_of(object, sections);
     write_heading(text, options, b"Symbols", object.symbol_count());
     for (index, symbol) in object.each_symbol(alloc) {
         let section = section_words(sections, symbol.section);
         write_symbol(
             text,
-            width,
+            widths,
             index,
+            number_of(symbol.section),
             section,
             storage_class_name(symbol.class),
             &symbol,
         );
+        write_records(text, widths.index, index, &symbol);
     }
 }

@@ -26,6 +26,7 @@ image at bytes image_base = record {
   number = 0;
   size = 0x3000;
   byte = λ rva. get_or bytes (rva - at) 0;
+  raw_left = λ _. 0;
   text = λ _. None;
   directory = λ _. None;
   slot_width = 4;

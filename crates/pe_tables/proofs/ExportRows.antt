@@ -16,6 +16,7 @@ table bytes = record {
   number = 0;
   size = 0x3000;
   byte = λ rva. get_or bytes (rva - 0x1020) 0;
+  raw_left = λ _. 0;
   text = λ rva. zero_ended (drop (rva - 0x1020) bytes);
   directory = λ _. Some (record { rva = 0x1020; size = 0x60 });
   slot_width = 4;

@@ -1,12 +1,12 @@
 -- Each export is stored for its name, name by name.
-use Rattle.std.proofs.Common.{◌≡◌, ℕ, true, List, [], Option, Some, None, get_or, refl, sym, subst, ◌∙◌, inl, inr}
+use Rattle.std.proofs.Common.{◌≡◌, ℕ, Bool, true, List, [], ◌∷◌, ◌++◌, Option, Some, None, get_or, refl, sym, subst, ◌∙◌, inl, inr}
 use Rattle.std.specs.Borrow.{Bor}
-use Rattle.std.specs.Prelude.{All, option_map, option_to_list, if◌then◌else◌}
+use Rattle.std.specs.Prelude.{◌&&◌, All, is_none, option_map, option_to_list, if◌then◌else◌}
 use Rattle.std.specs.Str.{bytes_eq}
 use Rattle.std.proofs.lemmas.Bool.{cases_Bool}
 use Rattle.std.proofs.lemmas.List.Elements.{All-append, All-cons, All-nil}
 use Rattle.std.proofs.lemmas.Slice.Eq.{bytes_eq-Decides}
-use Rattle.pe_tables.specs.NameIndex.{held, Gains, Stays, Learns, AreHeld}
+use Rattle.pe_tables.specs.NameIndex.{held, Gains, Stays, Learns, AreHeld, IsSame}
 use Rattle.pe_tables.specs.declared.key.Target as code
 use Rattle.pe_tables.specs.declared.name_index.NameIndex.{NameIndex}
 
@@ -53,3 +53,20 @@ module _ {A : Type 0} (old new : NameIndex A) (text : Bor (List ℕ)) (ordinal :
 
   pub held-learns : Learns old new text ordinal target (held old text.now) → AreHeld old → AreHeld new
   held-learns more all = learned (held old text.now) refl more all
+
+pub held-same : {A : Type 0} (old new : NameIndex A) → IsSame old new → AreHeld old → AreHeld new
+held-same old new same all = rw same.exports (λ k d lt. same.held (get_or old.exports.items k d).0.now ∙ all k d lt)
+
+-- a name that was not stored, and exports something
+pub learns-some : {A : Type 0} (old new : NameIndex A) (text : Bor (List ℕ)) (ordinal : ℕ) (target : Option code.Target) (t : code.Target) (is_new : Bool) → target ≡ Some t → is_new ≡ true
+    → is_new ≡ is_none (held old text.now) → ((other : List ℕ) → held new other ≡ (if is_new && bytes_eq other text.now then Some target else held old other))
+    → new.exports.items ≡ old.exports.items ++ (text, t) ∷ [] → new.ordinals.items ≡ old.ordinals.items ++ ordinal ∷ [] → Learns old new text ordinal target (held old text.now)
+learns-some {A} old new text ordinal target t is_new is said unknown targets exports ordinals = by (held old text.now) (sym said ∙ unknown)
+  where
+    by : (was : Option (Option code.Target)) → true ≡ is_none was → Learns old new text ordinal target was
+    by None none = record {
+      targets = rw said at targets;
+      exports = rw is exports;
+      ordinals = rw is ordinals;
+    }
+    by (Some x) none = absurd cc

@@ -19,6 +19,7 @@ image_at rva width bytes = record {
   number = 0;
   size = 0x1060;
   byte = λ rva. get_or bytes (rva - 0x1000) 0;
+  raw_left = λ _. 0;
   text = λ rva. zero_ended (drop (rva - 0x1000) bytes);
   directory = import_directory rva;
   slot_width = width;

@@ -10,7 +10,7 @@ use Rattle.std.proofs.lemmas.List.Elements.{filter_map-append}
 use Rattle.pe_tables.specs.Key.{Target, target_view}
 use Rattle.pe_tables.specs.Exports.{first_of_each}
 use Rattle.pe_tables.specs.ExportsView.{name_view}
-use Rattle.pe_tables.specs.NameIndex.{held, export_view, Gains, Stays, Learns, IsIndexOf, IsSearchable}
+use Rattle.pe_tables.specs.NameIndex.{held, export_view, Gains, Stays, Learns, IsIndexOf, IsSame, IsSearchable}
 use Rattle.pe_tables.specs.declared.key.Target as code
 use Rattle.pe_tables.specs.declared.exports.Name.{Name}
 use Rattle.pe_tables.specs.declared.name_index.NameIndex.{NameIndex}
@@ -123,3 +123,11 @@ index-step f base names k d old new target lt is learns indexed =
     let name : Name = get_or names k d in
     let more : map name_view (take (k + 1) names) ≡ map name_view (take k names) ++ name_view name ∷ [] = ap (map name_view) (take_more names k d lt) ∙ map-append name_view (take k names) (name ∷ []) in
     subst (λ (ns : List Named). IsIndexOf f base ns new) (sym more) (index-learns f base (map name_view (take k names)) old new name.text.bytes target name.entry is learns indexed)
+
+-- an index in which nothing that is stored changed
+pub index-same : {A : Type 0} (f : ℕ → Option Target) (base : ℕ) (ns : List Named) (old new : NameIndex A) → IsSame old new → IsIndexOf f base ns old → IsIndexOf f base ns new
+index-same f base ns old new same indexed = record {
+  exports = ap (λ exports. map export_view exports.items) same.exports ∙ indexed.exports;
+  ordinals = ap (λ ordinals. ordinals.items) same.ordinals ∙ indexed.ordinals;
+  targets = λ text. ap (option_map (option_map target_view)) (same.held text) ∙ indexed.targets text;
+}

@@ -45,8 +45,11 @@ pub mod RisingFields
 pub mod Rows
 pub mod Runs
 pub mod Search
+pub mod Settled
 pub mod Shifts
 pub mod Slots
 pub mod Targets
 pub mod TextMap
 pub mod TextRun
+pub mod TextSlots
+pub mod Unordered

@@ -1,6 +1,6 @@
 -- Of ascending fields only the ends have to be compared.
-use Rattle.std.proofs.Common.{◌≡◌, ℕ, ◌+◌, ◌<◌, ◌≤◌, Bool, false, ◌||◌, List, [], ◌∷◌, ◌++◌, length, get_or, take, Option, Some, None, refl, sym, ap, ◌∙◌, arith, length-take}
-use Rattle.std.specs.Prelude.{map, max, MatchOption}
+use Rattle.std.proofs.Common.{◌≡◌, ℕ, ◌+◌, ◌<◌, ◌≤◌, Bool, false, ◌||◌, List, [], ◌∷◌, ◌++◌, length, get_or, take, Option, Some, None, refl, sym, ap, subst, ◌∙◌, arith, length-take}
+use Rattle.std.specs.Prelude.{map, max, IsTrue, MatchOption, ⊤}
 use Rattle.std.specs.List.{list_any}
 use Rattle.std.proofs.lemmas.Bool.{le-ltb}
 use Rattle.std.proofs.lemmas.List.{get_or-take, get_or_default}
@@ -61,26 +61,29 @@ ranges-more before f old new same gains = λ test.
 
 -- a field that meets no other fits beside the ranges
 pub fits-any : {A : Type 0} (fields : Option (Ranges A)) (fixups : List Fixup) (f : Fixup)
-    → MatchOption fields (AreRising fixups) (λ ranges. SameRanges (ranges_in ranges) (map range_of fixups))
-    → meets_any f.field (width_of f.kind) (map range_of fixups) ≡ false → FitsBesideAny f.field (width_of f.kind) fields
-fits-any None fixups f rising apart = tt
-fits-any (Some ranges) fixups f same apart = all_beside f.field (width_of f.kind) (ranges_in ranges) (map range_of fixups) same apart (fields_long fixups) (width_some f.kind)
+    → MatchOption fields ⊤ (λ ranges. SameRanges (ranges_in ranges) (map range_of fixups))
+    → MatchOption fields (false ≡ false) (λ _. false ≡ meets_any f.field (width_of f.kind) (map range_of fixups)) → FitsBesideAny f.field (width_of f.kind) fields
+fits-any None fixups f same apart = tt
+fits-any (Some ranges) fixups f same apart = all_beside f.field (width_of f.kind) (ranges_in ranges) (map range_of fixups) same (sym apart) (fields_long fixups) (width_some f.kind)
 
 -- one more fixup was read
 pub reads-more : {A : Type 0} (old new : FoundFixups A) (f : Fixup) → IsIndexed old → Tells old f.field
-    → new.fixups.items ≡ old.fixups.items ++ f ∷ [] → new.end ≡ max old.end (range_end (range_of f)) → GainsAny old.fields new.fields (range_of f) → Reads old new (f ∷ [])
-reads-more {A} old new f indexed tells items end gains = record {
+    → new.fixups.items ≡ old.fixups.items ++ f ∷ [] → new.end ≡ max old.end (range_end (range_of f)) → new.ascending ≡ old.ascending → GainsAny old.fields new.fields (range_of f) → Reads old new (f ∷ [])
+reads-more {A} old new f indexed tells items end ascending gains = record {
   fixups = items;
   indexed = record {
     ends = rw (items, end) (ends-snoc old.end old.fixups.items f indexed.ends);
-    fields = rw items (by old.fields refl indexed.fields gains);
+    rising = λ yes. (
+        let was : IsTrue old.ascending = subst IsTrue ascending yes in
+        rw items (rising-snoc old.fixups.items f (indexed.rising was) (ends-later old.end f.field old.fixups.items (tells was) indexed.ends)));
+    fields = rw items (by old.fields indexed.fields gains);
   };
 }
   where
     more : List Fixup
     more = old.fixups.items ++ f ∷ []
 
-    by : (fields : Option (Ranges A)) → old.fields ≡ fields → MatchOption fields (AreRising old.fixups.items) (λ ranges. SameRanges (ranges_in ranges) (map range_of old.fixups.items))
-        → GainsAny fields new.fields (range_of f) → MatchOption new.fields (AreRising more) (λ ranges. SameRanges (ranges_in ranges) (map range_of more))
-    by None none rising gains = rw gains (rising-snoc old.fixups.items f rising (ends-later old.end f.field old.fixups.items (tells none) indexed.ends))
-    by (Some ranges) some same gains = rw gains.1 (ranges-more old.fixups.items f (ranges_in ranges) (ranges_in gains.0) same gains.2)
+    by : (fields : Option (Ranges A)) → MatchOption fields ⊤ (λ ranges. SameRanges (ranges_in ranges) (map range_of old.fixups.items))
+        → GainsAny fields new.fields (range_of f) → MatchOption new.fields ⊤ (λ ranges. SameRanges (ranges_in ranges) (map range_of more))
+    by None none gains = rw gains tt
+    by (Some ranges) same gains = rw gains.1 (ranges-more old.fixups.items f (ranges_in ranges) (ranges_in gains.0) same gains.2)

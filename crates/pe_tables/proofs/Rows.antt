@@ -29,6 +29,7 @@ table bytes = record {
   number = 0;
   size = 0x3000;
   byte = λ rva. get_or bytes (rva - 0x2000) 0;
+  raw_left = λ _. 0;
   text = λ _. None;
   directory = λ _. Some (record { rva = 0x2000; size = length bytes });
   slot_width = 4;

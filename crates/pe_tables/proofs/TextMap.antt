@@ -1,5 +1,5 @@
 -- A map by string, as a search among its entries by the string's bytes.
-use Rattle.std.proofs.Common.{◌≡◌, ℕ, Bool, true, false, List, [], ◌∷◌, Option, Some, refl, sym, ap, ◌∙◌}
+use Rattle.std.proofs.Common.{◌≡◌, ℕ, zero, suc, ◌<◌, Bool, true, false, List, [], ◌∷◌, length, get_or, set, Option, Some, refl, sym, ap, ◌∙◌, arith}
 use Rattle.std.specs.Borrow.{Bor}
 use Rattle.std.specs.Prelude.{if◌then◌else◌}
 use Rattle.std.specs.Str.{bytes_eq}
@@ -12,6 +12,8 @@ use Rattle.std.specs.Cmp.Lexicographic.{slice_cmp}
 use Rattle.std.proofs.lemmas.Bool.{true≢false}
 use Rattle.std.proofs.lemmas.Map.Text.{is_eq-slice_cmp}
 use Rattle.std.proofs.lemmas.Slice.Eq.{bytes_eq-Decides}
+use Rattle.pe_tables.specs.TextMap.{IsBefore, TextsAscend}
+use Rattle.pe_tables.proofs.TextRun.{differs_before}
 
 abbrev pub Text : Type 0
 Text = Bor (List ℕ)
@@ -60,3 +62,16 @@ module _ {X : Type 0} (k : Text) (v : X) (other : List ℕ) where
   pub inserted : (entries : List (Text × X)) → Inserted entries (insert_entry compare entries k v)
   inserted [] = refl
   inserted (e ∷ es) = inserted_by e es (compare k e.0) refl (inserted es)
+
+  -- what ascending strings have for a string after that of one of them changed
+  pub set_at : (entries : List (Text × X)) (n : ℕ) (d : Text × X) → TextsAscend entries → n < length entries → bytes_eq k.now (get_or entries n d).0.now ≡ true → Inserted entries (set entries n ((get_or entries n d).0, v))
+  set_at [] n d ascend lt is = absurd (omega arith)
+  set_at (e ∷ es) zero d ascend lt is = replaced e es (bytes_eq other e.0.now) refl (ap (bytes_eq other) (same_text k.now e.0.now is))
+  set_at (e ∷ es) (suc n) d ascend lt is =
+      passed e es (set es n ((get_or es n d).0, v)) (bytes_eq other e.0.now) (bytes_eq other k.now) refl refl
+      (λ at_e at_k.
+      let here : k.now ≡ (get_or es n d).0.now = same_text k.now (get_or es n d).0.now is in
+      let same : k.now ≡ e.0.now = sym (same_text other k.now at_k) ∙ same_text other e.0.now at_e in
+      let before : IsBefore e.0.now (get_or es n d).0.now = ascend 0 (suc n) d (omega arith) lt in
+      true≢false (sym ((bytes_eq-Decides (get_or es n d).0.now e.0.now).1 (sym here ∙ same)) ∙ differs_before e.0.now (get_or es n d).0.now before))
+      (set_at es n d (λ i j x less within. ascend (suc i) (suc j) x (omega arith) (omega arith)) (omega arith) is)

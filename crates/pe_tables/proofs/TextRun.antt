@@ -30,6 +30,9 @@ differs_behind a b behind = sym (is_eq-slice_cmp b a) ∙ ap is_eq (reversed a b
 pub same_texts : (a b : List ℕ) → compare a b ≡ Equal → a ≡ b
 same_texts a b same = (bytes_eq-Decides a b).0 (sym (is_eq-slice_cmp a b) ∙ ap is_eq same)
 
+pub searched-place : (a b : List ℕ) → compare a b ≡ Equal → bytes_eq b a ≡ true
+searched-place a b same = (bytes_eq-Decides b a).1 (sym (same_texts a b same))
+
 less_only : (o : Ordering) → is_lt o ≡ true → o ≡ Less
 less_only Less is = refl
 less_only Equal is = absurd cc
@@ -135,6 +138,13 @@ module _ {X : Type 0} where
   searched-at run text k d ascend lt is =
       let same : (get_or run k d).0.now ≡ text = same_texts (get_or run k d).0.now text is in
       found-at text run k d lt ((bytes_eq-Decides text (get_or run k d).0.now).1 (sym same))
+      (λ j below. differs_before (get_or run j d).0.now text (subst (λ (t : List ℕ). IsBefore (get_or run j d).0.now t) same (ascend j k d below lt)))
+
+  -- so is what is at its place
+  pub place-found : (run : List (Entry X)) (text : List ℕ) (k : ℕ) (d : Entry X) → TextsAscend run → k < length run → bytes_eq text (get_or run k d).0.now ≡ true → found text run ≡ Some (get_or run k d).1
+  place-found run text k d ascend lt is =
+      let same : (get_or run k d).0.now ≡ text = sym ((bytes_eq-Decides text (get_or run k d).0.now).0 is) in
+      found-at text run k d lt is
       (λ j below. differs_before (get_or run j d).0.now text (subst (λ (t : List ℕ). IsBefore (get_or run j d).0.now t) same (ascend j k d below lt)))
 
   pub searched-nowhere : (run : List (Entry X)) (text : List ℕ) (place : ℕ) → ((k : ℕ) (d : Entry X) → k < place → against text (get_or run k d) ≡ Less) → ((k : ℕ) (d : Entry X) → place ≤ k → k < length run → against text (get_or run k d) ≡ Greater) → found text run ≡ None

@@ -1,9 +1,9 @@
 -- The fixups of a base relocation table read so far. No contract of a public function cites it.
-use Rattle.std.specs.Prelude.{◌≡◌, ℕ, ◌+◌, ◌<◌, ◌≤◌, false, List, ◌++◌, Option, None, Some, map, drop, All, AllPairs, MatchOption, ⊤}
+use Rattle.std.specs.Prelude.{◌≡◌, ℕ, ◌+◌, ◌<◌, ◌≤◌, Bool, true, false, List, ◌++◌, Option, None, Some, map, drop, All, AllPairs, IsTrue, MatchOption, is_none, ⊤}
 use Rattle.std.specs.List.{filter_map}
 use Rattle.pe_view.specs.Faults.{first_standing}
 use Rattle.pe_layout.specs.Image.{LaidOut}
-use Rattle.pe_tables.specs.Ranges.{FitsBeside, Gains, SameRanges, meets_any, range_end}
+use Rattle.pe_tables.specs.Ranges.{AreApart, FitsBeside, Gains, SameRanges, meets_any, range_end}
 use Rattle.pe_tables.specs.RangesView.{ranges_in}
 use Rattle.pe_tables.specs.Fixups.{Entry, fixup_of, range_of, width_of}
 use Rattle.pe_tables.specs.Encoded.{type_of}
@@ -29,16 +29,42 @@ FitsBesideAny start len fields = MatchOption fields ⊤ (λ ranges. All (FitsBes
 abbrev pub GainsAny : {A : Type 0} → Option (Ranges A) → Option (Ranges A) → ℕ × ℕ → Type 0
 GainsAny {A} old new range = MatchOption old (new ≡ None) (λ ranges. (more : Ranges A) × (new ≡ Some more) × Gains (ranges_in ranges) (ranges_in more) range)
 
--- the fixups' fields ascend, or their ranges have been collected
+-- no two fields share a byte
+abbrev pub AreAllApart : List Fixup → Type 0
+AreAllApart fixups = AllPairs AreApart (map range_of fixups)
+
+-- where the fields end, whether they ascend, and their ranges, if these are collected
 pub record IsIndexed {A : Type 0} (found : FoundFixups A) : Type 0 where
   pub ends : EndAt found.end found.fixups.items
-  pub fields : MatchOption found.fields (AreRising found.fixups.items) (λ fields. SameRanges (ranges_in fields) (map range_of found.fixups.items))
+  pub rising : IsTrue found.ascending → AreRising found.fixups.items
+  pub fields : MatchOption found.fields ⊤ (λ fields. SameRanges (ranges_in fields) (map range_of found.fixups.items))
 
--- a field that begins at this RVA can be compared with the others
+-- fields ascend only if one that begins at this RVA, the last that was tested, begins after all others
 abbrev pub Tells : {A : Type 0} → FoundFixups A → ℕ → Type 0
-Tells found field = found.fields ≡ None → found.end ≤ field
+Tells found field = IsTrue found.ascending → found.end ≤ field
 
--- some more fixups were read
+-- whether a field meets another, if it is compared with all of them
+abbrev pub IsMet : {A : Type 0} → FoundFixups A → ℕ → ℕ → Bool → Type 0
+IsMet found field width met = MatchOption found.fields (met ≡ false) (λ _. met ≡ meets_any field width (map range_of found.fixups.items))
+
+-- no two fields share a byte; nothing is said where each is compared with all before it
+abbrev pub IsSettled : {A : Type 0} → FoundFixups A → Type 0
+IsSettled found = is_none found.fields ≡ true → AreAllApart found.fixups.items
+
+-- the fixups and ranges are what they were
+pub record IsKept {A : Type 0} (old new : FoundFixups A) : Type 0 where
+  pub fixups : new.fixups ≡ old.fixups
+  pub fields : new.fields ≡ old.fields
+  pub indexed : IsIndexed new
+
+-- some more fixups were read, whatever the result is
+pub record Keeps {A : Type 0} (old new : FoundFixups A) : Type 0 where
+  pub more : List Fixup
+  pub fixups : new.fixups.items ≡ old.fixups.items ++ more
+  pub fields : is_none new.fields ≡ is_none old.fields
+  pub indexed : is_none new.fields ≡ true → IsIndexed new
+
+-- these fixups were read
 pub record Reads {A : Type 0} (old new : FoundFixups A) (more : List Fixup) : Type 0 where
   pub fixups : new.fixups.items ≡ old.fixups.items ++ more
   pub indexed : IsIndexed new

@@ -34,4 +34,5 @@ pub mod Standing
 pub mod TableFaults
 pub mod TextMap
 pub mod TextMapView
+pub mod TextSlots
 pub mod Window

@@ -7,13 +7,14 @@ use Rattle.pe_tables.specs.Key.{Target, target_view}
 use Rattle.pe_tables.specs.Exports.{first_of_each}
 use Rattle.pe_tables.specs.TextMap.{found}
 use Rattle.pe_tables.specs.TextMapView.{entries_in}
+use Rattle.pe_tables.specs.TextSlots.{slot_or}
 use Rattle.pe_tables.specs.LongTexts.{long_held}
 use Rattle.pe_tables.specs.declared.key.Target as code_target
 use Rattle.pe_tables.specs.declared.name_index.NameIndex.{NameIndex}
 
 -- what is stored for a name
 abbrev pub held : {A : Type 0} → NameIndex A → List ℕ → Option (Option code_target.Target)
-held index text = if nat_lt (length text) 256 then found text (entries_in index.short) else long_held index.long.nodes.items text
+held index text = if nat_lt (length text) 256 then slot_or (found text index.slots.slots.items) (found text (entries_in index.short)) else long_held index.long.nodes.items text
 
 abbrev pub export_view : Bor (List ℕ) × code_target.Target → List ℕ × Target
 export_view pair = (pair.0.now, target_view pair.1)
@@ -48,3 +49,10 @@ IsSearchable index = (text : List ℕ) → option_and_then (option_map target_vi
 -- each export is stored for its name
 abbrev pub AreHeld : {A : Type 0} → NameIndex A → Type 0
 AreHeld index = All (λ export. held index export.0.now ≡ Some (Some export.1)) index.exports.items
+
+-- nothing that is stored changed
+pub record IsSame {A : Type 0} (old new : NameIndex A) : Type 0 where
+  pub held : (text : List ℕ) → held new text ≡ held old text
+  pub exports : new.exports ≡ old.exports
+  pub ordinals : new.ordinals ≡ old.ordinals
+  pub long : new.long ≡ old.long

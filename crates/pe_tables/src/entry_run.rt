@@ -8,7 +8,7 @@ ghost use Rattle.pe_view.specs.Faults.{first_standing};
 ghost use Rattle.pe_tables.specs.RangesView.{ranges_in};
 ghost use Rattle.pe_tables.specs.Fixups.{entry_of, entries_at, fixup_of};
 ghost use Rattle.pe_tables.specs.FixupFaults.{entry_tests};
-ghost use Rattle.pe_tables.specs.FixupReading.{IsClear, IsIndexed, IsRunOf, Reads, ReadsUpTo};
+ghost use Rattle.pe_tables.specs.FixupReading.{IsClear, IsIndexed, IsRunOf, Keeps, Reads, ReadsUpTo};
 
 use crate::fixups::{Fixup, FixupKind};
 use crate::found_fixups::FoundFixups;
@@ -64,11 +64,12 @@ fn read_rising<A: Allocator + Copy>(
     requires run { IsRunOf (image_of _layout.now) run.now }
     requires clear { IsClear page (ranges_in _slots.now) }
     requires indexed { IsIndexed found.old }
-    requires rising { found.old.fields ≡ None }
+    requires no_ranges { found.old.fields ≡ None }
     ensures read { IfOk result (λ read. IsTrue read → (first_standing (entry_tests (image_of _layout.now) (ranges_in _slots.now) found.old.fixups.items (entry_of (image_of _layout.now) page rva)) ≡ None)
         × Reads found.old found.new (option_to_list (fixup_of (entry_of (image_of _layout.now) page rva)))) }
     ensures same { IfOk result (λ read. read ≡ false → found.new ≡ found.old) }
-    ensures rising { found.new.fields ≡ None }
+    ensures no_ranges { found.new.fields ≡ None }
+    ensures keeps { Keeps found.old found.new }
 {
     if entry / 4096 != run.entry_type {
         return Ok(false);
@@ -102,8 +103,9 @@ fn read_run<A: Allocator + Copy>(
     requires small { rva + size_of bytes < 2 ^ 32 }
     requires clear { IsClear page (ranges_in slots.now) }
     requires indexed { IsIndexed found.old }
-    requires rising { found.old.fields ≡ None }
-    ensures { IfOk result (ReadsUpTo (image_of layout.now) (ranges_in slots.now) (entries_at (image_of layout.now) page rva (size_of bytes.entry / 2)) found.old found.new) }
+    requires no_ranges { found.old.fields ≡ None }
+    ensures read { IfOk result (ReadsUpTo (image_of layout.now) (ranges_in slots.now) (entries_at (image_of layout.now) page rva (size_of bytes.entry / 2)) found.old found.new) }
+    ensures keeps { Keeps found.old found.new }
 {
     let run = run_of(layout, first_kind(bytes));
     let count = (bytes.len() / 2) as u32;
@@ -116,8 +118,8 @@ fn read_run<A: Allocator + Copy>(
     Ok(count)
 }
 
-/// Reads the first of these entries as [`read_run`] does, if no field of their block shares a byte with a slot and the fields
-/// before them ascend, and returns their number.
+/// Reads the first of these entries as [`read_run`] does, if no field of their block shares a byte with a slot and no ranges of
+/// fields are collected, and returns their number.
 pub(crate) fn read_first<A: Allocator + Copy>(
     layout: &Layout,
     slots: &Ranges<A>,
@@ -131,7 +133,8 @@ pub(crate) fn read_first<A: Allocator + Copy>(
     requires small { rva + size_of bytes < 2 ^ 32 }
     requires clear { IsTrue clear → IsClear page (ranges_in slots.now) }
     requires indexed { IsIndexed found.old }
-    ensures { IfOk result (ReadsUpTo (image_of layout.now) (ranges_in slots.now) (entries_at (image_of layout.now) page rva (size_of bytes.entry / 2)) found.old found.new) }
+    ensures read { IfOk result (ReadsUpTo (image_of layout.now) (ranges_in slots.now) (entries_at (image_of layout.now) page rva (size_of bytes.entry / 2)) found.old found.new) }
+    ensures keeps { Keeps found.old found.new }
 {
     if !clear || found.fields.is_some() {
         return Ok(0);

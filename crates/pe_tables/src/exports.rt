@@ -198,7 +198,8 @@ fn read_entries<'a, A: Allocator + Copy>(
 {
     let ordinals = read_ordinals(alloc, layout, directory, table)?;
     let mut index = NameIndex::with_capacity(alloc, names.len())?;
-    for name in names {
+    for (place, name) in names.iter().enumerate() {
+        index.expect(alloc, &names[place..]);
         let ordinal = u64::from(table.ordinal_base) + u64::from(name.entry);
         let target = target_by_ordinal(&ordinals, ordinal);
         index.add(layout, name.text, ordinal, target)?;

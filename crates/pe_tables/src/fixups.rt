@@ -1,6 +1,6 @@
 //! `read_fixups`: the base relocations of an image, or the first of faults 33 to 38; `Fixup` and `FixupKind`.
 
-ghost use Rattle.std.specs.Prelude.{◌≡◌, ◌+◌, ◌*◌, ◌/◌, ◌<◌, ◌≤◌, ◌^◌, [], None, Some, IsOk, IsErrOf, IsTrue, IfOk, map, option_to_list, true, false, ◌||◌};
+ghost use Rattle.std.specs.Prelude.{◌≡◌, ◌+◌, ◌*◌, ◌/◌, ◌<◌, ◌≤◌, ◌^◌, [], None, Some, IsOk, IsErrOf, IsTrue, IfOk, OnOk, map, option_to_list, true, false, ◌||◌, ⊤};
 ghost use Rattle.std.specs.List.{filter_map};
 ghost use Rattle.pe_layout.specs.Layout.{image_of};
 ghost use Rattle.pe_view.specs.View.{bytes_of, size_of};
@@ -13,7 +13,7 @@ ghost use Rattle.pe_tables.specs.Fixups.{IsBlockSize, width_of, kind_of, slot_ra
 ghost use Rattle.pe_tables.specs.Encoded.{type_of};
 ghost use Rattle.pe_tables.specs.FixupFaults.{is_bad_size, entry_tests, entries_tests, blocks_tests, fixup_tests};
 ghost use Rattle.pe_tables.specs.Import.{slots_of};
-ghost use Rattle.pe_tables.specs.FixupReading.{IsClear, IsIndexed, Reads};
+ghost use Rattle.pe_tables.specs.FixupReading.{IsClear, IsIndexed, IsSettled, Keeps, Reads};
 ghost use Rattle.pe_tables.specs.FirstBlock.{FirstBlock};
 ghost use Rattle.pe_view.specs.declared.refusal.Refusal.{Refusal};
 
@@ -151,8 +151,9 @@ fn read_entry<A: Allocator + Copy>(
     requires value { entry ≡ number_at 2 (image_of layout.now) rva }
     requires clear { IsTrue clear → IsClear page (ranges_in slots.now) }
     requires indexed { IsIndexed found.old }
-    ensures { AnswersOrWants (entry_tests (image_of layout.now) (ranges_in slots.now) found.old.fixups.items (entry_of (image_of layout.now) page rva))
-        (λ _. Reads found.old found.new (option_to_list (fixup_of (entry_of (image_of layout.now) page rva)))) result }
+    ensures keeps { Keeps found.old found.new }
+    ensures reads { OnOk result (Reads found.old found.new (option_to_list (fixup_of (entry_of (image_of layout.now) page rva)))) }
+    ensures exact { IsSettled found.new → AnswersOrWants (entry_tests (image_of layout.now) (ranges_in slots.now) found.old.fixups.items (entry_of (image_of layout.now) page rva)) (λ _. ⊤) result }
 {
     let entry_type = entry / 4096;
     if entry_type == 0 {
@@ -166,17 +167,19 @@ fn read_entry<A: Allocator + Copy>(
         return Err(fault_at(36, layout, rva));
     }
     let field = field as u32;
-    if found.meets(field, kind.width())? {
+    if found.meets(field, kind.width()) {
         return Err(fault_at(37, layout, rva));
     }
-    if meets_slot(slots, clear, field, kind.width()) {
-        return Err(fault_at(38, layout, rva));
-    }
-    found.add(Fixup {
+    let fixup = Fixup {
         entry: rva,
         field,
         kind,
-    })?;
+    };
+    if meets_slot(slots, clear, field, kind.width()) {
+        found.add_refused(fixup)?;
+        return Err(fault_at(38, layout, rva));
+    }
+    found.add(fixup)?;
     Ok(())
 }
 
@@ -195,8 +198,9 @@ fn read_entries<A: Allocator + Copy>(
     requires small { rva + size_of bytes < 2 ^ 32 }
     requires clear { IsTrue clear → IsClear page (ranges_in slots.now) }
     requires indexed { IsIndexed found.old }
-    ensures { AnswersOrWants (entries_tests (image_of layout.now) (ranges_in slots.now) found.old.fixups.items (entries_at (image_of layout.now) page rva (size_of bytes.entry / 2)))
-        (λ _. Reads found.old found.new (filter_map fixup_of (entries_at (image_of layout.now) page rva (size_of bytes.entry / 2)))) result }
+    ensures keeps { Keeps found.old found.new }
+    ensures reads { OnOk result (Reads found.old found.new (filter_map fixup_of (entries_at (image_of layout.now) page rva (size_of bytes.entry / 2)))) }
+    ensures exact { IsSettled found.new → AnswersOrWants (entries_tests (image_of layout.now) (ranges_in slots.now) found.old.fixups.items (entries_at (image_of layout.now) page rva (size_of bytes.entry / 2))) (λ _. ⊤) result }
 {
     let first = read_first(layout, slots, clear, found, page, rva, bytes)?;
     for index in first..(bytes.len() / 2) as u32 {
@@ -222,8 +226,9 @@ fn read_some_entries<A: Allocator + Copy>(
     requires small { rva + 2 * count < 2 ^ 32 }
     requires clear { IsTrue clear → IsClear page (ranges_in slots.now) }
     requires indexed { IsIndexed found.old }
-    ensures { AnswersOrWants (entries_tests (image_of layout.now) (ranges_in slots.now) found.old.fixups.items (entries_at (image_of layout.now) page rva count))
-        (λ _. Reads found.old found.new (filter_map fixup_of (entries_at (image_of layout.now) page rva count))) result }
+    ensures keeps { Keeps found.old found.new }
+    ensures reads { OnOk result (Reads found.old found.new (filter_map fixup_of (entries_at (image_of layout.now) page rva count))) }
+    ensures exact { IsSettled found.new → AnswersOrWants (entries_tests (image_of layout.now) (ranges_in slots.now) found.old.fixups.items (entries_at (image_of layout.now) page rva count)) (λ _. ⊤) result }
 {
     let mut buffer = [0; 2 * ENTRIES_AT_ONCE as usize];
     let bytes = &mut buffer[..2 * count as usize];
@@ -244,8 +249,9 @@ fn read_block<A: Allocator + Copy>(
     requires inside { rva + size ≤ (image_of layout.now).size }
     requires small { rva + size < 2 ^ 32 }
     requires indexed { IsIndexed found.old }
-    ensures { AnswersOrWants (entries_tests (image_of layout.now) (ranges_in slots.now) found.old.fixups.items (entries_of (image_of layout.now) (block_at (image_of layout.now) rva)))
-        (λ _. Reads found.old found.new (fixups_in (image_of layout.now) (block_at (image_of layout.now) rva))) result }
+    ensures keeps { Keeps found.old found.new }
+    ensures reads { OnOk result (Reads found.old found.new (fixups_in (image_of layout.now) (block_at (image_of layout.now) rva))) }
+    ensures exact { IsSettled found.new → AnswersOrWants (entries_tests (image_of layout.now) (ranges_in slots.now) found.old.fixups.items (entries_of (image_of layout.now) (block_at (image_of layout.now) rva))) (λ _. ⊤) result }
 {
     let page = layout.u32_at(rva).unwrap();
     let count = (size - 8) / 2;
@@ -309,8 +315,9 @@ fn read_blocks<A: Allocator + Copy>(
     requires small { directory.rva + directory.size < 2 ^ 32 }
     requires none { found.old.fixups.items ≡ [] }
     requires indexed { IsIndexed found.old }
-    ensures { AnswersOrWants (blocks_tests (image_of layout.now) (ranges_in slots.now) (directory.rva + directory.size) [] (blocks_of (image_of layout.now) directory))
-        (λ _. found.new.fixups.items ≡ fixups_at (image_of layout.now) (Some directory)) result }
+    ensures keeps { Keeps found.old found.new }
+    ensures fixups { OnOk result (found.new.fixups.items ≡ fixups_at (image_of layout.now) (Some directory)) }
+    ensures exact { IsSettled found.new → AnswersOrWants (blocks_tests (image_of layout.now) (ranges_in slots.now) (directory.rva + directory.size) [] (blocks_of (image_of layout.now) directory)) (λ _. ⊤) result }
 {
     let end = directory.rva + directory.size;
     let mut rva = directory.rva;
@@ -322,6 +329,31 @@ fn read_blocks<A: Allocator + Copy>(
         rva += size;
     }
     Ok(())
+}
+
+/// Reads a table that lies in the image, or returns the first of faults 33 and 35 to 38.
+///
+/// If two fields share a byte, and not all ascend, the table is read again, to find the first of them.
+fn read_table<A: Allocator + Copy>(
+    alloc: A,
+    layout: &Layout,
+    slots: &Ranges<A>,
+    directory: Directory,
+) -> Result<Vec<Fixup, A>, TableError>
+    requires inside { directory.rva + directory.size ≤ (image_of layout.now).size }
+    requires small { directory.rva + directory.size < 2 ^ 32 }
+    ensures { AnswersOrWants (blocks_tests (image_of layout.now) (ranges_in slots.now) (directory.rva + directory.size) [] (blocks_of (image_of layout.now) directory))
+        (λ fixups. fixups.items ≡ fixups_at (image_of layout.now) (Some directory)) result }
+{
+    let mut found = FoundFixups::new(alloc);
+    let read = read_blocks(layout, slots, &mut found, directory);
+    if found.are_apart()? {
+        read?;
+        return Ok(found.fixups);
+    }
+    found = FoundFixups::comparing(alloc);
+    read_blocks(layout, slots, &mut found, directory)?;
+    Ok(found.fixups)
 }
 
 /// The fixups of an image, in the order of its base relocation table, or the first of faults 33 to 38.
@@ -347,7 +379,5 @@ pub fn read_fixups<A: Allocator + Copy>(
         return Ok(Vec::new(alloc));
     }
     let slots = slot_ranges(alloc, imports, layout.slot_width())?;
-    let mut found = FoundFixups::new(alloc);
-    read_blocks(layout, &slots, &mut found, directory)?;
-    Ok(found.fixups)
+    read_table(alloc, layout, &slots, directory)
 }

@@ -16,6 +16,7 @@
 //! that was found, 65,536 names that are ends of one string of 1 MB, takes 0.2 seconds and 21 MB of memory.
 #![tactic(auto)]
 
+mod apart;
 mod bytes;
 mod encode;
 mod entry_run;
@@ -36,9 +37,12 @@ mod key;
 pub mod laws;
 mod long_texts;
 mod name_index;
+mod name_order;
 mod name_trail;
 mod ranges;
 mod text_map;
+mod text_run;
+mod text_slots;
 mod window;
 
 pub use bytes::{shift_32, shift_64, shift_field, shift_high, shift_low, write_low};

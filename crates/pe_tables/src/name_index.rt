@@ -5,12 +5,17 @@ ghost use Rattle.std.specs.Str.{bytes_eq};
 ghost use Rattle.pe_layout.specs.Layout.{file_of};
 ghost use Rattle.pe_layout.specs.Span.{IsTextOf};
 ghost use Rattle.pe_tables.specs.LongTexts.{AreLongTextsOf};
-ghost use Rattle.pe_tables.specs.NameIndex.{held, Learns};
+ghost use Rattle.pe_tables.specs.NameIndex.{held, IsSame, Learns};
+ghost use Rattle.pe_tables.specs.TextMap.{found};
+ghost use Rattle.pe_tables.specs.TextMapView.{entries_in};
+ghost use Rattle.pe_tables.specs.TextSlots.{slot_or};
 ghost use Rattle.pe_tables.specs.NameTrail.{IsTrail};
 
+use crate::exports::Name;
 use crate::key::Target;
 use crate::long_texts::{BLOCK, LongTexts};
 use crate::text_map::TextMap;
+use crate::text_slots::TextSlots;
 use pe_layout::{Layout, Text};
 use std::alloc::{AllocError, Allocator};
 
@@ -23,6 +28,10 @@ pub(crate) struct NameIndex<'a, A: Allocator> {
     pub ordinals: Vec<u64, A>,
     /// What each name of less than a block exports, or that it exports nothing.
     pub short: TextMap<'a, A>,
+    /// The same for names that have a place here, which `short` then does not say.
+    pub slots: TextSlots<'a, A>,
+    /// Whether places were asked for.
+    pub has_asked: bool,
     /// The same for each longer name.
     pub long: LongTexts<'a, A>,
 }
@@ -39,6 +48,8 @@ impl<'a, A: Allocator + Copy> NameIndex<'a, A> {
             exports: Vec::new(alloc),
             ordinals: Vec::new(alloc),
             short: TextMap::new(alloc),
+            slots: TextSlots::new(alloc),
+            has_asked: false,
             long: LongTexts::new(alloc),
         }
     }
@@ -54,8 +65,21 @@ impl<'a, A: Allocator + Copy> NameIndex<'a, A> {
             exports: Vec::with_capacity(alloc, names)?,
             ordinals: Vec::with_capacity(alloc, names)?,
             short: TextMap::with_capacity(alloc, names)?,
+            slots: TextSlots::new(alloc),
+            has_asked: false,
             long: LongTexts::new(alloc),
         })
+    }
+
+    /// What a name of less than a block exports, if it is stored.
+    #[inline]
+    fn get_short(&self, text: &[u8]) -> Option<Option<Target<'a>>>
+        ensures { result ≡ slot_or (found text.now self.now.slots.slots.items) (found text.now (entries_in self.now.short)) }
+    {
+        match self.slots.get(text) {
+            Some(slot) => slot,
+            None => self.short.get(text),
+        }
     }
 
     /// What a name exports, if it is stored.
@@ -63,7 +87,7 @@ impl<'a, A: Allocator + Copy> NameIndex<'a, A> {
         ensures { result ≡ held self.now text.now }
     {
         if text.len() < BLOCK {
-            self.short.get(text)
+            self.get_short(text)
         } else {
             self.long.get(text)
         }
@@ -81,7 +105,7 @@ impl<'a, A: Allocator + Copy> NameIndex<'a, A> {
             → IsTrail self.now.long.nodes.items file text.entry.end trail.new.items }
     {
         if text.bytes.len() < BLOCK {
-            return Ok(self.short.get(text.bytes));
+            return Ok(self.get_short(text.bytes));
         }
         self.long.get_along(text, trail)
     }
@@ -95,7 +119,37 @@ impl<'a, A: Allocator + Copy> NameIndex<'a, A> {
         ensures ordinals { self.new.ordinals ≡ self.old.ordinals }
         ensures long { self.new.long ≡ self.old.long }
     {
-        self.short.add(text, target)
+        match self.slots.add(text, target) {
+            Some(is_new) => Ok(is_new),
+            None => self.short.add(text, target),
+        }
+    }
+
+    /// Makes places for these names, which are to come, if those before did not ascend, unless it was asked before. If memory for
+    /// places is refused, there are none.
+    #[inline]
+    pub fn expect(&mut self, alloc: A, names: &[Name<'a>])
+        ensures { IsSame self.old self.new }
+    {
+        if self.short.ascends() || self.has_asked {
+            return;
+        }
+        self.make_places(alloc, names);
+    }
+
+    /// Makes places for these names, if there are none. It is a function of its own because few tables need it.
+    #[cold]
+    #[inline(never)]
+    fn make_places(&mut self, alloc: A, names: &[Name<'a>])
+        ensures { IsSame self.old self.new }
+    {
+        self.has_asked = true;
+        if !self.slots.is_empty() {
+            return;
+        }
+        if let Ok(slots) = TextSlots::for_names(alloc, &self.short, names) {
+            self.slots = slots;
+        }
     }
 
     /// Stores what a name of this layout's file exports, unless it is stored, and returns whether it is new.

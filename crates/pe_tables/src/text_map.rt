@@ -5,6 +5,7 @@ ghost use Rattle.std.specs.Str.{bytes_eq};
 ghost use Rattle.pe_tables.specs.TextMap.{IsBefore, TextsAscend, found};
 
 use crate::key::Target;
+use crate::text_run::{all_before, position};
 use std::alloc::{AllocError, Allocator};
 use std::collections::BTreeMap;
 
@@ -18,17 +19,6 @@ pub(crate) struct TextMap<'a, A: Allocator> {
     /// The other strings.
     others: BTreeMap<&'a [u8], Option<Target<'a>>, A>,
     ghost ascending: { TextsAscend run.items },
-}
-
-/// Whether all strings of a run come before a string: the last one is compared.
-fn all_before(run: &[(&[u8], Option<Target>)], text: &[u8]) -> bool
-    requires { TextsAscend run.now }
-    ensures { IsTrue result ↔ All (λ entry. IsBefore entry.0.now text.now) run.now }
-{
-    match run.last() {
-        Some(last) => last.0.cmp(text).is_lt(),
-        None => true,
-    }
 }
 
 /// What a string of a run exports, if it is there. One after the last of the run is not, which is tested first.
@@ -47,10 +37,10 @@ fn search<'a>(run: &[(&[u8], Option<Target<'a>>)], text: &[u8]) -> Option<Option
     requires { TextsAscend run.now }
     ensures { result ≡ found text.now run.now }
 {
-    let Ok(index) = run.binary_search_by_key(&text, |entry| entry.0) else {
-        return None;
-    };
-    Some(run[index].1)
+    match position(run, text) {
+        Some(index) => Some(run[index].1),
+        None => None,
+    }
 }
 
 /// Whether a string is in a run; `behind` says that it comes after all strings of the run.
@@ -99,6 +89,12 @@ impl<'a, A: Allocator + Copy> TextMap<'a, A> {
         }
     }
 
+    /// Whether all strings that were added ascend.
+    #[inline]
+    pub fn ascends(&self) -> bool {
+        self.others.is_empty()
+    }
+
     /// Whether a string is stored; `is_behind` says that it comes after the whole run.
     fn holds(&self, text: &[u8], is_behind: bool) -> bool
         requires { IsTrue is_behind → All (λ entry. IsBefore entry.0.now text.now) self.now.run.items }
@@ -106,6 +102,9 @@ impl<'a, A: Allocator + Copy> TextMap<'a, A> {
     {
         if is_in(self.run.as_slice(), text, is_behind) {
             return true;
+        }
+        if self.others.is_empty() {
+            return false;
         }
         self.others.get(text).copied().is_some()
     }

@@ -1,15 +1,9 @@
 -- The fields of an image's headers ("PE Format": COFF File Header, Optional Header) as the dump's lines show them.
 use Rattle.std.specs.Prelude.{ℕ, Option, None, Some, List, [], ◌∷◌, codes}
 use Rattle.pe_head.specs.declared.optional.Magic.{Magic}
-use Rattle.pe_head.specs.declared.optional.Magic.TheVariants.{Pe32, Pe32Plus}
 use Rattle.pe_head.specs.declared.headers.Headers.{Headers}
-use Rattle.pe_head.specs.Optional.{image_base_width}
+use Rattle.pe_head.specs.Optional.{image_base_width, magic_number}
 use Rattle.pe_text.specs.Field.{Field, field, time_date_stamp, characteristics}
-
--- the value of the Magic field
-abbrev pub magic_number : Magic → ℕ
-magic_number Pe32 = 0x10b
-magic_number Pe32Plus = 0x20b
 
 -- the width in bytes of the fields that PE32+ extends, such as ImageBase
 abbrev pub extended_width : Magic → ℕ

@@ -2,7 +2,7 @@
 
 ghost use Rattle.std.specs.Prelude.{◌≡◌, ◌≤◌, map};
 ghost use Rattle.pe_text.specs.Field.{field_of};
-ghost use Rattle.pe_text.specs.HeaderFields.{magic_number, extended_width, coff_fields, standard_fields, windows_fields};
+ghost use Rattle.pe_text.specs.HeaderFields.{extended_width, coff_fields, standard_fields, windows_fields};
 
 use crate::field::Field;
 use crate::fields::{characteristics, time_date_stamp};
@@ -17,16 +17,6 @@ macro_rules! field {
             value: $value as u64,
         }
     };
-}
-
-/// The value of the Magic field.
-fn magic_number(magic: Magic) -> u64
-    ensures { result ≡ magic_number magic }
-{
-    match magic {
-        Magic::Pe32 => 0x10b,
-        Magic::Pe32Plus => 0x20b,
-    }
 }
 
 /// The width in bytes of the fields that PE32+ extends, such as ImageBase.
@@ -60,7 +50,7 @@ pub fn standard_fields(headers: &Headers) -> [Field; 8]
 {
     [
         // from describe/records.txt: standard of headers
-        field!(b"Magic", 2, magic_number(headers.magic)),
+        field!(b"Magic", 2, headers.magic.number()),
         field!(b"MajorLinkerVersion", 1, headers.major_linker_version),
         field!(b"MinorLinkerVersion", 1, headers.minor_linker_version),
         field!(b"SizeOfCode", 4, headers.size_of_code),

@@ -14,3 +14,14 @@ pub struct ShowOptions {
     /// Headings are bold, and a refusal is red.
     pub is_coloured: bool,
 }
+
+impl ShowOptions {
+    /// All rows of all tables, without colours.
+    pub const ALL_ROWS: ShowOptions = ShowOptions {
+        exports: true,
+        imports: true,
+        relocations: true,
+        symbols: true,
+        is_coloured: false,
+    };
+}

@@ -25,7 +25,7 @@ pub use pe_head::{FaultDetail, fault_detail};
 pub use pe_json::{json, json_sized};
 pub use pe_lines::{check, check_sized, dump, dump_sized};
 pub use pe_reach::{needed, read_enough};
-pub use pe_show::{ShowOptions, at, at_sized, show, show_sized};
+pub use pe_show::{ShowOptions, ShownName, at, at_sized, is_safe_text, show, show_sized};
 pub use pe_space::{Policy, SetEntry};
 pub use pe_text::{
     Counted, DetailText, Failed, FaultText, FaultWords, FileKind, Outcome, Sink, Source, ToolError,

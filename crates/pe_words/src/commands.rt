@@ -17,7 +17,7 @@ const ABOUT: &str =
 
 /// The end of `--help`, after the commands and options.
 const NOTES: &str = "\
-If FILE is -, standard input is read.
+A FILE or IN that is - is standard input, an OUT that is - standard output.
 
 Exit statuses:
   0  done

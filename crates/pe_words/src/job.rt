@@ -11,7 +11,7 @@ pub struct MapFile {
     pub base: u64,
     /// The path of the file.
     pub path: String,
-    /// The module's name: the path's part after its last `/`.
+    /// The module's name: the one that the word gives, or else the path's part after its last `/`.
     pub name: String,
 }
 

@@ -32,7 +32,7 @@ const WINDOW: &str = "Prints the bytes from this address on, 16 per line";
 
 /// The help on the files.
 const FILES: &str =
-    "An image's base and its file, or - for standard input; the file's name is the module's name";
+    "An image's base and its file, or - for standard input; the file's name is the module's name, unless HEX:NAME=FILE gives one";
 
 /// The words of `map` as values.
 #[derive(Drop)]
@@ -106,22 +106,43 @@ fn window_of<'a>(found: &ArgMatches<'a>) -> Result<Option<(u64, u32)>, BadValue<
     }
 }
 
-/// The base and the path of a file to map, and its module's name.
-fn parts_of(value: &str) -> Result<(u64, &str, &str), &'static str> {
-    let Some((base, path)) = value.split_once('=') else {
-        return Err("no '=' after the base");
-    };
+/// The part of a path after its last `/`.
+fn name_of(path: &str) -> &str {
+    match path.rsplit_once('/') {
+        Some((_, name)) => name,
+        None => path,
+    }
+}
+
+/// The base of a word, with its path and its module's name, unless one of these is missing; `nameless` is what to say if that is the
+/// name.
+fn checked_parts<'a>(
+    base: &str,
+    path: &'a str,
+    name: &'a str,
+    nameless: &'static str,
+) -> Result<(u64, &'a str, &'a str), &'static str> {
     let Some(base) = address_of(base) else {
         return Err("not a base of 1 to 16 hexadecimal digits");
     };
-    let name = match path.rsplit_once('/') {
-        Some((_, name)) => name,
-        None => path,
-    };
-    if name.is_empty() {
+    if path.is_empty() {
         return Err("no file name");
     }
+    if name.is_empty() {
+        return Err(nameless);
+    }
     Ok((base, path, name))
+}
+
+/// The base and the path of a file to map, and its module's name: `HEX=FILE`, or `HEX:NAME=FILE`.
+fn parts_of(value: &str) -> Result<(u64, &str, &str), &'static str> {
+    let Some((place, path)) = value.split_once('=') else {
+        return Err("no '=' after the base");
+    };
+    match place.split_once(':') {
+        Some((base, name)) => checked_parts(base, path, name, "no module name"),
+        None => checked_parts(place, path, name_of(path), "no file name"),
+    }
 }
 
 /// The file of a word.

@@ -13,10 +13,11 @@ const ABOUT: &str =
 const BASE: &str = "The image's new base";
 
 /// The help on the input file.
-const SOURCE: &str = "The image's file";
+const SOURCE: &str = "The image's file, or - for standard input";
 
 /// The help on the output file.
-const TARGET: &str = "The file to write, which may not be IN; it is left alone if IN is refused";
+const TARGET: &str =
+    "The file to write, which may not be IN, or - for standard output; only the complete file replaces one that is there";
 
 /// The subcommand `rebase`.
 pub(crate) fn rebase_command<'a>(alloc: Global) -> Result<Command<'a>, AllocError> {

@@ -13,7 +13,7 @@ use Rattle.pe_head.specs.Optional.{fixed_size_of}
 use Rattle.pe_layout.specs.SectionFaults.{layout_tests, placing_tests}
 use Rattle.pe_write.specs.declared.plan.Plan.{Plan}
 use Rattle.pe_write.specs.PlanFaults.{table_end}
-use Rattle.pe_write.specs.PlanHeaders.{magic_number}
+use Rattle.pe_head.specs.Optional.{magic_number}
 use Rattle.pe_write.proofs.PlanHead.{Read}
 
 -- a written file's length and numbers are within bounds

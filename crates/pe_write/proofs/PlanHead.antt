@@ -12,7 +12,8 @@ use Rattle.pe_head.specs.declared.optional.Magic.{Magic}
 use Rattle.pe_head.specs.declared.optional.Magic.TheVariants.{Pe32, Pe32Plus}
 use Rattle.pe_head.specs.Head.{pe_offset, coff_field, field, is_pe32, magic_of, either_field}
 use Rattle.pe_write.specs.declared.plan.Plan.{Plan}
-use Rattle.pe_write.specs.PlanHeaders.{header_numbers, optional_size, magic_number, base_of_data_of}
+use Rattle.pe_head.specs.Optional.{magic_number}
+use Rattle.pe_write.specs.PlanHeaders.{header_numbers, optional_size, base_of_data_of}
 
 -- every header field before the directories
 pub record Read {A : Type 0} (plan : Plan A) (g : List ℕ) : Type 0 where

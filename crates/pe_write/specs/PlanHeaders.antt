@@ -11,17 +11,13 @@ use Rattle.pe_head.specs.declared.directory.Directory.{Directory}
 use Rattle.pe_head.specs.declared.section.SectionHeader.{SectionHeader}
 use Rattle.pe_head.specs.declared.headers.Headers.{Headers}
 use Rattle.pe_head.specs.Head.{head_of}
-use Rattle.pe_head.specs.Optional.{fixed_size_of}
+use Rattle.pe_head.specs.Optional.{fixed_size_of, magic_number}
 use Rattle.pe_write.specs.declared.plan.Plan.{Plan}
 use Rattle.pe_write.specs.PlanFile.{headers_from, data_from, file_end, planned_from}
 
 -- SizeOfOptionalHeader with 16 directories
 abbrev pub optional_size : Magic → ℕ
 optional_size magic = fixed_size_of magic + 128
-
-abbrev pub magic_number : Magic → ℕ
-magic_number Pe32 = 0x10b
-magic_number Pe32Plus = 0x20b
 
 -- a number in the width of an address
 abbrev pub word : Magic → ℕ → Number

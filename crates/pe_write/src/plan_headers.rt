@@ -6,7 +6,7 @@ ghost use Rattle.pe_numbers.specs.Numbers.{NumberFits, numbers_bytes};
 ghost use Rattle.pe_write.specs.PlanFaults.{is_wide};
 ghost use Rattle.pe_write.specs.PlanFile.{file_end, headers_from};
 ghost use Rattle.pe_write.specs.PlanFits.{IsRow};
-ghost use Rattle.pe_write.specs.PlanHeaders.{magic_number, optional_size, word, dos_numbers, coff_numbers, standard_numbers, base_of_data_numbers, image_numbers, reserve_numbers, directory_numbers, header_numbers, section_bytes};
+ghost use Rattle.pe_write.specs.PlanHeaders.{optional_size, word, dos_numbers, coff_numbers, standard_numbers, base_of_data_numbers, image_numbers, reserve_numbers, directory_numbers, header_numbers, section_bytes};
 
 use crate::plan::{Plan, PlanSection};
 use crate::plan_data::{raw_end, section_header};
@@ -28,16 +28,6 @@ fn number_of_sections<P: Allocator>(plan: &Plan<'_, P>) -> u16
     ensures { result ≡ length plan.now.sections.items }
 {
     plan.sections.len() as u16
-}
-
-/// The Magic field.
-fn magic_number(magic: Magic) -> u16
-    ensures { result ≡ magic_number magic }
-{
-    match magic {
-        Magic::Pe32 => 0x10b,
-        Magic::Pe32Plus => 0x20b,
-    }
 }
 
 /// A number in the width of an address: 4 bytes in PE32, 8 in PE32+.
@@ -96,7 +86,7 @@ fn push_standard_fields<A: Allocator, P: Allocator>(
     push_numbers(
         bytes,
         &[
-            U16(magic_number(plan.magic)),
+            U16(plan.magic.number()),
             U8(0),
             U8(0),
             U32(0),

@@ -12,10 +12,9 @@ ghost use Rattle.pe_records_c.specs.Spaces.{IsReadOf, IsMoveOf, base_of, size_of
 use crate::lending::with_space;
 use pe_handle::Handle;
 use pe_records_c::fault::FaultRecord;
+use pe_records_c::moved::MovedRecord;
 use pe_records_c::set::{BindingRow, EntryRecord, refuse_set};
-use pe_records_c::space::{
-    MovedRecord, close, map_into, move_image, read_window, tell_bindings, tell_place,
-};
+use pe_records_c::space::{close, map_into, move_image, read_window, tell_bindings, tell_place};
 use pe_records_c::status;
 use std::alloc::Global;
 

@@ -2,7 +2,7 @@
 
 use crate::digest::Digest;
 use crate::sets::files_of;
-use crate::shape::{Shape, round_seed};
+use crate::shape::Shape;
 use crate::spaces::{move_images, read_bindings, read_images};
 use crate::texts::{Engine, read_text};
 use pe_space::{Policy, map};
@@ -22,7 +22,7 @@ const SHAPE: Shape = Shape {
 };
 
 /// Maps a set of four libraries, moves each image, and mixes in the bindings, the bytes and the output of `check` for each file.
-fn map_set(alloc: Global, digest: &mut Digest, seed: u64) -> Option<()> {
+pub(crate) fn run_awkward(alloc: Global, digest: &mut Digest, seed: u64) -> Option<()> {
     let files = files_of(alloc, SHAPE, seed, 4)?;
     let set = files.set(alloc, 0)?;
     let mut space = map(alloc, &set, Policy::Strict).ok()?;
@@ -31,19 +31,6 @@ fn map_set(alloc: Global, digest: &mut Digest, seed: u64) -> Option<()> {
     read_images(digest, &space)?;
     for file in files.each() {
         read_text(alloc, digest, Engine::Check, file)?;
-    }
-    Some(())
-}
-
-/// Maps a set in each round.
-pub(crate) fn run_awkward(
-    alloc: Global,
-    digest: &mut Digest,
-    seed: u64,
-    rounds: u32,
-) -> Option<()> {
-    for round in 0..rounds {
-        map_set(alloc, digest, round_seed(seed, round))?;
     }
     Some(())
 }

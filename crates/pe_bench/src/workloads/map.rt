@@ -2,7 +2,7 @@
 
 use crate::digest::Digest;
 use crate::sets::files_of;
-use crate::shape::{Shape, round_seed};
+use crate::shape::Shape;
 use crate::spaces::{move_images, read_bindings, read_images};
 use pe_space::{Policy, map};
 use std::alloc::Global;
@@ -23,19 +23,11 @@ fn shape(round: u32) -> Shape {
 }
 
 /// Maps a set of twelve libraries, moves each image and reads them.
-fn map_set(alloc: Global, digest: &mut Digest, seed: u64, round: u32) -> Option<()> {
+pub(crate) fn run_map(alloc: Global, digest: &mut Digest, seed: u64, round: u32) -> Option<()> {
     let files = files_of(alloc, shape(round), seed, 12)?;
     let set = files.set(alloc, 0x10_0000)?;
     let mut space = map(alloc, &set, Policy::Strict).ok()?;
     read_bindings(digest, &space);
     move_images(digest, &mut space, 0x20_0000)?;
     read_images(digest, &space)
-}
-
-/// Maps a set in each round.
-pub(crate) fn run_map(alloc: Global, digest: &mut Digest, seed: u64, rounds: u32) -> Option<()> {
-    for round in 0..rounds {
-        map_set(alloc, digest, round_seed(seed, round), round)?;
-    }
-    Some(())
 }

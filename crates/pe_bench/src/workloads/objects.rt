@@ -2,7 +2,6 @@
 
 use crate::digest::Digest;
 use crate::object::{ObjectShape, object};
-use crate::shape::round_seed;
 use crate::texts::{Engine, read_text};
 use coff_object::{ObjSection, RawData, Symbol, SymbolSection, read_object};
 use std::alloc::Global;
@@ -65,25 +64,12 @@ fn read_lists(alloc: Global, digest: &mut Digest, file: &[u8]) -> Option<()> {
 }
 
 /// Writes an object, reads it, and mixes in the output of each engine for it.
-fn write_and_read(alloc: Global, digest: &mut Digest, seed: u64) -> Option<()> {
+pub(crate) fn run_objects(alloc: Global, digest: &mut Digest, seed: u64) -> Option<()> {
     let file = object(alloc, SHAPE, seed)?;
     digest.bytes(&file);
     read_lists(alloc, digest, &file)?;
     for engine in [Engine::Object, Engine::Page, Engine::Json] {
         read_text(alloc, digest, engine, &file)?;
-    }
-    Some(())
-}
-
-/// Writes and reads an object in each round.
-pub(crate) fn run_objects(
-    alloc: Global,
-    digest: &mut Digest,
-    seed: u64,
-    rounds: u32,
-) -> Option<()> {
-    for round in 0..rounds {
-        write_and_read(alloc, digest, round_seed(seed, round))?;
     }
     Some(())
 }

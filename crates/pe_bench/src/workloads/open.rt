@@ -3,7 +3,7 @@
 use crate::chance::Chance;
 use crate::digest::Digest;
 use crate::sets::files_of;
-use crate::shape::{Shape, round_seed};
+use crate::shape::Shape;
 use crate::spaces::{move_images, read_bindings, read_here_and_there};
 use pe_space::{Policy, open_space};
 use std::alloc::Global;
@@ -24,7 +24,7 @@ fn shape(round: u32) -> Shape {
 }
 
 /// Opens a set of sixteen libraries, and reads at random places between moves of each image.
-fn open_set(alloc: Global, digest: &mut Digest, seed: u64, round: u32) -> Option<()> {
+pub(crate) fn run_open(alloc: Global, digest: &mut Digest, seed: u64, round: u32) -> Option<()> {
     let files = files_of(alloc, shape(round), seed, 16)?;
     let set = files.set(alloc, 0x10_0000)?;
     let mut space = open_space(alloc, &set, Policy::Known).ok()?;
@@ -33,14 +33,6 @@ fn open_set(alloc: Global, digest: &mut Digest, seed: u64, round: u32) -> Option
     for _ in 0..4 {
         read_here_and_there(digest, &space, &mut chance, 30_000)?;
         move_images(digest, &mut space, 0x20_0000)?;
-    }
-    Some(())
-}
-
-/// Opens a set in each round.
-pub(crate) fn run_open(alloc: Global, digest: &mut Digest, seed: u64, rounds: u32) -> Option<()> {
-    for round in 0..rounds {
-        open_set(alloc, digest, round_seed(seed, round), round)?;
     }
     Some(())
 }

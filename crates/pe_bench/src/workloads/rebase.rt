@@ -2,7 +2,7 @@
 
 use crate::digest::Digest;
 use crate::library::library;
-use crate::shape::{Module, Shape, round_seed};
+use crate::shape::{Module, Shape};
 use pe_write::rebase_file;
 use std::alloc::Global;
 
@@ -22,7 +22,7 @@ fn shape(round: u32) -> Shape {
 }
 
 /// Mixes in the files of a library for eight other bases.
-fn rebase_library(alloc: Global, digest: &mut Digest, seed: u64, round: u32) -> Option<()> {
+pub(crate) fn run_rebase(alloc: Global, digest: &mut Digest, seed: u64, round: u32) -> Option<()> {
     let module = Module {
         seed,
         number: 0,
@@ -33,14 +33,6 @@ fn rebase_library(alloc: Global, digest: &mut Digest, seed: u64, round: u32) -> 
     for base in 1..9 {
         let moved = rebase_file(alloc, &file, base * 0x0230_0000).ok()?;
         digest.bytes(&moved);
-    }
-    Some(())
-}
-
-/// Rebases a library in each round.
-pub(crate) fn run_rebase(alloc: Global, digest: &mut Digest, seed: u64, rounds: u32) -> Option<()> {
-    for round in 0..rounds {
-        rebase_library(alloc, digest, round_seed(seed, round), round)?;
     }
     Some(())
 }

@@ -2,7 +2,7 @@
 
 use crate::digest::Digest;
 use crate::sets::files_of;
-use crate::shape::{Shape, round_seed};
+use crate::shape::Shape;
 use crate::texts::{Engine, read_text};
 use std::alloc::Global;
 
@@ -22,20 +22,12 @@ fn shape(round: u32) -> Shape {
 }
 
 /// Mixes in the output of each engine for each library of a set of eight.
-fn write_set(alloc: Global, digest: &mut Digest, seed: u64, round: u32) -> Option<()> {
+pub(crate) fn run_texts(alloc: Global, digest: &mut Digest, seed: u64, round: u32) -> Option<()> {
     let files = files_of(alloc, shape(round), seed, 8)?;
     for file in files.each() {
         for engine in [Engine::Check, Engine::Dump, Engine::Page, Engine::Json] {
             read_text(alloc, digest, engine, file)?;
         }
-    }
-    Some(())
-}
-
-/// Writes the output for the libraries of a set in each round.
-pub(crate) fn run_texts(alloc: Global, digest: &mut Digest, seed: u64, rounds: u32) -> Option<()> {
-    for round in 0..rounds {
-        write_set(alloc, digest, round_seed(seed, round), round)?;
     }
     Some(())
 }

@@ -7,8 +7,8 @@ use crate::space::{
     petool_space_move, petool_space_read,
 };
 use pe_handle::Handle;
+use pe_records_c::moved::MovedRecord;
 use pe_records_c::set::{BindingRow, EntryRecord};
-use pe_records_c::space::MovedRecord;
 use pe_vectors::members::{A, B, C, Member, files_of};
 use std::alloc::Global;
 use std::process::Abort;

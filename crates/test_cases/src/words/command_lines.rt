@@ -56,16 +56,7 @@ fn print_show<R: Print>(
     most: Option<u64>,
     files: &[String],
 ) -> Option<()> {
-    let ShowOptions {
-        exports,
-        imports,
-        relocations,
-        symbols,
-        ..
-    } = options;
-    println!(rt;
-        "exports {exports} imports {imports} relocations {relocations} symbols {symbols}"
-    ).ok()?;
+    println!(rt; "{options:?}").ok()?;
     print_most(rt, most)?;
     print_files(rt, "show", files)
 }

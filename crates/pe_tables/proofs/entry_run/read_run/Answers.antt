@@ -11,6 +11,7 @@ use Rattle.pe_tables.specs.Fixups.{Entry, entry_of, entries_at, fixup_of}
 use Rattle.pe_tables.specs.FixupFaults.{entries_tests}
 use Rattle.pe_tables.specs.declared.fixups.Fixup.{Fixup}
 use Rattle.pe_tables.proofs.Entries.{entries-past, fixups-past, number_of_part}
+use Rattle.pe_tables.proofs.Settled.{keeps-trans}
 use Rattle.pe_tables.proofs.entry_run.read_run.Goals as goal
 
 pub read_rising-requires-clause-value : goal.read_rising-requires-clause-value
@@ -42,5 +43,6 @@ loop-index-preserved g c =
         tests = ap (λ (fs : List Fixup). first_standing (entries_tests i slots fs left)) more ∙ sym (entries-past i slots entry n k lt before answered.0) ∙ c.loop-index.invariant.read.tests;
         fixups = ap (λ (fs : List Fixup). fs ++ filter_map fixup_of left) more ∙ sym (fixups-past i slots entry n k lt before) ∙ c.loop-index.invariant.read.fixups;
       };
-      rising = c.read_rising.ensures.rising;
+      no_ranges = c.read_rising.ensures.no_ranges;
+      keeps = keeps-trans c.args.found.now c.loop-index.found c.read_rising.new.found c.loop-index.invariant.keeps c.read_rising.ensures.keeps;
     }

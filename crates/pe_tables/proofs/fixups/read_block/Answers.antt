@@ -1,5 +1,5 @@
 -- Some entries at a time.
-use Rattle.std.proofs.Common.{◌≡◌, ◌∙◌, ◌+◌, ◌-◌, ◌*◌, ◌/◌, ◌≤◌, ◌++◌, ℕ, List, None, drop, sym, ap, subst, arith}
+use Rattle.std.proofs.Common.{◌≡◌, ◌∙◌, ◌+◌, ◌-◌, ◌*◌, ◌/◌, ◌≤◌, ◌++◌, ℕ, List, None, drop, sym, ap, arith}
 use Rattle.std.specs.List.{filter_map}
 use Rattle.std.proofs.lemmas.Result.{err_from_is_err_and}
 use Rattle.pe_view.specs.Faults.{first_standing}
@@ -8,13 +8,16 @@ use Rattle.pe_tables.specs.RangesView.{ranges_in}
 use Rattle.pe_tables.specs.Fixups.{Entry, block_at, entry_at, entries_at, entries_of, fixup_of}
 use Rattle.pe_tables.specs.FixupFaults.{entries_tests}
 use Rattle.pe_tables.specs.declared.fixups.Fixup.{Fixup}
-use Rattle.pe_tables.specs.FixupReading.{Reads}
 use Rattle.pe_tables.proofs.Entries.{part-past, part-in, part-fixups, block-parts, entries-end, fixups-end}
 use Rattle.pe_tables.proofs.Refusing.{refuses-whole}
+use Rattle.pe_tables.proofs.Settled.{keeps-trans, settled-before}
 use Rattle.pe_tables.proofs.fixups.read_block.Goals as goal
 
-pub returns-in_err-read_some_entries : goal.returns-in_err-read_some_entries
-returns-in_err-read_some_entries g c =
+pub returns-in_err-read_some_entries-clause-keeps : goal.returns-in_err-read_some_entries-clause-keeps
+returns-in_err-read_some_entries-clause-keeps g c = keeps-trans c.args.found.now c.loop-index.found c.read_some_entries.new.found c.loop-index.invariant.keeps c.read_some_entries.ensures.keeps
+
+pub returns-in_err-read_some_entries-clause-exact : goal.returns-in_err-read_some_entries-clause-exact
+returns-in_err-read_some_entries-clause-exact g c = λ settled.
     let i = image_of c.args.layout.now in
     let b = block_at i c.args.rva in
     let slots = ranges_in c.args.slots.now in
@@ -27,11 +30,12 @@ returns-in_err-read_some_entries g c =
     let here : List Entry = entries_at i b.page (b.rva + 8 + 2 * k) some in
     let left : List Entry = drop (k + some) (entries_of i b) in
     let parts : drop k (entries_of i b) ≡ here ++ left = block-parts i b k some within in
+    let tests = c.loop-index.invariant.tests (settled-before c.loop-index.found c.read_some_entries.new.found c.read_some_entries.ensures.keeps settled) in
     let p = err_from_is_err_and c.from_residual.result c.from_residual.ensures.1 in
     rw (p.1, p.2)
     (refuses-whole (entries_tests i slots before here) (entries_tests i slots c.args.found.now.fixups.items (entries_of i b))
-    (λ y stands. sym c.loop-index.invariant.tests ∙ ap (λ (es : List Entry). first_standing (entries_tests i slots before es)) parts ∙ part-in i slots before here left y stands)
-    c.in_err-read_some_entries.field-0.0 (rw page at c.in_err-read_some_entries.ensures))
+    (λ y stands. sym tests ∙ ap (λ (es : List Entry). first_standing (entries_tests i slots before es)) parts ∙ part-in i slots before here left y stands)
+    c.in_err-read_some_entries.field-0.0 (rw page at c.in_err-read_some_entries.ensures.exact settled))
 
 pub loop-index-preserved : goal.loop-index-preserved
 loop-index-preserved g c =
@@ -47,33 +51,35 @@ loop-index-preserved g c =
     let here : List Entry = entries_at i b.page (b.rva + 8 + 2 * k) some in
     let left : List Entry = drop (k + some) (entries_of i b) in
     let parts : drop k (entries_of i b) ≡ here ++ left = block-parts i b k some within in
-    let Answered : ℕ → Type 0 = λ (page : ℕ).
-    let es = entries_at i page (c.args.rva + 8 + 2 * k) some in (
-    first_standing (entries_tests i slots before es) ≡ None)
-    × Reads c.loop-index.found c.read_some_entries.new.found (filter_map fixup_of es) in
-    let answered : Answered b.page = subst Answered page c.in_ok-read_some_entries.ensures in
-    let none : first_standing (entries_tests i slots before here) ≡ None = answered.0 in
-    let more : c.read_some_entries.new.found.fixups.items ≡ before ++ filter_map fixup_of here = answered.1.fixups in
+    let more : c.read_some_entries.new.found.fixups.items ≡ before ++ filter_map fixup_of here = rw page at c.in_ok-read_some_entries.ensures.reads.fixups in
     record {
       within = omega (arith, least);
-      indexed = answered.1.indexed;
-      tests =
-          ap (λ (fs : List Fixup). first_standing (entries_tests i slots fs left)) more ∙ sym (part-past i slots before here left none)
-          ∙ ap (λ (es : List Entry). first_standing (entries_tests i slots before es)) (sym parts) ∙ c.loop-index.invariant.tests;
+      keeps = keeps-trans c.args.found.now c.loop-index.found c.read_some_entries.new.found c.loop-index.invariant.keeps c.read_some_entries.ensures.keeps;
+      indexed = c.in_ok-read_some_entries.ensures.reads.indexed;
       fixups =
           ap (λ (fs : List Fixup). fs ++ filter_map fixup_of left) more ∙ sym (part-fixups i slots before here left)
           ∙ ap (λ (es : List Entry). before ++ filter_map fixup_of es) (sym parts) ∙ c.loop-index.invariant.fixups;
+      tests = λ settled. (
+          let answered = c.in_ok-read_some_entries.ensures.exact settled in
+          let none : first_standing (entries_tests i slots before here) ≡ None = rw page at answered.0 in
+          ap (λ (fs : List Fixup). first_standing (entries_tests i slots fs left)) more ∙ sym (part-past i slots before here left none)
+          ∙ ap (λ (es : List Entry). first_standing (entries_tests i slots before es)) (sym parts)
+          ∙ c.loop-index.invariant.tests (settled-before c.loop-index.found c.read_some_entries.new.found c.read_some_entries.ensures.keeps settled));
     }
 
-pub returns : goal.returns
-returns g c =
+pub returns-clause-reads : goal.returns-clause-reads
+returns-clause-reads g c =
     let i = image_of c.args.layout.now in
     let b = block_at i c.args.rva in
     let le : (b.size - 8) / 2 ≤ c.loop-index.index = rw (← c.requires.its_size) c.loop-index-test.false in
-    let before = c.loop-index.found.fixups.items in (
-      sym c.loop-index.invariant.tests ∙ entries-end i (ranges_in c.args.slots.now) (entry_at i b) ((b.size - 8) / 2) c.loop-index.index before le,
-      record {
-        fixups = sym (fixups-end (entry_at i b) ((b.size - 8) / 2) c.loop-index.index before le) ∙ c.loop-index.invariant.fixups;
-        indexed = c.loop-index.invariant.indexed;
-      },
-    )
+    record {
+      fixups = sym (fixups-end (entry_at i b) ((b.size - 8) / 2) c.loop-index.index c.loop-index.found.fixups.items le) ∙ c.loop-index.invariant.fixups;
+      indexed = c.loop-index.invariant.indexed;
+    }
+
+pub returns-clause-exact : goal.returns-clause-exact
+returns-clause-exact g c = λ settled.
+    let i = image_of c.args.layout.now in
+    let b = block_at i c.args.rva in
+    let le : (b.size - 8) / 2 ≤ c.loop-index.index = rw (← c.requires.its_size) c.loop-index-test.false in
+    (sym (c.loop-index.invariant.tests settled) ∙ entries-end i (ranges_in c.args.slots.now) (entry_at i b) ((b.size - 8) / 2) c.loop-index.index c.loop-index.found.fixups.items le, tt)

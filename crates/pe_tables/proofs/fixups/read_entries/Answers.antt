@@ -13,6 +13,7 @@ use Rattle.pe_tables.specs.FixupFaults.{entry_tests, entries_tests}
 use Rattle.pe_tables.specs.declared.fixups.Fixup.{Fixup}
 use Rattle.pe_tables.proofs.Entries.{entries-past, entries-in, fixups-past, entries-end, fixups-end, number_of_part}
 use Rattle.pe_tables.proofs.Refusing.{refuses-whole}
+use Rattle.pe_tables.proofs.Settled.{keeps-trans, settled-before}
 use Rattle.pe_tables.proofs.fixups.read_entries.Goals as goal
 
 pub read_entry-requires-clause-value : goal.read_entry-requires-clause-value
@@ -26,8 +27,11 @@ read_entry-requires-clause-value g c =
     (rw c.unwrap-entry.ensures at c.u16_at.ensures).1 ∙ ap (λ (m : ℕ). num (byte_of (bytes_of c.args.bytes)) (2 * m) 2) from
     ∙ number_of_part i c.args.rva n (bytes_of c.args.bytes) c.requires.bytes 2 (2 * k) (omega arith)
 
-pub returns-in_err-read_entry : goal.returns-in_err-read_entry
-returns-in_err-read_entry g c =
+pub returns-in_err-read_entry-clause-keeps : goal.returns-in_err-read_entry-clause-keeps
+returns-in_err-read_entry-clause-keeps g c = keeps-trans c.args.found.now c.loop-index.found c.read_entry.new.found c.loop-index.invariant.keeps c.read_entry.ensures.keeps
+
+pub returns-in_err-read_entry-clause-exact : goal.returns-in_err-read_entry-clause-exact
+returns-in_err-read_entry-clause-exact g c = λ settled.
     let i = image_of c.args.layout.now in
     let entry : ℕ → Entry = λ k. entry_of i c.args.page (c.args.rva + 2 * k) in
     let slots = ranges_in c.args.slots.now in
@@ -35,11 +39,12 @@ returns-in_err-read_entry g c =
     let k : ℕ = c.loop-index.index in
     let before = c.loop-index.found.fixups.items in
     let lt : k < n = rw c.len.ensures at c.loop-index-test.true in
+    let tests = c.loop-index.invariant.tests (settled-before c.loop-index.found c.read_entry.new.found c.read_entry.ensures.keeps settled) in
     let p = err_from_is_err_and c.from_residual-in_err-read_entry.result c.from_residual-in_err-read_entry.ensures.1 in
     rw (p.1, p.2)
     (refuses-whole (entry_tests i slots before (entry k)) (entries_tests i slots c.args.found.now.fixups.items (entries_at i c.args.page c.args.rva n))
-    (λ y some. sym c.loop-index.invariant.tests ∙ entries-in i slots entry n k lt before y some)
-    c.in_err-read_entry.field-0.0 c.in_err-read_entry.ensures)
+    (λ y some. sym tests ∙ entries-in i slots entry n k lt before y some)
+    c.in_err-read_entry.field-0.0 (c.in_err-read_entry.ensures.exact settled))
 
 pub loop-index-preserved : goal.loop-index-preserved
 loop-index-preserved g c =
@@ -50,25 +55,33 @@ loop-index-preserved g c =
     let k : ℕ = c.loop-index.index in
     let before = c.loop-index.found.fixups.items in
     let left : List Entry = drop (k + 1) (entries_at i c.args.page c.args.rva n) in
-    let answered = c.in_ok-read_entry.ensures in
-    let more : c.read_entry.new.found.fixups.items ≡ before ++ option_to_list (fixup_of (entry k)) = answered.1.fixups in
+    let more : c.read_entry.new.found.fixups.items ≡ before ++ option_to_list (fixup_of (entry k)) = c.in_ok-read_entry.ensures.reads.fixups in
     let lt : k < n = rw c.len.ensures at c.loop-index-test.true in
     record {
-      indexed = answered.1.indexed;
-      tests = ap (λ (fs : List Fixup). first_standing (entries_tests i slots fs left)) more ∙ sym (entries-past i slots entry n k lt before answered.0) ∙ c.loop-index.invariant.tests;
+      keeps = keeps-trans c.args.found.now c.loop-index.found c.read_entry.new.found c.loop-index.invariant.keeps c.read_entry.ensures.keeps;
+      indexed = c.in_ok-read_entry.ensures.reads.indexed;
       fixups = ap (λ (fs : List Fixup). fs ++ filter_map fixup_of left) more ∙ sym (fixups-past i slots entry n k lt before) ∙ c.loop-index.invariant.fixups;
+      tests = λ settled. (
+          let answered = c.in_ok-read_entry.ensures.exact settled in
+          let tests = c.loop-index.invariant.tests (settled-before c.loop-index.found c.read_entry.new.found c.read_entry.ensures.keeps settled) in
+          ap (λ (fs : List Fixup). first_standing (entries_tests i slots fs left)) more ∙ sym (entries-past i slots entry n k lt before answered.0) ∙ tests);
     }
 
-pub returns : goal.returns
-returns g c =
+pub returns-clause-reads : goal.returns-clause-reads
+returns-clause-reads g c =
     let i = image_of c.args.layout.now in
     let entry : ℕ → Entry = λ k. entry_of i c.args.page (c.args.rva + 2 * k) in
     let n : ℕ = size_of c.args.bytes / 2 in
     let le : n ≤ c.loop-index.index = rw c.len.ensures at c.loop-index-test.false in
-    let before = c.loop-index.found.fixups.items in (
-      sym c.loop-index.invariant.tests ∙ entries-end i (ranges_in c.args.slots.now) entry n c.loop-index.index before le,
-      record {
-        fixups = sym (fixups-end entry n c.loop-index.index before le) ∙ c.loop-index.invariant.fixups;
-        indexed = c.loop-index.invariant.indexed;
-      },
-    )
+    record {
+      fixups = sym (fixups-end entry n c.loop-index.index c.loop-index.found.fixups.items le) ∙ c.loop-index.invariant.fixups;
+      indexed = c.loop-index.invariant.indexed;
+    }
+
+pub returns-clause-exact : goal.returns-clause-exact
+returns-clause-exact g c = λ settled.
+    let i = image_of c.args.layout.now in
+    let entry : ℕ → Entry = λ k. entry_of i c.args.page (c.args.rva + 2 * k) in
+    let n : ℕ = size_of c.args.bytes / 2 in
+    let le : n ≤ c.loop-index.index = rw c.len.ensures at c.loop-index-test.false in
+    (sym (c.loop-index.invariant.tests settled) ∙ entries-end i (ranges_in c.args.slots.now) entry n c.loop-index.index c.loop-index.found.fixups.items le, tt)

@@ -16,24 +16,8 @@ use Rattle.pe_tables.specs.FixupFaults.{fixup_tests, fixup_tests_at, blocks_test
 use Rattle.pe_tables.specs.Import.{slots_of}
 use Rattle.pe_tables.proofs.Blocks.{table-past, table-none, table-bad, table-asked}
 use Rattle.pe_tables.proofs.Lookups.{leb-≤}
-use Rattle.pe_tables.proofs.Refusing.{refuses-whole}
+use Rattle.pe_tables.proofs.Refusing.{answers-whole}
 use Rattle.pe_tables.proofs.fixups.read_fixups.Goals as goal
-
-pub returns-in_err-read_blocks-clause-exact : goal.returns-in_err-read_blocks-clause-exact
-returns-in_err-read_blocks-clause-exact g c =
-    let i = image_of c.args.layout.now in
-    let d = c.in-Some.directory in
-    let slots = ranges_in c.in_ok-slots.slots in
-    let SameAs : ℕ → Type 0 = λ width. SameRanges slots (map (slot_range width) (slots_of c.args.imports.now)) in
-    let same : SameAs i.slot_width = subst SameAs c.slot_width.ensures.value c.in_ok-slots.ensures in
-    let test : is_inside i d.rva d.size ≡ true = ap (is_inside i d.rva) (sym c.from.ensures) ∙ sym c.contains.ensures.value ∙ c.if-not-contains.false in
-    let inside : d.rva + d.size ≤ i.size = leb-≤ _ _ test in
-    let whole = ap (λ (o : Option Directory). first_standing (fixup_tests_at i (map (slot_range i.slot_width) (slots_of c.args.imports.now)) o)) (sym c.in-Some.ensures)
-    ∙ table-past i slots (map (slot_range i.slot_width) (slots_of c.args.imports.now)) d same inside in
-    let p = err_from_is_err_and c.from_residual-in_err-read_blocks.result c.from_residual-in_err-read_blocks.ensures.1 in
-    rw (p.1, p.2)
-    (refuses-whole (blocks_tests i slots (d.rva + d.size) [] (blocks_of i d)) (fixup_tests i (slots_of c.args.imports.now))
-    (λ y some. whole ∙ some) c.in_err-read_blocks.field-0.0 c.in_err-read_blocks.ensures)
 
 pub returns-clause-exact : goal.returns-clause-exact
 returns-clause-exact g c =
@@ -45,10 +29,9 @@ returns-clause-exact g c =
     let test : is_inside i d.rva d.size ≡ true = ap (is_inside i d.rva) (sym c.from.ensures) ∙ sym c.contains.ensures.value ∙ c.if-not-contains.false in
     let inside : d.rva + d.size ≤ i.size = leb-≤ _ _ test in
     let whole = ap (λ (o : Option Directory). first_standing (fixup_tests_at i (map (slot_range i.slot_width) (slots_of c.args.imports.now)) o)) (sym c.in-Some.ensures)
-    ∙ table-past i slots (map (slot_range i.slot_width) (slots_of c.args.imports.now)) d same inside in (
-      whole ∙ c.in_ok-read_blocks.ensures.0,
-      c.in_ok-read_blocks.ensures.1 ∙ ap (fixups_at i) c.in-Some.ensures,
-    )
+    ∙ table-past i slots (map (slot_range i.slot_width) (slots_of c.args.imports.now)) d same inside in
+    answers-whole (blocks_tests i slots (d.rva + d.size) [] (blocks_of i d)) (fixup_tests i (slots_of c.args.imports.now)) _ _
+    whole (λ fixups items. items ∙ ap (fixups_at i) c.in-Some.ensures) c.read_table.result c.read_table.ensures
 
 pub returns-in_err-has_block-clause-exact : goal.returns-in_err-has_block-clause-exact
 returns-in_err-has_block-clause-exact g c =
@@ -85,8 +68,8 @@ returns-in_err-slots-clause-memory g c = λ _.
     let goes = subst (λ (b : Bool). FirstBlock i d (Ok b)) c.if-not-branch.false c.in_ok-has_block.ensures.exact in
     subst (λ (o : Option Directory). IsTrue (goes_past 33 (fixup_tests_at i others o))) c.in-Some.ensures (table-asked i others d inside goes.0 goes.1)
 
-pub returns-in_err-read_blocks-clause-memory : goal.returns-in_err-read_blocks-clause-memory
-returns-in_err-read_blocks-clause-memory g c = λ _.
+pub returns-clause-memory : goal.returns-clause-memory
+returns-clause-memory g c = λ _.
     let i = image_of c.args.layout.now in
     let d = c.in-Some.directory in
     let others = map (slot_range i.slot_width) (slots_of c.args.imports.now) in

@@ -12,5 +12,5 @@ gained : {A T E : Type 0} (result : Result T E) (old : Option (Ranges A)) (befor
 gained (Ok done) old before after range is gains = rw is (after, refl, gains)
 gained (Err refused) old before after range is gains = tt
 
-pub returns-in-Some : goal.returns-in-Some
-returns-in-Some g c = gained c.add.result c.args.fields.now c.in-Some.fields c.add.new.self (c.args.field, c.args.width) c.in-Some.is c.add.ensures
+pub returns-in-Some-clause-gains : goal.returns-in-Some-clause-gains
+returns-in-Some-clause-gains g c = gained c.add.result c.args.fields.now c.in-Some.fields c.add.new.self (c.args.field, c.args.width) c.in-Some.is c.add.ensures

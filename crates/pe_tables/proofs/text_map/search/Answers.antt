@@ -1,34 +1,9 @@
--- A search finds a string, or returns where it would be inserted.
-use Rattle.std.proofs.Common.{◌≡◌, ℕ, List, Option, get_or, sym, arith, rules}
-use Rattle.std.specs.Borrow.{Bor}
-use Rattle.std.specs.Ordering.{nat_cmp, ordering_index}
-use Rattle.std.specs.declared.cmp.Ordering.TheVariants.{Less, Equal, Greater}
-use Rattle.std.specs.Cmp.Lexicographic.{slice_cmp}
-use Rattle.std.specs.List.Sorted.{IsNonDecreasingBy, IsPartitionPoint}
-use Rattle.std.proofs.lemmas.Fn.{always_returns_same}
-use Rattle.pe_tables.specs.declared.key.Target.{Target}
-use Rattle.pe_tables.proofs.TextRun.{searched-at, searched-nowhere, against_rises}
+-- Where a string is, its value is.
+use Rattle.std.proofs.Common.{sym}
+use Rattle.pe_tables.proofs.TextRun.{place-found}
 use Rattle.pe_tables.proofs.text_map.search.Goals as goal
 
-abbrev Entry : Type 0
-Entry = Bor (List ℕ) × Option Target
-
-pub returns-in_default : goal.returns-in_default
-returns-in_default c =
-    let run = c.args.run.now in
-    let text = c.args.text.now in
-    let Before : Entry → Type 0 = λ (e : Entry). slice_cmp nat_cmp e.0.now text ≡ Less in
-    let Behind : Entry → Type 0 = λ (e : Entry). slice_cmp nat_cmp e.0.now text ≡ Greater in
-    let parted : IsNonDecreasingBy (λ (e : Entry). ordering_index (slice_cmp nat_cmp e.0.now text)) run → IsPartitionPoint Before Behind run c.in_default.field-0 =
-    c.in_default.ensures.position (λ (e : Entry). e.0) (always_returns_same _ (λ a r. r ≡ a.0.now.0) _ (λ a r q k. search rules)) in
-    let point = parted (against_rises run text c.requires) in
-    sym (searched-nowhere run text c.in_default.field-0 (λ k d lt. point.0 k d (omega arith) lt) (λ k d le lt. point.1 k d le lt))
-
-pub returns : goal.returns
-returns c =
-    let run = c.args.run.now in
-    let text = c.args.text.now in
-    let at : (d : Entry) → slice_cmp nat_cmp (get_or run c.in-Ok.index d).0.now text ≡ Equal =
-    c.in-Ok.ensures.position (λ (e : Entry). e.0) (always_returns_same _ (λ a r. r ≡ a.0.now.0) _ (λ a r q k. search rules)) in
-    let within = c.in-Ok.ensures.bound in
-    sym (searched-at run text c.in-Ok.index _ c.requires (omega arith) (at _))
+pub returns-in-Some : goal.returns-in-Some
+returns-in-Some c =
+    let place = c.in-Some.ensures in
+    sym (place-found c.args.run.now c.args.text.now c.in-Some.index _ c.requires place.0 (place.1 _))

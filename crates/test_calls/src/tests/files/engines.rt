@@ -21,15 +21,6 @@ pub(super) enum Engine {
     At,
 }
 
-/// A page with all rows.
-const WHOLE_PAGE: ShowOptions = ShowOptions {
-    exports: true,
-    imports: true,
-    relocations: true,
-    symbols: true,
-    is_coloured: false,
-};
-
 /// The name of the file in views.
 const NAME: &[u8] = b"a.dll";
 
@@ -75,7 +66,13 @@ pub(super) fn run_over<A: Allocator + Copy>(
         Engine::Check => check(memory, &mut reader, &mut writer),
         Engine::Dump => dump(memory, &mut reader, &mut writer),
         Engine::Object => dump_object(memory, &mut reader, &mut writer),
-        Engine::Show => show(memory, NAME, &WHOLE_PAGE, &mut reader, &mut writer),
+        Engine::Show => show(
+            memory,
+            NAME,
+            &ShowOptions::ALL_ROWS,
+            &mut reader,
+            &mut writer,
+        ),
         Engine::Json => json(memory, NAME, &mut reader, &mut writer),
         Engine::At => at(memory, PLACE, &mut reader, &mut writer),
     };

@@ -1,0 +1,154 @@
+//! `Draft`: a file that is written beside the one that it replaces.
+
+use std::alloc::Allocator;
+use std::fs::{self, File, Metadata, OpenFile, OpenOptions, Permissions};
+use std::io::{self, Error, ErrorKind, Write};
+use std::os::unix::fs::{MetadataExt, PermissionsExt, chown};
+use std::path::{Path, PathBuf};
+use std::rt::Files;
+
+/// How many names are tried for a draft.
+const DRAFT_NAMES: u32 = 100;
+
+/// The file in which Linux lists the limits of a process, and what the line of the size of files begins with.
+const LIMITS: &str = "/proc/self/limits";
+
+const FILE_SIZE_LIMIT: &str = "Max file size";
+
+/// The number of Linux's error for a file that is larger than its limit: EFBIG.
+const FILE_TOO_LARGE: i32 = 27;
+
+/// A new file in the folder of the place where it is to be.
+#[derive(Drop)]
+pub(crate) struct Draft<F, A: Allocator> {
+    file: F,
+    path: PathBuf<A>,
+    place: PathBuf<A>,
+    /// How many bytes may still be written.
+    left: u64,
+}
+
+/// Whether the file at a place may be written, or why not: a file that is protected is not replaced either. None may be there.
+fn check_protection(rt: &impl Files, place: Path<'_>) -> io::Result<()> {
+    match OpenOptions::new().write(true).open(rt, place) {
+        Ok(_file) => Ok(()),
+        Err(error) if error.kind() == ErrorKind::NotFound => Ok(()),
+        Err(error) => Err(error),
+    }
+}
+
+/// A new file in the folder of a place, and its path.
+fn new_file<R: Files + Alloc>(rt: &R, place: Path<'_>) -> io::Result<(R::File, PathBuf<R::A>)> {
+    for number in 0..DRAFT_NAMES {
+        let name = format!(in rt.alloc(); ".petool-{number}.tmp")?;
+        let path = place.with_file_name(rt.alloc(), name.as_str())?;
+        match File::create_new(rt, path.as_path()) {
+            Ok(file) => return Ok((file, path)),
+            Err(error) if error.kind() == ErrorKind::AlreadyExists => {}
+            Err(error) => return Err(error),
+        }
+    }
+    Err(Error::from(ErrorKind::AlreadyExists))
+}
+
+/// The permissions of a file that replaces one with this mode. If it does not have the owner and the group of that one, it runs as
+/// neither, and its group may do what others may.
+fn mode_of(mode: u32, is_owner_kept: bool) -> u32 {
+    if is_owner_kept {
+        return mode & 0o7777;
+    }
+    (mode & 0o707) | ((mode & 0o007) << 3)
+}
+
+/// Gives a new file the owner and the group of the one that it replaces, if the system allows that, and its permissions.
+fn keep_permissions<R: Files>(
+    rt: &R,
+    file: &R::File,
+    path: Path<'_>,
+    old: &Metadata,
+) -> io::Result<()> {
+    let is_owner_kept = chown(rt, path, Some(old.uid()), Some(old.gid())).is_ok();
+    let mode = mode_of(old.permissions().mode(), is_owner_kept);
+    file.set_permissions(Permissions::from_mode(mode))
+}
+
+/// The limit in a line of Linux's list of limits, if it is that of the size of files, and not `unlimited`.
+fn limit_in(line: &str) -> Option<u64> {
+    let numbers = line.strip_prefix(FILE_SIZE_LIMIT)?;
+    numbers.split_whitespace().next()?.parse().ok()
+}
+
+/// The greatest size of a file that this process may write, if the system says one. A write past it would end the process.
+fn size_limit<R: Files + Alloc>(rt: &R) -> u64 {
+    let Ok(limits) = fs::read_to_string(rt, LIMITS) else {
+        return u64::MAX;
+    };
+    limits.lines().find_map(limit_in).unwrap_or(u64::MAX)
+}
+
+impl<F: Write + OpenFile + Drop, A: Allocator> Draft<F, A> {
+    /// Makes a draft for a place, with the permissions of the file there.
+    pub fn new<R: Files<File = F> + Alloc<A = A>>(
+        rt: &R,
+        place: PathBuf<A>,
+    ) -> io::Result<Draft<F, A>> {
+        check_protection(rt, place.as_path())?;
+        let (file, path) = new_file(rt, place.as_path())?;
+        let draft = Draft {
+            file,
+            path,
+            place,
+            left: size_limit(rt),
+        };
+        match draft.keep_permissions(rt) {
+            Ok(()) => Ok(draft),
+            Err(error) => {
+                draft.discard(rt);
+                Err(error)
+            }
+        }
+    }
+
+    /// Gives it the permissions of the file at its place, if there is one.
+    fn keep_permissions<R: Files<File = F>>(&self, rt: &R) -> io::Result<()> {
+        match fs::metadata(rt, self.place.as_path()) {
+            Ok(old) => keep_permissions(rt, &self.file, self.path.as_path(), &old),
+            Err(_) => Ok(()),
+        }
+    }
+
+    /// Removes it.
+    pub fn discard(self, rt: &impl Files) {
+        let _ = fs::remove_file(rt, self.path.as_path());
+    }
+
+    /// Puts it in its place, once the system has stored its bytes.
+    fn put(&self, rt: &impl Files) -> io::Result<()> {
+        self.file.sync_all()?;
+        fs::rename(rt, self.path.as_path(), self.place.as_path())
+    }
+
+    /// Puts it in its place, or removes it.
+    pub fn publish(self, rt: &impl Files) -> io::Result<()> {
+        let answer = self.put(rt);
+        if answer.is_err() {
+            self.discard(rt);
+        }
+        answer
+    }
+}
+
+impl<F: Write, A: Allocator> Write for Draft<F, A> {
+    fn write(&mut self, bytes: &[u8]) -> io::Result<usize> {
+        if bytes.len() as u64 > self.left {
+            return Err(Error::from_raw_os_error(FILE_TOO_LARGE));
+        }
+        let count = self.file.write(bytes)?;
+        self.left = self.left.saturating_sub(count as u64);
+        Ok(count)
+    }
+
+    fn flush(&mut self) -> io::Result<()> {
+        self.file.flush()
+    }
+}

@@ -1,5 +1,0 @@
-use Rattle.std.proofs.Common.{rules}
-use Rattle.pe_records_c.proofs.space.moved_record.Goals as goal
-
-pub returns : goal.returns
-returns c = search rules

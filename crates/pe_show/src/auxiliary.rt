@@ -1,0 +1,171 @@
+//! The auxiliary records of symbols.
+
+ghost use Rattle.pe_text.specs.TextWriter.{IsReady};
+ghost use Rattle.pe_show.specs.Page.{AddsSome};
+
+use crate::cell::Cell::{self, Plain};
+use crate::cell::write_cells;
+use coff_read::{Aux, Symbol};
+use pe_text::Part::{Hex, Text};
+use pe_text::{Sink, TextWriter};
+
+/// The name of a COMDAT selection, after a blank ("PE Format", COMDAT Sections).
+fn selection_name(selection: u8) -> &'static [u8] {
+    match selection {
+        1 => b" NODUPLICATES",
+        2 => b" ANY",
+        3 => b" SAME_SIZE",
+        4 => b" EXACT_MATCH",
+        5 => b" ASSOCIATIVE",
+        6 => b" LARGEST",
+        _ => b"",
+    }
+}
+
+/// The name of how a weak external is searched for, after a blank ("PE Format", Auxiliary Format 3: Weak Externals).
+fn search_name(search: u32) -> &'static [u8] {
+    match search {
+        1 => b" NOLIBRARY",
+        2 => b" LIBRARY",
+        3 => b" ALIAS",
+        _ => b"",
+    }
+}
+
+/// A number in decimal.
+fn number(number: u32) -> Cell<'static> {
+    Cell::Right(number as u64, 1)
+}
+
+/// Adds the COMDAT selection of a section, and the section that an associative one goes with.
+fn write_selection<W: Sink>(text: &mut TextWriter<W>, selection: u8, section: u16)
+    requires { IsReady W.failures text.old }
+    ensures { AddsSome W.taken W.failures text.old text.new }
+{
+    if selection == 0 {
+        return;
+    }
+    let name = Plain(Text(selection_name(selection)));
+    write_cells(
+        text,
+        &[Plain(Text(b", COMDAT ")), number(selection as u32), name],
+    );
+    if selection == 5 {
+        write_cells(
+            text,
+            &[Plain(Text(b" with section ")), number(section as u32)],
+        );
+    }
+}
+
+/// Adds the bytes of a record without a shape.
+fn write_raw<W: Sink>(text: &mut TextWriter<W>, bytes: &[u8])
+    requires { IsReady W.failures text.old }
+    ensures { AddsSome W.taken W.failures text.old text.new }
+{
+    text.text(b"bytes");
+    for byte in bytes {
+        write_cells(text, &[Plain(Text(b" ")), Plain(Hex(*byte as u64, 2))]);
+    }
+}
+
+/// Adds what an auxiliary record says.
+fn write_record<W: Sink>(text: &mut TextWriter<W>, record: &Aux)
+    requires { IsReady W.failures text.old }
+    ensures { AddsSome W.taken W.failures text.old text.new }
+{
+    match record {
+        Aux::Function {
+            tag_index,
+            total_size,
+            pointer_to_linenumber,
+            pointer_to_next_function,
+        } => write_cells(
+            text,
+            &[
+                Plain(Text(b"function of 0x")),
+                Plain(Hex(*total_size as u64, 1)),
+                Plain(Text(b" bytes, begins #")),
+                number(*tag_index),
+                Plain(Text(b", line numbers at 0x")),
+                Plain(Hex(*pointer_to_linenumber as u64, 1)),
+                Plain(Text(b", next #")),
+                number(*pointer_to_next_function),
+            ],
+        ),
+        Aux::Lines { line, next } => write_cells(
+            text,
+            &[
+                Plain(Text(b"line ")),
+                number(*line as u32),
+                Plain(Text(b", next #")),
+                number(*next),
+            ],
+        ),
+        Aux::Weak { tag_index, search } => write_cells(
+            text,
+            &[
+                Plain(Text(b"else #")),
+                number(*tag_index),
+                Plain(Text(b", search ")),
+                number(*search),
+                Plain(Text(search_name(*search))),
+            ],
+        ),
+        Aux::File { name } => write_cells(text, &[Plain(Text(b"file ")), Cell::Name(name)]),
+        Aux::Section {
+            length,
+            relocations,
+            line_numbers,
+            checksum,
+            number: section,
+            selection,
+        } => {
+            write_cells(
+                text,
+                &[
+                    Plain(Text(b"section of 0x")),
+                    Plain(Hex(*length as u64, 1)),
+                    Plain(Text(b" bytes, relocations ")),
+                    number(*relocations as u32),
+                    Plain(Text(b", line numbers ")),
+                    number(*line_numbers as u32),
+                    Plain(Text(b", checksum 0x")),
+                    Plain(Hex(*checksum as u64, 8)),
+                ],
+            );
+            write_selection(text, *selection, *section);
+        }
+        Aux::Raw { bytes } => write_raw(text, bytes),
+    }
+}
+
+/// Adds the row of an auxiliary record: its index, and what it says.
+fn write_row<W: Sink>(text: &mut TextWriter<W>, width: usize, index: u64, record: &Aux)
+    requires { IsReady W.failures text.old }
+    ensures { AddsSome W.taken W.failures text.old text.new }
+{
+    write_cells(text, &[Cell::Right(index, width), Plain(Text(b"    "))]);
+    write_record(text, record);
+    text.text(b"\n");
+}
+
+/// Adds a row for each auxiliary record of a symbol, with the index of the record. `width` is that of the column of indices, and
+/// `index` the one of the symbol's own record.
+pub(crate) fn write_records<W: Sink>(
+    text: &mut TextWriter<W>,
+    width: usize,
+    index: u32,
+    symbol: &Symbol,
+)
+    requires { IsReady W.failures text.old }
+    ensures { AddsSome W.taken W.failures text.old text.new }
+{
+    for k in 0..symbol.aux_count() {
+        let Some(record) = symbol.aux_record(k) else {
+            return;
+        };
+        let place = (index as u64).saturating_add(k as u64).saturating_add(1);
+        write_row(text, width, place, &record);
+    }
+}
