@@ -180,10 +180,11 @@ class Reading(unittest.TestCase):
         for command in COMMANDS:
             with self.subTest(command=command), subprocess.Popen(["cp", str(self.path), pipe]):
                 status, printed, complained = self.run_over(words_of(command, pipe), subprocess.DEVNULL)
-                self.assertEqual((status, printed.replace(b'"pipe"', b'"-"'), complained), texts[command])
+                printed = printed.replace(b'"pipe"', b'"-"').replace(pipe.encode(), b"standard input")
+                self.assertEqual((status, printed, complained), texts[command])
 
     def test_standard_input_is_read_from_where_it_is(self):
-        self.path.write_bytes(LATE)
+        self.path.write_bytes(LATE + b"after")
         texts = {command: self.by_pipe(command) for command in COMMANDS}
         self.path.write_bytes(b"before" + LATE + b"after")
         for command in COMMANDS:

@@ -1,16 +1,16 @@
 -- What `json` reads and writes if it knows the size of its file.
-use Rattle.std.proofs.Common.{◌≡◌, ℕ, ◌+◌, ◌^◌, ◌<◌, ◌≤◌, Bool, List, [], ◌++◌, length, Result, Ok, Err, ◌∙◌, ap, subst, arith, inl, inr}
-use Rattle.std.specs.Prelude.{IsErrOf, MatchResult, ◌⊎◌}
+use Rattle.std.proofs.Common.{◌≡◌, ℕ, ◌+◌, ◌^◌, ◌<◌, ◌≤◌, Bool, List, ◌++◌, length, Result, Ok, Err, ◌∙◌, subst, inl, inr}
+use Rattle.std.specs.Prelude.{IsErrOf, MatchResult}
 use Rattle.pe_view.specs.Faults.{Test, first_standing}
 use Rattle.pe_image.specs.ImageTests.{image_tests}
 use Rattle.pe_text.specs.declared.outcome.Outcome.{Outcome}
 use Rattle.pe_text.specs.declared.outcome.Outcome.TheVariants.{Done, Refused}
 use Rattle.pe_text.specs.declared.outcome.ToolError.{ToolError}
 use Rattle.pe_text.specs.declared.outcome.ToolError.TheVariants.{Read, Write, Memory}
-use Rattle.pe_text.specs.Engine.{IsWhole, OnJudged}
+use Rattle.pe_text.specs.Engine.{OnJudged}
 use Rattle.pe_text.specs.Outcome.{IsOutcomeOf}
 use Rattle.pe_reach.specs.Reach.{SameAnswers, IsEnough}
-use Rattle.pe_reach.specs.Views.{LookAlike, Show, IsSeen}
+use Rattle.pe_reach.specs.Views.{LookAlike, IsSeen}
 use Rattle.pe_json.specs.JsonReport.{file_tests, Fails, Prints, JudgedSized, RanSized}
 
 outcome_follows : (ts us : List Test) → first_standing ts ≡ first_standing us → (outcome : Outcome) → IsOutcomeOf us outcome → IsOutcomeOf ts outcome
