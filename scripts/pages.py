@@ -153,6 +153,11 @@ def header_rows(it, image):
     yield f"  CheckSum     0x{it.checksum:08x}"
     yield f"  Image flags {flag_words(IMAGE_FLAGS, it.flags) or ' none'}"
     yield f"  DLL flags   {flag_words(DLL_FLAGS, it.dll_flags) or ' none'}"
+    if image and it.symbols and it.symbol_count:
+        yield f"  Symbols      {counted(it.symbol_count, 'record')} at file 0x{it.symbols:x}, not read"
+    end = max([it.headers, *(section.pointer + section.raw_size for section in it.sections if section.pointer)])
+    if image and it.file_size > end:
+        yield f"  Overlay      {counted(it.file_size - end, 'byte')} after the sections, from file 0x{end:x}"
 
 
 def section_rows(sections):

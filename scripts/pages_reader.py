@@ -79,6 +79,7 @@ class Headers:
         must(pe + 24 <= len(file), 4, "file", 60, f"it is 0x{pe:x}, and the file has {len(file)} bytes")
         must(file[pe : pe + 4] == b"PE\0\0", 5, "file", pe)
         self.machine, count, self.stamp, symbols, symbol_count, optional_size, self.flags = struct.unpack_from("<HHIIIHH", file, pe + 4)
+        self.symbols, self.symbol_count, self.file_size = symbols, symbol_count, len(file)
         magic, fixed = uint(file, pe + 24, 2), {0x10B: 96, 0x20B: 112}.get(uint(file, pe + 24, 2))
         must(fixed, 6, "file", pe + 24)
         held = min(uint(file, pe + 24 + fixed - 4, 4), 16)

@@ -676,17 +676,19 @@ BOLD_ROWS = [
 
 @unittest.skipUnless(PROGRAM, "left out without program: PETOOL_PROGRAM names none")
 class Colours(unittest.TestCase):
-    """Pages have colours on a terminal, if NO_COLOR is not set or empty."""
+    """Pages have colours on a terminal, if that is not dumb and NO_COLOR is not set or empty."""
 
     def setUp(self):
         folder = tempfile.TemporaryDirectory()
         self.addCleanup(folder.cleanup)
         self.folder = pathlib.Path(folder.name)
 
-    def on_terminal(self, file, no_color, *words):
+    def on_terminal(self, file, no_color, *words, term="xterm"):
         """The page of a file on a raw terminal, and the status."""
         (self.folder / "a.dll").write_bytes(file)
         environment = {name: value for name, value in os.environ.items() if name != "NO_COLOR"}
+        environment.pop("TERM", None)
+        environment.update({"TERM": term} if term is not None else {})
         if no_color is not None:
             environment["NO_COLOR"] = no_color
         reader, writer = pty.openpty()
@@ -722,6 +724,13 @@ class Colours(unittest.TestCase):
             with self.subTest(no_color=no_color):
                 self.assertEqual(self.on_terminal(HEADERS, no_color), ("\n".join(rows), 0))
                 self.assertEqual(self.on_terminal(b"", no_color), (RED_PAGE, 1))
+
+    def test_a_dumb_terminal_has_none(self):
+        plain = self.plain(HEADERS)
+        self.assertEqual(self.on_terminal(HEADERS, None, term="dumb"), (plain, 0))
+        for term in (None, "", "dum", "dumber", "xdumb"):
+            with self.subTest(term=term):
+                self.assertIn("\x1b", self.on_terminal(HEADERS, None, term=term)[0])
 
     def test_a_page_that_is_cut_ends_its_colours(self):
         self.assertEqual(self.on_terminal(b"", None, "--most", "9"), ("\x1b[1;31ma.\x1b[0m\n(cut after 9 bytes)\n", 5))

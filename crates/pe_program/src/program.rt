@@ -11,9 +11,16 @@ use std::env::FillError;
 use std::io::Input;
 use std::rt::{Env, Files};
 
-/// Whether pages have colours: if standard output is a terminal, and NO_COLOR is not set or empty.
+/// Whether TERM says that the terminal shows no colours.
+fn is_dumb(rt: &impl Env) -> bool {
+    let mut term = [0; 4];
+    matches!(rt.var("TERM", &mut term), Ok(4)) && term == *b"dumb"
+}
+
+/// Whether pages have colours: if standard output is a terminal that shows them, and NO_COLOR is not set or empty.
 fn has_colours(rt: &impl Env, is_terminal: bool) -> bool {
     is_terminal
+        && !is_dumb(rt)
         && matches!(
             rt.var("NO_COLOR", &mut [0; 1]),
             Ok(0) | Err(FillError::NotPresent)

@@ -11,6 +11,7 @@ ghost use Rattle.pe_text.specs.Outcome.{IsOutcomeOf};
 use crate::directories::write_directories;
 use crate::exports::write_exports;
 use crate::fault::write_refusal;
+use crate::file_rows::write_others;
 use crate::fixups::write_fixups;
 use crate::header_rows::{image_kind, write_headers};
 use crate::heading::{Page, write_title};
@@ -84,6 +85,7 @@ fn write_image<A: Allocator + Copy, W: Sink>(
     let entry = names.place(layout, headers.address_of_entry_point);
     write_title(text, page, outcome, image_kind(headers), file.len());
     write_headers(text, headers, Some(entry));
+    write_others(text, headers, file.len());
     write_sections(text, page.options, headers, &names);
     write_directories(text, page.options, layout, &names, tables);
     write_exports(text, page.options, layout, &names, tables, names_by_ordinal);

@@ -25,6 +25,7 @@ mod directories;
 mod engine;
 mod exports;
 mod fault;
+mod file_rows;
 mod fixups;
 mod flags;
 mod header_rows;

@@ -1,0 +1,84 @@
+//! The rows of a page for what an image's file has apart from the headers and the sections.
+
+ghost use Rattle.std.specs.Prelude.{◌≡◌, max};
+ghost use Rattle.pe_text.specs.TextWriter.{IsReady};
+ghost use Rattle.pe_show.specs.Page.{AddsSome};
+ghost use Rattle.pe_show.specs.Places.{sections_end};
+
+use crate::cell::Cell::{self, Plain};
+use crate::cell::{plural, write_cells};
+use pe_head::{Headers, SectionHeader};
+use pe_text::Part::{Hex, Text};
+use pe_text::{Sink, TextWriter};
+
+/// The greater of an offset and the end of what the headers of sections say is in the file, with the bytes that pad it and are not
+/// laid out.
+fn sections_end(sections: &[SectionHeader], least: u64) -> u64
+    ensures { result ≡ max least (sections_end sections.now) }
+{
+    let mut end = least;
+    for section in sections {
+        if section.pointer_to_raw_data != 0 {
+            let size = u64::from(section.size_of_raw_data);
+            end = end.max(u64::from(section.pointer_to_raw_data) + size);
+        }
+    }
+    end
+}
+
+/// Adds the row of the symbol table, if there is one.
+fn write_symbol_table<W: Sink>(text: &mut TextWriter<W>, headers: &Headers)
+    requires { IsReady W.failures text.old }
+    ensures { AddsSome W.taken W.failures text.old text.new }
+{
+    let count = headers.number_of_symbols;
+    if headers.pointer_to_symbol_table == 0 || count == 0 {
+        return;
+    }
+    write_cells(
+        text,
+        &[
+            Plain(Text(b"  Symbols      ")),
+            Cell::Count(u64::from(count)),
+            plural(count as usize, b" record", b" records"),
+            Plain(Text(b" at file 0x")),
+            Plain(Hex(u64::from(headers.pointer_to_symbol_table), 1)),
+            Plain(Text(b", not read\n")),
+        ],
+    );
+}
+
+/// Adds the row of what comes after the headers and all sections in a file of `len` bytes, if something does.
+fn write_overlay<W: Sink>(text: &mut TextWriter<W>, headers: &Headers, len: u64)
+    requires { IsReady W.failures text.old }
+    ensures { AddsSome W.taken W.failures text.old text.new }
+{
+    let end = sections_end(
+        headers.sections.as_slice(),
+        u64::from(headers.size_of_headers),
+    );
+    if len <= end {
+        return;
+    }
+    let count = len - end;
+    write_cells(
+        text,
+        &[
+            Plain(Text(b"  Overlay      ")),
+            Cell::Count(count),
+            plural(count as usize, b" byte", b" bytes"),
+            Plain(Text(b" after the sections, from file 0x")),
+            Plain(Hex(end, 1)),
+            Plain(Text(b"\n")),
+        ],
+    );
+}
+
+/// Adds the rows of the symbol table and of what comes after the sections, if an image's file of `len` bytes has them.
+pub(crate) fn write_others<W: Sink>(text: &mut TextWriter<W>, headers: &Headers, len: u64)
+    requires { IsReady W.failures text.old }
+    ensures { AddsSome W.taken W.failures text.old text.new }
+{
+    write_symbol_table(text, headers);
+    write_overlay(text, headers, len);
+}
