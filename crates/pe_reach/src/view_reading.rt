@@ -10,9 +10,9 @@ use crate::names::names_end;
 use crate::reach::needed;
 use crate::reading::read_begin;
 use crate::view_file::ViewFile;
-use pe_head::read_headers;
+use pe_head::{Headers, read_headers};
 use pe_text::{READ_LIMIT, ReadBytes, Source, ToolError, read_up_to};
-use pe_view::View;
+use pe_view::{Fault, View};
 use std::alloc::Allocator;
 
 /// What was read of a file for a view.
@@ -76,17 +76,16 @@ fn read_image<A: Allocator + Copy, R: Source>(
     read_up_to(reader, first.bytes, limit)
 }
 
-/// How many bytes of a file of `len` bytes that begins with these are wanted for the names of its sections.
-fn names_limit(begin: &[u8], len: u64) -> usize
+/// How many bytes of a file of `len` bytes that begins with these, and has these headers, are wanted for the names of its sections.
+fn names_limit(begin: &[u8], headers: &Result<Headers, Fault>, len: u64) -> usize
     ensures most { result ≤ 2 ^ 32 + 1 }
-    ensures named { result ≤ length begin.now → IsNamed len begin.now }
+    ensures named { result ≤ length begin.now → IsNamed len begin.now headers.now }
 {
-    if begin.len() as u64 > len {
-        return READ_LIMIT;
-    }
-    match read_headers(View::new(begin), 0) {
-        Ok(headers) => names_end(begin, &headers, len).min(READ_LIMIT as u64) as usize,
-        Err(_) => READ_LIMIT,
+    match headers {
+        Ok(headers) if begin.len() as u64 <= len => {
+            names_end(begin, headers, len).min(READ_LIMIT as u64) as usize
+        }
+        _ => READ_LIMIT,
     }
 }
 
@@ -105,10 +104,11 @@ fn read_names<A: Allocator + Copy, R: Source>(
         (λ seen. (bytes_read seen ≡ read.bytes.items ++ more) × IsSeen (R.ended reader.new) len (read.bytes.items ++ more) (size_told seen) × (R.failures reader.new ≡ R.failures reader.old))
         (FailsAfter (read.bytes.items ++ more) (R.failures reader.old) (R.failures reader.new)) }
 {
+    let headers = read_headers(View::new(&read.bytes), 0);
     let mut bytes = read.bytes;
     let mut has_ended = read.has_ended;
     while !has_ended {
-        let limit = names_limit(&bytes, len);
+        let limit = names_limit(&bytes, &headers, len);
         if limit <= bytes.len() {
             let is_whole = bytes.len() == READ_LIMIT;
             let len = if is_whole { bytes.len() as u64 } else { len };
