@@ -27,6 +27,15 @@ pub struct ViewBytes<A: Allocator> {
 impl<A: Allocator> ViewBytes<A> {
     ghost use Rattle.pe_reach.specs.Views.{seen_of, told_of};
 
+    /// A file of which all bytes were read.
+    fn whole(bytes: Vec<u8, A>) -> ViewBytes<A>
+        ensures bytes { bytes_read result ≡ bytes.items }
+        ensures size { size_told result ≡ length bytes.items }
+    {
+        let len = bytes.len() as u64;
+        ViewBytes { bytes, len }
+    }
+
     /// The file.
     pub fn file(&self) -> ViewFile<'_>
         ensures seen { seen_of result ≡ bytes_read self.now }
@@ -104,9 +113,12 @@ fn read_names<A: Allocator + Copy, R: Source>(
         (λ seen. (bytes_read seen ≡ read.bytes.items ++ more) × IsSeen (R.ended reader.new) len (read.bytes.items ++ more) (size_told seen) × (R.failures reader.new ≡ R.failures reader.old))
         (FailsAfter (read.bytes.items ++ more) (R.failures reader.old) (R.failures reader.new)) }
 {
+    if read.has_ended {
+        return Ok(ViewBytes::whole(read.bytes));
+    }
     let headers = read_headers(View::new(&read.bytes), 0);
     let mut bytes = read.bytes;
-    let mut has_ended = read.has_ended;
+    let mut has_ended = false;
     while !has_ended {
         let limit = names_limit(&bytes, &headers, len);
         if limit <= bytes.len() {
@@ -118,8 +130,7 @@ fn read_names<A: Allocator + Copy, R: Source>(
         bytes = more.bytes;
         has_ended = more.has_ended;
     }
-    let len = bytes.len() as u64;
-    Ok(ViewBytes { bytes, len })
+    Ok(ViewBytes::whole(bytes))
 }
 
 /// Reads as many first bytes of a file of `len` bytes as decide what views show of it. Of an image these are the bytes before the

@@ -1,4 +1,5 @@
-use Rattle.std.proofs.Common.{ℕ, List, length, [], refl, sym, ◌∙◌, append-nil, ap, subst, arith, inl, inr}
+use Rattle.std.proofs.Common.{◌≡◌, ◌++◌, ℕ, List, length, [], refl, sym, ◌∙◌, append-nil, ap, subst, arith, inl, inr}
+use Rattle.std.proofs.lemmas.Bool.{false≢true}
 use Rattle.pe_view.specs.View.{bytes_of}
 use Rattle.pe_head.specs.HeaderFaults.{head_tests}
 use Rattle.pe_reach.specs.Settled.{IsNamed}
@@ -37,6 +38,21 @@ loop-has_ended-init g c =
       reads = ([], sym (append-nil (g.R.Source.given c.args.reader.now)), sym (append-nil read.bytes.items));
       count = refl;
       few = c.requires.few;
-      ends = read_whole read.has_ended ended c.args.len read.bytes.items c.requires.read;
-      goes_on = read_part read.has_ended ended c.args.len read.bytes.items c.requires.read;
+      ends = λ is. absurd (false≢true is);
+      goes_on = λ is. read_part read.has_ended ended c.args.len read.bytes.items c.requires.read c.if-read.false;
     }
+
+pub returns-then-read : goal.returns-then-read
+returns-then-read g c =
+    let read = c.args.read in
+    let bytes = read.bytes.items in
+    let all : bytes ≡ bytes ++ [] = sym (append-nil bytes) in (
+      [],
+      sym (append-nil (g.R.Source.given c.args.reader.now)),
+      omega (arith, c.requires.few, ap (λ (l : List ℕ). length l) all),
+      (
+        c.whole.ensures.bytes ∙ all,
+        inl (inl (read_whole read.has_ended (g.R.Source.ended c.args.reader.now) c.args.len bytes c.requires.read c.if-read.true), c.whole.ensures.size ∙ ap (λ (l : List ℕ). length l) all),
+        refl,
+      ),
+    )
