@@ -104,6 +104,12 @@ def prototype(call: Call) -> str:
     return f"{RESULTS[call.result]} {call.name}({', '.join(declared) or 'void'});"
 
 
+def declaration(call: Call) -> str:
+    """A call as petool.h declares it, on one line without the semicolon: a status must be used."""
+    mark = "PETOOL_WARN_UNUSED " if call.result == "u32" and call.parameters else ""
+    return mark + prototype(call).rstrip(";")
+
+
 def linker_map(description: Description) -> str:
     """petool.map: the version of the names that the shared library exports."""
     return f"{description.library.symbols} {{ global: petool_*; local: *; }};\n"

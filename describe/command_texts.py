@@ -92,6 +92,11 @@ def _show_options(commands: Commands, text: str) -> str:
     return _replaced(text, r"^    pub const ALL_ROWS: ShowOptions = ShowOptions \{\n", r"[^}]*?", "        is_coloured: false,", _lines(all_rows))
 
 
+def _whole_page(commands: Commands, text: str) -> str:
+    fields = [f"    {it.name()}: true," for it in commands.of("option")]
+    return _replaced(text, r"^const WHOLE_PAGE: ShowOptions = ShowOptions \{\n", r"[^}]*?", "    is_coloured: false,", _lines(fields))
+
+
 def _notes(commands: Commands, text: str) -> str:
     """The source of help with its list of exit statuses."""
     rows = [f"  {it.name()}  {it.rows['means'].replace('`', '')}" for it in commands.of("status")]
@@ -185,6 +190,7 @@ FILES: Dict[str, Callable[[Commands, str], str]] = {
     GUIDE: _in_parts(_guide),
     MAN: _in_parts(_man),
     "crates/pe_text/src/show_options.rt": _show_options,
+    "crates/pe_bench/src/texts.rt": _whole_page,
     f"{WORDS}/commands.rt": _notes,
     f"{WORDS}/file_words.rt": _file_words,
     **{f"{WORDS}/{file}": _words(file) for file in ("at_words.rt", "map_words.rt", "rebase_words.rt")},

@@ -9,7 +9,7 @@ import pathlib
 import re
 from typing import Dict, List, Optional, Sequence, Set, Tuple
 
-from c_texts import prototype
+from c_texts import declaration
 from description import Call, Description, Record, Values
 from header_texts import definition
 
@@ -208,8 +208,8 @@ def definition_faults(description: Description, file: str, definitions: str) -> 
 def prototype_faults(description: Description, file: str, header: str) -> List[str]:
     """Whether the header declares the calls that are described, and no others."""
     text = re.sub(r"/\*.*?\*/", "", header, flags=re.S)
-    found = re.findall(r"^(\w+ petool_\w+\([^()]*\))\s*;", text, re.M)
-    described = [prototype(call).rstrip(";") for call in description.calls]
+    found = re.findall(r"^((?:PETOOL_WARN_UNUSED )?\w+ petool_\w+\([^()]*\))\s*;", text, re.M)
+    described = [declaration(call) for call in description.calls]
     declared = {" ".join(it.split()) for it in found}
     faults = [f"{file}: {it} is not described" for it in sorted(declared - set(described))]
     return faults + [f"{file}: there is no {it}" for it in described if it not in declared]

@@ -38,6 +38,15 @@
 extern "C" {
 #endif
 
+/* Before each call that returns a status: a compiler that can says where it is not used. */
+#if defined(__cplusplus) && __cplusplus >= 201703L
+#define PETOOL_WARN_UNUSED [[nodiscard]]
+#elif defined(__GNUC__)
+#define PETOOL_WARN_UNUSED __attribute__((warn_unused_result))
+#else
+#define PETOOL_WARN_UNUSED
+#endif
+
 /* ---- statuses, texts, faults ---- */
 
 /* from describe/records.txt: statuses */
@@ -96,7 +105,7 @@ typedef struct petool_fault {
 uint32_t petool_version(void);
 
 /* What is at the place of a fault, and which rule is broken: strings of this library. OK; or ABSENT if no fault has the number. */
-uint32_t petool_fault_words(uint16_t number, petool_text *subject, petool_text *rule);
+PETOOL_WARN_UNUSED uint32_t petool_fault_words(uint16_t number, petool_text *subject, petool_text *rule);
 
 /* A fault as one line, for people: "section header at 0x138: the section's raw data extends past the end of the file". It is
  * written as by snprintf: cut to the room, in which it always ends in a zero byte; without room nothing is written. Returns the
@@ -106,7 +115,7 @@ int petool_fault_line(const petool_fault *fault, char *line, size_t room);
 /* ---- an image: its headers and its bytes ---- */
 
 /* OK if the image has none of faults 1 to 38 (docs/FAULTS.md); FAULT; or MEMORY, but not if the file has one of faults 1 to 15. */
-uint32_t petool_check(const uint8_t *file, size_t len, petool_fault *fault);
+PETOOL_WARN_UNUSED uint32_t petool_check(const uint8_t *file, size_t len, petool_fault *fault);
 
 /* from describe/records.txt: directory */
 typedef struct petool_directory {
@@ -143,18 +152,19 @@ typedef struct petool_section {
 
 /* The headers, and as many of the sections as fit into the rows: number_of_sections says how many there are. OK if the file has
  * none of faults 1 to 15, otherwise FAULT. */
-uint32_t petool_read_headers(const uint8_t *file, size_t len, petool_headers *headers, petool_section *sections, size_t room,
-                             petool_fault *fault);
+PETOOL_WARN_UNUSED uint32_t petool_read_headers(const uint8_t *file, size_t len, petool_headers *headers, petool_section *sections,
+                                                size_t room, petool_fault *fault);
 
 /* The bytes of the laid-out image from an RVA on: raw data, or 0. OK; FAULT, with one of 1 to 15; or ABSENT if they do not all lie
  * inside the image. */
-uint32_t petool_read(const uint8_t *file, size_t len, uint32_t rva, uint8_t *buffer, size_t count, petool_fault *fault);
+PETOOL_WARN_UNUSED uint32_t petool_read(const uint8_t *file, size_t len, uint32_t rva, uint8_t *buffer, size_t count,
+                                        petool_fault *fault);
 
 /* The zero-terminated string at an RVA. OK; FAULT, with one of 1 to 15; or ABSENT. *text must be initialized before. */
-uint32_t petool_read_text(const uint8_t *file, size_t len, uint32_t rva, petool_text *text, petool_fault *fault);
+PETOOL_WARN_UNUSED uint32_t petool_read_text(const uint8_t *file, size_t len, uint32_t rva, petool_text *text, petool_fault *fault);
 
 /* The file offset of the byte at an RVA. OK; FAULT, with one of 1 to 15; or ABSENT if the file does not hold that byte. */
-uint32_t petool_locate(const uint8_t *file, size_t len, uint32_t rva, uint64_t *offset, petool_fault *fault);
+PETOOL_WARN_UNUSED uint32_t petool_locate(const uint8_t *file, size_t len, uint32_t rva, uint64_t *offset, petool_fault *fault);
 
 /* ---- an image: its tables ---- */
 
@@ -224,10 +234,14 @@ static inline void petool_imports_init(petool_import *rows, size_t room)
  * one of faults 1 to 15.
  * Exports by ordinal, in the order of the export address table, and by name, in the order of the name pointer table, each name
  * once (16 to 22); imports in table order (24 to 32); base relocations in table order, checked after the imports (24 to 38). */
-uint32_t petool_exports(const uint8_t *file, size_t len, petool_export *rows, size_t room, size_t *count, petool_fault *fault);
-uint32_t petool_export_names(const uint8_t *file, size_t len, petool_export *rows, size_t room, size_t *count, petool_fault *fault);
-uint32_t petool_imports(const uint8_t *file, size_t len, petool_import *rows, size_t room, size_t *count, petool_fault *fault);
-uint32_t petool_fixups(const uint8_t *file, size_t len, petool_fixup *rows, size_t room, size_t *count, petool_fault *fault);
+PETOOL_WARN_UNUSED uint32_t petool_exports(const uint8_t *file, size_t len, petool_export *rows, size_t room, size_t *count,
+                                           petool_fault *fault);
+PETOOL_WARN_UNUSED uint32_t petool_export_names(const uint8_t *file, size_t len, petool_export *rows, size_t room, size_t *count,
+                                                petool_fault *fault);
+PETOOL_WARN_UNUSED uint32_t petool_imports(const uint8_t *file, size_t len, petool_import *rows, size_t room, size_t *count,
+                                           petool_fault *fault);
+PETOOL_WARN_UNUSED uint32_t petool_fixups(const uint8_t *file, size_t len, petool_fixup *rows, size_t room, size_t *count,
+                                          petool_fault *fault);
 
 /* from describe/records.txt: counts */
 typedef struct petool_counts {
@@ -237,15 +251,16 @@ typedef struct petool_counts {
 
 /* All four in one pass over the file, with the faults of petool_check: OK; SMALL if there are fewer rows than items for one of the
  * tables; FAULT, with the first of 1 to 38; or MEMORY, but not if the file has one of faults 1 to 15. */
-uint32_t petool_tables(const uint8_t *file, size_t len, petool_export *exports, size_t export_room, petool_export *names,
-                       size_t name_room, petool_import *imports, size_t import_room, petool_fixup *fixups, size_t fixup_room,
-                       petool_counts *counts, petool_fault *fault);
+PETOOL_WARN_UNUSED uint32_t petool_tables(const uint8_t *file, size_t len, petool_export *exports, size_t export_room,
+                                          petool_export *names, size_t name_room, petool_import *imports, size_t import_room,
+                                          petool_fixup *fixups, size_t fixup_room, petool_counts *counts, petool_fault *fault);
 
 /* What one name or one ordinal exports. As petool_exports, but with ABSENT instead of SMALL. Each call reads the whole table: to
  * look up many, open the image. *target must be initialized before. */
-uint32_t petool_export_by_name(const uint8_t *file, size_t len, const uint8_t *name, size_t name_len, petool_target *target,
-                               petool_fault *fault);
-uint32_t petool_export_by_ordinal(const uint8_t *file, size_t len, uint32_t ordinal, petool_target *target, petool_fault *fault);
+PETOOL_WARN_UNUSED uint32_t petool_export_by_name(const uint8_t *file, size_t len, const uint8_t *name, size_t name_len,
+                                                  petool_target *target, petool_fault *fault);
+PETOOL_WARN_UNUSED uint32_t petool_export_by_ordinal(const uint8_t *file, size_t len, uint32_t ordinal, petool_target *target,
+                                                     petool_fault *fault);
 
 /* ---- an image that is kept open between calls ---- */
 
@@ -265,39 +280,48 @@ typedef struct petool_image {
 
 #define PETOOL_IMAGE_CLOSED {NULL, false}
 
+/* The same as a value, for a struct that is not declared here: `it->image = petool_image_closed();`. */
+static inline petool_image petool_image_closed(void)
+{
+    petool_image closed = PETOOL_IMAGE_CLOSED;
+    return closed;
+}
+
 /* Checks a file as petool_check does, and keeps the contents of its tables, so that no later call reads them again. An open image
  * is closed first. OK, and then the image is open; otherwise it is closed: FAULT, with the first of 1 to 38; or MEMORY, but not if
  * the file has one of faults 1 to 15. */
-uint32_t petool_image_open(petool_image *image, const uint8_t *file, size_t len, petool_fault *fault);
+PETOOL_WARN_UNUSED uint32_t petool_image_open(petool_image *image, const uint8_t *file, size_t len, petool_fault *fault);
 
 /* Makes `other` another struct of the same image; if it is open, it is closed first. Each must be closed, and the last that is
  * frees the memory. OK, and then `other` is open if `image` is, and otherwise closed; or MEMORY, which leaves `other` closed, but
  * not if `image` is closed. */
-uint32_t petool_image_share(petool_image *image, petool_image *other);
+PETOOL_WARN_UNUSED uint32_t petool_image_share(petool_image *image, petool_image *other);
 void petool_image_close(petool_image *image);
 
 /* What petool_read, petool_read_text and petool_locate return for the image's file. OK; ABSENT; or CLOSED. Like the calls below,
  * they allocate nothing. *text must be initialized before. */
-uint32_t petool_image_read(petool_image *image, uint32_t rva, uint8_t *buffer, size_t count);
-uint32_t petool_image_read_text(petool_image *image, uint32_t rva, petool_text *text);
-uint32_t petool_image_locate(petool_image *image, uint32_t rva, uint64_t *offset);
+PETOOL_WARN_UNUSED uint32_t petool_image_read(petool_image *image, uint32_t rva, uint8_t *buffer, size_t count);
+PETOOL_WARN_UNUSED uint32_t petool_image_read_text(petool_image *image, uint32_t rva, petool_text *text);
+PETOOL_WARN_UNUSED uint32_t petool_image_locate(petool_image *image, uint32_t rva, uint64_t *offset);
 
 /* What one name or one ordinal exports, by an index that the image keeps. OK; ABSENT; or CLOSED. *target must be initialized
  * before. */
-uint32_t petool_image_export_by_name(petool_image *image, const uint8_t *name, size_t len, petool_target *target);
-uint32_t petool_image_export_by_ordinal(petool_image *image, uint32_t ordinal, petool_target *target);
+PETOOL_WARN_UNUSED uint32_t petool_image_export_by_name(petool_image *image, const uint8_t *name, size_t len,
+                                                        petool_target *target);
+PETOOL_WARN_UNUSED uint32_t petool_image_export_by_ordinal(petool_image *image, uint32_t ordinal, petool_target *target);
 
 /* The tables, in the order in which petool_exports and so on have them. OK; SMALL; or CLOSED. */
-uint32_t petool_image_exports(petool_image *image, petool_export *rows, size_t room, size_t *count);
-uint32_t petool_image_export_names(petool_image *image, petool_export *rows, size_t room, size_t *count);
-uint32_t petool_image_imports(petool_image *image, petool_import *rows, size_t room, size_t *count);
-uint32_t petool_image_fixups(petool_image *image, petool_fixup *rows, size_t room, size_t *count);
+PETOOL_WARN_UNUSED uint32_t petool_image_exports(petool_image *image, petool_export *rows, size_t room, size_t *count);
+PETOOL_WARN_UNUSED uint32_t petool_image_export_names(petool_image *image, petool_export *rows, size_t room, size_t *count);
+PETOOL_WARN_UNUSED uint32_t petool_image_imports(petool_image *image, petool_import *rows, size_t room, size_t *count);
+PETOOL_WARN_UNUSED uint32_t petool_image_fixups(petool_image *image, petool_fixup *rows, size_t room, size_t *count);
 
 /* ---- files at other bases ---- */
 
 /* The image's file for the base `base`, written to a buffer, whose length `room` must be `len`. OK; ARGUMENT if it is not; FAULT,
  * with the first of 1 to 15, 24 to 38, 44 to 46, 51 and 52; or MEMORY, but not if the file has one of faults 1 to 15. */
-uint32_t petool_rebase(const uint8_t *file, size_t len, uint64_t base, uint8_t *buffer, size_t room, petool_fault *fault);
+PETOOL_WARN_UNUSED uint32_t petool_rebase(const uint8_t *file, size_t len, uint64_t base, uint8_t *buffer, size_t room,
+                                          petool_fault *fault);
 
 /* ---- sets of images ---- */
 
@@ -317,8 +341,8 @@ typedef struct petool_binding {
 /* Checks a set, and returns what each import is bound to. With `known`, an import from a module that is not in the set is not a
  * fault. OK; SMALL; FAULT, with the first of the set, and for 50 the length of the cycle of forwarders in *cycle; or MEMORY, but
  * not if a name has a fault (41, 42), nor for a set without entries. */
-uint32_t petool_judge(const petool_entry *set, size_t entries, bool known, petool_binding *rows, size_t room, size_t *count,
-                      uint32_t *cycle, petool_fault *fault);
+PETOOL_WARN_UNUSED uint32_t petool_judge(const petool_entry *set, size_t entries, bool known, petool_binding *rows, size_t room,
+                                         size_t *count, uint32_t *cycle, petool_fault *fault);
 
 /* ---- a space: many images at their bases, kept between calls ---- */
 
@@ -337,18 +361,26 @@ typedef struct petool_space {
 
 #define PETOOL_SPACE_CLOSED {NULL, false}
 
+/* The same as a value. */
+static inline petool_space petool_space_closed(void)
+{
+    petool_space closed = PETOOL_SPACE_CLOSED;
+    return closed;
+}
+
 /* Maps a set: each image at its base, with its fields relocated and its imports bound. An open space is closed first. With
  * `known`, an import from a module that is not in the set is not a fault, and its slot keeps its bytes from the file.
  * OK, and then the space is open; otherwise it is closed: FAULT, with the first of the set, and for 50 the length of the cycle of
  * forwarders in *cycle; or MEMORY, but not if a name has a fault (41, 42). The files may be freed: the space holds its own
  * bytes. */
-uint32_t petool_space_map(petool_space *space, const petool_entry *set, size_t entries, bool known, uint32_t *cycle,
-                          petool_fault *fault);
+PETOOL_WARN_UNUSED uint32_t petool_space_map(petool_space *space, const petool_entry *set, size_t entries, bool known,
+                                             uint32_t *cycle, petool_fault *fault);
 void petool_space_close(petool_space *space);
 
 /* The bytes from an address on. OK; FAULT 54 if they do not all lie in one image, which leaves the buffer unchanged, but never for
  * 0 bytes; or CLOSED. */
-uint32_t petool_space_read(petool_space *space, uint64_t address, uint8_t *buffer, size_t len, petool_fault *fault);
+PETOOL_WARN_UNUSED uint32_t petool_space_read(petool_space *space, uint64_t address, uint8_t *buffer, size_t len,
+                                              petool_fault *fault);
 
 /* from describe/records.txt: moved */
 typedef struct petool_moved {
@@ -358,13 +390,14 @@ typedef struct petool_moved {
 
 /* Moves the image of an entry to another base: relocates its fields, and binds again the slots whose exports are in it. OK; FAULT,
  * with the first of 55 and 44 to 47, which changes nothing; or CLOSED. */
-uint32_t petool_space_move(petool_space *space, uint16_t image, uint64_t base, petool_moved *moved, petool_fault *fault);
+PETOOL_WARN_UNUSED uint32_t petool_space_move(petool_space *space, uint16_t image, uint64_t base, petool_moved *moved,
+                                              petool_fault *fault);
 
 /* The base of the image of an entry, and how many bytes it has. OK; ABSENT if there is no such image; or CLOSED. */
-uint32_t petool_space_image(petool_space *space, uint16_t image, uint64_t *base, uint32_t *size);
+PETOOL_WARN_UNUSED uint32_t petool_space_image(petool_space *space, uint16_t image, uint64_t *base, uint32_t *size);
 
 /* What each import is bound to. OK; SMALL; or CLOSED. */
-uint32_t petool_space_bindings(petool_space *space, petool_binding *rows, size_t room, size_t *count);
+PETOOL_WARN_UNUSED uint32_t petool_space_bindings(petool_space *space, petool_binding *rows, size_t room, size_t *count);
 
 /* ---- objects ---- */
 
@@ -435,25 +468,26 @@ static inline void petool_object_symbols_init(petool_object_symbol *rows, size_t
 }
 
 /* OK if the object has none of faults 61 to 72, otherwise FAULT. Allocates nothing. */
-uint32_t petool_object_check(const uint8_t *file, size_t len, petool_fault *fault);
+PETOOL_WARN_UNUSED uint32_t petool_object_check(const uint8_t *file, size_t len, petool_fault *fault);
 
 /* The COFF file header, and as many of the section headers as fit into the rows, each field as the file has it: number_of_sections
  * says how many there are. OK if the object has none of faults 61 to 72, otherwise FAULT. Allocates nothing. */
-uint32_t petool_object_headers(const uint8_t *file, size_t len, petool_object_header *header, petool_section_header *sections,
-                               size_t room, petool_fault *fault);
+PETOOL_WARN_UNUSED uint32_t petool_object_headers(const uint8_t *file, size_t len, petool_object_header *header,
+                                                  petool_section_header *sections, size_t room, petool_fault *fault);
 
 /* Its sections, and its symbols. OK; SMALL; or FAULT, with one of 61 to 72. They allocate memory to remember where names end;
  * without it, names are searched again. */
-uint32_t petool_object_sections(const uint8_t *file, size_t len, petool_object_section *rows, size_t room, size_t *count,
-                                petool_fault *fault);
+PETOOL_WARN_UNUSED uint32_t petool_object_sections(const uint8_t *file, size_t len, petool_object_section *rows, size_t room,
+                                                   size_t *count, petool_fault *fault);
 
-uint32_t petool_object_symbols(const uint8_t *file, size_t len, petool_object_symbol *rows, size_t room, size_t *count,
-                               petool_fault *fault);
+PETOOL_WARN_UNUSED uint32_t petool_object_symbols(const uint8_t *file, size_t len, petool_object_symbol *rows, size_t room,
+                                                  size_t *count, petool_fault *fault);
 
 /* The relocations of one section, counted from 0. OK; SMALL; ABSENT if there is no such section; or FAULT, with one of 61 to 72.
  * Allocates nothing. */
-uint32_t petool_object_relocations(const uint8_t *file, size_t len, size_t section, petool_object_relocation *rows, size_t room,
-                                   size_t *count, petool_fault *fault);
+PETOOL_WARN_UNUSED uint32_t petool_object_relocations(const uint8_t *file, size_t len, size_t section,
+                                                      petool_object_relocation *rows, size_t room, size_t *count,
+                                                      petool_fault *fault);
 
 /* The relocations of all sections, section by section, without the first `skipped` of them; the sections' rows say how many each
  * has. OK; SMALL; or FAULT, with one of 61 to 72; memory as for the sections. *count is the number of those after the skipped ones,
@@ -461,8 +495,9 @@ uint32_t petool_object_relocations(const uint8_t *file, size_t len, size_t secti
  * petool_object_sections, and one for each row that it fills. So to get all relocations, call this once, and not
  * petool_object_relocations for each section; with fewer rows, read in windows: skip 0, room, 2 * room, .. until a call returns
  * OK. */
-uint32_t petool_object_all_relocations(const uint8_t *file, size_t len, size_t skipped, petool_object_relocation *rows, size_t room,
-                                       size_t *count, petool_fault *fault);
+PETOOL_WARN_UNUSED uint32_t petool_object_all_relocations(const uint8_t *file, size_t len, size_t skipped,
+                                                          petool_object_relocation *rows, size_t room, size_t *count,
+                                                          petool_fault *fault);
 
 #ifdef __cplusplus
 } /* extern "C" */

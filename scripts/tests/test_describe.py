@@ -23,7 +23,7 @@ FAULT_CRATES = (
     "coff_object",
 )
 #: The crates that have words of commands, or only modules that are written.
-WORD_CRATES = ("pe_words", "pe_show")
+WORD_CRATES = ("pe_words", "pe_show", "pe_bench")
 COPIED = [
     "bindings/rust/petool/src/lib.rs",
     "README.md",
@@ -321,6 +321,7 @@ COMMANDS_WRITTEN = [
     ("crates/pe_words/src/commands.rt", "  3  reading or writing failed", "  4  reading or writing failed"),
     ("crates/pe_text/src/show_options.rt", "    pub imports: bool,", "    pub import: bool,"),
     ("crates/pe_text/src/show_options.rt", "        symbols: true,\n", ""),
+    ("crates/pe_bench/src/texts.rt", "    symbols: true,\n", ""),
 ]
 COMMANDS_COMPARED = [
     ("crates/pe_program/src/statuses.rt", "CUT: u8 = 5", "CUT: u8 = 6"),

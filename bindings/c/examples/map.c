@@ -18,8 +18,8 @@ static void show_images(petool_space *space, size_t images)
     for (i = 0; i < images; i++) {
         uint64_t base = 0;
         uint32_t size = 0;
-        petool_space_image(space, (uint16_t)i, &base, &size);
-        printf("image %zu at 0x%016" PRIx64 ", 0x%08" PRIx32 " bytes\n", i, base, size);
+        if (petool_space_image(space, (uint16_t)i, &base, &size) == PETOOL_OK)
+            printf("image %zu at 0x%016" PRIx64 ", 0x%08" PRIx32 " bytes\n", i, base, size);
     }
 }
 
@@ -29,14 +29,16 @@ static void show_slots(petool_space *space)
     petool_binding rows[8];
     size_t count = 0, i, k;
     memset(rows, 0, sizeof rows);
-    petool_space_bindings(space, rows, 8, &count);
+    if (petool_space_bindings(space, rows, 8, &count) == PETOOL_CLOSED)
+        return;
     for (i = 0; i < count && i < 8; i++) {
         petool_fault fault = {0, 0, 0, 0};
         uint64_t base = 0;
         uint32_t size = 0;
         uint8_t slot[4];
-        petool_space_image(space, (uint16_t)rows[i].image, &base, &size);
-        petool_space_read(space, base + rows[i].slot, slot, sizeof slot, &fault);
+        if (petool_space_image(space, (uint16_t)rows[i].image, &base, &size) != PETOOL_OK ||
+            petool_space_read(space, base + rows[i].slot, slot, sizeof slot, &fault) != PETOOL_OK)
+            continue;
         printf("slot of image %" PRIu32 " at 0x%08" PRIx32 ":", rows[i].image, rows[i].slot);
         for (k = 0; k < sizeof slot; k++)
             printf(" %02x", slot[k]);

@@ -70,7 +70,8 @@ static int write_images(petool_space *space, const petool_entry *set, size_t ima
         uint64_t base = 0, offset = set[i].base - lowest;
         uint32_t size = 0;
         int status;
-        petool_space_image(space, (uint16_t)i, &base, &size);
+        if (petool_space_image(space, (uint16_t)i, &base, &size) != PETOOL_OK)
+            continue;
         if (fseeko(out, (off_t)offset, SEEK_SET) != 0)
             return unwritten(path);
         status = write_bytes(space, base, size, path, out);
@@ -96,8 +97,8 @@ static int write_space(petool_space *space, const petool_entry *set, size_t imag
         status = unwritten(path);
     if (status != 0)
         return status;
-    petool_space_bindings(space, &none, 0, &bound);
-    printf("%zu slots are bound\n", bound);
+    if (petool_space_bindings(space, &none, 0, &bound) != PETOOL_CLOSED)
+        printf("%zu slots are bound\n", bound);
     return 0;
 }
 

@@ -232,9 +232,13 @@ static void check_closed(petool_image *image)
 /* A file cut at many lengths: with a fault the image is closed, even if another was open, and the fault is that of petool_check. */
 static void check_refused(void)
 {
-    petool_image image = PETOOL_IMAGE_CLOSED;
+    petool_image image = PETOOL_IMAGE_CLOSED, assigned;
     petool_fault fault = UNTOLD, first = UNTOLD;
     size_t len;
+    memset(&assigned, 0xa5, sizeof assigned);
+    assigned = petool_image_closed();
+    check_closed(&assigned);
+    petool_image_close(&assigned);
     check_closed(&image);
     petool_image_close(&image);
     check_closed(&image);

@@ -143,7 +143,7 @@ static void check_closed(petool_space *space)
 
 static void check_space(void)
 {
-    petool_space space = PETOOL_SPACE_CLOSED;
+    petool_space space = PETOOL_SPACE_CLOSED, assigned;
     petool_fault fault = {0, 0, 0, 0};
     petool_entry moving[1];
     petool_moved moved = {77, 77};
@@ -152,6 +152,10 @@ static void check_space(void)
     check_closed(&space);
     petool_space_close(&space);
     check_closed(&space);
+    memset(&assigned, 0xa5, sizeof assigned);
+    assigned = petool_space_closed();
+    check_closed(&assigned);
+    petool_space_close(&assigned);
     CHECK(petool_space_map(&space, abc, 3, false, &cycle, &fault) == PETOOL_OK);
     CHECK(space.is_open && cycle == 77 && fault.number == 0);
     check_reading(&space);

@@ -6,6 +6,15 @@ use pe_tool::{
 };
 use std::alloc::Global;
 
+/// A page with all rows of tables. The benchmark names them itself, since it is also built over commits without the constant.
+const WHOLE_PAGE: ShowOptions = ShowOptions {
+    exports: true,
+    imports: true,
+    relocations: true,
+    symbols: true,
+    is_coloured: false,
+};
+
 /// An engine.
 #[derive(Clone, Copy)]
 pub(crate) enum Engine {
@@ -29,18 +38,17 @@ fn write_text(
         Engine::Check => check(alloc, &mut reader, &mut writer),
         Engine::Dump => dump(alloc, &mut reader, &mut writer),
         Engine::Object => dump_object(alloc, &mut reader, &mut writer),
-        Engine::Page => show(
-            alloc,
-            b"made-up",
-            &ShowOptions::ALL_ROWS,
-            &mut reader,
-            &mut writer,
-        ),
+        Engine::Page => show(alloc, b"made-up", &WHOLE_PAGE, &mut reader, &mut writer),
         Engine::Json => json(alloc, b"made-up", &mut reader, &mut writer),
     }
 }
 
-/// Mixes in the output of an engine for a file, and the exit status.
+/// Whether two builds that are compared must have the same output: pages change with what people need.
+fn is_fixed(engine: Engine) -> bool {
+    !matches!(engine, Engine::Page)
+}
+
+/// Mixes in the exit status of an engine for a file, and the output unless it is a page.
 pub(crate) fn read_text(
     alloc: Global,
     digest: &mut Digest,
@@ -50,6 +58,8 @@ pub(crate) fn read_text(
     let mut text = Vec::with_capacity(alloc, 1 << 20).ok()?;
     let answer = write_text(alloc, engine, file, &mut text);
     digest.number(u64::from(status(&answer)));
-    digest.bytes(&text);
+    if is_fixed(engine) {
+        digest.bytes(&text);
+    }
     Some(())
 }

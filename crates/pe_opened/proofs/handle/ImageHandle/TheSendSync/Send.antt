@@ -28,6 +28,7 @@ use Rattle.pe_layout.specs.contracts.layout.Layout as layout
 use Rattle.pe_tables.specs.contracts.export_lookup.Exports as exports
 use Rattle.pe_tables.specs.contracts.name_index.NameIndex as name_index
 use Rattle.pe_tables.specs.contracts.text_map.TextMap as text_map
+use Rattle.pe_tables.specs.contracts.text_slots.TextSlots as text_slots
 use Rattle.pe_tables.specs.contracts.long_texts.LongTexts as long_texts
 use Rattle.pe_tables.specs.contracts.long_texts.Node as node
 use Rattle.pe_tables.specs.contracts.guesses.Guesses as guesses
@@ -65,6 +66,9 @@ guesses_send = search (crosses, sendable) depth 60 fits 20000
 text_map_send : IsSend (text_map.the_field static_lft global.the_row ghosts).row
 text_map_send = search (maps.crosses, crosses, sendable) depth 60 fits 20000
 
+text_slots_send : IsSend (text_slots.the_field static_lft global.the_row ghosts).row
+text_slots_send = search (target_send, crosses, sendable) depth 60 fits 20000
+
 node_send : IsSend (node.the_field static_lft global.the_row ghosts).row
 node_send = search (maps.crosses, crosses, sendable) depth 60 fits 20000
 
@@ -73,7 +77,7 @@ long_texts_send = search (node_send, maps.crosses, crosses, sendable) depth 60 f
 
 names_send : IsSend (name_index.the_field static_lft global.the_row ghosts).row
 names_send =
-    let all : AllSend (declared.fields (name_index.the_type static_lft global.the_row ghosts)) = (search (target_send, crosses, sendable) depth 60 fits 20000, (search (crosses, sendable) depth 60 fits 20000, (text_map_send, (long_texts_send, tt)))) in
+    let all : AllSend (declared.fields (name_index.the_type static_lft global.the_row ghosts)) = (search (target_send, crosses, sendable) depth 60 fits 20000, (search (crosses, sendable) depth 60 fits 20000, (text_map_send, (text_slots_send, (search sendable depth 20, (long_texts_send, tt)))))) in
     struct_send (declared.shape (name_index.the_type static_lft global.the_row ghosts)) all
 
 exports_send : IsSend (exports.the_field static_lft global.the_row ghosts).row
@@ -108,6 +112,9 @@ guesses_sync = search (crosses, sendable) depth 60 fits 20000
 text_map_sync : IsSync (text_map.the_field static_lft global.the_row ghosts).row
 text_map_sync = search (maps.crosses, crosses, sendable) depth 60 fits 20000
 
+text_slots_sync : IsSync (text_slots.the_field static_lft global.the_row ghosts).row
+text_slots_sync = search (target_sync, crosses, sendable) depth 60 fits 20000
+
 node_sync : IsSync (node.the_field static_lft global.the_row ghosts).row
 node_sync = search (maps.crosses, crosses, sendable) depth 60 fits 20000
 
@@ -116,7 +123,7 @@ long_texts_sync = search (node_sync, maps.crosses, crosses, sendable) depth 60 f
 
 names_sync : IsSync (name_index.the_field static_lft global.the_row ghosts).row
 names_sync =
-    let all : AllSync (declared.fields (name_index.the_type static_lft global.the_row ghosts)) = (search (target_sync, crosses, sendable) depth 60 fits 20000, (search (crosses, sendable) depth 60 fits 20000, (text_map_sync, (long_texts_sync, tt)))) in
+    let all : AllSync (declared.fields (name_index.the_type static_lft global.the_row ghosts)) = (search (target_sync, crosses, sendable) depth 60 fits 20000, (search (crosses, sendable) depth 60 fits 20000, (text_map_sync, (text_slots_sync, (search sendable depth 20, (long_texts_sync, tt)))))) in
     struct_sync (declared.shape (name_index.the_type static_lft global.the_row ghosts)) all
 
 exports_sync : IsSync (exports.the_field static_lft global.the_row ghosts).row
