@@ -1,15 +1,18 @@
 -- Files that look alike.
-use Rattle.std.proofs.Common.{◌≡◌, ℕ, ◌+◌, ◌<◌, ◌≤◌, ◌^◌, Bool, true, false, List, [], ◌∷◌, ◌++◌, length, drop, Some, refl, sym, ◌∙◌, ap, subst, arith, inl, inr, length-append, append_assoc}
-use Rattle.std.specs.Prelude.{◌⊎◌, ◌&&◌, ◌==◌, codes, min}
-use Rattle.std.proofs.lemmas.List.{take-append-drop}
+use Rattle.std.proofs.Common.{◌≡◌, ℕ, ◌+◌, ◌-◌, ◌<◌, ◌≤◌, ◌^◌, Bool, true, false, List, [], ◌∷◌, ◌++◌, length, take, drop, Some, Result, Ok, Err, refl, sym, ◌∙◌, ap, subst, arith, inl, inr, length-append, append_assoc, append-nil}
+use Rattle.std.specs.Prelude.{◌⊎◌, ◌&&◌, ◌==◌, codes, min, replicate}
+use Rattle.std.proofs.lemmas.List.{take-append-drop, length-replicate}
+use Rattle.std.proofs.Math.Seq.{take-append_seam}
 use Rattle.std.proofs.lemmas.Bool.{false≢true, cases_lt}
+use Rattle.pe_view.specs.declared.fault.Fault.{Fault}
+use Rattle.pe_view.specs.Faults.{Test, Answers}
 use Rattle.pe_head.specs.Head.{head_of}
 use Rattle.pe_text.specs.declared.file_beginning.FileKind.TheVariants.{Image}
 use Rattle.pe_head.specs.declared.headers.Headers.{Headers}
 use Rattle.pe_text.specs.FileKind.{begins_with, kind_of}
 use Rattle.pe_reach.specs.Reach.{Begins, Decide}
 use Rattle.pe_reach.specs.Views.{names_under, Show, IsSeen}
-use Rattle.pe_reach.specs.Settled.{IsSettled, Name, IsNamed}
+use Rattle.pe_reach.specs.Settled.{Settle, IsSettled, IsRead, Name, IsNamed}
 
 -- ---- the first two bytes
 kind_of_mark : (file : List ℕ) → begins_with file (codes "MZ") ≡ true → kind_of file ≡ Some Image
@@ -31,7 +34,7 @@ mark_of len bytes file b mark =
 
 -- ---- what was read
 -- bytes that decide the answers and the names
-shown : (len : ℕ) (bytes : List ℕ) → begins_with bytes (codes "MZ") ≡ true → Decide len bytes → Name len bytes → Show len bytes
+shown : (len : ℕ) (bytes : List ℕ) → begins_with bytes (codes "MZ") ≡ true → Decide len bytes → Name len bytes (head_of bytes) → Show len bytes
 shown len bytes mark decide name = λ file b.
     let same = decide file b in
     record {
@@ -41,32 +44,64 @@ shown len bytes mark decide name = λ file b.
       names = ap (λ h. names_under file h) same.headers ∙ name.names file b;
     }
 
--- bytes that were read after those that decide the answers, as far as the names need it
-seen_part : (len : ℕ) (first more : List ℕ) → IsSettled len first → length (first ++ more) < 2 ^ 32 + 1 → IsNamed len (first ++ more) → Show len (first ++ more)
-seen_part len first more settled few (inl large) = absurd (omega arith)
-seen_part len first more (inl large) few (inr name) = absurd (omega (arith, large, length-append first more))
-seen_part len first more (inr settle) few (inr name) =
-    shown len (first ++ more) (mark_append first more settle.mark) (settle.decides more name.fits) name
+-- more bytes leave the headers as they are
+head_grows : (len : ℕ) (first more : List ℕ) → Settle len first → length (first ++ more) ≤ len → head_of (first ++ more) ≡ head_of first
+head_grows len first more settle fits =
+    let rest : List ℕ = replicate (len - length (first ++ more)) 0 in
+    let file : List ℕ = (first ++ more) ++ rest in
+    let size : length file ≡ len = omega (arith, length-append (first ++ more) rest, length-replicate {A = ℕ} (len - length (first ++ more)) 0, fits) in
+    let all : Decide len (first ++ more) = settle.decides more fits in
+    let some : Decide len first = subst (λ (l : List ℕ). Decide len l) (append-nil first) (settle.decides [] (omega (arith, settle.fits, ap (λ (l : List ℕ). length l) (append-nil first)))) in
+    let with_all = all file (record { size = size; begins = take-append_seam (first ++ more) rest }) in
+    let with_some = some file (record { size = size; begins = ap (λ (l : List ℕ). take (length first) l) (append_assoc first more rest) ∙ take-append_seam first (more ++ rest) }) in
+    sym with_all.headers ∙ with_some.headers
 
--- the names that some bytes decide under their headers
-pub named : (len : ℕ) (bytes : List ℕ) (h : Headers) (end : ℕ) → h ≡ head_of bytes → length bytes ≤ len → min end (2 ^ 32 + 1) ≤ length bytes
-    → (end ≤ length bytes → (file : List ℕ) → Begins bytes len file → names_under file h ≡ names_under bytes h) → IsNamed len bytes
-named len bytes h end is fits reach enough =
+-- the headers of bytes, if they have no fault
+abbrev pub HeadOf : List ℕ → Result Headers Fault → Type 0
+HeadOf bytes (Ok h) = h ≡ head_of bytes
+HeadOf bytes (Err fault) = Unit {0}
+
+pub head_read : (tests : List Test) (bytes : List ℕ) (headers : Result Headers Fault) → Answers tests (λ (h : Headers). h ≡ head_of bytes) headers → HeadOf bytes headers
+head_read tests bytes (Ok h) read = read.1
+head_read tests bytes (Err fault) read = tt
+
+-- what is known of what was read, by whether its end was seen
+pub read_whole : (b ended : Bool) (len : ℕ) (bytes : List ℕ) → IsRead b ended len bytes → b ≡ true → ended ≡ true
+read_whole true ended len bytes read is = read
+read_whole false ended len bytes read is = absurd (false≢true is)
+
+pub read_part : (b ended : Bool) (len : ℕ) (bytes : List ℕ) → IsRead b ended len bytes → b ≡ false → IsSettled len bytes
+read_part true ended len bytes read is = absurd (false≢true (sym is))
+read_part false ended len bytes read is = read
+
+-- bytes that were read after those that decide the answers, as far as the names need it
+seen_part : (len : ℕ) (first more : List ℕ) (headers : Result Headers Fault) → HeadOf first headers → IsSettled len first → length (first ++ more) < 2 ^ 32 + 1 → IsNamed len (first ++ more) headers → Show len (first ++ more)
+seen_part len first more (Err fault) head settled few name = absurd (omega arith)
+seen_part len first more (Ok h) head settled few (inl large) = absurd (omega arith)
+seen_part len first more (Ok h) head (inl large) few (inr name) = absurd (omega (arith, large, length-append first more))
+seen_part len first more (Ok h) head (inr settle) few (inr name) =
+    let same : h ≡ head_of (first ++ more) = head ∙ sym (head_grows len first more settle name.fits) in
+    shown len (first ++ more) (mark_append first more settle.mark) (settle.decides more name.fits) (subst (λ (k : Headers). Name len (first ++ more) k) same name)
+
+-- the names that some bytes decide under these headers
+pub named : (len : ℕ) (bytes : List ℕ) (h : Headers) (end : ℕ) → length bytes ≤ len → min end (2 ^ 32 + 1) ≤ length bytes
+    → (end ≤ length bytes → (file : List ℕ) → Begins bytes len file → names_under file h ≡ names_under bytes h) → (2 ^ 32 + 1 ≤ length bytes) ⊎ Name len bytes h
+named len bytes h end fits reach enough =
     elim (cases_lt (length bytes) end) [
       | inl lt ↦ inl (omega (arith, reach, lt))
-      | inr le ↦ inr (record { fits = fits; names = λ file b. rw is at (enough le file b) })
+      | inr le ↦ inr (record { fits = fits; names = enough le })
     ]
 
 -- what was read when no more is wanted, and the size that is told
-pub seen : (ended : Bool) (len : ℕ) (first more bytes : List ℕ) (told : ℕ) → bytes ≡ first ++ more → IsSettled len first → length bytes ≤ 2 ^ 32 + 1 → IsNamed len bytes
+pub seen : (ended : Bool) (len : ℕ) (first more bytes : List ℕ) (headers : Result Headers Fault) (told : ℕ) → bytes ≡ first ++ more → HeadOf first headers → IsSettled len first → length bytes ≤ 2 ^ 32 + 1 → IsNamed len bytes headers
     → ((length bytes ≡ 2 ^ 32 + 1) × (told ≡ length bytes)) ⊎ ((length bytes ≡ 2 ^ 32 + 1 → ⊥) × (told ≡ len)) → IsSeen ended len (first ++ more) told
-seen ended len first more bytes told is settled few name (inl whole) =
+seen ended len first more bytes headers told is head settled few name (inl whole) =
     let size : length bytes ≡ length (first ++ more) = ap (λ (l : List ℕ). length l) is in
     inl (inr (omega (arith, size, whole.0)), omega (arith, size, whole.1))
-seen ended len first more bytes told is settled few name (inr part) =
+seen ended len first more bytes headers told is head settled few name (inr part) =
     let size : length bytes ≡ length (first ++ more) = ap (λ (l : List ℕ). length l) is in
     let less : length (first ++ more) < 2 ^ 32 + 1 = omega (arith, size, few, part.0) in
-    inr (seen_part len first more settled less (subst (λ (l : List ℕ). IsNamed len l) is name), part.1)
+    inr (seen_part len first more headers head settled less (subst (λ (l : List ℕ). IsNamed len l headers) is name), part.1)
 
 -- two reads, one after the other
 pub reads_on : (given given' given'' input more bytes : List ℕ) → given' ≡ given ++ input → given'' ≡ given' ++ more → bytes ≡ input ++ more → given'' ≡ given ++ bytes

@@ -1,6 +1,7 @@
 -- Which first bytes decide what a view sees of a file, while it is read. No contract of a public function cites it.
-use Rattle.std.specs.Prelude.{ℕ, ◌≡◌, ◌+◌, ◌≤◌, ◌^◌, ◌⊎◌, Bool, true, false, List, ◌++◌, length, codes}
-use Rattle.pe_head.specs.Head.{head_of}
+use Rattle.std.specs.Prelude.{ℕ, ◌≡◌, ◌+◌, ◌≤◌, ◌^◌, ◌⊎◌, Bool, true, false, List, ◌++◌, length, codes, Result, Ok, Err}
+use Rattle.pe_view.specs.declared.fault.Fault.{Fault}
+use Rattle.pe_head.specs.declared.headers.Headers.{Headers}
 use Rattle.pe_text.specs.FileKind.{begins_with}
 use Rattle.pe_reach.specs.Reach.{Begins, Decide}
 use Rattle.pe_reach.specs.Views.{names_under}
@@ -20,11 +21,12 @@ abbrev pub IsRead : Bool → Bool → ℕ → List ℕ → Type 0
 IsRead true ended len bytes = ended ≡ true
 IsRead false ended len bytes = IsSettled len bytes
 
--- bytes decide the names of sections for each file of a length that begins with them
-pub record Name (len : ℕ) (bytes : List ℕ) : Type 0 where
+-- bytes decide the names of sections for each file of a length that begins with them, under these headers
+pub record Name (len : ℕ) (bytes : List ℕ) (h : Headers) : Type 0 where
   pub fits : length bytes ≤ len
-  pub names : (file : List ℕ) → Begins bytes len file → names_under file (head_of bytes) ≡ names_under bytes (head_of bytes)
+  pub names : (file : List ℕ) → Begins bytes len file → names_under file h ≡ names_under bytes h
 
--- what was read as far as the names of sections need it
-abbrev pub IsNamed : ℕ → List ℕ → Type 0
-IsNamed len bytes = (2 ^ 32 + 1 ≤ length bytes) ⊎ Name len bytes
+-- what was read as far as the names of sections need it, under these headers
+abbrev pub IsNamed : ℕ → List ℕ → Result Headers Fault → Type 0
+IsNamed len bytes (Ok h) = (2 ^ 32 + 1 ≤ length bytes) ⊎ Name len bytes h
+IsNamed len bytes (Err fault) = 2 ^ 32 + 1 ≤ length bytes

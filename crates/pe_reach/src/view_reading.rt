@@ -10,9 +10,9 @@ use crate::names::names_end;
 use crate::reach::needed;
 use crate::reading::read_begin;
 use crate::view_file::ViewFile;
-use pe_head::read_headers;
+use pe_head::{Headers, read_headers};
 use pe_text::{READ_LIMIT, ReadBytes, Source, ToolError, read_up_to};
-use pe_view::View;
+use pe_view::{Fault, View};
 use std::alloc::Allocator;
 
 /// What was read of a file for a view.
@@ -26,6 +26,15 @@ pub struct ViewBytes<A: Allocator> {
 
 impl<A: Allocator> ViewBytes<A> {
     ghost use Rattle.pe_reach.specs.Views.{seen_of, told_of};
+
+    /// A file of which all bytes were read.
+    fn whole(bytes: Vec<u8, A>) -> ViewBytes<A>
+        ensures bytes { bytes_read result ≡ bytes.items }
+        ensures size { size_told result ≡ length bytes.items }
+    {
+        let len = bytes.len() as u64;
+        ViewBytes { bytes, len }
+    }
 
     /// The file.
     pub fn file(&self) -> ViewFile<'_>
@@ -76,17 +85,16 @@ fn read_image<A: Allocator + Copy, R: Source>(
     read_up_to(reader, first.bytes, limit)
 }
 
-/// How many bytes of a file of `len` bytes that begins with these are wanted for the names of its sections.
-fn names_limit(begin: &[u8], len: u64) -> usize
+/// How many bytes of a file of `len` bytes that begins with these, and has these headers, are wanted for the names of its sections.
+fn names_limit(begin: &[u8], headers: &Result<Headers, Fault>, len: u64) -> usize
     ensures most { result ≤ 2 ^ 32 + 1 }
-    ensures named { result ≤ length begin.now → IsNamed len begin.now }
+    ensures named { result ≤ length begin.now → IsNamed len begin.now headers.now }
 {
-    if begin.len() as u64 > len {
-        return READ_LIMIT;
-    }
-    match read_headers(View::new(begin), 0) {
-        Ok(headers) => names_end(begin, &headers, len).min(READ_LIMIT as u64) as usize,
-        Err(_) => READ_LIMIT,
+    match headers {
+        Ok(headers) if begin.len() as u64 <= len => {
+            names_end(begin, headers, len).min(READ_LIMIT as u64) as usize
+        }
+        _ => READ_LIMIT,
     }
 }
 
@@ -105,10 +113,14 @@ fn read_names<A: Allocator + Copy, R: Source>(
         (λ seen. (bytes_read seen ≡ read.bytes.items ++ more) × IsSeen (R.ended reader.new) len (read.bytes.items ++ more) (size_told seen) × (R.failures reader.new ≡ R.failures reader.old))
         (FailsAfter (read.bytes.items ++ more) (R.failures reader.old) (R.failures reader.new)) }
 {
+    if read.has_ended {
+        return Ok(ViewBytes::whole(read.bytes));
+    }
+    let headers = read_headers(View::new(&read.bytes), 0);
     let mut bytes = read.bytes;
-    let mut has_ended = read.has_ended;
+    let mut has_ended = false;
     while !has_ended {
-        let limit = names_limit(&bytes, len);
+        let limit = names_limit(&bytes, &headers, len);
         if limit <= bytes.len() {
             let is_whole = bytes.len() == READ_LIMIT;
             let len = if is_whole { bytes.len() as u64 } else { len };
@@ -118,8 +130,7 @@ fn read_names<A: Allocator + Copy, R: Source>(
         bytes = more.bytes;
         has_ended = more.has_ended;
     }
-    let len = bytes.len() as u64;
-    Ok(ViewBytes { bytes, len })
+    Ok(ViewBytes::whole(bytes))
 }
 
 /// Reads as many first bytes of a file of `len` bytes as decide what views show of it. Of an image these are the bytes before the
