@@ -256,46 +256,6 @@ fn check_form<A: Allocator + Copy>(
     Ok(size as usize)
 }
 
-/// Adds the COFF header, the optional header and the section table of an object without a fault.
-fn push_headers<A: Allocator + Copy>(
-    bytes: &mut Vec<u8, A>,
-    object: &Object<A>,
-    places: &NamePlaces<A>,
-) -> Result<(), AllocError>
-    requires places { ArePlacesOf (object_view object.now) places.now }
-    requires form { IsWritable (object_view object.now) }
-    ensures fits { OnOk result (HeaderFits (object_view object.now) × AllByRecursion SectionFits (object_view object.now).sections) }
-    ensures bytes { OnOk result (bytes.new.items ≡ bytes.old.items ++ coff_header (object_view object.now) ++ (object_view object.now).optional
-        ++ section_table (texts_in places.now.strings) (bodies_start (object_view object.now)) (object_view object.now).sections) }
-{
-    push_coff_header(bytes, object, symbols_pointer(object, &places.strings))?;
-    bytes.extend_from_slice(object.optional)?;
-    push_table(
-        bytes,
-        places,
-        bodies_start(object),
-        object.sections.as_slice(),
-    )
-}
-
-/// Adds the bodies of sections, the symbols and the string table of an object without a fault.
-fn push_contents<A: Allocator + Copy>(
-    bytes: &mut Vec<u8, A>,
-    object: &Object<A>,
-    places: &NamePlaces<A>,
-) -> Result<(), AllocError>
-    requires places { ArePlacesOf (object_view object.now) places.now }
-    requires form { IsWritable (object_view object.now) }
-    ensures fits { OnOk result (AllByRecursion RelocationsFit (object_view object.now).sections × AllByRecursion SymbolFits (object_view object.now).symbols) }
-    ensures bytes { OnOk result (bytes.new.items ≡ bytes.old.items ++ flat_map section_body (object_view object.now).sections
-        ++ flat_map (symbol_bytes (texts_in places.now.strings)) (object_view object.now).symbols ++ string_table (object_view object.now)) }
-{
-    push_bodies(bytes, object.sections.as_slice())?;
-    push_symbols(bytes, places, object.symbols.as_slice())?;
-    push_strings(bytes, object, &places.strings)?;
-    Ok(())
-}
-
 /// The file of an object without a fault, of `size` bytes, which are allocated at once.
 fn write_parts<A: Allocator + Copy>(
     alloc: A,
@@ -309,8 +269,21 @@ fn write_parts<A: Allocator + Copy>(
     ensures bytes { IfOk result (λ bytes. bytes.items ≡ canon (object_view object.now)) }
 {
     let mut bytes = Vec::with_capacity(alloc, size)?;
-    push_headers(&mut bytes, object, places)?;
-    push_contents(&mut bytes, object, places)?;
+    push_coff_header(
+        &mut bytes,
+        object,
+        symbols_pointer(object, &places.strings),
+    )?;
+    bytes.extend_from_slice(object.optional)?;
+    push_table(
+        &mut bytes,
+        places,
+        bodies_start(object),
+        object.sections.as_slice(),
+    )?;
+    push_bodies(&mut bytes, object.sections.as_slice())?;
+    push_symbols(&mut bytes, places, object.symbols.as_slice())?;
+    push_strings(&mut bytes, object, &places.strings)?;
     Ok(bytes)
 }
 
