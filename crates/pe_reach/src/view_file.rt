@@ -18,9 +18,9 @@ use std::alloc::Allocator;
 
 /// A file as views see it: its size, and the bytes that decide what they show of it.
 ///
-/// Of an image these may be only a beginning, so a view can ask for nothing but its headers, its laid-out image with the tables, the
-/// names of its sections, and the numbers of a fault: these are the same for each file of this size that begins so. Of an object
-/// they are all.
+/// Of an image these may be only a beginning, so a view can ask for nothing but its headers, its laid-out image with the tables,
+/// the names of its sections, and the numbers of a fault: these are the same for each file of this size that begins so. Of an
+/// object they are all.
 #[derive(Clone, Copy)]
 pub struct ViewFile<'a> {
     bytes: &'a [u8],

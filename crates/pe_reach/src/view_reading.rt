@@ -134,8 +134,8 @@ fn read_names<A: Allocator + Copy, R: Source>(
 }
 
 /// Reads as many first bytes of a file of `len` bytes as decide what views show of it. Of an image these are the bytes before the
-/// end that its headers name, as [`read_enough`](crate::read_enough) says, at least 4,096 if the file has as many; and, if a name of
-/// a section may be in the string table, those before the table's end. A file that does not begin with `MZ`, or of which
+/// end that its headers name, as [`read_enough`](crate::read_enough) says, at least 4,096 if the file has as many; and, if a name
+/// of a section may be in the string table, those before the table's end. A file that does not begin with `MZ`, or of which
 /// [`needed`] returns `None`, is read whole: to its end, or to 2^32 + 1 bytes.
 ///
 /// The errors and the condition are those of [`read_enough`](crate::read_enough).
