@@ -1,4 +1,4 @@
-//! `SectionHeader`: a row of the section table, of an image or an object, with its flags and its sizes in the image and in the file.
+//! `SectionHeader`: a row of the section table, of an image or an object, with its flags and its sizes in image and file.
 
 use crate::fields::{u16_in, u32_in};
 use pe_view::View;

@@ -91,8 +91,8 @@ impl<'a> Layout<'a> {
         }
     }
 
-    /// The bytes from an RVA on that come from the file in one run, of the headers or of a section's raw data: none in zero fill, in
-    /// a gap, and outside the image. A table whose records are read there is never longer than the file.
+    /// The bytes from an RVA on that come from the file in one run, of the headers or of a section's raw data: none in zero fill,
+    /// in a gap, and outside the image. A table whose records are read there is never longer than the file.
     #[tactic(auto, unfolding(crate::specs::Layout::image_of))]
     pub fn raw_bytes(&self, rva: u32) -> &'a [u8]
         ensures bytes { result.now ≡ bytes_at (image_of self.now) rva (length result.now) }

@@ -93,8 +93,8 @@ fn shown_words(alloc: Global, words: &[String]) -> Result<Vec<String>, AllocErro
     Ok(shown)
 }
 
-/// Why words as messages show them describe no job. They describe none if the words themselves don't: an escape makes no value valid,
-/// and changes no `-`, `=` or `/`.
+/// Why words as messages show them describe no job. They describe none if the words themselves don't: an escape makes no value
+/// valid, and changes no `-`, `=` or `/`.
 fn refusal_of(alloc: Global, shown: &[String]) -> WordsError {
     match parse_words(alloc, shown) {
         Err(error) => error,

@@ -19,8 +19,8 @@ use std::{fs, str};
 /// The size of the room for the line, in bytes.
 const LINE_ROOM: usize = 1 << 8;
 
-/// Writes the file of an image for another base to the target, and its line into the room for it. Returns the engine's result, and how
-/// long the line is.
+/// Writes the file of an image for another base to the target, and its line into the room for it. Returns the engine's result, and
+/// how long the line is.
 fn rebase_into<A: Allocator + Copy>(
     alloc: A,
     base: u64,
@@ -88,8 +88,8 @@ fn path_of<'a>(word: &'a str, stream: &'static str) -> &'a str {
     if word == "-" { stream } else { word }
 }
 
-/// Whether source and target are one file, also by links. Streams are one file only if that is a regular file, since two may come from
-/// and go to one terminal. What is not there is no file.
+/// Whether source and target are one file, also by links. Streams are one file only if that is a regular file, since two may come
+/// from and go to one terminal. What is not there is no file.
 fn is_same_file(rt: &impl Files, source: &str, target: &str) -> bool {
     let is_stream = source == "-" || target == "-";
     let from = fs::metadata(rt, path_of(source, "/dev/stdin"));
@@ -153,8 +153,8 @@ fn tell_rebase<F: Read, S: Read>(
     status
 }
 
-/// Writes the file of an image for another base, then its line, which thus means that the file is in its place, and returns the exit
-/// status.
+/// Writes the file of an image for another base, then its line, which thus means that the file is in its place, and returns the
+/// exit status.
 fn rebase_file<R: Files + Print + Eprint + Alloc, S: Read + Drop>(
     rt: &R,
     base: u64,

@@ -24,8 +24,8 @@ enum Opened<F, A: Allocator> {
 
 /// The output at a path, or standard output for the path `-`. It keeps the error of the call that failed.
 ///
-/// The file at the path is as it was until [`Target::finish`] replaces it by the new one, whole. Links to it stay, and lead to the new
-/// file.
+/// The file at the path is as it was until [`Target::finish`] replaces it by the new one, whole. Links to it stay, and lead to the
+/// new file.
 #[derive(Drop)]
 pub(crate) struct Target<'a, R: Files + Alloc> {
     rt: &'a R,

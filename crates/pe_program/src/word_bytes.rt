@@ -1,8 +1,8 @@
 //! Words of the command line that are not UTF-8, as strings.
 //!
-//! A string cannot have such a word's bytes. So a byte that is not part of UTF-8 becomes a zero byte, which no word of a command line
-//! has, and the character of the byte's number, U+0080 to U+00FF. All other bytes stay as they are, so that `=` and `/` are found where
-//! they are in the word.
+//! A string cannot have such a word's bytes. So a byte that is not part of UTF-8 becomes a zero byte, which no word of a command
+//! line has, and the character of the byte's number, U+0080 to U+00FF. All other bytes stay as they are, so that `=` and `/` are
+//! found where they are in the word.
 
 ghost use Rattle.std.specs.Prelude.{◌≡◌, ◌<◌, ◌≤◌, ◌∷◌, ◌++◌, ◌==◌, ℕ, List, [], length, drop, All, IfOk, IsOk, string_bytes, false};
 ghost use Rattle.std.specs.Cow.{cow_slice_items};

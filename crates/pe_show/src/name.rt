@@ -162,8 +162,8 @@ fn write_quoted<W: fmt::Write>(f: &mut fmt::Formatter<W>, name: &[u8]) -> fmt::R
     f.write_str("\"")
 }
 
-/// A name, which is displayed as a page shows it: at most its first 4,096 bytes; as they are if they are UTF-8 that may be written to
-/// a terminal, not empty, and do not begin with a quote; otherwise in quotes, with `\x` and two digits for each byte that is not
+/// A name, which is displayed as a page shows it: at most its first 4,096 bytes; as they are if they are UTF-8 that may be written
+/// to a terminal, not empty, and do not begin with a quote; otherwise in quotes, with `\x` and two digits for each byte that is not
 /// printable ASCII, a quote or a backslash.
 #[derive(Clone, Copy)]
 pub struct ShownName<'a>(pub &'a [u8]);

@@ -175,8 +175,8 @@ fn widths_of(object: &ObjectFile, sections: &[FileSection]) -> Widths {
     }
 }
 
-/// Adds a row for each symbol of an object and for each of its auxiliary records, with the index of its record, if the options select
-/// them.
+/// Adds a row for each symbol of an object and for each of its auxiliary records, with the index of its record, if the options
+/// select them.
 pub(crate) fn write_symbols<A: Allocator + Copy, W: Sink>(
     alloc: A,
     text: &mut TextWriter<W>,

@@ -114,8 +114,8 @@ fn name_of(path: &str) -> &str {
     }
 }
 
-/// The base of a word, with its path and its module's name, unless one of these is missing; `nameless` is what to say if that is the
-/// name.
+/// The base of a word, with its path and its module's name, unless one of these is missing; `nameless` is what to say if that is
+/// the name.
 fn checked_parts<'a>(
     base: &str,
     path: &'a str,
