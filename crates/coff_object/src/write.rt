@@ -269,11 +269,7 @@ fn write_parts<A: Allocator + Copy>(
     ensures bytes { IfOk result (λ bytes. bytes.items ≡ canon (object_view object.now)) }
 {
     let mut bytes = Vec::with_capacity(alloc, size)?;
-    push_coff_header(
-        &mut bytes,
-        object,
-        symbols_pointer(object, &places.strings),
-    )?;
+    push_coff_header(&mut bytes, object, symbols_pointer(object, &places.strings))?;
     bytes.extend_from_slice(object.optional)?;
     push_table(
         &mut bytes,
