@@ -1,6 +1,7 @@
 /*
- * Each allocation of each call fails in turn: the call returns that it is out of memory, leaves its results unchanged, and frees
- * all of its memory. The linker replaces malloc, realloc and free with the functions below.
+ * Each allocation of each call fails in turn, and all after it: the call returns that it is out of memory, leaves its results
+ * unchanged, and frees all of its memory; or, if only memory was refused that it can do without, it succeeds. The linker replaces
+ * malloc, realloc and free with the functions below.
  */
 #include "check.h"
 
@@ -167,8 +168,11 @@ static uint32_t map_over(void)
     return status;
 }
 
-/* Runs a call with each of its allocations failing in turn. */
-static void refuse_each(const char *name, uint32_t (*call)(void))
+/* The names of vr.dll do not ascend. To sort them takes three vectors; a call that lacks one of these looks each name up instead. */
+enum { SORTING = 3 };
+
+/* Runs a call with each of its allocations failing in turn, of which it can do without the last few. */
+static void refuse_each(const char *name, uint32_t (*call)(void), long spare)
 {
     long before = living, all, k;
     asked = 0;
@@ -183,9 +187,12 @@ static void refuse_each(const char *name, uint32_t (*call)(void))
         asked = 0;
         status = call();
         room = -1;
-        CHECK(status == PETOOL_MEMORY && fault.number == 0x5a5a && count == 99 && living == before);
+        if (k < all - spare)
+            CHECK(status == PETOOL_MEMORY && fault.number == 0x5a5a && count == 99);
+        else
+            CHECK(status == PETOOL_OK);
         /* those before it succeeded */
-        CHECK(asked > k);
+        CHECK(living == before && asked > k);
     }
     printf("%s: each of %ld growths refused\n", name, all);
 }
@@ -230,20 +237,20 @@ int main(int argc, char **argv)
     vr = file_in(argv[1], "vr.dll");
     v2 = file_in(argv[1], "v2.dll");
     set_abc(abc, va, vb, vc);
-    refuse_each("petool_check", judge_file);
-    refuse_each("petool_exports", read_exports);
-    refuse_each("petool_export_names", read_names);
-    refuse_each("petool_imports", read_imports);
-    refuse_each("petool_fixups", read_fixups);
-    refuse_each("petool_export_by_name", find_name);
-    refuse_each("petool_export_by_ordinal", find_ordinal);
-    refuse_each("petool_image_open", open_file);
-    refuse_each("petool_image_open over an open image", open_over);
-    refuse_each("petool_image_share", share_image);
-    refuse_each("petool_rebase", move_file);
-    refuse_each("petool_judge", judge_set);
-    refuse_each("petool_space_map", map_set);
-    refuse_each("petool_space_map over an open space", map_over);
+    refuse_each("petool_check", judge_file, 0);
+    refuse_each("petool_exports", read_exports, SORTING);
+    refuse_each("petool_export_names", read_names, SORTING);
+    refuse_each("petool_imports", read_imports, 0);
+    refuse_each("petool_fixups", read_fixups, 0);
+    refuse_each("petool_export_by_name", find_name, SORTING);
+    refuse_each("petool_export_by_ordinal", find_ordinal, SORTING);
+    refuse_each("petool_image_open", open_file, 0);
+    refuse_each("petool_image_open over an open image", open_over, 0);
+    refuse_each("petool_image_share", share_image, 0);
+    refuse_each("petool_rebase", move_file, 0);
+    refuse_each("petool_judge", judge_set, 0);
+    refuse_each("petool_space_map", map_set, 0);
+    refuse_each("petool_space_map over an open space", map_over, 0);
     check_opened();
     free(va.at), free(vb.at), free(vc.at), free(vr.at), free(v2.at);
     return told();
