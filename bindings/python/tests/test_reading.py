@@ -31,6 +31,9 @@ TAILS = [b"", b"\xff", b"MZ" * 5000]
 #: have a fault (22), and not its section (13).
 LARGE = library([b"module." + b"x" * (1 << 18)] * 16)
 
+#: The row of a page that says what a file has after its sections.
+OVERLAY = re.compile(rb"  Overlay .*\n")
+
 #: How many bytes are read of a file before its headers are looked at.
 FIRST = 4096
 
@@ -151,7 +154,14 @@ class Reading(unittest.TestCase):
             os.truncate(self.path, 1 << 30)
             self.assertEqual({command: self.by_path(command, **limited) for command in SIZELESS}, texts)
             sizes = (b" %s bytes\n" % format(size, ",").encode() for size in (len(file), 1 << 30))
-            self.assertEqual(self.by_path("show", **limited), (page[0], page[1].replace(*sizes, 1), page[2]))
+            status, printed, complained = self.by_path("show", **limited)
+            self.assertEqual(
+                (status, OVERLAY.sub(b"", printed), complained),
+                (page[0], OVERLAY.sub(b"", page[1]).replace(*sizes, 1), page[2]),
+            )
+            after = (1 << 30) - len(LIBRARY)
+            row = f"  Overlay      {after:,} bytes after the sections, from file {len(LIBRARY):#x}\n"
+            self.assertEqual(OVERLAY.findall(printed), [row.encode()])
             self.assertEqual(self.by_path("object", **limited)[0], 4)
 
     def test_long_files_that_are_no_images_take_no_memory(self):
