@@ -1,7 +1,7 @@
 -- Texts to which bytes are added, and what is written in the end.
-use Rattle.std.proofs.Common.{ℕ, List, [], ◌++◌, ◌≡◌, ◌∙◌, ◌+◌, refl, append_assoc, append-nil}
+use Rattle.std.proofs.Common.{ℕ, List, [], ◌++◌, ◌≡◌, ◌∙◌, ◌+◌, append_assoc, append-nil}
 use Rattle.pe_text.specs.declared.text_writer.TextWriter.{TextWriter}
-use Rattle.pe_text.specs.TextWriter.{IsBeginning, IsFresh, IsReady, Stands, Adds}
+use Rattle.pe_text.specs.TextWriter.{IsBeginning, IsFresh, Stands, Adds}
 use Rattle.pe_text.proofs.Adding.{Stands-fresh}
 use Rattle.pe_json.specs.Growing.{Stood, Grows}
 

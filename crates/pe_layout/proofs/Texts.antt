@@ -1,14 +1,14 @@
 -- The strings of an image are parts of its file.
-use Rattle.std.proofs.Common.{◌≡◌, ℕ, zero, suc, ◌+◌, ◌-◌, ◌<◌, ◌≤◌, Bool, true, false, cond, List, [], ◌++◌, length, Option, Some, None, refl, sym, ap, ◌∙◌, arith, inl, inr}
+use Rattle.std.proofs.Common.{◌≡◌, ℕ, zero, suc, ◌+◌, ◌-◌, ◌<◌, ◌≤◌, Bool, true, false, cond, List, ◌++◌, length, Option, Some, None, refl, sym, ap, ◌∙◌, arith, inl, inr}
 use Rattle.std.specs.Prelude.{nat_lt, nat_le, replicate, option_map, IsSome, IfSome, if◌then◌else◌}
 use Rattle.std.specs.Option.{option_or}
-use Rattle.std.proofs.lemmas.Bool.{lt-ltb, le-ltb, le-leb, lt-leb, ltb-true, ltb-false, cases_lt}
+use Rattle.std.proofs.lemmas.Bool.{lt-ltb, le-ltb, le-leb, lt-leb, ltb-true, cases_lt}
 use Rattle.pe_view.specs.Number.{part}
 use Rattle.pe_view.specs.Text.{zero_ended, text_between}
 use Rattle.pe_head.specs.declared.section.SectionHeader.{SectionHeader}
 use Rattle.pe_head.specs.declared.headers.Headers.{Headers}
 use Rattle.pe_head.specs.Section.{extent, rawlen}
-use Rattle.pe_layout.specs.Piece.{end_of, section_of}
+use Rattle.pe_layout.specs.Piece.{end_of}
 use Rattle.pe_layout.specs.Plain.{plain, plain_bytes}
 use Rattle.pe_layout.specs.PieceText.{section_text, text}
 use Rattle.pe_layout.specs.Sections.{IsInSection}

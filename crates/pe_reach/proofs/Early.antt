@@ -1,6 +1,6 @@
 -- Faults that the first bytes of a file and its size decide.
-use Rattle.std.proofs.Common.{◌≡◌, ℕ, ◌+◌, ◌^◌, ◌<◌, ◌≤◌, Bool, true, false, List, ◌++◌, length, Option, Some, refl, sym, ◌∙◌, ap, ap₂, arith, get_or}
-use Rattle.std.specs.Prelude.{◌==◌, not}
+use Rattle.std.proofs.Common.{◌≡◌, ℕ, ◌^◌, ◌<◌, ◌≤◌, false, List, length, Some, refl, sym, ◌∙◌, ap, arith, get_or}
+use Rattle.std.specs.Prelude.{◌==◌}
 use Rattle.std.proofs.lemmas.Bool.{le-ltb, lt-ltb}
 use Rattle.std.proofs.lemmas.List.{get_or-take}
 use Rattle.pe_view.specs.declared.fault.Fault.{Fault}

@@ -1,5 +1,5 @@
 -- Which first bytes of a file decide its headers, its image and its faults.
-use Rattle.std.specs.Prelude.{◌≡◌, ℕ, ◌+◌, ◌*◌, ◌<◌, max, min, ◌≤◌, ◌^◌, ◌⊎◌, nat_lt, if◌then◌else◌, Bool, List, take, [], ◌∷◌, length, Some}
+use Rattle.std.specs.Prelude.{◌≡◌, ℕ, ◌+◌, ◌<◌, max, min, ◌≤◌, ◌^◌, ◌⊎◌, nat_lt, if◌then◌else◌, Bool, List, take, [], ◌∷◌, length, Some}
 use Rattle.pe_view.specs.Number.{byte_of}
 use Rattle.pe_view.specs.Faults.{first_standing}
 use Rattle.pe_head.specs.declared.section.SectionHeader.{SectionHeader}

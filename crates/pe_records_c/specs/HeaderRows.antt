@@ -1,5 +1,5 @@
 -- Headers and sections as C has them.
-use Rattle.std.specs.Prelude.{ℕ, List, replicate, unwrap_or}
+use Rattle.std.specs.Prelude.{List, replicate, unwrap_or}
 use Rattle.pe_head.specs.declared.directory.Directory.{Directory}
 use Rattle.pe_head.specs.declared.headers.Headers.{Headers}
 use Rattle.pe_head.specs.declared.section.SectionHeader.{SectionHeader}

@@ -1,5 +1,5 @@
 -- Sets whose files may differ, but not in what decides a set.
-use Rattle.std.specs.Prelude.{◌≡◌, ℕ, List, [], ◌∷◌}
+use Rattle.std.specs.Prelude.{◌≡◌, List, [], ◌∷◌}
 use Rattle.pe_set.specs.Set.{Entry}
 use Rattle.pe_reach.specs.Reach.{SameAnswers}
 

@@ -1,5 +1,5 @@
 use Rattle.std.proofs.Common.{◌≤◌, length, arith}
-use Rattle.pe_reach.specs.Reach.{headers_end, image_end}
+use Rattle.pe_reach.specs.Reach.{headers_end}
 use Rattle.pe_reach.proofs.Images.{decide_with}
 use Rattle.pe_reach.proofs.reach.needed.Goals as goal
 

@@ -1,4 +1,4 @@
-use Rattle.std.proofs.Common.{◌≡◌, ◌+◌, ◌<◌, arith}
+use Rattle.std.proofs.Common.{◌≡◌, ◌<◌, arith}
 use Rattle.std.specs.Prelude.{max}
 use Rattle.pe_head.specs.Checked.{checked_file}
 use Rattle.pe_head.specs.Head.{coff_field, section_at}

@@ -1,4 +1,4 @@
-use Rattle.std.proofs.Common.{◌≡◌, ◌∙◌, length, ap, arith, sym, refl, length-take}
+use Rattle.std.proofs.Common.{◌∙◌, length, ap, arith, sym, refl, length-take}
 use Rattle.std.specs.Str.{chars}
 use Rattle.pe_show.specs.Name.{columns}
 use Rattle.pe_show.proofs.Names.{bare_is_plain, bare_chars, plain_has_few_chars}
