@@ -1,9 +1,11 @@
 -- A layout as contracts see it.
-use Rattle.std.specs.Prelude.{◌≡◌, ◌≤◌, ◌^◌, ℕ, List}
+use Rattle.std.specs.Prelude.{◌≡◌, ◌≤◌, ◌^◌, ◌&&◌, ℕ, Bool, nat_le, is_none, List}
 use Rattle.pe_view.specs.View.{bytes_of}
+use Rattle.pe_view.specs.Faults.{first_standing}
 use Rattle.pe_head.specs.Head.{head_of}
 use Rattle.pe_head.specs.declared.headers.Headers.{Headers}
 use Rattle.pe_layout.specs.Image.{LaidOut, image_from, image_of_file}
+use Rattle.pe_layout.specs.SectionFaults.{placing_tests}
 use Rattle.pe_layout.specs.declared.layout.Layout.{Layout}
 
 -- its headers
@@ -28,3 +30,10 @@ pub record IsLayoutOf (file : List ℕ) (image : ℕ) (l : Layout) : Type 0 wher
   pub headers : headers_of l ≡ head_of file
   pub bytes : file_of l ≡ file
   pub shows : image_of l ≡ image_of_file image file
+
+-- headers lay out an image over some bytes: the image is not too large, its headers are inside it and these bytes, and no section
+-- has one of faults 13 to 15
+abbrev pub can_lay_out : ℕ → Headers → ℕ → Bool
+can_lay_out image h size =
+    nat_le h.size_of_image (2 ^ 31) && nat_le h.size_of_headers h.size_of_image && nat_le h.size_of_headers size
+    && is_none (first_standing (placing_tests image h size))

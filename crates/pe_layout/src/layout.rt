@@ -9,6 +9,9 @@ use crate::section_faults::check_sections;
 use pe_head::{Directory, Headers, characteristic, directory_index, read_headers};
 use pe_view::{Fault, View};
 
+/// The most bytes that an image may have.
+const MOST_IMAGE_BYTES: u32 = 1 << 31;
+
 /// An image as its headers and sections lay it out: SizeOfImage bytes, each from the headers or a section's raw data, or 0.
 ///
 /// RVAs count bytes from the beginning of the image. Only [`Layout::bytes`] and [`Layout::text_at`] allocate.
@@ -27,8 +30,9 @@ impl<'a> Layout<'a> {
     ghost use Rattle.pe_view.specs.View.{bytes_of};
     ghost use Rattle.pe_view.specs.Faults.{Answers};
     ghost use Rattle.pe_layout.specs.SectionFaults.{layout_tests};
-    ghost use Rattle.pe_layout.specs.Image.{is_inside};
-    ghost use Rattle.pe_layout.specs.Layout.{headers_of, image_of, IsLayoutOf};
+    ghost use Rattle.std.specs.Prelude.{IfSome, is_some};
+    ghost use Rattle.pe_layout.specs.Image.{is_inside, image_from};
+    ghost use Rattle.pe_layout.specs.Layout.{headers_of, file_of, image_of, IsLayoutOf, can_lay_out};
 
     /// The layout of a file, or the first of faults 1 to 15: those of the headers, then those of each section in table order.
     /// Faults name the image by the number `image`. ("PE Format": Optional Header, Section Table.)
@@ -39,6 +43,33 @@ impl<'a> Layout<'a> {
         let headers = read_headers(view, image)?;
         check_sections(&headers, view.len(), image)?;
         Ok(Layout {
+            view,
+            headers,
+            image,
+        })
+    }
+
+    /// The layout of headers over bytes that need not hold these headers: bytes of a file of which some sections' raw data were not
+    /// read. `None` if the image is larger than 2^31 bytes, the headers are larger than the image or than the bytes, or a section has
+    /// one of faults 13 to 15 in a file of these bytes.
+    #[tactic(auto, unfolding(crate::specs::Layout::image_of))]
+    pub fn of_parts(view: View<'a>, headers: Headers, image: u16) -> Option<Layout<'a>>
+        ensures placed { is_some result ≡ can_lay_out image headers (size_of view.entry) }
+        ensures headers { IfSome result (λ layout. headers_of layout ≡ headers) }
+        ensures bytes { IfSome result (λ layout. file_of layout ≡ bytes_of view.entry) }
+        ensures shows { IfSome result (λ layout. image_of layout ≡ image_from image headers (bytes_of view.entry)) }
+    {
+        let header_bytes = headers.size_of_headers;
+        if headers.size_of_image > MOST_IMAGE_BYTES || header_bytes > headers.size_of_image {
+            return None;
+        }
+        if u64::from(header_bytes) > view.len() {
+            return None;
+        }
+        if check_sections(&headers, view.len(), image).is_err() {
+            return None;
+        }
+        Some(Layout {
             view,
             headers,
             image,
