@@ -99,3 +99,8 @@ module _ (h : Headers) (size : ℕ) (placed : AllPlaced h size 0 h.sections.item
         some = below;
         inside = omega arith;
       }
+
+  -- no section contains an RVA outside the image
+  pub in_none : (r : ℕ) (d : SectionHeader) → h.size_of_image ≤ r → section_of h r ≡ None
+  in_none r d outside =
+      (no_section (length h.sections.items) r d (λ j first. let e = (placed.each j d first).ends in omega arith) (λ j later inside. absurd (omega arith))).0

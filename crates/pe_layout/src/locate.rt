@@ -61,8 +61,10 @@ fn first_ending_after(sections: &[SectionHeader], rva: u32) -> usize
 }
 
 impl<'a> Layout<'a> {
-    ghost use Rattle.std.specs.Prelude.{◌+◌, length};
+    ghost use Rattle.std.specs.Prelude.{◌+◌, length, option_map, IfSome, Some};
     ghost use Rattle.pe_layout.specs.Image.{bytes_at};
+    ghost use Rattle.pe_layout.specs.Piece.{section_of};
+    ghost use Rattle.pe_layout.specs.Plain.{IsIn};
     ghost use Rattle.pe_layout.specs.Layout.{headers_of, image_of};
     ghost use Rattle.pe_layout.specs.Locating.{located};
     ghost use Rattle.pe_layout.specs.Sections.{IsSpot};
@@ -118,6 +120,21 @@ impl<'a> Layout<'a> {
                 let start = u64::from(section.pointer_to_raw_data) + u64::from(offset);
                 self.view.slice(start, u64::from(rawlen - offset)).unwrap()
             }
+        }
+    }
+
+    /// The section that contains an RVA, if there is one. No other section contains any of its RVAs.
+    pub fn section_at(&self, rva: u32) -> Option<&SectionHeader>
+        ensures found { option_map (λ section. section.now) result ≡ section_of (headers_of self.now) rva }
+        ensures inside { IfSome result (λ section. IsIn rva section.now) }
+        ensures alone { IfSome result (λ section. (k : ℕ) → IsIn k section.now → section_of (headers_of self.now) k ≡ Some section.now) }
+    {
+        if rva >= self.headers.size_of_image {
+            return None;
+        }
+        match self.spot(rva) {
+            Spot::Gap { end: _ } => None,
+            Spot::Section { index: _, section } => Some(section),
         }
     }
 
