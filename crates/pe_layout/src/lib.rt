@@ -19,4 +19,5 @@ mod text;
 
 pub use layout::Layout;
 pub use locate::Located;
+pub use section_faults::check_sections;
 pub use text::Text;

@@ -48,8 +48,9 @@ fn check_section(
     Ok(end)
 }
 
-/// Ok if no section has one of faults 13 to 15, in a file of `size` bytes.
-pub(crate) fn check_sections(headers: &Headers, size: u64, image: u16) -> Result<(), Fault>
+/// Ok if no section has one of faults 13 to 15 in a file of `size` bytes, otherwise the first such fault. Only the headers count, so
+/// this needs no byte of the file behind them. ("PE Format": Section Table.)
+pub fn check_sections(headers: &Headers, size: u64, image: u16) -> Result<(), Fault>
     ensures { Answers (placing_tests image headers.now size) (λ _. ⊤) result }
 {
     let mut before: u64 = 0;
