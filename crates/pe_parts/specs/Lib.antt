@@ -1,0 +1,12 @@
+pub use Rattle.pe_view.specs.Faults
+pub use Rattle.pe_layout.specs.Image
+pub use Rattle.pe_image.specs.ImageTests
+pub use Rattle.pe_layout.specs.Layout
+pub use Rattle.pe_tables.specs.Exports
+pub use Rattle.pe_tables.specs.ExportsView
+pub use Rattle.pe_tables.specs.Imports
+pub use Rattle.pe_tables.specs.ImportView
+pub use Rattle.pe_tables.specs.Fixups
+pub mod Filled
+pub mod Packed
+pub mod PackedTables
