@@ -1,7 +1,6 @@
 //! The dump of an image: a line for each header field and each row of its tables.
 
 ghost use Rattle.std.specs.Prelude.{◌≡◌, flat_map, map};
-ghost use Rattle.pe_layout.specs.Layout.{headers_of};
 ghost use Rattle.pe_tables.specs.ExportsView.{exports_view};
 ghost use Rattle.pe_tables.specs.ImportView.{import_view};
 ghost use Rattle.pe_text.specs.TextWriter.{IsReady, Adds};
@@ -13,7 +12,7 @@ ghost use Rattle.pe_lines.specs.Dump.{format_line, pe_offset_line, directory_lin
 use crate::format::format_name;
 use crate::table_lines::{write_exports, write_fixups, write_imports};
 use pe_head::{Directory, Headers, Magic, SectionHeader};
-use pe_image::Image;
+use pe_tables::{Exports, Fixup, Import};
 use pe_text::Part::{Decimal, Hex8, Quoted, Text};
 use pe_text::{
     Field, Sink, TextWriter, coff_fields, standard_fields, windows_fields, write_fields,
@@ -149,20 +148,24 @@ fn write_sections<W: Sink>(text: &mut TextWriter<W>, sections: &[SectionHeader])
 
 /// Adds the lines of a dump.
 #[tactic(auto, unfolding(crate::specs::Dump::dump_text))]
-pub(crate) fn write_dump<A: Allocator + Copy, W: Sink>(text: &mut TextWriter<W>, image: &Image<A>)
+pub(crate) fn write_dump<A: Allocator + Copy, W: Sink>(
+    text: &mut TextWriter<W>,
+    headers: &Headers,
+    exports: &Exports<A>,
+    imports: &[Import],
+    fixups: &[Fixup],
+)
     requires { IsReady W.failures text.old }
     ensures { Adds W.taken W.failures text.old text.new
-        (dump_text (headers_of image.now.layout) (exports_view image.now.exports)
-        (map import_view image.now.imports.items) image.now.fixups.items) }
+        (dump_text headers.now (exports_view exports.now) (map import_view imports.now) fixups.now) }
 {
-    let headers = image.layout.headers();
     write_format(text, headers.magic);
     write_pe_offset(text, headers.pe_offset);
     write_header_fields(text, headers);
     write_directories(text, headers.directories.as_slice());
     write_sections(text, headers.sections.as_slice());
-    write_exports(text, &image.exports);
-    write_imports(text, &image.imports);
-    write_fixups(text, &image.fixups);
+    write_exports(text, exports);
+    write_imports(text, imports);
+    write_fixups(text, fixups);
     text.text(b"end\n");
 }

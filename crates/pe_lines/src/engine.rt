@@ -48,7 +48,13 @@ impl Report for DumpReport {
     ) -> Result<Outcome, AllocError> {
         match read_image(alloc, file, 0) {
             Ok(image) => {
-                write_dump(text, &image);
+                write_dump(
+                    text,
+                    image.layout.headers(),
+                    &image.exports,
+                    &image.imports,
+                    &image.fixups,
+                );
                 Ok(Outcome::Done)
             }
             Err(TableError::Fault(fault)) => Ok(refuse(text, fault)),

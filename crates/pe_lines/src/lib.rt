@@ -8,15 +8,18 @@
 //! let answer = dump(alloc, &mut reader, &mut writer);
 //! ```
 //!
-//! [`check_sized`] and [`dump_sized`] take the file's size too, and read only as much of the file as decides the output.
+//! [`check_sized`] and [`dump_sized`] take the file's size too, and read only as much of the file as decides the output;
+//! [`check_parts`] and [`dump_parts`] read only its headers and the sections with tables, if these decide it.
 #![tactic(auto)]
 
 mod dump_lines;
 mod engine;
 mod format;
 pub mod laws;
+mod parts;
 mod sized;
 mod table_lines;
 
 pub use engine::{check, dump};
+pub use parts::{check_parts, dump_parts};
 pub use sized::{check_sized, dump_sized};

@@ -8,7 +8,7 @@ use crate::word_bytes::bytes_of;
 use std::alloc::{AllocError, Allocator};
 use std::borrow::CowSlice;
 use std::fs::OpenFile;
-use std::io::{self, Error, Input, Read};
+use std::io::{self, Error, ErrorKind, Input, Read, Seek, SeekFrom};
 use std::rt::Files;
 
 /// How many of its first bytes an input keeps; headers and section tables that linkers write are among them.
@@ -93,6 +93,17 @@ impl<F: Read, S: Read> Read for InputFile<F, S> {
             Err(error) => self.error = Some(*error),
         }
         answer
+    }
+}
+
+impl<F: Read + Seek, S: Read> Seek for InputFile<F, S> {
+    /// Goes to another place, from which on the first bytes are kept and counted anew. Standard input has no places.
+    fn seek(&mut self, to: SeekFrom) -> io::Result<u64> {
+        self.len = 0;
+        match &mut self.stream {
+            Stream::File(file) => file.seek(to),
+            Stream::Standard(_) => Err(Error::from(ErrorKind::Unsupported)),
+        }
     }
 }
 

@@ -5,13 +5,14 @@ ghost use Rattle.std.specs.Prelude.{◌-◌, ◌^◌, ◌<◌};
 use crate::headed::{Headed, Heading};
 use crate::output::Output;
 use pe_tool::{
-    Counted, Outcome, Policy, SetEntry, ShowOptions, Sink, Source, ToolError, at, at_sized, check,
-    check_sized, dump, dump_object, dump_sized, json, json_sized, map_report, show, show_sized,
+    Counted, Outcome, PartSource, Placed, Policy, SetEntry, ShowOptions, Sink, Source, ToolError,
+    at, at_sized, check, check_parts, check_sized, dump, dump_object, dump_parts, dump_sized, json,
+    json_sized, map_report, show, show_sized,
 };
 use pe_view::Place;
 use std::alloc::Allocator;
 use std::io;
-use std::io::{BufWriter, Error, Read, Write};
+use std::io::{BufWriter, Error, Read, Seek, Write};
 
 /// The size of the buffer for standard output, in bytes.
 pub const OUTPUT_BUFFER: usize = 1 << 16;
@@ -143,10 +144,64 @@ fn write_sized<A: Allocator + Copy, R: Source, W: Sink>(
     }
 }
 
+/// Runs an engine over those parts of a file of `size` bytes from which its output may be known. `None` means that they do not
+/// decide it, and that nothing was written.
+fn write_parts<A: Allocator + Copy, R: PartSource, W: Sink>(
+    alloc: A,
+    engine: Engine,
+    reader: &mut R,
+    size: u64,
+    writer: &mut W,
+) -> Result<Option<Outcome>, ToolError>
+    requires reads { R.failures reader.old < 2 ^ 64 - 1 }
+    requires writes { W.failures writer.old < 2 ^ 64 - 1 }
+{
+    match engine {
+        Engine::Check => check_parts(alloc, reader, size, writer),
+        Engine::Dump => dump_parts(alloc, reader, size, writer),
+        _ => Ok(None),
+    }
+}
+
+/// Runs an engine over an open file, whose size may be known.
+fn write_file<A: Allocator + Copy>(
+    alloc: A,
+    engine: Engine,
+    name: &[u8],
+    mut file: impl Read + Seek + Drop,
+    size: Option<u64>,
+    writer: impl Write + Drop,
+) -> Result<Outcome, ToolError> {
+    let mut writer = Counted::new(writer);
+    let Some(size) = size else {
+        return write_whole(alloc, engine, name, &mut Counted::new(file), &mut writer);
+    };
+    if let Some(outcome) = write_parts(
+        alloc,
+        engine,
+        &mut Placed::new(&mut file),
+        size,
+        &mut writer,
+    )? {
+        return Ok(outcome);
+    }
+    if file.rewind().is_err() {
+        return Err(ToolError::Read);
+    }
+    write_sized(
+        alloc,
+        engine,
+        name,
+        &mut Counted::new(file),
+        size,
+        &mut writer,
+    )
+}
+
 /// Runs an engine.
 fn write_text<A: Allocator + Copy>(
     alloc: A,
-    text: Text<'_, impl Read + Drop>,
+    text: Text<'_, impl Read + Seek + Drop>,
     writer: impl Write + Drop,
 ) -> Result<Outcome, ToolError> {
     match text {
@@ -158,13 +213,15 @@ fn write_text<A: Allocator + Copy>(
             most: _,
             file,
         } => {
-            let mut reader = Counted::new(file);
             let heading = heading_of(engine, name, is_headed);
-            let mut writer = Counted::new(Headed::new(writer, heading));
-            match size {
-                Some(size) => write_sized(alloc, engine, name, &mut reader, size, &mut writer),
-                None => write_whole(alloc, engine, name, &mut reader, &mut writer),
-            }
+            write_file(
+                alloc,
+                engine,
+                name,
+                file,
+                size,
+                Headed::new(writer, heading),
+            )
         }
         Text::Map {
             set,
@@ -198,7 +255,10 @@ pub(crate) const NO_ROOM: Printed = Printed {
 };
 
 /// Runs an engine, and writes its output, up to its limit, to standard output.
-pub(crate) fn print_text<R: Print + Alloc>(rt: &R, text: Text<'_, impl Read + Drop>) -> Printed
+pub(crate) fn print_text<R: Print + Alloc>(
+    rt: &R,
+    text: Text<'_, impl Read + Seek + Drop>,
+) -> Printed
 where
     R::A: Copy,
 {

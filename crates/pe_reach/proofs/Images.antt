@@ -164,9 +164,9 @@ first_held_of image f small held headers =
     small (omega arith) (omega arith) (fixed_small (magic_of f)) (omega arith) headers
 
 -- the same of two files
-head_first_agrees : (image : ℕ) (f g : List ℕ) → HaveBoth (image_end g) f g → first_standing (head_tests image f) ≡ first_standing (head_tests image g)
-head_first_agrees image f g both =
-    let a : AgreeBefore (headers_end g) f g = lower (headers_end g) (image_end g) f g (omega arith) (agree_of_both (image_end g) f g both) in
+pub head_first_agrees : (image end : ℕ) (f g : List ℕ) → headers_end g ≤ end → (head_of g).size_of_headers ≤ end → HaveBoth end f g → first_standing (head_tests image f) ≡ first_standing (head_tests image g)
+head_first_agrees image end f g held covers both =
+    let a : AgreeBefore (headers_end g) f g = lower (headers_end g) end f g held (agree_of_both end f g both) in
     let mz : num (byte_of f) 0 2 ≡ num (byte_of g) 0 2 = num_agrees (headers_end g) (byte_of f) (byte_of g) a.bytes 0 2 (omega arith) in
     let pe : num (byte_of f) (pe_offset f) 4 ≡ num (byte_of g) (pe_offset g) 4 =
     ap (λ p. num (byte_of f) p 4) (pe_agrees f g a) ∙ num_agrees (headers_end g) (byte_of f) (byte_of g) a.bytes (pe_offset g) 4 (omega arith) in
@@ -177,9 +177,9 @@ head_first_agrees image f g both =
     (field_agrees f g a 0 2 (omega arith) i) (coff_agrees f g a 2 2 (omega arith) i) (field_agrees f g a 56 4 (omega arith) i) (field_agrees f g a 60 4 (omega arith) i) in
     let heads : head_of f ≡ head_of g = headers_agree f g a in
     let ends : headers_end f ≡ headers_end g = ap₂ (λ p t. max (max 64 (p + 24 + 240)) t) (pe_agrees f g a) (λ i. pe_agrees f g a i + 24 + coff_agrees f g a 16 2 (omega arith) i + 40 * coff_agrees f g a 2 2 (omega arith) i) in
-    first_held_of image f both.small_f (omega (arith, ends, both.reach_f)) (omega (arith, ap (λ (h : Headers). h.size_of_headers) heads, both.reach_f))
+    first_held_of image f both.small_f (omega (arith, ends, held, both.reach_f)) (omega (arith, ap (λ (h : Headers). h.size_of_headers) heads, covers, both.reach_f))
     ∙ ap first_standing same
-    ∙ sym (first_held_of image g both.small_g (omega (arith, both.reach_g)) (omega (arith, both.reach_g)))
+    ∙ sym (first_held_of image g both.small_g (omega (arith, held, both.reach_g)) (omega (arith, covers, both.reach_g)))
 
 -- fault 13 of a section whose raw data two files hold
 held_test : (m n p len : ℕ) → (if nat_lt 0 (len) then p + len else 0) ≤ m → (if nat_lt 0 (len) then p + len else 0) ≤ n → (nat_lt 0 len && nat_lt m (p + len)) ≡ (nat_lt 0 len && nat_lt n (p + len))
@@ -202,7 +202,7 @@ same_answers f g both =
       headers = heads;
       first = λ number.
           first-append (head_tests number f) (placing_tests number (head_of f) (length f))
-          ∙ ap₂ option_or (head_first_agrees number f g both)
+          ∙ ap₂ option_or (head_first_agrees number (image_end g) f g (omega arith) (omega arith) both)
           (ap first_standing (ap (λ (h : Headers). placing_tests number h (length f)) heads
           ∙ placing_agrees number (head_of g) (length f) (length g) 0 0 (head_of g).sections.items (omega (arith, both.reach_f)) (omega (arith, both.reach_g))))
           ∙ sym (first-append (head_tests number g) (placing_tests number (head_of g) (length g)));

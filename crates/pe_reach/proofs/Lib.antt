@@ -6,3 +6,5 @@ pub mod Looks
 pub mod RawEnds
 pub mod SectionNames
 pub mod Sizes
+pub mod Parts
+pub mod PartsRuns

@@ -2,6 +2,11 @@ pub use Rattle.pe_layout.specs.Image
 pub use Rattle.pe_layout.specs.SectionFaults
 pub use Rattle.pe_image.specs.ImageTests
 pub use Rattle.pe_text.specs.Engine
+pub use Rattle.pe_parts.specs.PackedTables
+pub mod Parts
+pub mod PartsRan
+pub mod PartsRead
+pub mod Placed
 pub mod Reach
 pub mod Settled
 pub mod Sized

@@ -10,13 +10,19 @@
 
 pub mod laws;
 mod names;
+mod part_source;
+mod parts_reading;
+mod parts_report;
 mod reach;
 mod reading;
 mod sized;
+mod told_parts;
 mod view_file;
 mod view_reading;
 mod view_report;
 
+pub use part_source::{PartSource, Placed};
+pub use parts_report::{TablesReport, run_parts};
 pub use reach::{early_fault, needed};
 pub use reading::read_enough;
 pub use sized::run_sized;

@@ -10,13 +10,13 @@ use pe_head::{CheckedHeaders, check_headers};
 use pe_view::{Fault, Place, View};
 
 /// The most bytes that a file may have.
-const MOST: u64 = 1 << 32;
+pub(crate) const MOST: u64 = 1 << 32;
 
 /// How many bytes the fixed fields and 16 data directories of PE32+ take, which are more than those of PE32.
 const OPTIONAL: u64 = 240;
 
 /// Where the MS-DOS header, the optional header with all directories, and the section table end.
-fn headers_end(headers: CheckedHeaders) -> u64
+pub(crate) fn headers_end(headers: CheckedHeaders) -> u64
     ensures { result ≡ headers_end (checked_file headers.entry) }
 {
     let optional = u64::from(headers.pe_offset()) + 24;

@@ -23,8 +23,8 @@ mod words;
 pub use coff_lines::dump_object;
 pub use pe_head::{FaultDetail, fault_detail};
 pub use pe_json::{json, json_sized};
-pub use pe_lines::{check, check_sized, dump, dump_sized};
-pub use pe_reach::{needed, read_enough};
+pub use pe_lines::{check, check_parts, check_sized, dump, dump_parts, dump_sized};
+pub use pe_reach::{PartSource, Placed, needed, read_enough};
 pub use pe_show::{ShowOptions, ShownName, at, at_sized, is_safe_text, show, show_sized};
 pub use pe_space::{Policy, SetEntry};
 pub use pe_text::{

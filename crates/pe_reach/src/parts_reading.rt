@@ -1,0 +1,209 @@
+//! `read_parts`: the headers of an image and the raw data of the sections in which its tables begin.
+
+ghost use Rattle.std.specs.Prelude.{◌≡◌, ◌-◌, ◌+◌, ◌^◌, ◌<◌, ◌≤◌, ℕ, IsTrue, IfSome, List, ◌++◌, length, take, vec_len, MatchResult, None, true};
+ghost use Rattle.pe_view.specs.Faults.{first_standing};
+ghost use Rattle.pe_view.specs.Number.{byte_of};
+ghost use Rattle.pe_head.specs.Head.{head_of};
+ghost use Rattle.pe_head.specs.Section.{rawlen};
+ghost use Rattle.pe_layout.specs.SectionFaults.{layout_tests};
+ghost use Rattle.pe_parts.specs.Packed.{IsHeld, AreHeld};
+ghost use Rattle.pe_reach.specs.Parts.{Part, HasPart, HasParts};
+ghost use Rattle.pe_reach.specs.PartsRead.{FailsToRead, AreOf};
+
+use crate::part_source::PartSource;
+use crate::reach::{MOST, headers_end};
+use arrayvec::ArrayVec;
+use pe_head::{Headers, SectionHeader, check_headers, directory_index};
+use pe_layout::check_sections;
+use pe_text::ToolError;
+use pe_view::View;
+use std::alloc::Allocator;
+
+/// How many bytes are read first; the headers and section tables that linkers write are among them.
+const FIRST: usize = 1 << 12;
+
+/// A file of fewer bytes is read faster as a whole.
+const LEAST: u64 = 1 << 16;
+
+/// Parts of an image's file: its headers, and the raw data of some sections, packed.
+#[derive(Drop)]
+pub(crate) struct Parts<A: Allocator> {
+    /// The headers of the file.
+    pub headers: Headers,
+    /// The headers under which the parts are packed.
+    pub packed: Headers,
+    /// The parts, one behind the other.
+    pub bytes: Vec<u8, A>,
+}
+
+/// Reads `count` bytes at a file offset, and appends them to these. Returns whether the file has as many there; otherwise the bytes
+/// appended mean nothing.
+fn read_range<A: Allocator, R: PartSource>(
+    reader: &mut R,
+    offset: u32,
+    bytes: &mut Vec<u8, A>,
+    count: usize,
+) -> Result<bool, ToolError>
+    requires counts { R.failures reader.old < 2 ^ 64 - 1 }
+    requires room { vec_len bytes.old + count < 2 ^ 62 }
+    ensures { (read : List Part) × (R.parts reader.new ≡ R.parts reader.old ++ read) × MatchResult result
+        (λ has_all. (R.failures reader.new ≡ R.failures reader.old) × (IsTrue has_all
+        → (vec_len bytes.new ≡ vec_len bytes.old + count) × (take (vec_len bytes.old) bytes.new.items ≡ bytes.old.items)
+        × ((file : List ℕ) → HasParts file read → (k : ℕ) → k < count → byte_of bytes.new.items (vec_len bytes.old + k) ≡ byte_of file (offset + k))))
+        (FailsToRead (R.failures reader.old) (R.failures reader.new)) }
+{
+    let place = u64::from(offset);
+    let start = bytes.len();
+    if bytes.resize(start + count, 0).is_err() {
+        return Err(ToolError::Memory);
+    }
+    let mut filled = 0;
+    while filled < count {
+        match reader.read_at(place + filled as u64, &mut bytes[start + filled..]) {
+            Ok(0) => return Ok(false),
+            Ok(more) => filled += more,
+            Err(_) => return Err(ToolError::Read),
+        }
+    }
+    Ok(true)
+}
+
+/// The headers of each file of `len` bytes that begins with these, twice, if these have all of them and they have none of faults 1
+/// to 15.
+fn headers_in(begin: &[u8], len: u64) -> Option<(Headers, Headers)>
+    ensures same { IfSome result (λ both. (both.0 ≡ head_of begin.now) × (both.1 ≡ head_of begin.now)) }
+    ensures held { IfSome result (λ both. both.0.size_of_headers ≤ length begin.now) }
+    ensures sound { IfSome result (λ both. (len ≤ 2 ^ 32) × ((file : List ℕ) → length file ≡ len → HasPart file (record { offset = 0; bytes = begin.now })
+        → (head_of file ≡ both.0) × (first_standing (layout_tests 0 file) ≡ None))) }
+{
+    if len > MOST || begin.len() as u64 > len {
+        return None;
+    }
+    let Ok(checked) = check_headers(View::new(begin), 0) else {
+        return None;
+    };
+    let end = headers_end(checked).max(u64::from(checked.size_of_headers()));
+    if end > begin.len() as u64 {
+        return None;
+    }
+    let headers = checked.headers();
+    if check_sections(&headers, len, 0).is_err() {
+        return None;
+    }
+    Some((headers, checked.headers()))
+}
+
+/// Whether the table of a directory begins in a section.
+fn has_table(headers: &Headers, section: &SectionHeader, index: usize) -> bool {
+    match headers.directories.as_slice().get(index) {
+        Some(directory) => {
+            section.virtual_address <= directory.rva
+                && directory.rva - section.virtual_address < section.extent()
+        }
+        None => false,
+    }
+}
+
+/// Whether the raw data of a section is read: the section has some, and a table begins in it.
+fn is_wanted(headers: &Headers, section: &SectionHeader) -> bool
+    ensures { IsTrue result → 0 < rawlen section.now }
+{
+    section.rawlen() > 0
+        && (has_table(headers, section, directory_index::EXPORT)
+            || has_table(headers, section, directory_index::IMPORT)
+            || has_table(headers, section, directory_index::BASE_RELOCATION))
+}
+
+/// Reads the raw data of a section of an image's file of `len` bytes, if a table begins in it and the parts do not become longer than
+/// the file, and appends it to these bytes. Returns where it is among them, or 0 if it was not read; `None` if the file has not all of
+/// it.
+fn read_section<A: Allocator, R: PartSource>(
+    reader: &mut R,
+    headers: &Headers,
+    section: &SectionHeader,
+    len: u64,
+    bytes: &mut Vec<u8, A>,
+) -> Result<Option<u32>, ToolError>
+    requires counts { R.failures reader.old < 2 ^ 64 - 1 }
+    requires small { len ≤ 2 ^ 32 }
+    requires room { vec_len bytes.old ≤ len }
+    ensures { (read : List Part) × (R.parts reader.new ≡ R.parts reader.old ++ read) × MatchResult result
+        (λ pointer. (R.failures reader.new ≡ R.failures reader.old) × IfSome pointer (λ pointer.
+        (vec_len bytes.new ≤ len) × (vec_len bytes.old ≤ vec_len bytes.new)
+        × (take (vec_len bytes.old) bytes.new.items ≡ bytes.old.items)
+        × ((file : List ℕ) → HasParts file read → 0 < pointer → IsHeld file bytes.new.items section.now pointer)))
+        (FailsToRead (R.failures reader.old) (R.failures reader.new)) }
+{
+    let rawlen = section.rawlen();
+    if !is_wanted(headers, section) || u64::from(rawlen) > len - bytes.len() as u64 {
+        return Ok(Some(0));
+    }
+    let pointer = bytes.len() as u32;
+    if !read_range(reader, section.pointer_to_raw_data, bytes, rawlen as usize)? {
+        return Ok(None);
+    }
+    Ok(Some(pointer))
+}
+
+/// Reads the raw data of the sections of an image's file of `len` bytes in which its tables begin, and appends it to these bytes.
+/// Returns the sections as they are packed; `None` if the file has not all of this.
+fn read_sections<A: Allocator, R: PartSource>(
+    reader: &mut R,
+    headers: &Headers,
+    len: u64,
+    bytes: &mut Vec<u8, A>,
+) -> Result<Option<ArrayVec<SectionHeader, 96>>, ToolError>
+    requires counts { R.failures reader.old < 2 ^ 64 - 1 }
+    requires small { len ≤ 2 ^ 32 }
+    requires room { vec_len bytes.old ≤ len }
+    ensures { (read : List Part) × (R.parts reader.new ≡ R.parts reader.old ++ read) × MatchResult result
+        (λ sections. (R.failures reader.new ≡ R.failures reader.old) × IfSome sections (λ sections.
+        (take (vec_len bytes.old) bytes.new.items ≡ bytes.old.items)
+        × ((file : List ℕ) → HasParts file read → AreHeld file bytes.new.items headers.now.sections.items sections.items)))
+        (FailsToRead (R.failures reader.old) (R.failures reader.new)) }
+{
+    let mut sections = ArrayVec::new();
+    for section in headers.sections.as_slice() {
+        let Some(pointer) = read_section(reader, headers, section, len, bytes)? else {
+            return Ok(None);
+        };
+        sections.push(SectionHeader {
+            pointer_to_raw_data: pointer,
+            ..*section
+        });
+    }
+    Ok(Some(sections))
+}
+
+/// Reads the headers of an image's file of `len` bytes, and the raw data of the sections in which its tables begin. `None` if this
+/// is not known to be worth it, or the headers may have a fault: the file must be read another way then.
+pub(crate) fn read_parts<A: Allocator + Copy, R: PartSource>(
+    alloc: A,
+    reader: &mut R,
+    len: u64,
+) -> Result<Option<Parts<A>>, ToolError>
+    requires { R.failures reader.old < 2 ^ 64 - 1 }
+    ensures { (read : List Part) × (R.parts reader.new ≡ R.parts reader.old ++ read) × MatchResult result
+        (λ parts. (R.failures reader.new ≡ R.failures reader.old) × IfSome parts (λ parts. (file : List ℕ) → length file ≡ len → HasParts file read → AreOf parts file))
+        (FailsToRead (R.failures reader.old) (R.failures reader.new)) }
+{
+    if len < LEAST {
+        return Ok(None);
+    }
+    let mut bytes = Vec::new(alloc);
+    if !read_range(reader, 0, &mut bytes, FIRST)? {
+        return Ok(None);
+    }
+    let Some((headers, packed)) = headers_in(&bytes, len) else {
+        return Ok(None);
+    };
+    bytes.truncate(headers.size_of_headers as usize);
+    let Some(sections) = read_sections(reader, &headers, len, &mut bytes)? else {
+        return Ok(None);
+    };
+    Ok(Some(Parts {
+        headers,
+        packed: Headers { sections, ..packed },
+        bytes,
+    }))
+}
