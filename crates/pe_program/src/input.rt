@@ -8,7 +8,7 @@ use crate::word_bytes::bytes_of;
 use std::alloc::{AllocError, Allocator};
 use std::borrow::CowSlice;
 use std::fs::OpenFile;
-use std::io::{self, Error, Input, Read};
+use std::io::{self, Error, Input, Read, Seek, SeekFrom};
 use std::rt::Files;
 
 /// How many of its first bytes an input keeps; headers and section tables that linkers write are among them.
@@ -82,6 +82,19 @@ impl<F: Read, S: Read> InputFile<F, S> {
             room[..count].copy_from_slice(&bytes[..count]);
         }
         self.len = self.len.saturating_add(bytes.len() as u64);
+    }
+}
+
+impl<F: Read + Seek, S: Read> InputFile<F, S> {
+    /// Goes back to the beginning of a regular file, to be read again, and returns its size. `None` for others, and if that fails.
+    pub fn rewind(&mut self) -> Option<u64> {
+        let size = self.size?;
+        match &mut self.stream {
+            Stream::File(file) => file.seek(SeekFrom::Start(0)).ok()?,
+            Stream::Standard(_) => return None,
+        };
+        self.len = 0;
+        Some(size)
     }
 }
 

@@ -21,15 +21,15 @@ mod window;
 mod words;
 
 pub use coff_lines::dump_object;
-pub use pe_head::{FaultDetail, fault_detail};
+pub use pe_detail::{Detail, DetailText, fault_detail};
 pub use pe_json::{json, json_sized};
 pub use pe_lines::{check, check_sized, dump, dump_sized};
-pub use pe_reach::{needed, read_enough};
+pub use pe_reach::{needed, read_enough, read_view};
 pub use pe_show::{ShowOptions, ShownName, at, at_sized, is_safe_text, show, show_sized};
 pub use pe_space::{Policy, SetEntry};
 pub use pe_text::{
-    Counted, DetailText, Failed, FaultText, FaultWords, FileKind, Outcome, Sink, Source, ToolError,
-    fault_words, file_kind, read_whole, status,
+    Counted, Failed, FaultText, FaultWords, FileKind, Outcome, Sink, Source, ToolError,
+    fault_words, file_kind, other_kind, read_whole, status,
 };
 pub use pe_words::{MapFile, WordsError};
 pub use rebasing::rebase;
