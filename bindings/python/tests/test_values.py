@@ -264,13 +264,15 @@ class Program(unittest.TestCase):
             words = [PROGRAM, command, str(self.path), *["0"] * (command == "at")]
             done = run(words)
             self.assertIn(f"MODULE.#ORDINAL: {text}\n", (done.stdout + done.stderr).decode())
-        # what came through a pipe cannot be read again
-        done = run([PROGRAM, "check", "-"], input=deep())
-        self.assertTrue(done.stderr.decode().endswith("MODULE.#ORDINAL\n"), done.stderr)
         self.path.write_bytes(deep_object())
         self.assert_told("object", "the size is 3", {"size": 3})
+
+    def test_a_fault_of_a_file_from_a_pipe(self):
+        for words in (["check", "-"], ["dump", "-"], ["at", "-", "0"]):
+            done = run([PROGRAM, *words], input=deep())
+            self.assertTrue(done.stderr.decode().endswith(f"MODULE.#ORDINAL: {DEEP[0]}\n"), done.stderr)
         done = run([PROGRAM, "object", "-"], input=deep_object())
-        self.assertTrue(done.stderr.decode().endswith("the end of the file\n"), done.stderr)
+        self.assertTrue(done.stderr.decode().endswith("the end of the file: the size is 3\n"), done.stderr)
 
     def test_sets_and_other_bases(self):
         """Faults 45 and 46: VB takes 0x3000 bytes, and then 0x10100; V1 without its base relocations must be at its ImageBase."""

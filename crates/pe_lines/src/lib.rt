@@ -9,6 +9,7 @@
 //! ```
 //!
 //! [`check_sized`] and [`dump_sized`] take the file's size too, and read only as much of the file as decides the output.
+//! [`check_text`] and [`dump_text`] write the output for a file that was read.
 #![tactic(auto)]
 
 mod dump_lines;
@@ -18,5 +19,5 @@ pub mod laws;
 mod sized;
 mod table_lines;
 
-pub use engine::{check, dump};
+pub use engine::{check, check_text, dump, dump_text};
 pub use sized::{check_sized, dump_sized};

@@ -22,7 +22,10 @@ where
     match printed.answer {
         Ok(Outcome::Done) => {}
         Ok(Outcome::Refused(fault)) => {
-            let detail = detail_of(rt.alloc(), file, &fault);
+            let detail = match printed.detail {
+                None => detail_of(rt.alloc(), file, &fault),
+                known => known,
+            };
             tell_fault(rt, name, fault, detail, file.first());
         }
         Err(ToolError::Write) => tell_failure(rt, STANDARD_OUTPUT, ToolError::Write, printed.error),

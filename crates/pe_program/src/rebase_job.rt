@@ -146,6 +146,7 @@ where
         } else {
             answer
         },
+        detail: None,
         error,
         is_cut: false,
     };
