@@ -1,8 +1,7 @@
 """Reads images and objects independently of petool, by docs/FORMAT.md, docs/FAULTS.md and Microsoft's "PE Format"; for pages.py.
 
-A file that breaks a rule raises Refused with the first fault, in the order of docs/FAULTS.md. The values after the words of faults
-2, 4, 7 to 15 and 61 are those of the file and of the limit that it exceeds. The limit of 2^32 bytes is not checked (faults 1 and
-61).
+A file that breaks a rule raises Refused with the first fault, in the order of docs/FAULTS.md, and with the values that page has after
+the words of the fault. The limit of 2^32 bytes is not checked (faults 1 and 61).
 """
 
 import itertools
@@ -149,23 +148,39 @@ class Image:
         end = self.bytes.find(0, rva, piece[1]) if piece else rva
         return None if end < 0 else bytes(self.bytes[rva:end])
 
+    def past(self, size, rva):
+        """The values of bytes that pass the end of the image."""
+        return f"{size} bytes at RVA 0x{rva:x}, and the image ends at 0x{self.size:x}"
+
+    def outside(self, rva):
+        """The values of an RVA past the end of the image."""
+        return f"the RVA is 0x{rva:x}, and the image ends at 0x{self.size:x}"
+
+    def no_text(self, rva):
+        """Why there is no string at an RVA."""
+        if rva >= self.size:
+            return self.outside(rva)
+        piece = self.piece(rva)
+        return f"the RVA is 0x{rva:x}, and no zero byte follows before 0x{piece[1] if piece else rva:x}"
+
     def read_exports(self):
         """The ordinal, the target and the names of each export."""
         rva, size = self.directory(0)
         if rva == 0:
             return []
-        must(rva + 40 <= self.size, 16, "rva", rva)
+        must(rva + 40 <= self.size, 16, "rva", rva, self.past(40, rva))
         base, count, name_count, *tables = struct.unpack_from("<6I", self.bytes, rva + 16)
         for i, (table, length) in enumerate(zip(tables, (4 * count, 4 * name_count, 2 * name_count))):
-            must(length == 0 or table + length <= self.size, 17, "rva", rva + 28 + 4 * i)
-        must(count <= 65536, 18, "rva", rva + 20)
-        must(name_count <= 65536, 18, "rva", rva + 24)
+            must(length == 0 or table + length <= self.size, 17, "rva", rva + 28 + 4 * i, self.past(length, table))
+        must(count <= 65536, 18, "rva", rva + 20, f"it has {count}, and the limit is 65536")
+        must(name_count <= 65536, 18, "rva", rva + 24, f"it has {name_count}, and the limit is 65536")
         names = {}
         for k in range(name_count):
-            text = self.text(uint(self.bytes, tables[1] + 4 * k, 4))
-            must(text is not None, 19, "rva", tables[1] + 4 * k)
+            pointer = uint(self.bytes, tables[1] + 4 * k, 4)
+            text = self.text(pointer)
+            must(text is not None, 19, "rva", tables[1] + 4 * k, self.no_text(pointer))
             index = uint(self.bytes, tables[2] + 2 * k, 2)
-            must(index < count, 20, "rva", tables[2] + 2 * k)
+            must(index < count, 20, "rva", tables[2] + 2 * k, f"it is {index}, and there are {count}")
             names.setdefault(text, index)
         by_index = {}
         for text, index in names.items():
@@ -177,14 +192,16 @@ class Image:
     def target(self, value, is_forwarder, at):
         """What an entry of the address table exports: an RVA, or the module and the key of a forwarder."""
         if not is_forwarder:
-            must(value < self.size, 21, "rva", at)
+            must(value < self.size, 21, "rva", at, self.outside(value))
             return value
-        module, _, key = (self.text(value) or b"").rpartition(b".")
-        must(module and key, 22, "rva", at)
+        text = self.text(value)
+        values = self.no_text(value) if text is None else f"its string at RVA 0x{value:x} has {len(text)} bytes"
+        module, _, key = (text or b"").rpartition(b".")
+        must(module and key, 22, "rva", at, values)
         if not key.startswith(b"#"):
             return module, key
         digits = re.fullmatch(rb"#0*([0-9]{1,5})", key)
-        must(digits and int(digits[1]) <= 65535, 22, "rva", at)
+        must(digits and int(digits[1]) <= 65535, 22, "rva", at, values)
         return module, int(digits[1])
 
     def read_imports(self, slots):
@@ -192,13 +209,13 @@ class Image:
         imports = []
         at = self.directory(1)[0]
         while at:
-            must(at + 20 <= self.size, 24, "rva", at)
+            must(at + 20 <= self.size, 24, "rva", at, self.past(20, at))
             lookup, stamp, _, name, table = struct.unpack_from("<5I", self.bytes, at)
             if name == 0 or table == 0:
                 break
             module = self.text(name)
-            must(module is not None, 25, "rva", at + 12)
-            must(lookup != 0 or stamp == 0, 32, "rva", at)
+            must(module is not None, 25, "rva", at + 12, self.no_text(name))
+            must(lookup != 0 or stamp == 0, 32, "rva", at, f"it is 0x{stamp:x}")
             self.read_lookup(imports, slots, module, lookup or table, table)
             at += 20
         return imports
@@ -208,17 +225,17 @@ class Image:
         width = 8 if self.wide else 4
         for k in itertools.count():
             at, field = lookup + width * k, slot + width * k
-            must(at + width <= self.size, 26, "rva", at)
+            must(at + width <= self.size, 26, "rva", at, self.past(width, at))
             entry = uint(self.bytes, at, width)
             if entry == 0:
                 return
             key = entry & 0xFFFF if entry >> (8 * width - 1) else self.text((entry & 0x7FFFFFFF) + 2)
-            must(key is not None, 27, "rva", at)
-            must(isinstance(key, int) or entry >> 31 == 0, 28, "rva", at)
+            must(key is not None, 27, "rva", at, self.no_text((entry & 0x7FFFFFFF) + 2))
+            must(isinstance(key, int) or entry >> 31 == 0, 28, "rva", at, f"they are 0x{entry >> 31:x}")
             must(field + width <= self.size, 29, "rva", at)
             covered = range(field, field + width)
             must(slots.isdisjoint(covered), 30, "rva", at)
-            must(len(imports) < 1 << 20, 31, "rva", at)
+            must(len(imports) < 1 << 20, 31, "rva", at, "it has 1048577, and the limit is 1048576")
             slots.update(covered)
             imports.append((module, field, key))
 
@@ -228,10 +245,11 @@ class Image:
         end = at + size
         if at == 0 or size == 0:
             return fixups
-        must(end <= self.size, 34, "rva", at)
+        must(end <= self.size, 34, "rva", at, self.past(size, at))
         while end - at >= 8 and uint(self.bytes, at + 4, 4):
             page, length = struct.unpack_from("<II", self.bytes, at)
-            must(length % 2 == 0 and 8 <= length <= end - at, 33, "rva", at)
+            must(length % 2 == 0 and 8 <= length <= end - at, 33, "rva", at,
+                 f"its size is {length}, and the directory has {end - at} bytes left")
             for entry in range(at + 8, at + length, 2):
                 self.read_fixup(fixups, fields, slots, page, entry)
             at += length
@@ -241,11 +259,12 @@ class Image:
         kind, offset = divmod(uint(self.bytes, at, 2), 0x1000)
         if kind == 0:
             return
-        must(kind in FIXUP_WIDTHS, 35, "rva", at)
+        must(kind in FIXUP_WIDTHS, 35, "rva", at, f"the type is {kind}, and the field is at RVA 0x{page + offset:x}")
         covered = range(page + offset, page + offset + FIXUP_WIDTHS[kind])
-        must(covered.stop <= self.size, 36, "rva", at)
-        must(fields.isdisjoint(covered), 37, "rva", at)
-        must(slots.isdisjoint(covered), 38, "rva", at)
+        must(covered.stop <= self.size, 36, "rva", at, self.past(len(covered), covered.start))
+        field = f"{len(covered)} bytes at RVA 0x{covered.start:x}"
+        must(fields.isdisjoint(covered), 37, "rva", at, field)
+        must(slots.isdisjoint(covered), 38, "rva", at, field)
         fields.update(covered)
         fixups.append((page + offset, kind))
 
@@ -256,9 +275,9 @@ class Object:
     def __init__(self, file):
         must(len(file) >= 20, 61, "file", len(file), f"it has {len(file)}")
         self.machine, count, self.stamp, table, records, optional_size, self.flags = struct.unpack_from("<HHIIIHH", file)
-        must(20 + optional_size + 40 * count <= len(file), 63, "file", 2)
+        must(20 + optional_size + 40 * count <= len(file), 63, "file", 2, passed(40 * count, 20 + optional_size, file))
         records = records if table else 0
-        must(table + 18 * records <= len(file), 67, "file", 8)
+        must(table + 18 * records <= len(file), 67, "file", 8, passed(18 * records, table, file))
         strings = self.read_strings(file, table + 18 * records) if table else b""
         self.sections = [self.read_section(file, 20 + optional_size + 40 * i, strings) for i in range(count)]
         self.records, self.symbols = records, self.read_symbols(file, table, records, strings)
@@ -266,21 +285,25 @@ class Object:
             places = [section.relocations_at + 10 * i for i in range(section.relocation_count)]
             section.relocations = [struct.unpack_from("<IIH", file, at) for at in places]
             for at, (_, symbol, _) in zip(places, section.relocations):
-                must(symbol < records, 72, "file", at)
+                must(symbol < records, 72, "file", at, f"it is {symbol}, and there are {records}")
 
     @staticmethod
     def read_strings(file, at):
         size, rest = uint(file, at, 4), len(file) - at
-        must(rest == 0 or rest >= 4 and size not in (1, 2, 3) and size <= rest, 68, "file", at)
+        values = f"the size is {size}" if rest >= 4 and size < 4 else passed(size if rest >= 4 else 4, at, file)
+        must(rest == 0 or rest >= 4 and size not in (1, 2, 3) and size <= rest, 68, "file", at, values)
         return strings_at(file, at)
 
     @staticmethod
     def read_section(file, at, strings):
         section = Section(file, at)
         has_bytes = section.pointer and section.raw_size and not section.flags & 0x80
-        must(not has_bytes or section.pointer + section.raw_size <= len(file), 64, "file", at)
+        must(not has_bytes or section.pointer + section.raw_size <= len(file), 64, "file", at,
+             passed(section.raw_size, section.pointer, file))
         must(not (section.flags & 0x01000000 and section.relocation_count == 0xFFFF), 65, "file", at)
-        must(not section.relocation_count or section.relocations_at + 10 * section.relocation_count <= len(file), 66, "file", at)
+        relocations = 10 * section.relocation_count
+        must(relocations == 0 or section.relocations_at + relocations <= len(file), 66, "file", at,
+             passed(relocations, section.relocations_at, file))
         section.in_file = section.raw_size if has_bytes else 0
         offset = long_name_at(section.field)
         section.name = section.name if offset is None else text_in(strings, offset)
@@ -295,9 +318,10 @@ class Object:
             field, value, section, kind, storage, auxiliary = struct.unpack_from("<8sIHHBB", file, at)
             offset = uint(field, 4, 4)
             name = field.split(b"\0")[0] if uint(field, 0, 4) else text_in(strings, offset) if offset else b""
-            must(name is not None, 69, "file", at)
-            must(index + auxiliary < records, 70, "file", at)
-            must(section <= len(self.sections) or section >= 0xFFFE, 71, "file", at)
+            must(name is not None, 69, "file", at, f"the offset is {offset}, and the table has {len(strings)} bytes")
+            must(index + auxiliary < records, 70, "file", at,
+                 f"it has {auxiliary}, and the table has {records - index - 1} records left")
+            must(section <= len(self.sections) or section >= 0xFFFE, 71, "file", at, f"it is {section}, and there are {len(self.sections)}")
             beside = [file[at + 18 * k : at + 18 * (k + 1)] for k in range(1, auxiliary + 1)]
             symbols.append((index, name, value, section, kind, storage, beside))
             index += 1 + auxiliary

@@ -4,7 +4,7 @@ from __future__ import annotations
 
 import ctypes
 import enum
-from typing import Any, Optional, Tuple, Union
+from typing import Any, Dict, Optional, Tuple, Union
 
 from . import _library, _records
 from ._library import library
@@ -58,6 +58,7 @@ class FormatFault(ValueError):
     file: Optional[str]  #: the name of the file, if it was opened by its name or the caller named it; otherwise None
     module: Optional[bytes]  #: for faults 48 to 50 the module that the import names, whose slot is at the place; otherwise None
     key: Union[bytes, int, None]  #: for faults 48 to 50 the name or the ordinal that the import names; otherwise None
+    values: Dict[str, int]  #: the numbers of the file that the rule compares, by the names of docs/FAULTS.md; empty if there are none
 
     def __init__(self, number: int, image: int, place: int, at: int, cycle: Optional[int] = None) -> None:
         super().__init__(number, image, place, at, cycle)
@@ -65,6 +66,7 @@ class FormatFault(ValueError):
         self.subject, self.rule = _words(number)
         self.cycle = cycle
         self.file = self.module = self.key = None
+        self.values = {}
 
     def __str__(self) -> str:
         return f"fault {self.number}: {_line(self)}"

@@ -5,7 +5,8 @@ from __future__ import annotations
 from typing import Any, Optional, TypeVar
 
 from ._bytes import Buffer, FileBytes
-from ._fault import ask
+from ._fault import FormatFault, ask
+from ._values import values_of
 
 Kind = TypeVar("Kind", bound="OfFile")
 
@@ -19,8 +20,12 @@ class OfFile:
 
     def _ask(self, function: Any, *arguments: Any) -> int:
         """The status of a call on the file, or its fault as an exception."""
-        with self._file.hold():
-            return ask(function, self._file.address, self._file.length, *arguments, file=self._name)
+        with self._file.hold() as file:
+            try:
+                return ask(function, self._file.address, self._file.length, *arguments, file=self._name)
+            except FormatFault as fault:
+                fault.values = values_of(file, fault.number, fault.at)
+                raise
 
     def close(self) -> None:
         """Releases the bytes. Results of earlier calls stay valid, except sequences whose rows have strings."""

@@ -464,9 +464,9 @@ def writable(buffer: Any) -> memoryview:
 
 def check(data: Buffer) -> Optional[FormatFault]:
     """The first of the image faults of docs/FAULTS.md as a value, or None: to sort files."""
-    file = FileBytes(data)
+    file = OfFile(data, None)
     try:
-        ask(library.petool_check, file.address, file.length)
+        file._ask(library.petool_check)
     except FormatFault as fault:
         return fault.with_traceback(None)
     finally:

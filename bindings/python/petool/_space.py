@@ -13,6 +13,7 @@ from ._bytes import LAYOUTS, Buffer, FileBytes, FileSet, Rows, address_of, read_
 from ._fault import FormatFault, ask, raise_for
 from ._image import Import, imports_of, writable
 from ._library import library
+from ._values import values_of
 
 #: The name of a module, all bytes of its file, and its base.
 SetEntry = Tuple[Union[str, bytes], Buffer, int]
@@ -71,6 +72,9 @@ def _ask_set(function: Any, held: FileSet, *arguments: Any) -> int:
     try:
         return ask(function, *arguments, byref(cycle), cycle=cycle)
     except FormatFault as fault:
+        if fault.image < len(held.files):
+            with held.files[fault.image].hold() as file:
+                fault.values = values_of(file, fault.number, fault.at)
         found = _import_at(held.files[fault.image], fault.at) if fault.number in _IMPORT_FAULTS else None
         if found is not None:
             fault.module, fault.key = found.module, found.key

@@ -102,7 +102,7 @@ Fault 2: end of the file at 0x0: the file has fewer than the 64 bytes of an MS-D
 
 EMPTY_JSON = (
     '{"schema":1,"file":"a.dll","accepted":false,"fault":{"number":2,"image":0,"place":{"file":0},"subject":"end of the file",'
-    '"rule":"the file has fewer than the 64 bytes of an MS-DOS header"}}\n'
+    '"rule":"the file has fewer than the 64 bytes of an MS-DOS header","values":{"file_size":0}}}\n'
 )
 
 AT_SIGNATURE = """\
@@ -376,13 +376,13 @@ FILES = [
         DUMP,
         IMPORTS,
         "fault 24 image 0 rva 0x00000ff0\n",
-        "petool: a.dll: import directory entry at RVA 0xff0: the entry is not entirely inside the image\n",
+        "petool: a.dll: import directory entry at RVA 0xff0: the entry is not entirely inside the image: 20 bytes at RVA 0xff0, and the image ends at 0x1000\n",
     ),
     (
         OBJECT,
         b"\x4c\x01\x01".ljust(20, b"\0"),
         "fault 63 image 0 file 0x00000002\n",
-        "petool: a.dll: NumberOfSections at 0x2: the section table extends past the end of the file\n",
+        "petool: a.dll: NumberOfSections at 0x2: the section table extends past the end of the file: 40 bytes at 0x14, and the file has 20\n",
     ),
     (
         REBASE,
@@ -526,7 +526,7 @@ NAMED_LINE = (
     r"\u0016\u0017\u0018\u0019\u001a\u001b\u001c\u001d\u001e\u001f !\"#$%&'()*+,-./0123456789:;<=>?@ABCDEFGHIJKLMNOPQRSTUVWXYZ[\\]^_"
     "`abcdefghijklmnopqrstuvwxyz{|}~\x7f"
     r'","accepted":false,"fault":{"number":2,"image":0,"place":{"file":0},"subject":"end of the file",'
-    r'"rule":"the file has fewer than the 64 bytes of an MS-DOS header"}}'
+    r'"rule":"the file has fewer than the 64 bytes of an MS-DOS header","values":{"file_size":0}}}'
     "\n"
 )
 

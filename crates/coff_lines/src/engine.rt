@@ -1,12 +1,14 @@
 //! `dump_object`: the engine of `petool object`, which writes an object's dump.
 
-ghost use Rattle.std.specs.Prelude.{◌-◌, ◌^◌, ◌<◌, ◌↔◌, IsErrOf};
-ghost use Rattle.pe_text.specs.Engine.{Ran};
+ghost use Rattle.std.specs.Prelude.{◌-◌, ◌^◌, ◌<◌, ◌↔◌, length, IsErrOf};
+ghost use Rattle.pe_text.specs.Engine.{Puts, Ran};
 ghost use Rattle.coff_lines.specs.ObjectReport.{IsObjectText};
 
 use crate::object_lines::write_object;
 use coff_read::ObjectFile;
-use pe_text::{Outcome, Report, Sink, Source, TextWriter, ToolError, refuse, run_report};
+use pe_text::{
+    Outcome, Report, Sink, Source, TextWriter, ToolError, refuse, run_report, write_report,
+};
 use std::alloc::{AllocError, Allocator};
 
 /// The report of [`dump_object`]: the dump of an accepted object, or the object's first fault.
@@ -50,4 +52,20 @@ pub fn dump_object<A: Allocator + Copy, R: Source, W: Sink>(
     ensures write { IsErrOf result ToolError.Write ↔ (W.failures writer.old < W.failures writer.new) }
 {
     run_report(&DumpObject, alloc, reader, writer)
+}
+
+/// The output of [`dump_object`] for a file that was read whole, and that its caller keeps. On the error `Write` the beginning of the
+/// output was written, on `Memory` nothing; `Read` never comes, and `Memory` not for an empty file. Condition: the writer has counted
+/// fewer than 2^64 - 1 failures so far.
+pub fn object_text<A: Allocator + Copy, W: Sink>(
+    alloc: A,
+    file: &[u8],
+    writer: &mut W,
+) -> Result<Outcome, ToolError>
+    requires { W.failures writer.old < 2 ^ 64 - 1 }
+    ensures puts { Puts (IsObjectText file.now) (W.taken writer.old) (W.taken writer.new)
+        (W.failures writer.old) (W.failures writer.new) result }
+    ensures memory { IsErrOf result ToolError.Memory → 0 < length file.now }
+{
+    write_report(&DumpObject, alloc, writer, file)
 }

@@ -8,10 +8,12 @@
 //! let mut writer = Counted::new(standard_output);
 //! let answer = dump_object(alloc, &mut reader, &mut writer);
 //! ```
+//!
+//! [`object_text`] writes the dump for a file that was read.
 #![tactic(auto)]
 
 mod engine;
 pub mod laws;
 mod object_lines;
 
-pub use engine::dump_object;
+pub use engine::{dump_object, object_text};

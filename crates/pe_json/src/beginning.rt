@@ -4,8 +4,10 @@ ghost use Rattle.std.specs.Prelude.{◌≡◌};
 ghost use Rattle.pe_json.specs.Growing.{Grows};
 ghost use Rattle.pe_text.specs.TextWriter.{IsReady};
 
+use pe_detail::{Amount, DetailPart, DetailText};
+use pe_reach::ViewFile;
 use pe_text::Part::{self, Decimal, Hex2, Hex16, Text};
-use pe_text::{FaultWords, Outcome, Sink, TextWriter, fault_words, write_parts};
+use pe_text::{FaultWords, FileKind, Outcome, Sink, TextWriter, fault_words, write_parts};
 use pe_view::{Fault, Place};
 use std::str;
 
@@ -89,15 +91,75 @@ fn word_parts(number: u16) -> [Part<'static>; 5] {
     }
 }
 
-/// Adds the line of a refused file.
-pub(crate) fn refuse<W: Sink>(text: &mut TextWriter<W>, name: &[u8], fault: Fault) -> Outcome
+/// What is before a value's name, if the part has a value: the beginning of the members, or a comma after a value.
+fn before_value(part: &DetailPart, is_first: bool) -> &'static [u8] {
+    match part.amount {
+        Amount::Nothing => b"",
+        _ if is_first => b",\"values\":{\"",
+        _ => b",\"",
+    }
+}
+
+/// Adds a value of a fault, if the part has one.
+fn add_value<W: Sink>(text: &mut TextWriter<W>, part: &DetailPart, is_first: bool)
     requires { IsReady W.failures text.old }
-    ensures outcome { result ≡ Outcome.Refused fault }
-    ensures grows { Grows W.taken W.failures text.old text.new }
+    ensures { Grows W.taken W.failures text.old text.new }
+{
+    let number = match part.amount {
+        Amount::Count(number) | Amount::Place(number) => number,
+        Amount::Nothing => return add(text, &[]),
+    };
+    add(
+        text,
+        &[
+            Text(before_value(part, is_first)),
+            Text(part.name.as_bytes()),
+            Text(b"\":"),
+            Decimal(number),
+        ],
+    );
+}
+
+/// Whether a fault has values: its first part has one.
+fn has_values(first: &DetailPart) -> bool {
+    first.amount != Amount::Nothing
+}
+
+/// Adds the numbers that the rule of a file's fault compares, by their names, if there are any.
+fn add_values<W: Sink>(text: &mut TextWriter<W>, file: ViewFile, fault: &Fault)
+    requires { IsReady W.failures text.old }
+    ensures { Grows W.taken W.failures text.old text.new }
+{
+    let Some(detail) = file.fault_detail(fault) else {
+        return add(text, &[]);
+    };
+    let [first, second, third] = DetailText(detail).parts();
+    add_value(text, &first, true);
+    add_value(text, &second, false);
+    add_value(text, &third, false);
+    let end: &[u8] = if has_values(&first) { b"}" } else { b"" };
+    add(text, &[Text(end)]);
+}
+
+/// The member that says what a refused file is instead, if its first bytes show that.
+fn kind_parts(kind: Option<FileKind>) -> [Part<'static>; 3] {
+    match kind {
+        Some(kind) => [
+            Text(b",\"kind\":\""),
+            Text(kind.name().as_bytes()),
+            Text(b"\""),
+        ],
+        None => [Text(b""); 3],
+    }
+}
+
+/// Adds the number of a fault, its place and its words.
+fn add_fault<W: Sink>(text: &mut TextWriter<W>, fault: &Fault)
+    requires { IsReady W.failures text.old }
+    ensures { Grows W.taken W.failures text.old text.new }
 {
     let [key, place, end] = place_parts(fault.place);
     let [subject_key, subject, rule_key, rule, quote] = word_parts(fault.number);
-    begin(text, name, false);
     add(
         text,
         &[
@@ -114,8 +176,25 @@ pub(crate) fn refuse<W: Sink>(text: &mut TextWriter<W>, name: &[u8], fault: Faul
             rule_key,
             rule,
             quote,
-            Text(b"}}\n"),
         ],
     );
+}
+
+/// Adds the line of a refused file.
+pub(crate) fn refuse<W: Sink>(
+    text: &mut TextWriter<W>,
+    name: &[u8],
+    file: ViewFile,
+    fault: Fault,
+) -> Outcome
+    requires { IsReady W.failures text.old }
+    ensures outcome { result ≡ Outcome.Refused fault }
+    ensures grows { Grows W.taken W.failures text.old text.new }
+{
+    begin(text, name, false);
+    add(text, &kind_parts(file.other_kind(&fault)));
+    add_fault(text, &fault);
+    add_values(text, file, &fault);
+    add(text, &[Text(b"}}\n")]);
     Outcome::Refused(fault)
 }

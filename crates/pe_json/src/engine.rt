@@ -40,7 +40,7 @@ fn write_object_line<A: Allocator + Copy, W: Sink>(
             json.end(text)?;
             Ok(Outcome::Done)
         }
-        Err(fault) => Ok(refuse(text, name, fault)),
+        Err(fault) => Ok(refuse(text, name, ViewFile::whole(file), fault)),
     }
 }
 
@@ -64,7 +64,7 @@ fn write_image_line<A: Allocator + Copy, W: Sink>(
             json.end(text)?;
             Ok(Outcome::Done)
         }
-        Err(TableError::Fault(fault)) => Ok(refuse(text, name, fault)),
+        Err(TableError::Fault(fault)) => Ok(refuse(text, name, file, fault)),
         Err(TableError::Memory) => Err(AllocError),
     }
 }

@@ -1,14 +1,16 @@
 //! `check` and `dump`: the engines that check an image, and that write its dump.
 
-ghost use Rattle.std.specs.Prelude.{◌-◌, ◌^◌, ◌<◌, ◌↔◌, IsErrOf};
-ghost use Rattle.pe_text.specs.Engine.{Ran};
+ghost use Rattle.std.specs.Prelude.{◌-◌, ◌^◌, ◌<◌, ◌↔◌, length, IsErrOf};
+ghost use Rattle.pe_text.specs.Engine.{Puts, Ran};
 ghost use Rattle.pe_lines.specs.Reports.{IsCheckText, IsDumpText};
 
 use crate::dump_lines::write_dump;
 use crate::format::write_accepted_line;
 use pe_image::read_image;
 use pe_tables::TableError;
-use pe_text::{Outcome, Report, Sink, Source, TextWriter, ToolError, refuse, run_report};
+use pe_text::{
+    Outcome, Report, Sink, Source, TextWriter, ToolError, refuse, run_report, write_report,
+};
 use std::alloc::{AllocError, Allocator};
 
 /// The report of [`check`]: the line of an accepted image, or its first fault.
@@ -99,4 +101,36 @@ pub fn dump<A: Allocator + Copy, R: Source, W: Sink>(
     ensures write { IsErrOf result ToolError.Write ↔ (W.failures writer.old < W.failures writer.new) }
 {
     run_report(&DumpReport, alloc, reader, writer)
+}
+
+/// The output of [`check`] for a file that was read whole, and that its caller keeps. On the error `Write` the beginning of the
+/// output was written, on `Memory` nothing; `Read` never comes, and `Memory` not for an empty file. Condition: the writer has counted
+/// fewer than 2^64 - 1 failures so far.
+pub fn check_text<A: Allocator + Copy, W: Sink>(
+    alloc: A,
+    file: &[u8],
+    writer: &mut W,
+) -> Result<Outcome, ToolError>
+    requires { W.failures writer.old < 2 ^ 64 - 1 }
+    ensures puts { Puts (IsCheckText file.now) (W.taken writer.old) (W.taken writer.new)
+        (W.failures writer.old) (W.failures writer.new) result }
+    ensures memory { IsErrOf result ToolError.Memory → 0 < length file.now }
+{
+    write_report(&CheckReport, alloc, writer, file)
+}
+
+/// The output of [`dump`] for a file that was read whole, and that its caller keeps. On the error `Write` the beginning of the
+/// output was written, on `Memory` nothing; `Read` never comes, and `Memory` not for an empty file. Condition: the writer has counted
+/// fewer than 2^64 - 1 failures so far.
+pub fn dump_text<A: Allocator + Copy, W: Sink>(
+    alloc: A,
+    file: &[u8],
+    writer: &mut W,
+) -> Result<Outcome, ToolError>
+    requires { W.failures writer.old < 2 ^ 64 - 1 }
+    ensures puts { Puts (IsDumpText file.now) (W.taken writer.old) (W.taken writer.new)
+        (W.failures writer.old) (W.failures writer.new) result }
+    ensures memory { IsErrOf result ToolError.Memory → 0 < length file.now }
+{
+    write_report(&DumpReport, alloc, writer, file)
 }

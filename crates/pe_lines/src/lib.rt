@@ -10,6 +10,7 @@
 //!
 //! [`check_sized`] and [`dump_sized`] take the file's size too, and read only as much of the file as decides the output;
 //! [`check_parts`] and [`dump_parts`] read only its headers and the sections with tables, if these decide it.
+//! [`check_text`] and [`dump_text`] write the output for a file that was read.
 #![tactic(auto)]
 
 mod dump_lines;
@@ -20,6 +21,6 @@ mod parts;
 mod sized;
 mod table_lines;
 
-pub use engine::{check, dump};
+pub use engine::{check, check_text, dump, dump_text};
 pub use parts::{check_parts, dump_parts};
 pub use sized::{check_sized, dump_sized};

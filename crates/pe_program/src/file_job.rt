@@ -1,23 +1,33 @@
 //! The commands that read files one at a time: `run_file` and `run_files`.
 
+use crate::file_detail::detail_of;
 use crate::input::{InputFile, name_of, open_file};
 use crate::messages::{STANDARD_OUTPUT, refuse_memory, refuse_path, tell_failure, tell_fault};
 use crate::statuses::{CUT, DONE, REFUSED};
 use crate::texts::{Engine, Printed, Text, print_text};
 use pe_tool::{Outcome, ToolError, status};
-use std::io::{Input, Read};
+use std::io::{Input, Read, Seek};
 use std::rt::Files;
 
 /// Reports on standard error the fault of a file or the failure of an engine, and returns the exit status.
-pub(crate) fn tell<F: Read, S: Read>(
-    rt: &impl Eprint,
+pub(crate) fn tell<R: Eprint + Alloc, F: Read + Seek + Drop, S: Read + Drop>(
+    rt: &R,
     name: &[u8],
-    file: &InputFile<F, S>,
+    file: &mut InputFile<F, S>,
     printed: Printed,
-) -> u8 {
+) -> u8
+where
+    R::A: Copy,
+{
     match printed.answer {
         Ok(Outcome::Done) => {}
-        Ok(Outcome::Refused(fault)) => tell_fault(rt, name, fault, file.first(), file.len()),
+        Ok(Outcome::Refused(fault)) => {
+            let detail = match printed.detail {
+                None => detail_of(rt.alloc(), file, &fault),
+                known => known,
+            };
+            tell_fault(rt, name, fault, detail, file.first());
+        }
         Err(ToolError::Write) => tell_failure(rt, STANDARD_OUTPUT, ToolError::Write, printed.error),
         Err(failure) => tell_failure(rt, name, failure, file.error()),
     }
@@ -58,8 +68,8 @@ where
             match printed.answer {
                 Ok(Outcome::Refused(_)) if tells_faults(engine) => Ok(status(&printed.answer)),
                 Err(ToolError::Write) if printed.is_cut => Ok(CUT),
-                Err(ToolError::Write) => Err(tell(rt, &name, &file, printed)),
-                _ => Ok(tell(rt, &name, &file, printed)),
+                Err(ToolError::Write) => Err(tell(rt, &name, &mut file, printed)),
+                _ => Ok(tell(rt, &name, &mut file, printed)),
             }
         }
         Err(error) => Ok(refuse_path(rt, &name, error)),

@@ -85,6 +85,15 @@ impl<F: Read, S: Read> InputFile<F, S> {
     }
 }
 
+impl<F: Read + Seek, S: Read> InputFile<F, S> {
+    /// Goes back to the beginning of a regular file, to be read again, and returns its size. `None` for others, and if that fails.
+    pub fn begin_again(&mut self) -> Option<u64> {
+        let size = self.size?;
+        self.seek(SeekFrom::Start(0)).ok()?;
+        Some(size)
+    }
+}
+
 impl<F: Read, S: Read> Read for InputFile<F, S> {
     fn read(&mut self, buffer: &mut [u8]) -> io::Result<usize> {
         let answer = self.read_stream(buffer);

@@ -10,6 +10,7 @@
 mod command_line;
 mod draft;
 mod explain;
+mod file_detail;
 mod file_job;
 mod headed;
 mod import_fault;

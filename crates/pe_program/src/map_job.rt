@@ -7,9 +7,10 @@ use crate::statuses::OUT_OF_MEMORY;
 use crate::texts::{Printed, Text, print_text};
 use crate::word_bytes::bytes_of;
 use pe_tool::{
-    Counted, MapFile, Outcome, Policy, SetEntry, ToolError, read_enough, read_whole, status,
+    Counted, MapFile, Outcome, Policy, SetEntry, ToolError, fault_detail, read_enough, read_whole,
+    status,
 };
-use pe_view::Fault;
+use pe_view::{Fault, View};
 use std::alloc::{AllocError, Allocator};
 use std::borrow::CowSlice;
 use std::io::{Input, Read};
@@ -108,7 +109,10 @@ where
 {
     match import_of(rt.alloc(), file, &fault) {
         Some(import) => tell_import_fault(rt, name, fault, &import),
-        None => tell_fault(rt, name, fault, file, file.len() as u64),
+        None => {
+            let detail = fault_detail(View::new(file), file.len() as u64, &fault);
+            tell_fault(rt, name, fault, detail, file);
+        }
     }
 }
 
@@ -121,7 +125,7 @@ where
     let path = files.get(image).map_or("", |file| file.path.as_str());
     match (set.get(image), name_of(rt.alloc(), path)) {
         (Some(entry), Ok(name)) => tell_image_fault(rt, &name, entry.file, fault),
-        _ => tell_fault(rt, b"map", fault, b"", 0),
+        _ => tell_fault(rt, b"map", fault, None, b""),
     }
 }
 

@@ -1,8 +1,8 @@
 //! The messages on standard error.
 
 use crate::statuses::{DEVICE_FAILED, OUT_OF_MEMORY};
-use pe_tool::{DetailText, FaultText, FileKind, ShownName, ToolError, fault_detail, file_kind};
-use pe_view::{Fault, View};
+use pe_tool::{Detail, DetailText, FaultText, FileKind, ShownName, ToolError, other_kind};
+use pe_view::Fault;
 use std::fmt::{self, Display};
 use std::io::{Error, ErrorKind};
 use std::str;
@@ -47,20 +47,6 @@ pub(crate) fn refuse_memory(rt: &impl Eprint) -> u8 {
     OUT_OF_MEMORY
 }
 
-/// How many of its first bytes show the kind of a file.
-const KIND_BYTES: usize = 16;
-
-/// The kind of a refused file by its first bytes, if it is another one than the command reads.
-fn other_kind(fault: &Fault, first: &[u8]) -> Option<FileKind> {
-    let read = match fault.number {
-        1..=38 => FileKind::Image,
-        61..=72 => FileKind::Object,
-        _ => return None,
-    };
-    let first = first.get(..KIND_BYTES).unwrap_or(first);
-    file_kind(first).filter(|kind| *kind != read)
-}
-
 /// A fault in words, the numbers of the file that its rule compares, and the kind of the file if it is the wrong one.
 #[derive(Clone, Copy)]
 struct Told {
@@ -82,13 +68,18 @@ impl Display for Told {
     }
 }
 
-/// Reports a fault of a file or a command in words. `first` has the file's first bytes, and `len` is how many bytes were read. That
-/// is its size if the message states one: a file with such a fault is read whole.
-pub(crate) fn tell_fault(rt: &impl Eprint, subject: &[u8], fault: Fault, first: &[u8], len: u64) {
+/// Reports a fault of a file or a command in words, with the numbers that its rule compares. `first` has the file's first bytes.
+pub(crate) fn tell_fault(
+    rt: &impl Eprint,
+    subject: &[u8],
+    fault: Fault,
+    detail: Option<Detail>,
+    first: &[u8],
+) {
     let subject = ShownName(subject);
     let told = Told {
         fault: FaultText(fault),
-        detail: fault_detail(View::new(first), len, &fault).map(DetailText),
+        detail: detail.map(DetailText),
         kind: other_kind(&fault, first),
     };
     let _ = eprintln!(rt; "petool: {subject}: {told}");

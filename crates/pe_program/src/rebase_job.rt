@@ -11,7 +11,7 @@ use pe_tool::{Counted, Outcome, ShownName, ToolError, rebase};
 use pe_view::View;
 use std::alloc::{AllocError, Allocator};
 use std::borrow::CowSlice;
-use std::io::{Error, ErrorKind, Input, Read, Write};
+use std::io::{Error, ErrorKind, Input, Read, Seek, Write};
 use std::os::unix::fs::MetadataExt;
 use std::rt::Files;
 use std::{fs, str};
@@ -130,19 +130,23 @@ fn refuse_target(rt: &impl Eprint, name: &[u8], error: Error) -> u8 {
 }
 
 /// Prints the line of the engine, reports what is to be reported, and returns the exit status.
-fn tell_rebase<F: Read, S: Read>(
-    rt: &(impl Print + Eprint),
+fn tell_rebase<R: Print + Eprint + Alloc, F: Read + Seek + Drop, S: Read + Drop>(
+    rt: &R,
     names: (&[u8], &[u8]),
-    file: &InputFile<F, S>,
+    file: &mut InputFile<F, S>,
     answer: Result<Outcome, ToolError>,
     error: Option<Error>,
-) -> u8 {
+) -> u8
+where
+    R::A: Copy,
+{
     let printed = Printed {
         answer: if error.is_some() {
             Err(ToolError::Write)
         } else {
             answer
         },
+        detail: None,
         error,
         is_cut: false,
     };
@@ -175,7 +179,7 @@ where
         None => {
             let line = room.get(..len).unwrap_or(&room);
             let error = print_line(rt, target, line);
-            tell_rebase(rt, names, &file, answer, error)
+            tell_rebase(rt, names, &mut file, answer, error)
         }
     }
 }

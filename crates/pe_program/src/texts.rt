@@ -5,11 +5,12 @@ ghost use Rattle.std.specs.Prelude.{◌-◌, ◌^◌, ◌<◌};
 use crate::headed::{Headed, Heading};
 use crate::output::Output;
 use pe_tool::{
-    Counted, Outcome, PartSource, Placed, Policy, SetEntry, ShowOptions, Sink, Source, ToolError,
-    at, at_sized, check, check_parts, check_sized, dump, dump_object, dump_parts, dump_sized, json,
-    json_sized, map_report, show, show_sized,
+    Counted, Detail, Outcome, PartSource, Placed, Policy, SetEntry, ShowOptions, Sink, Source,
+    ToolError, at_sized, at_text, check_parts, check_sized, check_text, dump_parts, dump_sized,
+    dump_text, fault_detail, json, json_sized, map_report, object_text, read_whole, show,
+    show_sized,
 };
-use pe_view::Place;
+use pe_view::{Place, View};
 use std::alloc::Allocator;
 use std::io;
 use std::io::{BufWriter, Error, Read, Seek, Write};
@@ -59,6 +60,8 @@ pub(crate) enum Text<'a, F> {
 #[derive(Clone, Copy)]
 pub(crate) struct Printed {
     pub answer: Result<Outcome, ToolError>,
+    /// The numbers that the rule of the fault compares, if the file was read whole.
+    pub detail: Option<Detail>,
     pub error: Option<Error>,
     /// Whether the output was longer than allowed, and was cut at the limit, with a note.
     pub is_cut: bool,
@@ -101,6 +104,62 @@ fn heading_of(engine: Engine, name: &[u8], is_headed: bool) -> Heading<'_> {
     }
 }
 
+/// The engines whose output has no faults in words.
+#[derive(Clone, Copy)]
+enum Lines {
+    Check,
+    Dump,
+    Object,
+    At(Place),
+}
+
+/// The result of an engine, and the numbers that the rule of the fault compares, if they are known.
+type Judged = (Result<Outcome, ToolError>, Option<Detail>);
+
+/// Writes the output of an engine for a file that was read whole.
+fn lines_of<A: Allocator + Copy, W: Sink>(
+    alloc: A,
+    lines: Lines,
+    file: &[u8],
+    writer: &mut W,
+) -> Result<Outcome, ToolError>
+    requires { W.failures writer.old < 2 ^ 64 - 1 }
+{
+    match lines {
+        Lines::Check => check_text(alloc, file, writer),
+        Lines::Dump => dump_text(alloc, file, writer),
+        Lines::Object => object_text(alloc, file, writer),
+        Lines::At(place) => at_text(alloc, place, file, writer),
+    }
+}
+
+/// The numbers that the rule of the fault compares, by which a file that was read whole was refused.
+fn detail_in(file: &[u8], answer: Result<Outcome, ToolError>) -> Option<Detail> {
+    match answer {
+        Ok(Outcome::Refused(fault)) => fault_detail(View::new(file), file.len() as u64, &fault),
+        _ => None,
+    }
+}
+
+/// Reads a file whole, and writes the output of an engine.
+fn write_lines<A: Allocator + Copy, R: Source, W: Sink>(
+    alloc: A,
+    lines: Lines,
+    reader: &mut R,
+    writer: &mut W,
+) -> Judged
+    requires reads { R.failures reader.old < 2 ^ 64 - 1 }
+    requires writes { W.failures writer.old < 2 ^ 64 - 1 }
+{
+    match read_whole(alloc, reader) {
+        Ok(file) => {
+            let answer = lines_of(alloc, lines, &file, writer);
+            (answer, detail_in(&file, answer))
+        }
+        Err(failure) => (Err(failure), None),
+    }
+}
+
 /// Runs an engine over a file whose size is not known, which is read whole.
 fn write_whole<A: Allocator + Copy, R: Source, W: Sink>(
     alloc: A,
@@ -108,17 +167,17 @@ fn write_whole<A: Allocator + Copy, R: Source, W: Sink>(
     name: &[u8],
     reader: &mut R,
     writer: &mut W,
-) -> Result<Outcome, ToolError>
+) -> Judged
     requires reads { R.failures reader.old < 2 ^ 64 - 1 }
     requires writes { W.failures writer.old < 2 ^ 64 - 1 }
 {
     match engine {
-        Engine::Check => check(alloc, reader, writer),
-        Engine::Dump => dump(alloc, reader, writer),
-        Engine::Object => dump_object(alloc, reader, writer),
-        Engine::Show(options) => show(alloc, name, &options, reader, writer),
-        Engine::Json => json(alloc, name, reader, writer),
-        Engine::At(place) => at(alloc, place, reader, writer),
+        Engine::Check => write_lines(alloc, Lines::Check, reader, writer),
+        Engine::Dump => write_lines(alloc, Lines::Dump, reader, writer),
+        Engine::Object => write_lines(alloc, Lines::Object, reader, writer),
+        Engine::Show(options) => (show(alloc, name, &options, reader, writer), None),
+        Engine::Json => (json(alloc, name, reader, writer), None),
+        Engine::At(place) => write_lines(alloc, Lines::At(place), reader, writer),
     }
 }
 
@@ -130,17 +189,20 @@ fn write_sized<A: Allocator + Copy, R: Source, W: Sink>(
     reader: &mut R,
     size: u64,
     writer: &mut W,
-) -> Result<Outcome, ToolError>
+) -> Judged
     requires reads { R.failures reader.old < 2 ^ 64 - 1 }
     requires writes { W.failures writer.old < 2 ^ 64 - 1 }
 {
     match engine {
-        Engine::Check => check_sized(alloc, reader, size, writer),
-        Engine::Dump => dump_sized(alloc, reader, size, writer),
-        Engine::Object => dump_object(alloc, reader, writer),
-        Engine::Show(options) => show_sized(alloc, name, &options, reader, size, writer),
-        Engine::Json => json_sized(alloc, name, reader, size, writer),
-        Engine::At(place) => at_sized(alloc, place, reader, size, writer),
+        Engine::Check => (check_sized(alloc, reader, size, writer), None),
+        Engine::Dump => (dump_sized(alloc, reader, size, writer), None),
+        Engine::Object => write_lines(alloc, Lines::Object, reader, writer),
+        Engine::Show(options) => (
+            show_sized(alloc, name, &options, reader, size, writer),
+            None,
+        ),
+        Engine::Json => (json_sized(alloc, name, reader, size, writer), None),
+        Engine::At(place) => (at_sized(alloc, place, reader, size, writer), None),
     }
 }
 
@@ -163,30 +225,24 @@ fn write_parts<A: Allocator + Copy, R: PartSource, W: Sink>(
     }
 }
 
-/// Runs an engine over an open file, whose size may be known.
-fn write_file<A: Allocator + Copy>(
+/// Runs an engine over a file of `size` bytes, of which it may need only some parts.
+fn write_regular<A: Allocator + Copy>(
     alloc: A,
     engine: Engine,
     name: &[u8],
     mut file: impl Read + Seek + Drop,
-    size: Option<u64>,
+    size: u64,
     writer: impl Write + Drop,
-) -> Result<Outcome, ToolError> {
+) -> Judged {
     let mut writer = Counted::new(writer);
-    let Some(size) = size else {
-        return write_whole(alloc, engine, name, &mut Counted::new(file), &mut writer);
-    };
-    if let Some(outcome) = write_parts(
-        alloc,
-        engine,
-        &mut Placed::new(&mut file),
-        size,
-        &mut writer,
-    )? {
-        return Ok(outcome);
+    let parts = &mut Placed::new(&mut file);
+    match write_parts(alloc, engine, parts, size, &mut writer) {
+        Ok(None) => {}
+        Ok(Some(outcome)) => return (Ok(outcome), None),
+        Err(error) => return (Err(error), None),
     }
     if file.rewind().is_err() {
-        return Err(ToolError::Read);
+        return (Err(ToolError::Read), None);
     }
     write_sized(
         alloc,
@@ -203,7 +259,7 @@ fn write_text<A: Allocator + Copy>(
     alloc: A,
     text: Text<'_, impl Read + Seek + Drop>,
     writer: impl Write + Drop,
-) -> Result<Outcome, ToolError> {
+) -> Judged {
     match text {
         Text::File {
             engine,
@@ -213,21 +269,23 @@ fn write_text<A: Allocator + Copy>(
             most: _,
             file,
         } => {
-            let heading = heading_of(engine, name, is_headed);
-            write_file(
-                alloc,
-                engine,
-                name,
-                file,
-                size,
-                Headed::new(writer, heading),
-            )
+            let writer = Headed::new(writer, heading_of(engine, name, is_headed));
+            match size {
+                Some(size) => write_regular(alloc, engine, name, file, size, writer),
+                None => {
+                    let mut reader = Counted::new(file);
+                    write_whole(alloc, engine, name, &mut reader, &mut Counted::new(writer))
+                }
+            }
         }
         Text::Map {
             set,
             policy,
             window,
-        } => map_report(alloc, set, policy, window, &mut Counted::new(writer)),
+        } => (
+            map_report(alloc, set, policy, window, &mut Counted::new(writer)),
+            None,
+        ),
     }
 }
 
@@ -242,6 +300,7 @@ pub(crate) fn flushed(
     };
     Printed {
         answer,
+        detail: None,
         error: output.error(),
         is_cut: output.is_cut() && output.error().is_none(),
     }
@@ -250,6 +309,7 @@ pub(crate) fn flushed(
 /// The result if memory for a buffer ran out.
 pub(crate) const NO_ROOM: Printed = Printed {
     answer: Err(ToolError::Memory),
+    detail: None,
     error: None,
     is_cut: false,
 };
@@ -267,9 +327,12 @@ where
     };
     let (most, colours_end) = (most_of(&text), colours_end(&text));
     let mut output = Output::limited(buffer, most);
-    let answer = write_text(rt.alloc(), text, &mut output);
+    let (answer, detail) = write_text(rt.alloc(), text, &mut output);
     if output.is_cut() {
         let _ = write_note(&mut output, colours_end, most);
     }
-    flushed(answer, &mut output)
+    Printed {
+        detail,
+        ..flushed(answer, &mut output)
+    }
 }

@@ -3,24 +3,25 @@
 ghost use Rattle.std.specs.Prelude.{◌≡◌, ◌<◌, length, option_map, is_some, IfSome, None, IsErrOf};
 ghost use Rattle.pe_view.specs.Faults.{Answers, AnswersOrWants, first_standing};
 ghost use Rattle.pe_view.specs.declared.refusal.Refusal.{Refusal};
-ghost use Rattle.pe_head.specs.FaultDetail.{fault_detail};
+ghost use Rattle.pe_detail.specs.FaultDetail.{fault_detail};
 ghost use Rattle.pe_head.specs.Head.{head_of};
 ghost use Rattle.pe_head.specs.HeaderFaults.{head_tests};
 
 use coff_read::ImageStrings;
-use pe_head::{FaultDetail, Headers, fault_detail, read_headers};
+use pe_detail::{Detail, fault_detail};
+use pe_head::{Headers, read_headers};
 use pe_image::{Image, lay_out, read_image};
 use pe_layout::Layout;
 use pe_tables::TableError;
-use pe_text::is_object;
+use pe_text::{FileKind, is_object, other_kind};
 use pe_view::{Fault, View};
 use std::alloc::Allocator;
 
 /// A file as views see it: its size, and the bytes that decide what they show of it.
 ///
 /// Of an image these may be only a beginning, so a view can ask for nothing but its headers, its laid-out image with the tables,
-/// the names of its sections, and the numbers of a fault: these are the same for each file of this size that begins so. Of an
-/// object they are all.
+/// the names of its sections, the numbers of a fault, and what it is instead of an image: these are the same for each file of this
+/// size that begins so. Of an object they are all.
 #[derive(Clone, Copy)]
 pub struct ViewFile<'a> {
     bytes: &'a [u8],
@@ -29,7 +30,7 @@ pub struct ViewFile<'a> {
 
 impl<'a> ViewFile<'a> {
     ghost use Rattle.pe_reach.specs.Views.{seen_of, told_of};
-    ghost use Rattle.pe_text.specs.FileKind.{is_object, kind_of};
+    ghost use Rattle.pe_text.specs.FileKind.{is_object, kind_of, other_kind};
     ghost use Rattle.coff_read.specs.ImageNames.{table_of, image_strings};
     ghost use Rattle.pe_layout.specs.SectionFaults.{layout_tests};
     ghost use Rattle.pe_layout.specs.Layout.{IsLayoutOf};
@@ -102,9 +103,16 @@ impl<'a> ViewFile<'a> {
     }
 
     /// The numbers that the rule of a fault compares.
-    pub fn fault_detail(&self, fault: &Fault) -> Option<FaultDetail>
+    pub fn fault_detail(&self, fault: &Fault) -> Option<Detail>
         ensures { result ≡ fault_detail (seen_of self.now) (told_of self.now) fault.now }
     {
         fault_detail(View::new(self.bytes), self.len, fault)
+    }
+
+    /// What it is instead, if it was refused with this fault and is no file of the kind that is tested for it.
+    pub fn other_kind(&self, fault: &Fault) -> Option<FileKind>
+        ensures { result ≡ other_kind fault.now.number (seen_of self.now) }
+    {
+        other_kind(fault, self.bytes)
     }
 }

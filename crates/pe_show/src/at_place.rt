@@ -1,8 +1,8 @@
 //! `at`: the engine of `petool at`, which shows what is at one place of an image.
 
-ghost use Rattle.std.specs.Prelude.{◌-◌, ◌^◌, ◌<◌, ◌↔◌, IsErrOf};
+ghost use Rattle.std.specs.Prelude.{◌-◌, ◌^◌, ◌<◌, ◌↔◌, length, IsErrOf};
 ghost use Rattle.pe_reach.specs.Sized.{RanSized};
-ghost use Rattle.pe_text.specs.Engine.{Ran};
+ghost use Rattle.pe_text.specs.Engine.{Puts, Ran};
 ghost use Rattle.pe_text.specs.TextWriter.{IsReady};
 ghost use Rattle.pe_show.specs.Judged.{IsImageJudged};
 ghost use Rattle.pe_show.specs.Page.{AddsSome};
@@ -17,7 +17,9 @@ use pe_layout::{Layout, Located};
 use pe_reach::{ViewFile, ViewReport, WholeView, run_view};
 use pe_tables::{Exports, Fixup, FixupKind, Import, TableError, Target};
 use pe_text::Part::{Decimal, Hex, Hex2, Text};
-use pe_text::{Outcome, Sink, Source, TextWriter, ToolError, refuse, run_report, write_parts};
+use pe_text::{
+    Outcome, Sink, Source, TextWriter, ToolError, refuse, run_report, write_parts, write_report,
+};
 use pe_view::Place;
 use std::alloc::{AllocError, Allocator};
 
@@ -334,4 +336,21 @@ pub fn at_sized<A: Allocator + Copy, R: Source, W: Sink>(
 {
     outcomes_agree();
     run_view(&AtReport { place }, alloc, reader, len, writer)
+}
+
+/// The output of [`at`] for a file that was read whole, and that its caller keeps. On the error `Write` the beginning of the output
+/// was written, on `Memory` nothing; `Read` never comes, and `Memory` not for an empty file. Condition: the writer has counted fewer
+/// than 2^64 - 1 failures so far.
+pub fn at_text<A: Allocator + Copy, W: Sink>(
+    alloc: A,
+    place: Place,
+    file: &[u8],
+    writer: &mut W,
+) -> Result<Outcome, ToolError>
+    requires { W.failures writer.old < 2 ^ 64 - 1 }
+    ensures puts { Puts (IsImageJudged file.now) (W.taken writer.old) (W.taken writer.new)
+        (W.failures writer.old) (W.failures writer.new) result }
+    ensures memory { IsErrOf result ToolError.Memory → 0 < length file.now }
+{
+    write_report(&WholeView(&AtReport { place }), alloc, writer, file)
 }

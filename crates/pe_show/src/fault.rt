@@ -4,21 +4,20 @@ ghost use Rattle.pe_text.specs.TextWriter.{IsReady};
 ghost use Rattle.pe_show.specs.Page.{AddsSome};
 
 use crate::style::{end_style, refusal_style};
+use pe_detail::{Amount, DetailPart, DetailText};
 use pe_reach::ViewFile;
 use pe_text::Part::{self, Decimal, Hex, Text};
-use pe_text::{
-    Amount, DetailText, Outcome, ShowOptions, Sink, TextWriter, fault_sentence, write_parts,
-};
+use pe_text::{Outcome, ShowOptions, Sink, TextWriter, fault_sentence, write_parts};
 use pe_view::Fault;
 
 /// Words, and the number after them.
-fn amount_parts(words: &'static str, amount: Amount) -> [Part<'static>; 3] {
-    let (prefix, number) = match amount {
+fn amount_parts(part: DetailPart) -> [Part<'static>; 3] {
+    let (prefix, number) = match part.amount {
         Amount::Nothing => (Text(b""), Text(b"")),
         Amount::Count(count) => (Text(b""), Decimal(count)),
         Amount::Place(place) => (Text(b"0x"), Hex(place, 1)),
     };
-    [Text(words.as_bytes()), prefix, number]
+    [Text(part.words.as_bytes()), prefix, number]
 }
 
 /// Adds the numbers that the rule of a fault compares after a colon, if there are any.
@@ -31,9 +30,19 @@ fn write_detail<W: Sink>(text: &mut TextWriter<W>, file: ViewFile, fault: &Fault
     };
     let [first, second, third] = DetailText(detail).parts();
     write_parts(text, &[Text(b": ")]);
-    write_parts(text, &amount_parts(first.0, first.1));
-    write_parts(text, &amount_parts(second.0, second.1));
-    write_parts(text, &amount_parts(third.0, third.1));
+    write_parts(text, &amount_parts(first));
+    write_parts(text, &amount_parts(second));
+    write_parts(text, &amount_parts(third));
+}
+
+/// Adds what a refused file is instead, if its first bytes show that it is no file of the kind that was tested.
+fn write_kind<W: Sink>(text: &mut TextWriter<W>, file: ViewFile, fault: &Fault)
+    requires { IsReady W.failures text.old }
+    ensures { AddsSome W.taken W.failures text.old text.new }
+{
+    if let Some(kind) = file.other_kind(fault) {
+        write_parts(text, &[Text(b"; "), Text(kind.words().as_bytes())]);
+    }
 }
 
 /// Adds the row of a file's fault, if there is one: `Fault 13: section header at 0x138: the section's raw data extends past the
@@ -63,5 +72,6 @@ pub(crate) fn write_refusal<W: Sink>(
         ],
     );
     write_detail(text, file, &fault);
+    write_kind(text, file, &fault);
     write_parts(text, &[end_style(options), Text(b"\n")]);
 }

@@ -10,7 +10,7 @@
 //! ```
 //!
 //! [`show_sized`] takes the file's size too, and reads only as much of an image as the page shows. [`at`] and [`at_sized`] write
-//! what is at a place.
+//! what is at a place, and [`at_text`] does for a file that was read.
 //!
 //! The outcome is specified by contract. So are, internally, how a name is shown, the place of an RVA, and the rows of exports,
 //! imports, base relocations, relocations and symbols; the rest of a page is in no contract.
@@ -42,7 +42,7 @@ mod style;
 mod symbols;
 // end of describe/records.txt
 
-pub use at_place::{at, at_sized};
+pub use at_place::{at, at_sized, at_text};
 pub use engine::{show, show_sized};
 pub use name::{ShownName, is_safe_text};
 pub use pe_text::ShowOptions;

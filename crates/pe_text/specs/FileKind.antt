@@ -1,10 +1,10 @@
 -- The kind of a file by its first bytes.
-use Rattle.std.specs.Prelude.{ℕ, ◌==◌, ◌&&◌, ◌||◌, Bool, true, false, nat_lt, nat_le, nat_eq, if◌then◌else◌, List, [], ◌∷◌, ◌++◌, codes, length, Option, None, Some}
+use Rattle.std.specs.Prelude.{ℕ, ◌==◌, ◌&&◌, ◌||◌, Bool, true, false, nat_lt, nat_le, nat_eq, if◌then◌else◌, List, [], ◌∷◌, ◌++◌, codes, length, take, Option, None, Some}
 use Rattle.std.specs.List.{list_all, starts_with}
 use Rattle.pe_view.specs.Number.{num, byte_of}
 use Rattle.pe_view.specs.Faults.{Test}
 use Rattle.pe_text.specs.declared.file_beginning.FileKind.{FileKind}
-use Rattle.pe_text.specs.declared.file_beginning.FileKind.TheVariants.{Image, Elf, Archive, Text, Object}
+use Rattle.pe_text.specs.declared.file_beginning.FileKind.TheVariants.{Image, Elf, Archive, ThinArchive, Text, Object, ImportObject, BigObject}
 
 abbrev pub begins_with : List ℕ → List ℕ → Bool
 begins_with = starts_with nat_eq
@@ -23,15 +23,33 @@ is_machine m = m == 0x14c || (m == 0x8664 || (m == 0xaa64 || (m == 0x1c0 || m ==
 abbrev pub begins_object : List ℕ → Bool
 begins_object bytes = nat_le 2 (length bytes) && is_machine (num (byte_of bytes) 0 2)
 
+-- Machine 0, ffff where an object has its number of sections, and the version 0 ("PE Format", Import Header)
+abbrev pub begins_import : List ℕ → Bool
+begins_import bytes = begins_with bytes (0 ∷ 0 ∷ 255 ∷ 255 ∷ 0 ∷ 0 ∷ [])
+
+-- the same first four bytes, a version of 2 or more, and the class of `/bigobj` objects, as far as it is in the first 16 bytes
+abbrev pub begins_big_object : List ℕ → Bool
+begins_big_object bytes =
+    nat_le 16 (length bytes)
+    && (num (byte_of bytes) 0 4 == 0xffff0000 && (nat_le 2 (num (byte_of bytes) 4 2) && num (byte_of bytes) 12 4 == 0xd1baa1c7))
+
+-- the kind of object that may begin with these bytes
+abbrev pub object_kind : List ℕ → Option FileKind
+object_kind bytes =
+    if begins_object bytes then Some Object
+    else (if begins_import bytes then Some ImportObject
+    else (if begins_big_object bytes then Some BigObject
+    else None))
+
 -- the first of the kinds that may begin with these bytes
 abbrev pub kind_of : List ℕ → Option FileKind
 kind_of bytes =
     if begins_with bytes (codes "MZ") then Some Image
     else (if begins_with bytes (127 ∷ codes "ELF") then Some Elf
     else (if begins_with bytes (codes "!<arch>" ++ 10 ∷ []) then Some Archive
+    else (if begins_with bytes (codes "!<thin>" ++ 10 ∷ []) then Some ThinArchive
     else (if is_text bytes then Some Text
-    else (if begins_object bytes then Some Object
-    else None))))
+    else object_kind bytes))))
 
 -- the first bytes are those of an object
 abbrev pub is_object : Option FileKind → Bool
@@ -39,8 +57,11 @@ is_object None = false
 is_object (Some Image) = false
 is_object (Some Elf) = false
 is_object (Some Archive) = false
+is_object (Some ThinArchive) = false
 is_object (Some Text) = false
 is_object (Some Object) = true
+is_object (Some ImportObject) = false
+is_object (Some BigObject) = false
 
 -- the tests of a file: those of an object if its first bytes are those of one, otherwise those of an image
 abbrev pub tests_by_kind : List ℕ → List Test → List Test → List Test
@@ -51,5 +72,42 @@ abbrev pub kind_words : FileKind → List ℕ
 kind_words Image = codes "it is an image"
 kind_words Elf = codes "it is an ELF file"
 kind_words Archive = codes "it is an archive"
+kind_words ThinArchive = codes "it is a thin archive"
 kind_words Text = codes "it is a text"
 kind_words Object = codes "it is a COFF object"
+kind_words ImportObject = codes "it is an import object"
+kind_words BigObject = codes "it is a /bigobj object"
+
+-- its name
+abbrev pub kind_name : FileKind → List ℕ
+kind_name Image = codes "image"
+kind_name Elf = codes "ELF file"
+kind_name Archive = codes "archive"
+kind_name ThinArchive = codes "thin archive"
+kind_name Text = codes "text"
+kind_name Object = codes "COFF object"
+kind_name ImportObject = codes "import object"
+kind_name BigObject = codes "/bigobj object"
+
+-- the first bytes are those of an image
+abbrev pub is_image : Option FileKind → Bool
+is_image None = false
+is_image (Some Image) = true
+is_image (Some Elf) = false
+is_image (Some Archive) = false
+is_image (Some ThinArchive) = false
+is_image (Some Text) = false
+is_image (Some Object) = false
+is_image (Some ImportObject) = false
+is_image (Some BigObject) = false
+
+-- a file of this kind is tested for a fault of this number; true for a number of which no single file is
+abbrev pub is_read : ℕ → Option FileKind → Bool
+is_read number kind =
+    if nat_le 1 number && nat_le number 38 then is_image kind
+    else (if nat_le 61 number && nat_le number 72 then is_object kind
+    else true)
+
+-- what a file refused with a fault of this number is instead, by its first 16 bytes
+abbrev pub other_kind : ℕ → List ℕ → Option FileKind
+other_kind number first = if is_read number (kind_of (take 16 first)) then None else kind_of (take 16 first)

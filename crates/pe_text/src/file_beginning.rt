@@ -1,11 +1,12 @@
-//! `file_kind`: the kind of a file by its first bytes; and `is_object`, by which it is checked as an object or as an image.
+//! `file_kind`: the kind of a file by its first bytes; `is_object`, by which it is checked as an object or as an image; and
+//! `other_kind`, what a refused file is instead.
 
 ghost use Rattle.std.specs.Prelude.{◌≡◌, Some};
 ghost use Rattle.std.specs.List.{list_all};
-ghost use Rattle.pe_text.specs.FileKind.{is_text_byte, is_text, is_machine, begins_object, is_object, kind_of, kind_words};
+ghost use Rattle.pe_text.specs.FileKind.{is_text_byte, is_text, is_machine, begins_object, begins_import, begins_big_object, is_object, kind_of, kind_name, kind_words, object_kind, is_read, other_kind};
 
 use pe_head::machine;
-use pe_view::View;
+use pe_view::{Fault, View};
 use std::fmt::{self, Display};
 
 /// A kind of file. It displays as a clause: `it is an ELF file`.
@@ -17,23 +18,58 @@ pub enum FileKind {
     Elf,
     /// It begins with `!<arch>` and a line feed.
     Archive,
+    /// It begins with `!<thin>` and a line feed: an archive that names its members' files and does not hold them.
+    ThinArchive,
     /// It has bytes, and its first ones are printable ASCII, tabs and line ends.
     Text,
     /// It begins with the number of a machine for which COFF objects are made.
     Object,
+    /// It begins with the header of an import object, a member of a short import library: 0, ffff and the version 0.
+    ImportObject,
+    /// It begins with the header of an object that was compiled with `/bigobj`: 0, ffff, a version of 2 or more, and the class of
+    /// such objects.
+    BigObject,
+}
+
+impl FileKind {
+    /// Its name: `ELF file`.
+    pub fn name(self) -> &'static str
+        ensures { result.now ≡ kind_name self }
+    {
+        match self {
+            FileKind::Image => "image",
+            FileKind::Elf => "ELF file",
+            FileKind::Archive => "archive",
+            FileKind::ThinArchive => "thin archive",
+            FileKind::Text => "text",
+            FileKind::Object => "COFF object",
+            FileKind::ImportObject => "import object",
+            FileKind::BigObject => "/bigobj object",
+        }
+    }
+
+    /// The clause that it displays as.
+    pub fn words(self) -> &'static str
+        ensures { result.now ≡ kind_words self }
+    {
+        match self {
+            FileKind::Image => "it is an image",
+            FileKind::Elf => "it is an ELF file",
+            FileKind::Archive => "it is an archive",
+            FileKind::ThinArchive => "it is a thin archive",
+            FileKind::Text => "it is a text",
+            FileKind::Object => "it is a COFF object",
+            FileKind::ImportObject => "it is an import object",
+            FileKind::BigObject => "it is a /bigobj object",
+        }
+    }
 }
 
 impl Display for FileKind {
     ghost output = { λ kind. Some (kind_words kind) };
 
     fn fmt<W: fmt::Write>(&self, f: &mut fmt::Formatter<W>) -> fmt::Result {
-        match self {
-            FileKind::Image => f.write_str("it is an image"),
-            FileKind::Elf => f.write_str("it is an ELF file"),
-            FileKind::Archive => f.write_str("it is an archive"),
-            FileKind::Text => f.write_str("it is a text"),
-            FileKind::Object => f.write_str("it is a COFF object"),
-        }
+        f.write_str(self.words())
     }
 }
 
@@ -78,6 +114,31 @@ fn begins_object(first: &[u8]) -> bool
     }
 }
 
+/// Whether an import object may begin with these bytes ("PE Format", Import Header): Machine is 0, where an object has its number
+/// of sections is ffff, and the version is 0.
+fn begins_import(first: &[u8]) -> bool
+    ensures { result ≡ begins_import first.now }
+{
+    first.starts_with(b"\x00\x00\xff\xff\x00\x00")
+}
+
+/// The class in the header of a `/bigobj` object, as far as it is among the first 16 bytes.
+const BIG_OBJECT_CLASS: u32 = 0xd1ba_a1c7;
+
+/// Whether a `/bigobj` object may begin with these bytes: 0 and ffff as an import object has, a version of 2 or more, and the class
+/// of such objects, which is tested as far as it is among the first 16 bytes.
+fn begins_big_object(first: &[u8]) -> bool
+    ensures { result ≡ begins_big_object first.now }
+{
+    let view = View::new(first);
+    match (view.u32_at(0), view.u16_at(4), view.u32_at(12)) {
+        (Some(mark), Some(version), Some(class)) => {
+            mark == 0xffff_0000 && version >= 2 && class == BIG_OBJECT_CLASS
+        }
+        _ => false,
+    }
+}
+
 /// The kind of a file by its first bytes, however many they are; `None` if they are those of no kind.
 ///
 /// The kinds are tested in the order of [`FileKind`], so that a file whose first bytes may begin both a text and an object is a
@@ -91,10 +152,25 @@ pub fn file_kind(first: &[u8]) -> Option<FileKind>
         Some(FileKind::Elf)
     } else if first.starts_with(b"!<arch>\n") {
         Some(FileKind::Archive)
+    } else if first.starts_with(b"!<thin>\n") {
+        Some(FileKind::ThinArchive)
     } else if is_text(first) {
         Some(FileKind::Text)
-    } else if begins_object(first) {
+    } else {
+        object_kind(first)
+    }
+}
+
+/// The kind of object that may begin with these bytes.
+fn object_kind(first: &[u8]) -> Option<FileKind>
+    ensures { result ≡ object_kind first.now }
+{
+    if begins_object(first) {
         Some(FileKind::Object)
+    } else if begins_import(first) {
+        Some(FileKind::ImportObject)
+    } else if begins_big_object(first) {
+        Some(FileKind::BigObject)
     } else {
         None
     }
@@ -105,4 +181,31 @@ pub fn is_object(file: &[u8]) -> bool
     ensures { result ≡ is_object (kind_of file.now) }
 {
     matches!(file_kind(file), Some(FileKind::Object))
+}
+
+/// How many of its first bytes show what a refused file is.
+const KIND_BYTES: usize = 16;
+
+/// Whether a file of this kind is one that is tested for a fault of this number; true for a number of which no single file is.
+fn is_read(number: u16, kind: Option<FileKind>) -> bool
+    ensures { result ≡ is_read number kind }
+{
+    match number {
+        1..=38 => matches!(kind, Some(FileKind::Image)),
+        61..=72 => matches!(kind, Some(FileKind::Object)),
+        _ => true,
+    }
+}
+
+/// What a file that was refused with a fault is instead, by its first 16 bytes: `None` if they are those of no kind, or of the kind
+/// that is tested for this fault. `first` has these bytes, or all if the file has fewer, and may have more.
+pub fn other_kind(fault: &Fault, first: &[u8]) -> Option<FileKind>
+    ensures { result ≡ other_kind fault.now.number first.now }
+{
+    let kind = file_kind(&first[..first.len().min(KIND_BYTES)]);
+    if is_read(fault.number, kind) {
+        None
+    } else {
+        kind
+    }
 }

@@ -13,7 +13,6 @@
 #![tactic(auto)]
 
 mod counted;
-mod detail_text;
 mod device;
 mod digits;
 mod engine;
@@ -33,7 +32,6 @@ mod told;
 mod whole_file;
 
 pub use counted::Counted;
-pub use detail_text::{Amount, DetailPart, DetailText};
 pub use device::{Failed, Sink, Source};
 pub use digits::hex_width;
 pub use engine::{Report, refuse, run_report, write_refusal, write_report};
@@ -41,7 +39,7 @@ pub use fault_line::{write_cycle_line, write_fault_line};
 pub use fault_text::{FaultText, FaultWords, fault_sentence, fault_words};
 pub use field::Field;
 pub use fields::{characteristics, time_date_stamp, write_fields};
-pub use file_beginning::{FileKind, file_kind, is_object};
+pub use file_beginning::{FileKind, file_kind, is_object, other_kind};
 pub use header_fields::{coff_fields, standard_fields, windows_fields};
 pub use machine_line::write_machine;
 pub use outcome::{Outcome, ToolError, status};

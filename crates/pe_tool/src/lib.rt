@@ -20,16 +20,18 @@ mod set_report;
 mod window;
 mod words;
 
-pub use coff_lines::dump_object;
-pub use pe_head::{FaultDetail, fault_detail};
+pub use coff_lines::{dump_object, object_text};
+pub use pe_detail::{Detail, DetailText, fault_detail};
 pub use pe_json::{json, json_sized};
-pub use pe_lines::{check, check_parts, check_sized, dump, dump_parts, dump_sized};
-pub use pe_reach::{PartSource, Placed, needed, read_enough};
-pub use pe_show::{ShowOptions, ShownName, at, at_sized, is_safe_text, show, show_sized};
+pub use pe_lines::{
+    check, check_parts, check_sized, check_text, dump, dump_parts, dump_sized, dump_text,
+};
+pub use pe_reach::{PartSource, Placed, needed, read_enough, read_view};
+pub use pe_show::{ShowOptions, ShownName, at, at_sized, at_text, is_safe_text, show, show_sized};
 pub use pe_space::{Policy, SetEntry};
 pub use pe_text::{
-    Counted, DetailText, Failed, FaultText, FaultWords, FileKind, Outcome, Sink, Source, ToolError,
-    fault_words, file_kind, read_whole, status,
+    Counted, Failed, FaultText, FaultWords, FileKind, Outcome, Sink, Source, ToolError,
+    fault_words, file_kind, other_kind, read_whole, status,
 };
 pub use pe_words::{MapFile, WordsError};
 pub use rebasing::rebase;

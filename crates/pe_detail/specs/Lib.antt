@@ -1,0 +1,15 @@
+pub use Rattle.pe_view.specs.Faults
+pub use Rattle.pe_view.specs.View
+pub use Rattle.pe_layout.specs.Image
+pub use Rattle.pe_layout.specs.Layout
+pub use Rattle.pe_layout.specs.SectionFaults
+pub use Rattle.pe_tables.specs.Fixups
+pub use Rattle.coff_read.specs.Field
+pub use Rattle.coff_read.specs.Reading
+pub use Rattle.coff_read.specs.Strings
+pub mod ExportDetail
+pub mod FaultDetail
+pub mod FixupDetail
+pub mod ImportDetail
+pub mod Numbers
+pub mod ObjectDetail
