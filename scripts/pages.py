@@ -30,6 +30,8 @@ from pages_reader import FIXUP_WIDTHS, Headers, Image, Object, Refused, is_objec
 FAULTS = os.path.join(os.path.dirname(os.path.abspath(__file__)), "..", "docs", "FAULTS.md")
 #: The tables of which a page has a row for each entry, if an option requests them.
 TABLES = ("exports", "imports", "relocations", "symbols")
+#: How many columns a page has that is not told the width of its terminal.
+WIDTH = 100
 SECTION_WORDS = {0: "UNDEFINED", 0xFFFF: "ABSOLUTE", 0xFFFE: "DEBUG"}
 # control characters, and those that change the direction of the text around them
 UNSAFE = re.compile("[\0-\x1f\x7f-\x9f\u061c\u200e\u200f\u2028-\u202e\u2066-\u2069\ufeff]")
@@ -53,8 +55,9 @@ def fault_row(fault):
 
 
 def shown(name, limit=4096):
-    """A name as a page shows it: UTF-8 unchanged, otherwise in quotes."""
-    name = name[:limit]
+    """A name as a page shows it: UTF-8 unchanged, otherwise in quotes; `..` is behind it if it is cut."""
+    if len(name) > limit:
+        return shown(name[:limit], limit) + ".."
     try:
         text = name.decode()
     except UnicodeDecodeError:
@@ -79,7 +82,17 @@ def hex_width(numbers, least):
 def flag_words(names, flags):
     """The names of flags, each after a blank, and then the flags without names."""
     rest = flags & ~sum(1 << bit for bit in names)
-    return "".join(f" {name}" for bit, name in names.items() if flags >> bit & 1) + (f" 0x{rest:x}" if rest else "")
+    return [f" {name}" for bit, name in names.items() if flags >> bit & 1] + [f" 0x{rest:x}"] * bool(rest)
+
+
+def with_flags(row, words, indent):
+    """A row with flags behind it; those that do not fit are on further rows, behind so many blanks."""
+    rows = [row]
+    for word in words:
+        if len(rows[-1]) > indent and len(rows[-1] + word) > WIDTH:
+            rows.append(" " * indent)
+        rows[-1] += word
+    return "\n".join(rows)
 
 
 def section_flag_words(flags):
@@ -127,9 +140,22 @@ def section_words(image, rva):
 # ---- rows of images
 
 
-def stamp_row(stamp):
-    date = datetime.datetime.fromtimestamp(stamp, datetime.timezone.utc).strftime("%Y-%m-%d %H:%M:%S UTC")
-    return f"  Time stamp   {'not set' if stamp in (0, 0xFFFFFFFF) else date} (0x{stamp:08x})"
+def stamp_row(stamp, is_reproducible=False):
+    date = datetime.datetime.fromtimestamp(stamp, datetime.timezone.utc)
+    limits = datetime.datetime(1990, 1, 1, tzinfo=date.tzinfo), datetime.datetime(2038, 1, 19, 3, 14, 7, tzinfo=date.tzinfo)
+    reason = "before 1990" if date < limits[0] else "past 2038-01-19" if date > limits[1] else ""
+    reason = "reproducible build" if is_reproducible else reason
+    if stamp in (0, 0xFFFFFFFF):
+        return f"  Time stamp   not set (0x{stamp:08x})"
+    return "  Time stamp   " + (f"0x{stamp:08x} (no date: {reason})" if reason else f"{date:%Y-%m-%d %H:%M:%S} UTC (0x{stamp:08x})")
+
+
+def is_reproducible(image):
+    """Whether the debug directory has an entry of type 16, in the bytes that the file holds from its beginning on."""
+    rva, size = image.directory(6)
+    start, end, section = image.piece(rva) or (0, 0, None)
+    held = min(end, start + section.in_file) if section else end
+    return bool(rva) and 16 in (uint(image.bytes, at + 12, 4) for at in range(rva, min(held, rva + size) - 27, 28))
 
 
 def image_kind(it):
@@ -143,7 +169,7 @@ def header_rows(it, image):
     if image and it.entry:
         place, offset = place_of(image, it.entry)
         entry += f"  {place}" + ("" if offset is None else f"  file 0x{offset:x}")
-    yield from ("", stamp_row(it.stamp), f"  Linker       {it.linker_major}.{it.linker_minor}")
+    yield from ("", stamp_row(it.stamp, image and is_reproducible(image)), f"  Linker       {it.linker_major}.{it.linker_minor}")
     yield (f"  Subsystem    {name_of(SUBSYSTEMS, it.subsystem)} {it.subsystem_major}.{it.subsystem_minor} "
            f"(operating system {it.os_major}.{it.os_minor}, image {it.image_major}.{it.image_minor})")
     yield f"  Base         0x{it.base:x}, 0x{it.size:x} bytes; {'must stand there' if it.flags & 1 else 'may be moved'}"
@@ -151,8 +177,8 @@ def header_rows(it, image):
     yield f"  Alignment    0x{it.alignment:x} in memory, 0x{it.file_alignment:x} in the file; headers 0x{it.headers:x} bytes"
     yield f"  Stack        0x{it.stack:x} reserved, 0x{it.stack_commit:x} committed; heap 0x{it.heap:x}, 0x{it.heap_commit:x}"
     yield f"  CheckSum     0x{it.checksum:08x}"
-    yield f"  Image flags {flag_words(IMAGE_FLAGS, it.flags) or ' none'}"
-    yield f"  DLL flags   {flag_words(DLL_FLAGS, it.dll_flags) or ' none'}"
+    yield with_flags("  Image flags ", flag_words(IMAGE_FLAGS, it.flags) or [" none"], 14)
+    yield with_flags("  DLL flags   ", flag_words(DLL_FLAGS, it.dll_flags) or [" none"], 14)
     if image and it.symbols and it.symbol_count:
         yield f"  Symbols      {counted(it.symbol_count, 'record')} at file 0x{it.symbols:x}, not read"
     end = max([it.headers, *(section.pointer + section.raw_size for section in it.sections if section.pointer)])
@@ -167,8 +193,9 @@ def section_rows(sections):
     yield f"\nSections ({len(sections):,})"
     yield f"   #  {'name':<{name}}  flags       {'RVA':<{rva + 5}}{'bytes':<{size + 5}}{'file':<{file + 5}}in file"
     for i, it in enumerate(sections):
-        yield (f"{i:4}  {names[i]:<{name}}  {use_words(it.flags)}   0x{it.rva:0{rva}x}   0x{it.extent:0{size}x}   0x{it.pointer:0{file}x}"
-               f"   0x{it.in_file:0{size}x}{section_flag_words(it.flags)}")
+        row = (f"{i:4}  {names[i]:<{name}}  {use_words(it.flags)}   0x{it.rva:0{rva}x}   0x{it.extent:0{size}x}   0x{it.pointer:0{file}x}"
+               f"   0x{it.in_file:0{size}x}")
+        yield with_flags(row, section_flag_words(it.flags), name + 7)
 
 
 def runs(rows, key):
@@ -177,18 +204,35 @@ def runs(rows, key):
 
 
 def module_of(row):
-    return row[0][:255]
+    return row[0][:256]
 
 
-def summary(image, index):
+def module_list(image, room, wanted):
+    """The modules that imports come from: on the row of the imports if they fit, or below it, as many as fit there."""
+    modules = [f"{shown(module, 255)} {len(rows):,}" for module, rows in runs(image.imports, module_of)]
+    text = ", ".join(modules)
+    if not modules or len(text) + 2 <= room:
+        return f": {text}" if modules else ""
+    if len(text) + 6 <= WIDTH:
+        return f":\n      {text}"
+    end = " below" if "imports" in wanted else ": --imports"
+    # the room for the number of the others is that of the number of all
+    least = len(f" and {len(modules):,} more{end}")
+    fits = [count for count in range(len(modules)) if len("      " + ", ".join(modules[:count])) + least <= WIDTH]
+    count = max(fits, default=0)
+    if count == 0:
+        return f" from {counted(len(modules), 'module')}{end}"
+    return f":\n      {', '.join(modules[:count])} and {len(modules) - count:,} more{end}"
+
+
+def summary(image, index, room, wanted):
     """What was read from a directory's table."""
     if index == 0 and image.exports is not None:
         forwarders = sum(isinstance(target, tuple) for _, target, _ in image.exports)
         return f"{counted(len(image.exports), 'export')}, {counted(forwarders, 'forwarder')}"
     if index == 1 and image.imports is not None:
-        modules = [f"{shown(module)} {len(rows):,}" for module, rows in runs(image.imports, module_of)]
-        more = f" and {len(modules) - 4:,} more" if len(modules) > 4 else ""
-        return counted(len(image.imports), "import") + (": " if modules else "") + ", ".join(modules[:4]) + more
+        count = counted(len(image.imports), "import")
+        return count + module_list(image, room - len(count), wanted)
     if index == 5 and image.fixups is not None:
         pages = [field >> 12 for field, _ in image.fixups]
         where = f" in {counted(len(set(pages)), 'page')}" if pages == sorted(pages) else ", not in the order of their pages"
@@ -196,15 +240,15 @@ def summary(image, index):
     return "not read"
 
 
-def directory_rows(image):
+def directory_rows(image, wanted):
     present = [(i, *it) for i, it in enumerate(image.headers.directories) if any(it)]
     places = ["file offset" if i == 4 else section_words(image, rva) for i, rva, _ in present]
     name, place = max([6, *(len(DIRECTORIES[i]) for i, _, _ in present)]), max([12, *map(len, places)])
     rva_width, size_width = hex_width((it[1] for it in present), 6), hex_width((it[2] for it in present), 5)
     yield f"\nTables ({len(present):,})"
     for (i, rva, size), where in zip(present, places):
-        yield (f"{i:4}  {DIRECTORIES[i]:<{name}}   0x{rva:0{rva_width}x}   0x{size:0{size_width}x}   {where:<{place}}   "
-               f"{summary(image, i)}")
+        row = f"{i:4}  {DIRECTORIES[i]:<{name}}   0x{rva:0{rva_width}x}   0x{size:0{size_width}x}   {where:<{place}}   "
+        yield row + summary(image, i, WIDTH - len(row), wanted)
 
 
 def export_rows(image):
@@ -225,7 +269,7 @@ def import_rows(imports):
     width = hex_width((slot for _, slot, _ in imports), 6)
     yield f"\nImports ({len(imports):,})"
     for module, rows in runs(imports, module_of):
-        yield f"  {shown(module)} ({len(rows):,})"
+        yield f"  {shown(module, 255)} ({len(rows):,})"
         yield from (f"    0x{slot:0{width}x}  {key_words(key)}" for _, slot, key in rows)
 
 
@@ -241,7 +285,7 @@ def fixup_rows(fixups):
 def table_rows(image, wanted):
     """What a page shows after the headers."""
     yield from section_rows(image.headers.sections)
-    yield from directory_rows(image)
+    yield from directory_rows(image, wanted)
     if "exports" in wanted and image.exports is not None:
         yield from export_rows(image)
     if "imports" in wanted and image.imports is not None:
@@ -270,15 +314,16 @@ def image_page(file, wanted):
 
 
 def object_rows(it, wanted):
-    yield from ("", stamp_row(it.stamp), f"  Flags       {flag_words(IMAGE_FLAGS, it.flags) or ' none'}")
+    yield from ("", stamp_row(it.stamp), with_flags("  Flags       ", flag_words(IMAGE_FLAGS, it.flags) or [" none"], 14))
     yield f"  Symbols      {len(it.symbols):,}"
     names, number = [shown(section.name, 40) for section in it.sections], max(4, len(str(len(it.sections))))
     name, size = max([8, *map(len, names)]), hex_width((section.raw_size for section in it.sections), 6)
     yield f"\nSections ({len(it.sections):,})"
     yield f"{'#':>{number}}  {'name':<{name}}  flags       {'bytes':<{size + 5}}{'in file':<{size + 5}}relocations"
     for i, section in enumerate(it.sections):
-        yield (f"{i + 1:{number}}  {names[i]:<{name}}  {use_words(section.flags)}   0x{section.raw_size:0{size}x}"
-               f"   0x{section.in_file:0{size}x}   {len(section.relocations):11}{section_flag_words(section.flags)}")
+        row = (f"{i + 1:{number}}  {names[i]:<{name}}  {use_words(section.flags)}   0x{section.raw_size:0{size}x}"
+               f"   0x{section.in_file:0{size}x}   {len(section.relocations):11}")
+        yield with_flags(row, section_flag_words(section.flags), number + name + 3)
     if "relocations" in wanted:
         yield from relocation_rows(it, names)
     if "symbols" in wanted:
@@ -477,7 +522,8 @@ def compare_files(command, paths):
     differing = 0
     for path in paths:
         ours, _ = page_of(path, read(path), ["all"])
-        theirs = subprocess.run([*command, "show", "--all", path], stdout=subprocess.PIPE).stdout.decode()
+        environment = {name: value for name, value in os.environ.items() if name != "COLUMNS"}
+        theirs = subprocess.run([*command, "show", "--all", path], stdout=subprocess.PIPE, env=environment).stdout.decode()
         if theirs != ours:
             differing += 1
             tell(path, theirs, ours)

@@ -29,8 +29,9 @@ ESCAPE = re.compile(r"\\x([0-9a-f]{2})")
 
 
 def shown(name, limit=4096):
-    """A name as a page shows it."""
-    name = name[:limit]
+    """A name as a page shows it, with `..` behind it if it is cut."""
+    if len(name) > limit:
+        return shown(name[:limit], limit) + ".."
     try:
         text = name.decode()
     except UnicodeDecodeError:
@@ -115,11 +116,20 @@ def section_names(pe, path):
     return [shown(name, 40) for name in names]
 
 
+def stamp_words(stamp, is_reproducible):
+    """What a page says of a time stamp: a date from 1990 to the last second that 31 bits count, or why it is none."""
+    if stamp in (0, 0xFFFFFFFF):
+        return f"not set (0x{stamp:08x})"
+    date = datetime.datetime.fromtimestamp(stamp, datetime.timezone.utc)
+    reason = "before 1990" if date.year < 1990 else "past 2038-01-19" if stamp > 0x7FFFFFFF else ""
+    reason = "reproducible build" if is_reproducible else reason
+    return f"0x{stamp:08x} (no date: {reason})" if reason else f"{date:%Y-%m-%d %H:%M:%S} UTC (0x{stamp:08x})"
+
+
 def compare_headers(report, pe, labels, names):
     file, optional = pe.FILE_HEADER, pe.OPTIONAL_HEADER
-    stamp = file.TimeDateStamp
-    date = datetime.datetime.fromtimestamp(stamp, datetime.timezone.utc).strftime("%Y-%m-%d %H:%M:%S UTC")
-    report.same("time stamp", labels["Time stamp"], f"{'not set' if stamp in (0, 0xFFFFFFFF) else date} (0x{stamp:08x})")
+    debug = getattr(pe, "DIRECTORY_ENTRY_DEBUG", [])
+    report.same("time stamp", labels["Time stamp"], stamp_words(file.TimeDateStamp, any(it.struct.Type == 16 for it in debug)))
     report.same("linker", labels["Linker"], f"{optional.MajorLinkerVersion}.{optional.MinorLinkerVersion}")
     subsystem = pefile.SUBSYSTEM_TYPE.get(optional.Subsystem)
     subsystem = subsystem[len("IMAGE_SUBSYSTEM_"):] if isinstance(subsystem, str) else f"0x{optional.Subsystem:04x}"
@@ -234,7 +244,7 @@ def compare_fixups(report, pe, rows):
 
 def compare_image(report, path, page):
     pe = pefile.PE(path, fast_load=True)
-    pe.parse_data_directories([pefile.DIRECTORY_ENTRY[f"IMAGE_DIRECTORY_ENTRY_{name}"] for name in ("EXPORT", "IMPORT", "BASERELOC")])
+    pe.parse_data_directories([pefile.DIRECTORY_ENTRY[f"IMAGE_DIRECTORY_ENTRY_{name}"] for name in ("EXPORT", "IMPORT", "BASERELOC", "DEBUG")])
     title, labels, tables = blocks_of(page)
     names = section_names(pe, path)
     form = {0x10B: "PE32", 0x20B: "PE32+"}[pe.OPTIONAL_HEADER.Magic]
@@ -277,7 +287,7 @@ def compare_object(report, path, page):
     title, labels, tables = blocks_of(page)
     machine = MACHINES[header["Machine"]]
     report.same("title", title, f"{path}: accepted: COFF object for {machine}, {grouped(os.path.getsize(path))} bytes")
-    report.same("time stamp", labels["Time stamp"].rsplit(" ", 1)[1], f"(0x{header['TimeDateStamp']:08x})")
+    report.same("time stamp", labels["Time stamp"], stamp_words(header["TimeDateStamp"], False))
     report.same("object flags", labels["Flags"].strip(), flags_of(header["Characteristics"], pefile.image_characteristics, "IMAGE_FILE_"))
     report.same("symbols counted", labels["Symbols"], grouped(len(symbols)))
     report.same("sections counted", tables["Sections"][0], header["SectionCount"])
@@ -323,7 +333,9 @@ def main():
     command = shlex.split(sys.argv[1])
     files = differing = refused = 0
     for path in (file for word in sys.argv[2:] for file in files_of(word)):
-        ran = subprocess.run([*command, path], stdout=subprocess.PIPE, stderr=subprocess.DEVNULL)
+        # each row on one line
+        environment = {**os.environ, "COLUMNS": "1000"}
+        ran = subprocess.run([*command, path], stdout=subprocess.PIPE, stderr=subprocess.DEVNULL, env=environment)
         page = ran.stdout.decode("utf-8", "surrogateescape")
         files += 1
         if ran.returncode == 1:

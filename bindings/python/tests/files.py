@@ -57,6 +57,23 @@ def with_data(pieces: Iterable[Piece], section: bytes) -> bytes:
     return bytes(file[:0x200]) + section
 
 
+# ---- imports ----
+
+
+def importing(*modules: Tuple[bytes, Sequence[int]]) -> bytes:
+    """A library that imports these ordinals of these modules, in this order. Its slots of 4 bytes are at RVA 0x20000 and after it."""
+    names = 0x1000 + 20 * (len(modules) + 1)
+    lookups = names + sum(len(name) + 1 for name, _ in modules)
+    descriptors, entries, strings, slot = b"", b"", b"", 0x20000
+    for name, ordinals in modules:
+        descriptors += numbers(lookups + len(entries), 0, 0, names + len(strings), slot)
+        entries += numbers(*(0x80000000 + it for it in ordinals), 0)
+        strings += name + b"\0"
+        slot += 4 * len(ordinals)
+    section = descriptors + bytes(20) + strings + entries
+    return with_data([(0x90, numbers(0x40000)), (0xC0, numbers(0x1000, 20))], section)
+
+
 # ---- forwarders ----
 
 #: The RVA that an ordinal of a library exports if it is not a forwarder: one in its headers.

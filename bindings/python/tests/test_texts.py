@@ -154,7 +154,7 @@ def with_relocations(count):
 #: Files, and how lines of their pages end that have a count over 999; each is the end of one line.
 COUNTED = [
     (library([b"m.x"] * 1001 + [b""] * 1004), ["   2,005 exports, 1,001 forwarders", "Exports (2,005)"]),
-    (with_imports(1002, 1007), ["   2,009 imports: M 1,002, A 1, B 1, A 1 and 1,004 more", "Imports (2,009)", "  M (1,002)"]),
+    (with_imports(1002, 1007), ["   2,009 imports:", " B 1, A 1 and 994 more below", "Imports (2,009)", "  M (1,002)"]),
     (with_fixups(1001), ["   2,002 fixups in 1,001 pages", "Base relocations (2,002)"]),
     (with_relocations(1001), ["Relocations (1,001)", "  1 .text (1,001)"]),
 ]

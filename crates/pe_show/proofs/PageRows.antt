@@ -6,17 +6,17 @@ use Rattle.std.specs.Prelude.{codes}
 use Rattle.std.specs.Str.{chars, is_utf8}
 use Rattle.pe_text.specs.Text.{hex, width_from, escaped, quoted}
 use Rattle.pe_tables.specs.declared.fixups.FixupKind.TheVariants.{Bits64}
-use Rattle.pe_show.specs.Name.{is_plain, name_text, columns}
+use Rattle.pe_show.specs.Name.{is_plain, whole_text, whole_columns, name_text, section_text, section_columns}
 use Rattle.pe_show.specs.Places.{field_offset}
 use Rattle.pe_show.specs.Rows.{fields_row, relocation_row, symbol_row}
 
 -- "é" in UTF-8 is one character, and its first byte alone is not UTF-8
-e_acute : columns (0xc3 ∷ 0xa9 ∷ []) ≡ 1
-unfolding columns chars is_utf8 encode
+e_acute : section_columns (0xc3 ∷ 0xa9 ∷ []) ≡ 1
+unfolding section_columns whole_columns chars is_utf8 encode
 e_acute = refl
 
 half : name_text (0xc3 ∷ []) ≡ codes "\"\\xc3\""
-unfolding name_text chars is_utf8 encode quoted escaped hex
+unfolding name_text whole_text chars is_utf8 encode quoted escaped hex
 half = refl
 
 -- U+202E, which changes the direction of the text after it, is not shown as it is
@@ -31,7 +31,7 @@ fields = refl
 
 -- a relocation whose symbol has a name and whose field is in the file, and one without both
 named_relocation : relocation_row 0x1f (Some 0x8f) (Some (codes "REL32")) 4 12 (Some (codes "_puts")) ≡ codes "    0x00001f  file 0x00008f  REL32  #12 _puts\n"
-unfolding relocation_row hex width_from name_text chars is_utf8 encode digits
+unfolding relocation_row hex width_from name_text whole_text chars is_utf8 encode digits
 named_relocation = refl
 
 other_relocation : relocation_row 0x1000000 None None 0x2a 3 None ≡ codes "    0x1000000  0x002a  #3\n"
@@ -50,9 +50,9 @@ before_section = refl
 
 -- a function in section 3 of an object with ten or more, and a symbol of a class without a name outside sections
 function : symbol_row 7 4 0x40 (Some 3) 2 (codes ".text") (Some (codes "EXTERNAL")) 2 0x20 (codes "main") ≡ codes "   7  0x00000040   3 .text         EXTERNAL       function  main\n"
-unfolding symbol_row hex name_text columns chars is_utf8 encode digits
+unfolding symbol_row hex name_text whole_text section_text section_columns whole_columns chars is_utf8 encode digits
 function = refl
 
 other_class : symbol_row 12 4 0 None 2 (codes "ABSOLUTE") None 130 0 (codes "x") ≡ codes "  12  0x00000000     ABSOLUTE      class     130            x\n"
-unfolding symbol_row hex name_text columns chars is_utf8 encode digits
+unfolding symbol_row hex name_text whole_text section_text section_columns whole_columns chars is_utf8 encode digits
 other_class = refl

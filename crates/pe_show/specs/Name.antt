@@ -1,5 +1,5 @@
 -- Names as a page shows them.
-use Rattle.std.specs.Prelude.{ℕ, ◌==◌, ◌&&◌, ◌||◌, not, Bool, false, nat_le, if◌then◌else◌, List, [], ◌∷◌, length, take}
+use Rattle.std.specs.Prelude.{ℕ, ◌+◌, ◌==◌, ◌&&◌, ◌||◌, not, Bool, false, nat_le, nat_lt, if◌then◌else◌, List, [], ◌∷◌, ◌++◌, codes, length, take}
 use Rattle.std.specs.List.{list_all}
 use Rattle.std.specs.Str.{chars, is_utf8}
 use Rattle.pe_text.specs.Text.{quoted}
@@ -24,14 +24,30 @@ is_safe_text name = is_utf8 name && list_all is_safe (chars name)
 abbrev pub is_plain : List ℕ → Bool
 is_plain name = begins_plain name && is_safe_text name
 
--- the beginning of a name, cut if it is too long to be shown
-abbrev pub cut : List ℕ → List ℕ
-cut name = take 4096 name
-
 -- a name: as it is if it is plain, otherwise in quotes
-unfoldable pub name_text : List ℕ → List ℕ
-name_text name = if is_plain (cut name) then cut name else quoted (cut name)
+unfoldable pub whole_text : List ℕ → List ℕ
+whole_text name = if is_plain name then name else quoted name
 
 -- how many columns it takes, one per character
-unfoldable pub columns : List ℕ → ℕ
-columns name = length (if is_plain (cut name) then chars (cut name) else quoted (cut name))
+unfoldable pub whole_columns : List ℕ → ℕ
+whole_columns name = length (if is_plain name then chars name else quoted name)
+
+-- the mark behind a name of more bytes than are shown
+abbrev pub cut_mark : ℕ → List ℕ → List ℕ
+cut_mark limit name = if nat_lt limit (length name) then codes ".." else []
+
+-- at most so many bytes of a name, with a mark if there are more
+abbrev pub cut_text : ℕ → List ℕ → List ℕ
+cut_text limit name = whole_text (take limit name) ++ cut_mark limit name
+
+-- any name
+unfoldable pub name_text : List ℕ → List ℕ
+name_text name = cut_text 4096 name
+
+-- the name of a section, or a short word
+unfoldable pub section_text : List ℕ → List ℕ
+section_text name = cut_text 40 name
+
+-- how many columns that takes
+unfoldable pub section_columns : List ℕ → ℕ
+section_columns name = whole_columns (take 40 name) + length (cut_mark 40 name)

@@ -9,7 +9,7 @@ use Rattle.pe_layout.specs.declared.locate.Located.TheVariants.{Header, Raw, Zer
 use Rattle.pe_tables.specs.declared.key.Target.{Target}
 use Rattle.pe_tables.specs.declared.key.Target.TheVariants as exported
 use Rattle.pe_text.specs.Text.{hex_width}
-use Rattle.pe_show.specs.Name.{columns}
+use Rattle.pe_show.specs.Name.{section_columns}
 use Rattle.pe_show.specs.declared.place.SectionPlace.{SectionPlace}
 use Rattle.pe_show.specs.declared.exports.ShownTarget.{ShownTarget}
 use Rattle.pe_show.specs.declared.exports.ShownTarget.TheVariants.{Here, Forward}
@@ -71,7 +71,7 @@ offset_columns (Some offset) = 3 + hex_width offset
 
 -- how many columns a place takes
 abbrev pub place_columns : SectionPlace → ℕ
-place_columns place = columns place.name.now + offset_columns place.offset
+place_columns place = section_columns place.name.now + offset_columns place.offset
 
 -- how many blanks come between the target of an ordinal and its names: a place is padded to `width`, a forwarder is not
 abbrev pub gap_columns : ℕ → ShownTarget → ℕ

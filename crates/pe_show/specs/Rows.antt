@@ -8,7 +8,7 @@ use Rattle.pe_tables.specs.declared.key.Key.{Key}
 use Rattle.pe_tables.specs.declared.key.Key.TheVariants.{Ordinal, Name}
 use Rattle.pe_text.specs.Part.{joined}
 use Rattle.pe_text.specs.Text.{hex, hex_at_least}
-use Rattle.pe_show.specs.Name.{name_text, columns}
+use Rattle.pe_show.specs.Name.{name_text, section_text, section_columns}
 use Rattle.pe_show.specs.declared.place.SectionPlace.{SectionPlace}
 use Rattle.pe_show.specs.declared.exports.ShownTarget.{ShownTarget}
 use Rattle.pe_show.specs.declared.exports.ShownTarget.TheVariants.{Here, Forward}
@@ -22,9 +22,9 @@ blanks count = replicate (min count 256) 0x20
 abbrev pub right_text : ℕ → ℕ → List ℕ
 right_text number width = blanks (width - length (decimal number)) ++ decimal number
 
--- a name, padded with blanks to a width
+-- the name of a section or a short word, padded with blanks to a width
 abbrev pub column_text : List ℕ → ℕ → List ℕ
-column_text name width = name_text name ++ blanks (width - columns name)
+column_text name width = section_text name ++ blanks (width - section_columns name)
 
 -- a name, or `#` and an ordinal
 unfoldable pub key_text : Key → List ℕ
@@ -37,7 +37,7 @@ offset_text (Some offset) = codes "+0x" ++ hex_at_least 1 offset
 
 -- the place of an RVA: a section's name or another word, and the offset in it
 unfoldable pub place_text : SectionPlace → List ℕ
-place_text place = name_text place.name.now ++ offset_text place.offset
+place_text place = section_text place.name.now ++ offset_text place.offset
 
 -- ---- exports
 -- an ordinal and the place of its export, in columns of `width` and `digits`

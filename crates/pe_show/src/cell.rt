@@ -7,8 +7,8 @@ ghost use Rattle.pe_show.specs.Rows.{blanks, right_text, column_text};
 
 use crate::date::write_date;
 use crate::exports::write_key;
-use crate::flags::write_flags;
-use crate::name::{name_width, write_name};
+use crate::flags::{FlagRow, write_flags};
+use crate::name::{section_width, write_module_name, write_name, write_section_name};
 use crate::place::SectionPlace;
 use itoa::Buffer;
 use pe_head::FlagKind;
@@ -23,7 +23,11 @@ pub(crate) enum Cell<'a> {
     Plain(Part<'a>),
     /// A name from the file.
     Name(&'a [u8]),
-    /// A name from the file, padded with blanks to a width.
+    /// The name of a section.
+    Section(&'a [u8]),
+    /// The name of an imported module.
+    Module(&'a [u8]),
+    /// The name of a section or a short word, padded with blanks to a width.
     Column(&'a [u8], usize),
     /// A number of blanks.
     Blanks(usize),
@@ -34,7 +38,7 @@ pub(crate) enum Cell<'a> {
     /// A time stamp as a date.
     Date(u32),
     /// The flags that are set in a field, by name.
-    Flags(FlagKind, u32),
+    Flags(FlagKind, u32, FlagRow),
     /// The name of an export or import, or `#` and an ordinal.
     Key(Key<'a>),
     /// The place of an RVA, like `.text+0x350`.
@@ -66,6 +70,12 @@ pub(crate) fn decimal_width(number: u64) -> usize
     Buffer::new().format(number).len()
 }
 
+/// How many columns a number takes in decimal with a comma before each group of three digits.
+pub(crate) fn count_width(number: u64) -> usize {
+    let digits = decimal_width(number);
+    digits.saturating_add(digits.saturating_sub(1) / 3)
+}
+
 /// Adds a number in decimal, with a comma before each group of three digits: `135,168`.
 fn write_count<W: Sink>(text: &mut TextWriter<W>, number: u64)
     requires { IsReady W.failures text.old }
@@ -91,13 +101,13 @@ pub(crate) fn write_right<W: Sink>(text: &mut TextWriter<W>, number: u64, width:
     text.text(digits);
 }
 
-/// Adds a name from the file, padded with blanks to a width.
+/// Adds the name of a section or a short word, padded with blanks to a width.
 pub(crate) fn write_column<W: Sink>(text: &mut TextWriter<W>, name: &[u8], width: usize)
     requires { IsReady W.failures text.old }
     ensures { Adds W.taken W.failures text.old text.new (column_text name.now width) }
 {
-    write_name(text, name);
-    text.text(blanks(width.saturating_sub(name_width(name))));
+    write_section_name(text, name);
+    text.text(blanks(width.saturating_sub(section_width(name))));
 }
 
 /// Adds a cell.
@@ -108,12 +118,14 @@ fn write_cell<W: Sink>(text: &mut TextWriter<W>, cell: &Cell)
     match cell {
         Cell::Plain(part) => write_part(text, part),
         Cell::Name(name) => write_name(text, name),
+        Cell::Section(name) => write_section_name(text, name),
+        Cell::Module(name) => write_module_name(text, name),
         Cell::Column(name, width) => write_column(text, name, *width),
         Cell::Blanks(count) => text.text(blanks(*count)),
         Cell::Count(number) => write_count(text, *number),
         Cell::Right(number, width) => write_right(text, *number, *width),
         Cell::Date(seconds) => write_date(text, *seconds),
-        Cell::Flags(kind, flags) => write_flags(text, *kind, *flags),
+        Cell::Flags(kind, flags, row) => write_flags(text, *kind, *flags, row),
         Cell::Key(key) => write_key(text, *key),
         Cell::Place(place) => place.write(text),
     }

@@ -4,23 +4,22 @@ ghost use Rattle.pe_text.specs.TextWriter.{IsReady};
 ghost use Rattle.pe_show.specs.Page.{AddsSome};
 
 use crate::cell::Cell::{self, Plain};
-use crate::cell::{NOTHING, plural, write_cells};
+use crate::cell::{NOTHING, count_width, plural, write_cells};
 use crate::fixups::same_page;
-use crate::heading::write_heading;
-use crate::imports::{module_name, same_module};
-use crate::name::name_width;
+use crate::heading::{Page, write_heading};
+use crate::imports::{module_len, module_name, same_module};
+use crate::name::{module_width, section_width};
 use crate::place::SectionNames;
-use arrayvec::ArrayVec;
 use pe_head::{Directory, directory_index, directory_name};
 use pe_image::Tables;
 use pe_layout::Layout;
 use pe_tables::{Exports, Fixup, Import, Target};
 use pe_text::Part::{Hex, Text};
-use pe_text::{ShowOptions, Sink, TextWriter, hex_width};
+use pe_text::{Sink, TextWriter, hex_width};
 use std::alloc::Allocator;
 
-/// How many modules are named in the row of the imports.
-const MODULES_SHOWN: usize = 4;
+/// What comes before the first module if the modules that imports come from are on a row of their own.
+const BELOW: &[u8] = b":\n      ";
 
 /// How many directories are present, and the widths of their columns.
 #[derive(Clone, Copy)]
@@ -75,7 +74,7 @@ fn widths_of(layout: &Layout, names: &SectionNames) -> Widths {
             widths.rva = widths.rva.max(hex_width(u64::from(directory.rva)));
             widths.size = widths.size.max(hex_width(u64::from(directory.size)));
             let section = section_of(layout, names, index, directory);
-            widths.section = widths.section.max(name_width(section));
+            widths.section = widths.section.max(section_width(section));
         }
     }
     widths
@@ -102,52 +101,182 @@ fn write_export_count<A: Allocator + Copy, W: Sink>(text: &mut TextWriter<W>, ex
     );
 }
 
-/// The first runs of imports from one module, each as the module's name and the number of imports, and the number of all runs.
-fn first_runs<'a>(imports: &[Import<'a>]) -> (ArrayVec<(&'a [u8], usize), MODULES_SHOWN>, usize) {
-    let mut shown = ArrayVec::new();
-    let mut modules: usize = 0;
-    for module in imports.chunk_by(same_module) {
-        modules = modules.saturating_add(1);
-        if let Some(import) = module.first() {
-            let _ = shown.try_push((module_name(import), module.len()));
-        }
+/// The end of the row of the imports if it does not name all modules: where they are.
+fn elsewhere(page: &Page) -> &'static [u8] {
+    if page.options.imports {
+        b" below\n"
+    } else {
+        b": --imports\n"
     }
-    (shown, modules)
 }
 
-/// Adds the number of imports, and how many there are of each of the first modules.
-fn write_import_count<W: Sink>(text: &mut TextWriter<W>, imports: &[Import])
+/// How many columns a module takes that imports come from: `, KERNEL32.dll 12`.
+fn run_width(run: &[Import]) -> usize {
+    let name = match run.first() {
+        Some(import) => module_width(module_name(import)),
+        None => 0,
+    };
+    name.saturating_add(3)
+        .saturating_add(count_width(run.len() as u64))
+}
+
+/// How many columns the modules take that imports come from, and how many they are: as often as others come between its imports a
+/// module counts again.
+fn runs_of(imports: &[Import]) -> (usize, usize) {
+    let mut columns: usize = 0;
+    let mut count: usize = 0;
+    for run in imports.chunk_by(same_module) {
+        columns = columns.saturating_add(run_width(run));
+        count = count.saturating_add(1);
+    }
+    (columns, count)
+}
+
+/// Where the modules that imports come from are named, how many of them, and how many they are.
+#[derive(Clone, Copy)]
+struct Listing {
+    /// Whether they are on a row of their own.
+    is_below: bool,
+    named: usize,
+    count: usize,
+}
+
+/// How many of `count` modules fit on a row of their own, if all take so many columns: all, or as many as fit with the number of the
+/// others behind them.
+fn named_below(page: &Page, imports: &[Import], columns: usize, count: usize) -> usize {
+    // six blanks begin the row, and the first has no comma and no blank before it
+    let room = page.width.saturating_sub(4);
+    if columns <= room {
+        return count;
+    }
+    let end = elsewhere(page).len().saturating_add(9);
+    let mut left = room.saturating_sub(end.saturating_add(count_width(count as u64)));
+    let mut named: usize = 0;
+    for run in imports.chunk_by(same_module) {
+        let width = run_width(run);
+        if width > left {
+            return named;
+        }
+        left -= width;
+        named = named.saturating_add(1);
+    }
+    named
+}
+
+/// How the modules are named that imports come from: on the row of the imports if all fit into `room` columns, otherwise on a row of
+/// their own.
+fn listing_of(page: &Page, imports: &[Import], room: usize) -> Listing {
+    let (columns, count) = runs_of(imports);
+    if columns <= room {
+        return Listing {
+            is_below: false,
+            named: count,
+            count,
+        };
+    }
+    Listing {
+        is_below: true,
+        named: named_below(page, imports, columns, count),
+        count,
+    }
+}
+
+/// What comes before a module that is named.
+fn before_run(listing: Listing, place: usize) -> &'static [u8] {
+    match (place, listing.is_below) {
+        (0, true) => BELOW,
+        (0, false) => b": ",
+        _ => b", ",
+    }
+}
+
+/// Adds a module that imports come from after `before`, and how many of the imports these are.
+fn write_run<W: Sink>(text: &mut TextWriter<W>, before: &'static [u8], run: &[Import])
     requires { IsReady W.failures text.old }
     ensures { AddsSome W.taken W.failures text.old text.new }
 {
+    let name = match run.first() {
+        Some(import) => module_name(import),
+        None => b"",
+    };
     write_cells(
         text,
         &[
-            Cell::Count(imports.len() as u64),
-            plural(imports.len(), b" import", b" imports"),
+            Plain(Text(before)),
+            Cell::Module(name),
+            Plain(Text(b" ")),
+            Cell::Count(run.len() as u64),
         ],
     );
-    let (shown, modules) = first_runs(imports);
-    for (place, (module, count)) in shown.as_slice().iter().enumerate() {
-        write_cells(
-            text,
-            &[
-                Plain(Text(if place == 0 { b": " } else { b", " })),
-                Cell::Name(module),
-                Plain(Text(b" ")),
-                Cell::Count(*count as u64),
-            ],
-        );
+}
+
+/// Adds the modules that imports come from, as many as are named.
+fn write_runs<W: Sink>(text: &mut TextWriter<W>, imports: &[Import], listing: Listing)
+    requires { IsReady W.failures text.old }
+    ensures { AddsSome W.taken W.failures text.old text.new }
+{
+    let mut at = 0;
+    for place in 0..listing.named {
+        let len = module_len(&imports[at..]);
+        write_run(text, before_run(listing, place), &imports[at..at + len]);
+        at += len;
     }
-    let end = match modules.saturating_sub(MODULES_SHOWN) {
-        0 => [Plain(Text(b"\n")), NOTHING, NOTHING],
-        more => [
-            Plain(Text(b" and ")),
-            Cell::Count(more as u64),
-            Plain(Text(b" more\n")),
-        ],
+}
+
+/// Adds the end of the list of modules: how many are not named, if some are not, and where they are.
+fn write_more<W: Sink>(text: &mut TextWriter<W>, page: &Page, listing: Listing)
+    requires { IsReady W.failures text.old }
+    ensures { AddsSome W.taken W.failures text.old text.new }
+{
+    let more = listing.count.saturating_sub(listing.named);
+    if more == 0 {
+        text.text(b"\n");
+        return;
+    }
+    let (words, noun) = if listing.named == 0 {
+        (
+            Plain(Text(b" from ")),
+            plural(more, b" module", b" modules"),
+        )
+    } else {
+        (Plain(Text(b" and ")), Plain(Text(b" more")))
     };
-    write_cells(text, &end);
+    write_cells(
+        text,
+        &[
+            words,
+            Cell::Count(more as u64),
+            noun,
+            Plain(Text(elsewhere(page))),
+        ],
+    );
+}
+
+/// The noun behind a number of imports.
+fn import_noun(count: usize) -> &'static [u8] {
+    if count == 1 { b" import" } else { b" imports" }
+}
+
+/// Adds the number of imports, for which `room` columns are left, and how many come from each module, as far as that fits.
+fn write_import_count<W: Sink>(
+    text: &mut TextWriter<W>,
+    page: &Page,
+    imports: &[Import],
+    room: usize,
+)
+    requires { IsReady W.failures text.old }
+    ensures { AddsSome W.taken W.failures text.old text.new }
+{
+    let noun = import_noun(imports.len());
+    write_cells(
+        text,
+        &[Cell::Count(imports.len() as u64), Plain(Text(noun))],
+    );
+    let words = count_width(imports.len() as u64).saturating_add(noun.len());
+    let room = room.saturating_sub(words);
+    let listing = listing_of(page, imports, room);
+    write_runs(text, imports, listing);
+    write_more(text, page, listing);
 }
 
 /// The cells for the number of pages of base relocations, or that their pages do not ascend.
@@ -182,26 +311,39 @@ fn write_fixup_count<W: Sink>(text: &mut TextWriter<W>, fixups: &[Fixup])
     );
 }
 
-/// Adds a summary of a directory's table.
+/// Adds a summary of a directory's table, for which `room` columns are left.
 fn write_summary<A: Allocator + Copy, W: Sink>(
     text: &mut TextWriter<W>,
+    page: &Page,
     index: usize,
     tables: &Tables<A>,
+    room: usize,
 )
     requires { IsReady W.failures text.old }
     ensures { AddsSome W.taken W.failures text.old text.new }
 {
     match (index, &tables.exports, &tables.imports, &tables.fixups) {
         (directory_index::EXPORT, Some(exports), _, _) => write_export_count(text, exports),
-        (directory_index::IMPORT, _, Some(imports), _) => write_import_count(text, imports),
+        (directory_index::IMPORT, _, Some(imports), _) => {
+            write_import_count(text, page, imports, room);
+        }
         (directory_index::BASE_RELOCATION, _, _, Some(fixups)) => write_fixup_count(text, fixups),
         _ => text.text(b"not read\n"),
     }
 }
 
+/// How many columns of a page are left after those of a directory.
+fn room_of(page: &Page, widths: &Widths) -> usize {
+    let digits = usize::from(widths.rva) + usize::from(widths.size);
+    let names = widths.name.saturating_add(widths.section);
+    page.width
+        .saturating_sub(names.saturating_add(digits).saturating_add(22))
+}
+
 /// Adds the row of a directory, if it is present.
 fn write_directory<A: Allocator + Copy, W: Sink>(
     text: &mut TextWriter<W>,
+    page: &Page,
     widths: &Widths,
     index: usize,
     directory: &Directory,
@@ -229,13 +371,13 @@ fn write_directory<A: Allocator + Copy, W: Sink>(
             Plain(Text(b"   ")),
         ],
     );
-    write_summary(text, index, tables);
+    write_summary(text, page, index, tables, room_of(page, widths));
 }
 
 /// Adds the table of the data directories that are present.
 pub(crate) fn write_directories<A: Allocator + Copy, W: Sink>(
     text: &mut TextWriter<W>,
-    options: &ShowOptions,
+    page: &Page,
     layout: &Layout,
     names: &SectionNames,
     tables: &Tables<A>,
@@ -245,9 +387,9 @@ pub(crate) fn write_directories<A: Allocator + Copy, W: Sink>(
 {
     let directories = layout.headers().directories.as_slice();
     let widths = widths_of(layout, names);
-    write_heading(text, options, b"Tables", widths.count);
+    write_heading(text, page.options, b"Tables", widths.count);
     for (index, directory) in directories.iter().enumerate() {
         let section = section_of(layout, names, index, directory);
-        write_directory(text, &widths, index, directory, section, tables);
+        write_directory(text, page, &widths, index, directory, section, tables);
     }
 }

@@ -30,11 +30,12 @@ impl<'p> ViewReport for Page<'p> {
 }
 
 /// Writes a readable page on the image or object whose file comes from the reader: its headers, its sections, the tables that the
-/// options select, and its first fault in words. `name` is that of the file.
+/// options select, and its first fault in words. `name` is that of the file. The page has [`Page::WIDTH`] columns.
 ///
 /// A file that begins like an object is checked as an object, any other as an image. For a refused image the page shows what comes
 /// before its fault. A name that is not plain text is shown in quotes, with `\x` and two digits for a byte that is not printable;
-/// names are cut after 4,096 bytes, those of sections after 40 and those of imported modules after 255.
+/// names are cut after 4,096 bytes, those of sections after 40 and those of imported modules after 255, and have `..` behind them
+/// then.
 ///
 /// The file is read to its end, or to 2^32 + 1 bytes; the page is written only after all faults were tested. On the error `Write`
 /// the beginning of the page was written, on `Read` and `Memory` nothing; `Memory` never comes if the reader returned no byte.
@@ -53,7 +54,35 @@ pub fn show<A: Allocator + Copy, R: Source, W: Sink>(
     ensures read { IsErrOf result ToolError.Read ↔ (R.failures reader.old < R.failures reader.new) }
     ensures write { IsErrOf result ToolError.Write ↔ (W.failures writer.old < W.failures writer.new) }
 {
-    run_report(&WholeView(&Page { name, options }), alloc, reader, writer)
+    show_page(alloc, &page_of(name, options), reader, writer)
+}
+
+/// A page of the width that it has if nothing says how wide the terminal is.
+fn page_of<'p>(name: &'p [u8], options: &'p ShowOptions) -> Page<'p> {
+    Page {
+        name,
+        options,
+        width: Page::WIDTH,
+    }
+}
+
+/// [`show`] for a page of any width.
+///
+/// The page, the errors and the conditions are those of [`show`].
+pub fn show_page<A: Allocator + Copy, R: Source, W: Sink>(
+    alloc: A,
+    page: &Page,
+    reader: &mut R,
+    writer: &mut W,
+) -> Result<Outcome, ToolError>
+    requires reads { R.failures reader.old < 2 ^ 64 - 1 }
+    requires writes { W.failures writer.old < 2 ^ 64 - 1 }
+    ensures ran { Ran IsJudged (R.given reader.old) (R.given reader.new)
+        (W.taken writer.old) (W.taken writer.new) (R.ended reader.new) result }
+    ensures read { IsErrOf result ToolError.Read ↔ (R.failures reader.old < R.failures reader.new) }
+    ensures write { IsErrOf result ToolError.Write ↔ (W.failures writer.old < W.failures writer.new) }
+{
+    run_report(&WholeView(page), alloc, reader, writer)
 }
 
 /// [`show`] for a file of `len` bytes. Of an image no more is read than the bytes before the end that its headers name, and those
@@ -76,6 +105,26 @@ pub fn show_sized<A: Allocator + Copy, R: Source, W: Sink>(
     ensures read { IsErrOf result ToolError.Read ↔ (R.failures reader.old < R.failures reader.new) }
     ensures write { IsErrOf result ToolError.Write ↔ (W.failures writer.old < W.failures writer.new) }
 {
+    show_page_sized(alloc, &page_of(name, options), reader, len, writer)
+}
+
+/// [`show_sized`] for a page of any width.
+///
+/// The page, the errors and the conditions are those of [`show`].
+pub fn show_page_sized<A: Allocator + Copy, R: Source, W: Sink>(
+    alloc: A,
+    page: &Page,
+    reader: &mut R,
+    len: u64,
+    writer: &mut W,
+) -> Result<Outcome, ToolError>
+    requires reads { R.failures reader.old < 2 ^ 64 - 1 }
+    requires writes { W.failures writer.old < 2 ^ 64 - 1 }
+    ensures ran { RanSized IsJudged len (R.given reader.old) (R.given reader.new)
+        (W.taken writer.old) (W.taken writer.new) (R.ended reader.new) result }
+    ensures read { IsErrOf result ToolError.Read ↔ (R.failures reader.old < R.failures reader.new) }
+    ensures write { IsErrOf result ToolError.Write ↔ (W.failures writer.old < W.failures writer.new) }
+{
     outcomes_agree();
-    run_view(&Page { name, options }, alloc, reader, len, writer)
+    run_view(page, alloc, reader, len, writer)
 }

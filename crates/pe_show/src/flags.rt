@@ -3,9 +3,10 @@
 ghost use Rattle.pe_text.specs.TextWriter.{IsReady};
 ghost use Rattle.pe_show.specs.Page.{AddsSome};
 
+use crate::cell::blanks;
 use pe_head::{FlagKind, flag_name, section_flag};
 use pe_text::Part::{Hex, Name, Text};
-use pe_text::{Sink, TextWriter, write_parts};
+use pe_text::{Sink, TextWriter, hex_width, write_parts};
 
 /// The flags of a section that its columns show: its contents and permissions. The alignment is a number.
 const SHOWN_BY_COLUMNS: u32 = section_flag::CODE
@@ -16,37 +17,87 @@ const SHOWN_BY_COLUMNS: u32 = section_flag::CODE
     | section_flag::WRITE
     | 0x00f0_0000;
 
+/// The row of flags: the column in which they begin, the column of those that follow on further rows, and the width of the page.
+#[derive(Clone, Copy)]
+pub(crate) struct FlagRow {
+    pub column: usize,
+    pub indent: usize,
+    pub width: usize,
+}
+
+/// The flags of a field that are shown by name.
+fn shown_flags(kind: FlagKind, flags: u32) -> u32 {
+    match kind {
+        FlagKind::Section => flags & !SHOWN_BY_COLUMNS,
+        FlagKind::File | FlagKind::Dll => flags,
+    }
+}
+
+/// Begins a further row if `len` columns more do not fit after a column, and returns the column in which they begin.
+fn write_break<W: Sink>(text: &mut TextWriter<W>, row: &FlagRow, column: usize, len: usize) -> usize
+    requires { IsReady W.failures text.old }
+    ensures { AddsSome W.taken W.failures text.old text.new }
+{
+    if column <= row.indent || column.saturating_add(len) <= row.width {
+        return column;
+    }
+    write_parts(text, &[Text(b"\n"), Text(blanks(row.indent))]);
+    row.indent
+}
+
+/// Adds a blank and the name of a flag if it has one, and returns the column after it.
+fn write_flag<W: Sink>(
+    text: &mut TextWriter<W>,
+    row: &FlagRow,
+    column: usize,
+    name: Option<&'static str>,
+) -> usize
+    requires { IsReady W.failures text.old }
+    ensures { AddsSome W.taken W.failures text.old text.new }
+{
+    let Some(name) = name else {
+        return column;
+    };
+    let len = name.len().saturating_add(1);
+    let column = write_break(text, row, column, len);
+    write_parts(text, &[Name(Some(name.as_bytes()))]);
+    column.saturating_add(len)
+}
+
 /// Adds the flags without a name, if there are any: a blank, `0x` and digits.
-fn write_unnamed<W: Sink>(text: &mut TextWriter<W>, flags: u32)
+fn write_unnamed<W: Sink>(text: &mut TextWriter<W>, row: &FlagRow, column: usize, flags: u32)
     requires { IsReady W.failures text.old }
     ensures { AddsSome W.taken W.failures text.old text.new }
 {
     if flags == 0 {
         return;
     }
+    let len = usize::from(hex_width(u64::from(flags))).saturating_add(3);
+    write_break(text, row, column, len);
     write_parts(text, &[Text(b" 0x"), Hex(u64::from(flags), 1)]);
 }
 
-/// Adds a blank and a name for each flag that is set, in the order of their values, and then the flags without a name.
-pub(crate) fn write_flags<W: Sink>(text: &mut TextWriter<W>, kind: FlagKind, flags: u32)
+/// Adds a blank and a name for each flag that is set, in the order of their values, and then the flags without a name. Those that
+/// do not fit into the page's width are on further rows.
+pub(crate) fn write_flags<W: Sink>(
+    text: &mut TextWriter<W>,
+    kind: FlagKind,
+    flags: u32,
+    row: &FlagRow,
+)
     requires { IsReady W.failures text.old }
     ensures { AddsSome W.taken W.failures text.old text.new }
 {
-    let flags = match kind {
-        FlagKind::Section => flags & !SHOWN_BY_COLUMNS,
-        FlagKind::File | FlagKind::Dll => flags,
-    };
+    let flags = shown_flags(kind, flags);
     let mut unnamed = 0;
+    let mut column = row.column;
     for bit in 0..32_u32 {
         let flag = flags & (1 << bit);
-        let name = match flag_name(kind, flag) {
-            Some(name) => Some(name.as_bytes()),
-            None => {
-                unnamed |= flag;
-                None
-            }
-        };
-        write_parts(text, &[Name(name)]);
+        let name = flag_name(kind, flag);
+        if name.is_none() {
+            unnamed |= flag;
+        }
+        column = write_flag(text, row, column, name);
     }
-    write_unnamed(text, unnamed);
+    write_unnamed(text, row, column, unnamed);
 }

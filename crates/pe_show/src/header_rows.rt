@@ -5,7 +5,8 @@ ghost use Rattle.pe_show.specs.Page.{AddsSome};
 
 use crate::cell::Cell::{self, Plain};
 use crate::cell::{NOTHING, write_cells};
-use crate::heading::Kind;
+use crate::flags::FlagRow;
+use crate::heading::{Kind, Page};
 use crate::place::SectionPlace;
 use pe_head::{FlagKind, Headers, Magic, characteristic, machine_name, subsystem_name};
 use pe_text::Part::{self, Decimal, Hex, Hex4, Hex8, Text};
@@ -32,30 +33,68 @@ pub(crate) fn image_kind(headers: &Headers) -> Kind {
     [Text(kind), machine, number, Text(b", ")]
 }
 
-/// Adds the row of a time stamp; 0 and the greatest number mean none.
-pub(crate) fn write_stamp<W: Sink>(text: &mut TextWriter<W>, seconds: u32)
+/// The first time stamp that may be a date: the beginning of 1990. The format is younger.
+const FIRST_DATE: u32 = 631_152_000;
+
+/// The last time stamp that may be a date: the last second that 31 bits count, in 2038.
+const LAST_DATE: u32 = 0x7fff_ffff;
+
+/// Why a time stamp is no date, if it is none.
+fn no_date(seconds: u32, is_reproducible: bool) -> Option<&'static [u8]> {
+    if is_reproducible {
+        Some(b"reproducible build")
+    } else if seconds < FIRST_DATE {
+        Some(b"before 1990")
+    } else if seconds > LAST_DATE {
+        Some(b"past 2038-01-19")
+    } else {
+        None
+    }
+}
+
+/// Adds the row of a time stamp; 0 and the greatest number mean none. That of a reproducible build is a part of a hash.
+pub(crate) fn write_stamp<W: Sink>(text: &mut TextWriter<W>, seconds: u32, is_reproducible: bool)
     requires { IsReady W.failures text.old }
     ensures { AddsSome W.taken W.failures text.old text.new }
 {
-    let date = match seconds {
-        0 | u32::MAX => Plain(Text(b"not set")),
-        _ => Cell::Date(seconds),
+    let is_set = seconds != 0 && seconds != u32::MAX;
+    let digits = Plain(Hex8(u64::from(seconds)));
+    let [first, second, third, last] = match no_date(seconds, is_reproducible) {
+        _ if !is_set => [Plain(Text(b"not set (0x")), digits, NOTHING, NOTHING],
+        Some(reason) => [
+            Plain(Text(b"0x")),
+            digits,
+            Plain(Text(b" (no date: ")),
+            Plain(Text(reason)),
+        ],
+        None => [Cell::Date(seconds), Plain(Text(b" (0x")), digits, NOTHING],
     };
     write_cells(
         text,
         &[
             Plain(Text(b"\n  Time stamp   ")),
-            date,
-            Plain(Text(b" (0x")),
-            Plain(Hex8(u64::from(seconds))),
+            first,
+            second,
+            third,
+            last,
             Plain(Text(b")\n")),
         ],
     );
 }
 
-/// Adds the row of a field of flags.
+/// The row of flags behind words.
+fn flag_row(page: &Page, words: &[u8]) -> FlagRow {
+    FlagRow {
+        column: words.len(),
+        indent: words.len(),
+        width: page.width,
+    }
+}
+
+/// Adds the row of a field of flags. Those that do not fit are on further rows, below the first.
 pub(crate) fn write_flag_row<W: Sink>(
     text: &mut TextWriter<W>,
+    page: &Page,
     words: &[u8],
     kind: FlagKind,
     flags: u16,
@@ -68,7 +107,7 @@ pub(crate) fn write_flag_row<W: Sink>(
         &[
             Plain(Text(words)),
             Plain(Text(if flags == 0 { b" none" } else { b"" })),
-            Cell::Flags(kind, u32::from(flags)),
+            Cell::Flags(kind, u32::from(flags), flag_row(page, words)),
             Plain(Text(b"\n")),
         ],
     );
@@ -195,28 +234,33 @@ fn write_sizes<W: Sink>(text: &mut TextWriter<W>, headers: &Headers)
     );
 }
 
-/// Adds the rows of an image's headers; `place` is that of the entry point, if the image is laid out.
+/// Adds the rows of an image's headers. `place` is that of the entry point, if the image is laid out; `is_reproducible` says whether
+/// its time stamp is that of a reproducible build.
 pub(crate) fn write_headers<W: Sink>(
     text: &mut TextWriter<W>,
+    page: &Page,
     headers: &Headers,
     place: Option<SectionPlace>,
+    is_reproducible: bool,
 )
     requires { IsReady W.failures text.old }
     ensures { AddsSome W.taken W.failures text.old text.new }
 {
-    write_stamp(text, headers.time_date_stamp);
+    write_stamp(text, headers.time_date_stamp, is_reproducible);
     write_versions(text, headers);
     write_base(text, headers);
     write_entry(text, headers.address_of_entry_point, place);
     write_sizes(text, headers);
     write_flag_row(
         text,
+        page,
         b"  Image flags ",
         FlagKind::File,
         headers.characteristics,
     );
     write_flag_row(
         text,
+        page,
         b"  DLL flags   ",
         FlagKind::Dll,
         headers.dll_characteristics,

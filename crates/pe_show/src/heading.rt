@@ -1,4 +1,4 @@
-//! `Page`: the name and the options of a page; and the first row of a page, and the headings of its tables.
+//! `Page`: the name, the options and the width of a page; and the first row of a page, and the headings of its tables.
 
 ghost use Rattle.pe_text.specs.TextWriter.{IsReady};
 ghost use Rattle.pe_show.specs.Page.{AddsSome};
@@ -9,13 +9,21 @@ use crate::style::{end_style, heading_style, refusal_style};
 use pe_text::Part::{self, Text};
 use pe_text::{Outcome, ShowOptions, Sink, TextWriter, write_parts};
 
-/// The file and the options of a page.
+/// The file, the options and the width of a page.
 #[derive(Clone, Copy)]
-pub(crate) struct Page<'p> {
+pub struct Page<'p> {
     /// The file's name.
     pub name: &'p [u8],
     /// What to show.
     pub options: &'p ShowOptions,
+    /// How many columns lists may take: the modules that an image imports from are counted after those that fit, and flags go on on a
+    /// further row. Other rows are as long as they are.
+    pub width: usize,
+}
+
+impl Page<'_> {
+    /// The width of a page if nothing says how wide the terminal is.
+    pub const WIDTH: usize = 100;
 }
 
 /// What a file is, in four parts: `PE32+ library for AMD64`.

@@ -8,6 +8,7 @@ ghost use Rattle.pe_text.specs.TextWriter.{IsReady};
 ghost use Rattle.pe_show.specs.Page.{AddsSome};
 ghost use Rattle.pe_text.specs.Outcome.{IsOutcomeOf};
 
+use crate::debug::is_reproducible;
 use crate::directories::write_directories;
 use crate::exports::write_exports;
 use crate::fault::write_refusal;
@@ -57,7 +58,7 @@ fn write_refused<W: Sink>(text: &mut TextWriter<W>, page: &Page, file: ViewFile,
     match file.headers() {
         Ok(headers) => {
             write_title(text, page, outcome, image_kind(&headers), file.len());
-            write_headers(text, &headers, None);
+            write_headers(text, page, &headers, None, false);
             write_refusal(text, page.options, outcome, file);
         }
         Err(_) => {
@@ -84,10 +85,10 @@ fn write_image<A: Allocator + Copy, W: Sink>(
     let names = SectionNames::new(file, headers);
     let entry = names.place(layout, headers.address_of_entry_point);
     write_title(text, page, outcome, image_kind(headers), file.len());
-    write_headers(text, headers, Some(entry));
+    write_headers(text, page, headers, Some(entry), is_reproducible(layout));
     write_others(text, headers, file.len());
-    write_sections(text, page.options, headers, &names);
-    write_directories(text, page.options, layout, &names, tables);
+    write_sections(text, page, headers, &names);
+    write_directories(text, page, layout, &names, tables);
     write_exports(text, page.options, layout, &names, tables, names_by_ordinal);
     write_imports(text, page.options, tables);
     write_fixups(text, page.options, tables);

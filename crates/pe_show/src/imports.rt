@@ -9,18 +9,16 @@ use crate::cell::Cell::{self, Plain};
 use crate::cell::write_cells;
 use crate::exports::write_key;
 use crate::heading::write_heading;
+use crate::name::module_beginning;
 use pe_image::Tables;
 use pe_tables::Import;
 use pe_text::Part::Text;
 use pe_text::{ShowOptions, Sink, TextWriter, hex_width};
 use std::alloc::Allocator;
 
-/// The most bytes of a module's name that are shown; no file name is longer.
-const NAME_LIMIT: usize = 255;
-
-/// The name of an import's module, cut if it is too long to be shown.
+/// The name of an import's module, as much of it as decides how it is shown.
 pub(crate) fn module_name<'a>(import: &Import<'a>) -> &'a [u8] {
-    import.module.get(..NAME_LIMIT).unwrap_or(import.module)
+    module_beginning(import.module)
 }
 
 /// Whether two imports are from modules with the same shown name.
@@ -29,7 +27,7 @@ pub(crate) fn same_module(import: &Import, other: &Import) -> bool {
 }
 
 /// How many imports from the first on are from the same module.
-fn module_len(imports: &[Import]) -> usize
+pub(crate) fn module_len(imports: &[Import]) -> usize
     ensures some { 0 < length imports.now → 0 < result }
     ensures within { result ≤ length imports.now }
 {
@@ -65,7 +63,7 @@ fn write_module<W: Sink>(text: &mut TextWriter<W>, width: u8, imports: &[Import]
         text,
         &[
             Plain(Text(b"  ")),
-            Cell::Name(name),
+            Cell::Module(name),
             Plain(Text(b" (")),
             Cell::Count(imports.len() as u64),
             Plain(Text(b")\n")),

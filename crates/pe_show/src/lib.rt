@@ -9,8 +9,9 @@
 //! let answer = show(alloc, b"zlib1.dll", &options, &mut reader, &mut writer);
 //! ```
 //!
-//! [`show_sized`] takes the file's size too, and reads only as much of an image as the page shows. [`at`] and [`at_sized`] write
-//! what is at a place, and [`at_text`] does for a file that was read.
+//! [`show_sized`] takes the file's size too, and reads only as much of an image as the page shows. [`show_page`] and
+//! [`show_page_sized`] write a page of another width. [`at`] and [`at_sized`] write what is at a
+//! place, and [`at_text`] does for a file that was read.
 //!
 //! The outcome is specified by contract. So are, internally, how a name is shown, the place of an RVA, and the rows of exports,
 //! imports, base relocations, relocations and symbols; the rest of a page is in no contract.
@@ -21,6 +22,7 @@ mod at_place;
 mod auxiliary;
 mod cell;
 mod date;
+mod debug;
 mod directories;
 mod engine;
 mod exports;
@@ -43,6 +45,7 @@ mod symbols;
 // end of describe/records.txt
 
 pub use at_place::{at, at_sized, at_text};
-pub use engine::{show, show_sized};
+pub use engine::{show, show_page, show_page_sized, show_sized};
+pub use heading::Page;
 pub use name::{ShownName, is_safe_text};
 pub use pe_text::ShowOptions;

@@ -6,7 +6,7 @@ ghost use Rattle.std.specs.List.{list_all};
 ghost use Rattle.std.specs.Str.{chars};
 ghost use Rattle.pe_text.specs.Text.{glyph, is_printable, escaped, quoted};
 ghost use Rattle.pe_text.specs.TextWriter.{IsReady, Adds};
-ghost use Rattle.pe_show.specs.Name.{is_safe, is_safe_text, begins_plain, is_plain, cut, name_text, columns};
+ghost use Rattle.pe_show.specs.Name.{is_safe, is_safe_text, begins_plain, is_plain, whole_text, whole_columns, cut_mark, cut_text, name_text, section_text, section_columns};
 
 use pe_text::{Sink, TextWriter, is_printable};
 use std::fmt::{self, Display};
@@ -15,14 +15,42 @@ use std::str;
 /// The most bytes of a name that are shown; compilers seldom write longer ones.
 const NAME_LIMIT: usize = 4096;
 
-/// The beginning of a name, cut if it is too long to be shown.
-fn cut(name: &[u8]) -> &[u8]
-    ensures { result.now ≡ cut name.now }
+/// The most bytes of a section's name that are shown.
+const SECTION_LIMIT: usize = 40;
+
+/// The most bytes of the name of an imported module that are shown; no file name is longer.
+const MODULE_LIMIT: usize = 255;
+
+/// The beginning of a name of which at most `limit` bytes are shown.
+fn cut(name: &[u8], limit: usize) -> &[u8]
+    ensures { result.now ≡ take limit name.now }
 {
-    if name.len() <= NAME_LIMIT {
+    if name.len() <= limit {
         return name;
     }
-    &name[..NAME_LIMIT]
+    &name[..limit]
+}
+
+/// What is shown behind a name of which at most `limit` bytes are shown: a mark if it is cut.
+fn cut_mark(name: &[u8], limit: usize) -> &'static [u8]
+    ensures { result.now ≡ cut_mark limit name.now }
+{
+    if name.len() > limit { b".." } else { b"" }
+}
+
+/// The beginning of a name that is long enough to show whether it is a section's or a module's that has to be cut.
+fn beginning(name: &[u8], limit: usize) -> &[u8] {
+    name.get(..=limit).unwrap_or(name)
+}
+
+/// As much of a section's name as decides how it is shown.
+pub(crate) fn section_beginning(name: &[u8]) -> &[u8] {
+    beginning(name, SECTION_LIMIT)
+}
+
+/// As much of a module's name as decides how it is shown.
+pub(crate) fn module_beginning(name: &[u8]) -> &[u8] {
+    beginning(name, MODULE_LIMIT)
 }
 
 /// Whether a character may be written to a terminal: not a control character, nor one that changes the direction of the text
@@ -95,16 +123,49 @@ fn is_plain(name: &[u8]) -> bool
 }
 
 /// Adds a name: as it is if it is plain, otherwise in quotes, with `\x` and two digits for a byte that is not printable.
-pub(crate) fn write_name<W: Sink>(text: &mut TextWriter<W>, name: &[u8])
+#[tactic(auto, unfolding(crate::specs::Name::whole_text))]
+fn write_whole<W: Sink>(text: &mut TextWriter<W>, name: &[u8])
     requires { IsReady W.failures text.old }
-    ensures { Adds W.taken W.failures text.old text.new (name_text name.now) }
+    ensures { Adds W.taken W.failures text.old text.new (whole_text name.now) }
 {
-    let name = cut(name);
     if is_plain(name) {
         text.text(name);
     } else {
         text.quoted(name);
     }
+}
+
+/// Adds at most `limit` bytes of a name, and a mark if it is cut.
+fn write_cut<W: Sink>(text: &mut TextWriter<W>, name: &[u8], limit: usize)
+    requires { IsReady W.failures text.old }
+    ensures { Adds W.taken W.failures text.old text.new (cut_text limit name.now) }
+{
+    write_whole(text, cut(name, limit));
+    text.text(cut_mark(name, limit));
+}
+
+/// Adds a name, at most its first 4,096 bytes.
+pub(crate) fn write_name<W: Sink>(text: &mut TextWriter<W>, name: &[u8])
+    requires { IsReady W.failures text.old }
+    ensures { Adds W.taken W.failures text.old text.new (name_text name.now) }
+{
+    write_cut(text, name, NAME_LIMIT);
+}
+
+/// Adds the name of a section, or a short word.
+pub(crate) fn write_section_name<W: Sink>(text: &mut TextWriter<W>, name: &[u8])
+    requires { IsReady W.failures text.old }
+    ensures { Adds W.taken W.failures text.old text.new (section_text name.now) }
+{
+    write_cut(text, name, SECTION_LIMIT);
+}
+
+/// Adds the name of an imported module.
+pub(crate) fn write_module_name<W: Sink>(text: &mut TextWriter<W>, name: &[u8])
+    requires { IsReady W.failures text.old }
+    ensures { Adds W.taken W.failures text.old text.new (cut_text 255 name.now) }
+{
+    write_cut(text, name, MODULE_LIMIT);
 }
 
 /// A hexadecimal digit, in lower case.
@@ -162,21 +223,37 @@ fn write_quoted<W: fmt::Write>(f: &mut fmt::Formatter<W>, name: &[u8]) -> fmt::R
     f.write_str("\"")
 }
 
-/// A name, which is displayed as a page shows it: at most its first 4,096 bytes; as they are if they are UTF-8 that may be written
-/// to a terminal, not empty, and do not begin with a quote; otherwise in quotes, with `\x` and two digits for each byte that is not
-/// printable ASCII, a quote or a backslash.
+/// Writes the beginning of a name as it is if it is plain, otherwise in quotes.
+fn show_beginning<W: fmt::Write>(f: &mut fmt::Formatter<W>, name: &[u8]) -> fmt::Result
+    ensures { WritesOnOk W.write_str_gives f.old result (whole_text (take 4096 name.now)) f.new }
+{
+    let name = cut(name, NAME_LIMIT);
+    match plain_text(name) {
+        Some(text) => f.write_str(text),
+        None => write_quoted(f, name),
+    }
+}
+
+/// Writes the mark of a name that is cut.
+fn show_mark<W: fmt::Write>(f: &mut fmt::Formatter<W>, name: &[u8]) -> fmt::Result
+    ensures { WritesOnOk W.write_str_gives f.old result (cut_mark 4096 name.now) f.new }
+{
+    f.write_str(if name.len() > NAME_LIMIT { ".." } else { "" })
+}
+
+/// A name, which is displayed as a page shows it: at most its first 4,096 bytes, with `..` behind them if there are more; as they
+/// are if they are UTF-8 that may be written to a terminal, not empty, and do not begin with a quote; otherwise in quotes, with `\x`
+/// and two digits for each byte that is not printable ASCII, a quote or a backslash.
 #[derive(Clone, Copy)]
 pub struct ShownName<'a>(pub &'a [u8]);
 
 impl Display for ShownName<'_> {
     ghost output = { λ shown. Some (name_text shown.0.now) };
 
+    #[tactic(auto, unfolding(crate::specs::Name::name_text))]
     fn fmt<W: fmt::Write>(&self, f: &mut fmt::Formatter<W>) -> fmt::Result {
-        let name = cut(self.0);
-        match plain_text(name) {
-            Some(text) => f.write_str(text),
-            None => write_quoted(f, name),
-        }
+        show_beginning(f, self.0)?;
+        show_mark(f, self.0)
     }
 }
 
@@ -190,7 +267,7 @@ fn escaped_width(byte: u8) -> usize
 
 /// How many columns a name takes in quotes.
 fn quoted_width(name: &[u8]) -> usize
-    requires { length name.now ≤ 4096 }
+    requires { length name.now ≤ 255 }
     ensures value { result ≡ length (quoted name.now) }
     ensures bound { result ≤ 2 + 4 * length name.now }
 {
@@ -209,11 +286,11 @@ fn text_width(text: &str) -> usize
 }
 
 /// How many columns a name takes.
-pub(crate) fn name_width(name: &[u8]) -> usize
-    ensures value { result ≡ columns name.now }
-    ensures bound { result ≤ 2 + 4 * 4096 }
+fn whole_width(name: &[u8]) -> usize
+    requires { length name.now ≤ 255 }
+    ensures value { result ≡ whole_columns name.now }
+    ensures bound { result ≤ 2 + 4 * 255 }
 {
-    let name = cut(name);
     if is_bare(name) {
         return name.len();
     }
@@ -221,4 +298,19 @@ pub(crate) fn name_width(name: &[u8]) -> usize
         Some(text) => text_width(text),
         None => quoted_width(name),
     }
+}
+
+/// How many columns the name of a section takes, or a short word.
+pub(crate) fn section_width(name: &[u8]) -> usize
+    ensures value { result ≡ section_columns name.now }
+    ensures bound { result ≤ 4 + 4 * 255 }
+{
+    whole_width(cut(name, SECTION_LIMIT)) + cut_mark(name, SECTION_LIMIT).len()
+}
+
+/// How many columns the name of an imported module takes.
+pub(crate) fn module_width(name: &[u8]) -> usize
+    ensures { result ≤ 4 + 4 * 255 }
+{
+    whole_width(cut(name, MODULE_LIMIT)) + cut_mark(name, MODULE_LIMIT).len()
 }

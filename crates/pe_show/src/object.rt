@@ -21,13 +21,14 @@ use pe_text::{Outcome, Sink, TextWriter};
 use std::alloc::{AllocError, Allocator};
 
 /// Adds the rows of an object's header.
-fn write_header<W: Sink>(text: &mut TextWriter<W>, object: &ObjectFile)
+fn write_header<W: Sink>(text: &mut TextWriter<W>, page: &Page, object: &ObjectFile)
     requires { IsReady W.failures text.old }
     ensures { AddsSome W.taken W.failures text.old text.new }
 {
-    write_stamp(text, object.time_stamp());
+    write_stamp(text, object.time_stamp(), false);
     write_flag_row(
         text,
+        page,
         b"  Flags       ",
         FlagKind::File,
         object.characteristics(),
@@ -59,8 +60,8 @@ fn write_object<A: Allocator + Copy, W: Sink>(
     let [name, number] = named(machine_name(machine), machine);
     let kind = [Text(b"COFF object for "), name, number, Text(b", ")];
     write_title(text, page, Outcome::Done, kind, len);
-    write_header(text, object);
-    write_sections(text, page.options, sections);
+    write_header(text, page, object);
+    write_sections(text, page, sections);
     write_relocations(text, page.options, object, sections, names);
     write_symbols(alloc, text, page.options, object, sections);
 }

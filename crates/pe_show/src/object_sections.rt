@@ -8,9 +8,9 @@ ghost use Rattle.pe_show.specs.Rows.{file_text, type_text, symbol_text, relocati
 
 use crate::cell::Cell::{self, Plain};
 use crate::cell::{decimal_width, write_cells};
-use crate::heading::write_heading;
-use crate::name::{name_width, write_name};
-use crate::place::cut;
+use crate::flags::FlagRow;
+use crate::heading::{Page, write_heading};
+use crate::name::{section_width, write_name};
 use crate::sections::{content, permissions};
 use crate::symbols::SymbolNames;
 use coff_read::{FileSection, ObjectFile, RawData, Relocation, relocation_type_name};
@@ -55,15 +55,26 @@ fn widths_of(sections: &[FileSection]) -> Widths {
         bytes: 6,
     };
     for section in sections {
-        widths.name = widths.name.max(name_width(cut(section.name)));
+        widths.name = widths.name.max(section_width(section.name));
         widths.bytes = widths.bytes.max(hex_width(sizes_of(&section.raw).0));
     }
     widths
 }
 
+/// The row of the flags of a section: after the columns, and below the permissions.
+fn flag_row(page: &Page, widths: &Widths) -> FlagRow {
+    let names = widths.number.saturating_add(widths.name);
+    FlagRow {
+        column: names.saturating_add(2 * usize::from(widths.bytes) + 37),
+        indent: names.saturating_add(3),
+        width: page.width,
+    }
+}
+
 /// Adds the row of a section.
 fn write_section<W: Sink>(
     text: &mut TextWriter<W>,
+    page: &Page,
     widths: &Widths,
     index: usize,
     section: &FileSection,
@@ -77,7 +88,7 @@ fn write_section<W: Sink>(
         &[
             Cell::Right((index as u64).saturating_add(1), widths.number),
             Plain(Text(b"  ")),
-            Cell::Column(cut(section.name), widths.name),
+            Cell::Column(section.name, widths.name),
             Plain(Text(b"  ")),
             Plain(Text(permissions(section.flags))),
             Plain(Text(b" ")),
@@ -88,7 +99,7 @@ fn write_section<W: Sink>(
             Plain(Hex(in_file, widths.bytes)),
             Plain(Text(b"   ")),
             Cell::Right(section.relocations.len() as u64, 11),
-            Cell::Flags(FlagKind::Section, section.flags),
+            Cell::Flags(FlagKind::Section, section.flags, flag_row(page, widths)),
             Plain(Text(b"\n")),
         ],
     );
@@ -97,14 +108,14 @@ fn write_section<W: Sink>(
 /// Adds the table of an object's sections, which are numbered from 1.
 pub(crate) fn write_sections<W: Sink>(
     text: &mut TextWriter<W>,
-    options: &ShowOptions,
+    page: &Page,
     sections: &[FileSection],
 )
     requires { IsReady W.failures text.old }
     ensures { AddsSome W.taken W.failures text.old text.new }
 {
     let widths = widths_of(sections);
-    write_heading(text, options, b"Sections", sections.len());
+    write_heading(text, page.options, b"Sections", sections.len());
     write_cells(
         text,
         &[
@@ -118,7 +129,7 @@ pub(crate) fn write_sections<W: Sink>(
         ],
     );
     for (index, section) in sections.iter().enumerate() {
-        write_section(text, &widths, index, section);
+        write_section(text, page, &widths, index, section);
     }
 }
 
@@ -220,7 +231,7 @@ fn write_section_relocations<A: Allocator + Copy, W: Sink>(
             Plain(Text(b"  ")),
             Cell::Right((place as u64).saturating_add(1), 1),
             Plain(Text(b" ")),
-            Cell::Name(cut(section.name)),
+            Cell::Section(section.name),
             Plain(Text(b" (")),
             Cell::Count(relocations.len() as u64),
             Plain(Text(b")\n")),

@@ -7,7 +7,7 @@ ghost use Rattle.pe_text.specs.TextWriter.{IsReady, Adds};
 ghost use Rattle.pe_show.specs.Places.{IsPlace, IsPlaceOf, name_at, start_at, offset_columns, place_columns};
 ghost use Rattle.pe_show.specs.Rows.{place_text};
 
-use crate::name::{name_width, write_name};
+use crate::name::{section_beginning, section_width, write_section_name};
 use arrayvec::ArrayVec;
 use coff_read::section_name;
 use pe_head::Headers;
@@ -15,10 +15,7 @@ use pe_layout::{Layout, Located};
 use pe_reach::ViewFile;
 use pe_text::{Sink, TextWriter, hex_width};
 
-/// The most bytes of a section's name that are shown.
-const NAME_LIMIT: usize = 40;
-
-/// The names of an image's sections, by index.
+/// The names of an image's sections, by index: of each as much as decides how it is shown.
 #[derive(Drop)]
 pub(crate) struct SectionNames<'a> {
     names: ArrayVec<&'a [u8], 96>,
@@ -33,11 +30,6 @@ pub(crate) struct SectionPlace<'a> {
     pub offset: Option<u32>,
     /// The file offset, if it has one.
     pub file: Option<u64>,
-}
-
-/// The beginning of a section's name, cut if it is too long to be shown.
-pub(crate) fn cut(name: &[u8]) -> &[u8] {
-    name.get(..NAME_LIMIT).unwrap_or(name)
 }
 
 /// The RVA of a section's first byte.
@@ -67,7 +59,7 @@ impl<'a> SectionNames<'a> {
         let strings = file.strings(headers);
         let mut names = ArrayVec::new();
         for section in headers.sections.as_slice() {
-            let _ = names.try_push(cut(section_name(strings, &section.name)));
+            let _ = names.try_push(section_beginning(section_name(strings, &section.name)));
         }
         SectionNames { names }
     }
@@ -135,7 +127,7 @@ impl<'a> SectionPlace<'a> {
         requires { IsReady W.failures text.old }
         ensures { Adds W.taken W.failures text.old text.new (place_text self.now) }
     {
-        write_name(text, self.name);
+        write_section_name(text, self.name);
         if let Some(offset) = self.offset {
             text.text(b"+0x");
             text.hex_at_least(1, offset as u64);
@@ -146,6 +138,6 @@ impl<'a> SectionPlace<'a> {
     pub fn width(&self) -> usize
         ensures { result ≡ place_columns self.now }
     {
-        name_width(self.name) + offset_width(self.offset)
+        section_width(self.name) + offset_width(self.offset)
     }
 }

@@ -5,12 +5,13 @@ ghost use Rattle.pe_show.specs.Page.{AddsSome};
 
 use crate::cell::Cell::{self, Plain};
 use crate::cell::write_cells;
-use crate::heading::write_heading;
-use crate::name::name_width;
+use crate::flags::FlagRow;
+use crate::heading::{Page, write_heading};
+use crate::name::section_width;
 use crate::place::SectionNames;
 use pe_head::{FlagKind, Headers, SectionHeader, section_flag};
 use pe_text::Part::{Hex, Text};
-use pe_text::{ShowOptions, Sink, TextWriter, hex_width};
+use pe_text::{Sink, TextWriter, hex_width};
 
 /// The widths of the columns of sections.
 #[derive(Clone, Copy)]
@@ -60,7 +61,7 @@ fn widths_of(headers: &Headers, names: &SectionNames) -> Widths {
         file: 6,
     };
     for (index, section) in headers.sections.as_slice().iter().enumerate() {
-        widths.name = widths.name.max(name_width(names.get(index)));
+        widths.name = widths.name.max(section_width(names.get(index)));
         widths.rva = widths
             .rva
             .max(hex_width(u64::from(section.virtual_address)));
@@ -72,9 +73,20 @@ fn widths_of(headers: &Headers, names: &SectionNames) -> Widths {
     widths
 }
 
+/// The row of the flags of a section: after the columns, and below the permissions.
+fn flag_row(page: &Page, widths: &Widths) -> FlagRow {
+    let digits = usize::from(widths.rva) + 2 * usize::from(widths.bytes) + usize::from(widths.file);
+    FlagRow {
+        column: widths.name.saturating_add(digits).saturating_add(37),
+        indent: widths.name.saturating_add(7),
+        width: page.width,
+    }
+}
+
 /// Adds the row of a section.
 fn write_section<W: Sink>(
     text: &mut TextWriter<W>,
+    page: &Page,
     widths: &Widths,
     index: usize,
     name: &[u8],
@@ -101,7 +113,11 @@ fn write_section<W: Sink>(
             Plain(Hex(u64::from(section.pointer_to_raw_data), widths.file)),
             Plain(Text(b"   0x")),
             Plain(Hex(u64::from(section.rawlen()), widths.bytes)),
-            Cell::Flags(FlagKind::Section, section.characteristics),
+            Cell::Flags(
+                FlagKind::Section,
+                section.characteristics,
+                flag_row(page, widths),
+            ),
             Plain(Text(b"\n")),
         ],
     );
@@ -110,7 +126,7 @@ fn write_section<W: Sink>(
 /// Adds the table of an image's sections.
 pub(crate) fn write_sections<W: Sink>(
     text: &mut TextWriter<W>,
-    options: &ShowOptions,
+    page: &Page,
     headers: &Headers,
     names: &SectionNames,
 )
@@ -119,7 +135,7 @@ pub(crate) fn write_sections<W: Sink>(
 {
     let sections = headers.sections.as_slice();
     let widths = widths_of(headers, names);
-    write_heading(text, options, b"Sections", sections.len());
+    write_heading(text, page.options, b"Sections", sections.len());
     write_cells(
         text,
         &[
@@ -133,6 +149,6 @@ pub(crate) fn write_sections<W: Sink>(
         ],
     );
     for (index, section) in sections.iter().enumerate() {
-        write_section(text, &widths, index, names.get(index), section);
+        write_section(text, page, &widths, index, names.get(index), section);
     }
 }

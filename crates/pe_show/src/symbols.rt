@@ -11,7 +11,6 @@ use crate::auxiliary::write_records;
 use crate::cell::{blanks, decimal_width, write_column, write_right};
 use crate::heading::write_heading;
 use crate::name::write_name;
-use crate::place::cut;
 use coff_read::{FileSection, ObjectFile, Symbol, SymbolSection, storage_class_name};
 use pe_text::{ShowOptions, Sink, TextWriter};
 use std::alloc::{AllocError, Allocator};
@@ -83,7 +82,7 @@ fn section_words<'a>(sections: &[FileSection<'a>], section: SymbolSection) -> &'
         SymbolSection::Section(number) => match sections.get(usize::from(number).saturating_sub(
             1,
         )) {
-            Some(section) => cut(section.name),
+            Some(section) => section.name,
             None => b"",
         },
     }
