@@ -225,6 +225,20 @@ fn write_parts<A: Allocator + Copy, R: PartSource, W: Sink>(
     }
 }
 
+/// Runs an engine over parts of an open file of `size` bytes, as [`write_parts`] does.
+fn try_parts<A: Allocator + Copy, F: Read + Seek, W: Sink>(
+    alloc: A,
+    engine: Engine,
+    file: &mut F,
+    size: u64,
+    writer: &mut W,
+) -> Result<Option<Outcome>, ToolError>
+    requires { W.failures writer.old < 2 ^ 64 - 1 }
+{
+    let mut reader = Placed::new(file);
+    write_parts(alloc, engine, &mut reader, size, writer)
+}
+
 /// Runs an engine over a file of `size` bytes, of which it may need only some parts.
 fn write_regular<A: Allocator + Copy>(
     alloc: A,
@@ -235,23 +249,18 @@ fn write_regular<A: Allocator + Copy>(
     writer: impl Write + Drop,
 ) -> Judged {
     let mut writer = Counted::new(writer);
-    let parts = &mut Placed::new(&mut file);
-    match write_parts(alloc, engine, parts, size, &mut writer) {
-        Ok(None) => {}
-        Ok(Some(outcome)) => return (Ok(outcome), None),
-        Err(error) => return (Err(error), None),
+    let tried = try_parts(alloc, engine, &mut file, size, &mut writer);
+    if let Ok(Some(outcome)) = tried {
+        return (Ok(outcome), None);
+    }
+    if let Err(error) = tried {
+        return (Err(error), None);
     }
     if file.rewind().is_err() {
         return (Err(ToolError::Read), None);
     }
-    write_sized(
-        alloc,
-        engine,
-        name,
-        &mut Counted::new(file),
-        size,
-        &mut writer,
-    )
+    let mut reader = Counted::new(file);
+    write_sized(alloc, engine, name, &mut reader, size, &mut writer)
 }
 
 /// Runs an engine.
