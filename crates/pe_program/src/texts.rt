@@ -1,6 +1,6 @@
 //! Engines run with standard output as their output.
 
-ghost use Rattle.std.specs.Prelude.{◌-◌, ◌^◌, ◌<◌};
+ghost use Rattle.std.specs.Prelude.{◌-◌, ◌^◌, ◌<◌, ◌≤◌, OnOk};
 
 use crate::headed::{Headed, Heading};
 use crate::output::Output;
@@ -217,6 +217,7 @@ fn write_parts<A: Allocator + Copy, R: PartSource, W: Sink>(
 ) -> Result<Option<Outcome>, ToolError>
     requires reads { R.failures reader.old < 2 ^ 64 - 1 }
     requires writes { W.failures writer.old < 2 ^ 64 - 1 }
+    ensures { OnOk result (W.failures writer.new ≤ W.failures writer.old) }
 {
     match engine {
         Engine::Check => check_parts(alloc, reader, size, writer),
@@ -234,6 +235,7 @@ fn try_parts<A: Allocator + Copy, F: Read + Seek, W: Sink>(
     writer: &mut W,
 ) -> Result<Option<Outcome>, ToolError>
     requires { W.failures writer.old < 2 ^ 64 - 1 }
+    ensures { OnOk result (W.failures writer.new ≤ W.failures writer.old) }
 {
     let mut reader = Placed::new(file);
     write_parts(alloc, engine, &mut reader, size, writer)
