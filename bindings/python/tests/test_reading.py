@@ -232,11 +232,11 @@ class Reading(unittest.TestCase):
         it have the size on the first row of a page."""
         status, printed, complained = result
         printed = re.sub(rb"^(standard input: .*) [0-9,]+ bytes?\n", rb"\1\n", printed)
-        told = printed if printed.startswith(b"standard input: ") else complained
-        size = re.search(rb", and the file has ([0-9]+)\n$", told)
+        told = printed if printed.startswith((b"standard input: ", b"{")) else complained
+        size = re.search(rb", and the file has ([0-9]+)\n$", told) or re.search(rb',"file_size":([0-9]+)', told)
         if size is None:
             return (status, printed, complained), None
-        cut = told[: size.start()]
+        cut = told[: size.start()] + told[size.end() :]
         return (status, *((cut, complained) if told is printed else (printed, cut))), int(size[1])
 
     def states(self, files):

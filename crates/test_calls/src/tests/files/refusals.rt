@@ -806,7 +806,7 @@ const EMPTY_FILES: &[(Engine, &str)] = &[
     ),
     (
         Engine::Json,
-        "{\"schema\":1,\"file\":\"a.dll\",\"accepted\":false,\"fault\":{\"number\":2,\"image\":0,\"place\":{\"file\":0},\"subject\":\"end of the file\",\"rule\":\"the file has fewer than the 64 bytes of an MS-DOS header\"}}\n",
+        "{\"schema\":1,\"file\":\"a.dll\",\"accepted\":false,\"fault\":{\"number\":2,\"image\":0,\"place\":{\"file\":0},\"subject\":\"end of the file\",\"rule\":\"the file has fewer than the 64 bytes of an MS-DOS header\",\"values\":{\"file_size\":0}}}\n",
     ),
 ];
 
