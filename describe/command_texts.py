@@ -26,10 +26,12 @@ PURPOSES = {
 }
 #: The same for what help says of each option, except those of `show`.
 OPTIONS = {
+    "color": ("file_words.rt", r"const COLOR: &str =\s+"),
     "most": ("file_words.rt", r"const MOST: &str =\s+"),
     "address": ("at_words.rt", r"const ADDRESS: &str =\s+"),
     "file": ("at_words.rt", r"const OFFSET: &str =\s+"),
     "known": ("map_words.rt", r"const KNOWN: &str =\s+"),
+    "unbound": ("map_words.rt", r"const UNBOUND: &str =\s+"),
     "window": ("map_words.rt", r"const WINDOW: &str =\s+"),
     "count": ("map_words.rt", r'argument\(alloc, "count", '),
 }

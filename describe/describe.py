@@ -82,6 +82,7 @@ FIELDS = {
     "crates/pe_text/src/header_fields.rt": (header_texts.dump_part, ["coff", "standard", "windows"]),
     "crates/pe_text/specs/HeaderFields.antt": (header_texts.dump_definition_part, ["coff", "standard", "windows"]),
     "crates/pe_json/src/headers.rt": (header_texts.json_part, ["coff", "optional"]),
+    "crates/pe_show/src/header_places.rt": (header_texts.places_part, ["coff fields", "narrow fields", "wide fields"]),
     "crates/pe_write/proofs/PlanHead.antt": (plan_part, ["values", "reading"]),
     "crates/pe_reach/proofs/Headers.antt": (reach_texts.part, ["agreeing"]),
     "docs/FORMAT.md": (header_texts.page_part, ["coff", "same", "other"]),

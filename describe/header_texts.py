@@ -200,3 +200,18 @@ def page_part(description: Description, what: str) -> List[str]:
     rows += [(f"the first {it.item()}", place_of(it)) for it in firsts]
     cells = [f"| {name} | {_pair(place, False)} | {_pair(place, True)} |" for name, place in rows]
     return ["| Field | PE32 | PE32+ |", "|---|---|---|", *cells]
+
+
+def places_part(description: Description, what: str) -> List[str]:
+    """A list of fields with their places in pe_show: `coff fields of headers`, and `narrow fields of headers` and `wide fields of
+    headers` of the optional header."""
+    form = what.removesuffix(" fields of headers")
+    if form not in ("coff", "narrow", "wide"):
+        raise KeyError(what)
+    rows = []
+    for it in fields_of(description):
+        place = place_of(it)
+        pair = place.wide if form == "wide" else place.narrow
+        if place.is_coff == (form == "coff") and pair is not None:
+            rows.append((pair[0], f'("{format_name(it)}", {pair[0]}, {pair[1]}),'))
+    return [row for _, row in sorted(rows)]

@@ -157,13 +157,16 @@ class Command:
     does: str
     options: List[Option]
     arguments: List[str]  #: without brackets and dots
-    is_repeated: bool  #: whether there may be more of its argument
+    is_repeated: bool  #: whether there may be more of its last argument
 
     def places(self) -> List[str]:
         """Where its files are, as a pattern of a shell for how many arguments are before one."""
-        if self.is_repeated:
-            return ["*"]
-        return [str(place) for place, it in enumerate(self.arguments) if it in FILES]
+        return [self.place(index) for index, it in enumerate(self.arguments) if it in FILES]
+
+    def place(self, index: int, first: int = 0) -> str:
+        """Where an argument may be, as such a pattern, if the first has this number."""
+        is_last = index + 1 == len(self.arguments)
+        return "*" if self.is_repeated and is_last else str(index + first)
 
     def is_after_base(self) -> bool:
         return self.arguments == [AFTER_BASE]
@@ -224,9 +227,9 @@ def zsh_words(command: Command) -> Iterator[str]:
         does = quoted(it.does).replace("[", "(").replace("]", ")")
         names = f"'(-{it.short} --{it.name})'{{-{it.short},--{it.name}}}'" if it.short else f"'--{it.name}"
         yield f"{names}[{does}]{f':{it.value}:' if it.value else ''}'"
-    for place, argument in enumerate(command.arguments, 1):
+    for index, argument in enumerate(command.arguments):
         action = '{compset -P "*=" && _files}' if argument == AFTER_BASE else "_files" if argument in FILES else ""
-        yield f"'{'*' if command.is_repeated else place}:{argument}:{action}'"
+        yield f"'{command.place(index, 1)}:{argument}:{action}'"
 
 
 def zsh(commands: List[Command]) -> str:

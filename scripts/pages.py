@@ -2,7 +2,7 @@
 """Makes the pages of `petool show` and `petool at` apart from petool, and compares them with what petool prints, byte for byte.
 
     pages.py [OPTION..] FILE...         prints the pages of images and objects, with the options of `petool show`
-    pages.py --at [OPTION] PLACE FILE   prints what stands at a place of an image, with the options of `petool at`; PLACE is hexadecimal
+    pages.py --at [OPTION] FILE PLACE.. prints what stands at places of a file, with the options of `petool at`
     pages.py --cases FOLDER DATA        compares the cases `show` and `at` of FOLDER/views, of files in DATA, with FOLDER/views.answers
     pages.py --beside PETOOL FILE...    compares `PETOOL show --all FILE` with the page, file by file
 
@@ -307,6 +307,8 @@ def image_page(file, wanted):
         kind, rows = image_kind(headers), [*header_rows(headers, image)]
     if image:
         rows += table_rows(image, wanted)
+    elif headers:
+        rows += section_rows(headers.sections)
     return fault, kind, rows
 
 
@@ -404,11 +406,116 @@ def page_of(name, file, options):
 
 # ---- places
 
+COFF_FIELDS = "Machine:2 NumberOfSections:2 TimeDateStamp:4 PointerToSymbolTable:4 NumberOfSymbols:4 SizeOfOptionalHeader:2 Characteristics:2"
+OPTIONAL_FIELDS = """Magic:2 MajorLinkerVersion:1 MinorLinkerVersion:1 SizeOfCode:4 SizeOfInitializedData:4 SizeOfUninitializedData:4
+    AddressOfEntryPoint:4 BaseOfCode:4 BaseOfData:4 ImageBase:4 SectionAlignment:4 FileAlignment:4 MajorOperatingSystemVersion:2
+    MinorOperatingSystemVersion:2 MajorImageVersion:2 MinorImageVersion:2 MajorSubsystemVersion:2 MinorSubsystemVersion:2
+    Win32VersionValue:4 SizeOfImage:4 SizeOfHeaders:4 CheckSum:4 Subsystem:2 DllCharacteristics:2 SizeOfStackReserve:4
+    SizeOfStackCommit:4 SizeOfHeapReserve:4 SizeOfHeapCommit:4 LoaderFlags:4 NumberOfRvaAndSizes:4"""
+SECTION_FIELDS = """Name:8 VirtualSize:4 VirtualAddress:4 SizeOfRawData:4 PointerToRawData:4 PointerToRelocations:4
+    PointerToLinenumbers:4 NumberOfRelocations:2 NumberOfLinenumbers:2 Characteristics:4"""
+#: The same of PE32+, where an address and sizes have 8 bytes and one field is missing.
+WIDE_FIELDS = re.sub("(ImageBase|SizeOf(?:Stack|Heap)[a-zA-Z]*):4", r"\1:8", OPTIONAL_FIELDS.replace("BaseOfData:4", ""))
+
+
+class NoPlace(Exception):
+    """What is said in place of an answer."""
+
+
+def field_at(fields, offset):
+    """The field that has an offset in its header, or None."""
+    for name, width in (field.split(":") for field in fields.split()):
+        if 0 <= offset < int(width):
+            return name
+        offset -= int(width)
+    return None
+
+
+def header_words(file, headers, offset):
+    """What stands at an offset of an image's headers."""
+    pe = uint(file, 60, 4)
+    if offset < pe:
+        return "MS-DOS header" if offset < 60 else "offset of the signature" if offset < 64 else "MS-DOS stub"
+    offset -= pe
+    if offset < 4:
+        return "signature"
+    if offset < 24:
+        return f"{field_at(COFF_FIELDS, offset - 4)} of the COFF header"
+    fields, size = OPTIONAL_FIELDS if headers.magic == 0x10B else WIDE_FIELDS, uint(file, pe + 20, 2)
+    offset -= 24
+    if offset < size:
+        name, rest = field_at(fields, offset), offset - (96 if headers.magic == 0x10B else 112)
+        if name:
+            return f"{name} of the optional header"
+        if rest < 8 * len(headers.directories):
+            return f"{'Size' if rest & 4 else 'VirtualAddress'} of directory {rest // 8}, {DIRECTORIES[rest // 8]}"
+        return "optional header"
+    index, offset = divmod(offset - size, 40)
+    return f"{field_at(SECTION_FIELDS, offset)} of section header {index}" if index < len(headers.sections) else ""
+
+
+def in_rows(rva, start, width, count):
+    """The index of the row that has an RVA, or None."""
+    return (rva - start) // width if 0 <= rva - start < width * count else None
+
+
+def export_row(image, rva):
+    start = image.directory(0)[0]
+    count, names, *tables = (uint(image.bytes, start + at, 4) for at in (20, 24, 28, 32, 36))
+    if 0 <= rva - start < 40:
+        return "export directory"
+    for name, table, width, rows in zip(("address", "name pointer", "ordinal"), tables, (4, 4, 2), (count, names, names)):
+        index = in_rows(rva, table, width, rows)
+        if index is not None:
+            return f"entry {index} of the export {name} table"
+    return ""
+
+
+def import_row(image, rva):
+    width, at = 8 if image.wide else 4, image.directory(1)[0]
+    for number in itertools.count():
+        if at <= rva < at + 20:
+            return f"descriptor {number} of the import table"
+        lookup, _, _, name, slots = struct.unpack_from("<5I", image.bytes, at)
+        if name == 0 or slots == 0:
+            return ""
+        count = next(i for i in itertools.count() if not uint(image.bytes, (lookup or slots) + width * i, width))
+        index = in_rows(rva, lookup, width, count + 1) if lookup else None
+        if index is not None:
+            return f"entry {index} of the lookup table of descriptor {number}"
+        at += 20
+    return ""
+
+
+def fixup_row(image, rva):
+    (at, size), end = image.directory(5), sum(image.directory(5))
+    for number in itertools.count():
+        length = uint(image.bytes, at + 4, 4)
+        if end - at < 8 or not length or not size:
+            return ""
+        if at <= rva < at + length:
+            return f"block {number} of the base relocations" if rva < at + 8 else f"entry {(rva - at - 8) // 2} of block {number} of the base relocations"
+        at += length
+    return ""
+
+
+def row_words(file, image, rva):
+    """What stands at an RVA in the headers or in a table."""
+    words = header_words(file, image.headers, rva) if rva < image.headers.headers else ""
+    if not words and image.exports is not None and image.directory(0)[0]:
+        words = export_row(image, rva)
+    if not words and image.imports is not None and image.directory(1)[0]:
+        words = import_row(image, rva)
+    if not words and image.fixups is not None and image.directory(5)[0]:
+        words = fixup_row(image, rva)
+    others = [i for i, (start, size) in enumerate(image.headers.directories) if i not in (0, 1, 4, 5, 12) and start and start <= rva < start + size]
+    return words or (f"{DIRECTORIES[others[0]]} table" if others else "")
+
 
 def export_words(image, rva):
     """The last export at an RVA or before it in its section."""
     start, _, section = image.piece(rva) or (0, 0, None)
-    at = [it for it in image.exports if isinstance(it[1], int) and start <= it[1] <= rva] if section else []
+    at = [it for it in image.exports or [] if isinstance(it[1], int) and start <= it[1] <= rva] if section else []
     if not at:
         return ""
     ordinal, target, names = max(at, key=lambda it: (it[1], -it[0]))
@@ -417,7 +524,7 @@ def export_words(image, rva):
 
 def field_words(image, rva):
     """The base relocation in whose field an RVA is, and where the address in the field points."""
-    for field, kind in image.fixups:
+    for field, kind in image.fixups or []:
         width = FIXUP_WIDTHS[kind]
         if not field <= rva < field + width:
             continue
@@ -429,34 +536,167 @@ def field_words(image, rva):
     return ""
 
 
-def rva_of(image, options, place):
-    """The RVA of a place: an RVA itself, an address of the image at its ImageBase, or a file offset; -1 if it has none."""
-    if "address" in options:
-        return place - image.headers.base
-    if "file" not in options or place < image.headers.headers:
-        return place
-    held = (it for it in image.headers.sections if it.pointer <= place < it.pointer + it.in_file)
-    return next((it.rva + place - it.pointer for it in held), -1)
+def section_called(sections, word, first):
+    """The index of the section with this number, or with this name if no other has it."""
+    found = [i for i, it in enumerate(sections) if (i + first == int(word) if word.isdigit() else it.name == os.fsencode(word))]
+    if len(found) > 1:
+        raise NoPlace("several sections have this name: a number says which")
+    if not found:
+        raise NoPlace("there is no such section")
+    return found[0]
 
 
-def text_at(file, options, place):
-    """What `at` prints for a place of an image, and the image's fault."""
-    try:
-        image = Image(file, Headers(file))
-        image.read_tables()
-    except Refused as fault:
-        return f"fault {fault.number} image 0 {fault.kind} 0x{fault.place:08x}\n", fault
-    rva = rva_of(image, options, place)
-    if not 0 <= rva < image.size:
-        return "the place is outside the image\n", None
-    (where, offset), piece = place_of(image, rva), image.piece(rva)
+def in_section(sections, word, first, size_of):
+    """The section of SECTION+OFFSET, its index, and the offset."""
+    name, _, offset = word.rpartition("+")
+    index, offset = section_called(sections, name, first), int(offset, 16)
+    if offset >= size_of(sections[index]):
+        raise NoPlace("the place is outside the section")
+    return sections[index], index, offset
+
+
+def rva_of(headers, options, place):
+    """The RVA of a place: an RVA itself, an address of the image at its ImageBase, a file offset, or an offset in a section."""
+    if "+" in place:
+        section, _, offset = in_section(headers.sections, place, 0, lambda it: it.extent)
+        return section.rva + offset
+    place = int(place, 16)
+    rva = place - headers.base if "address" in options else place
+    if "file" in options and place >= headers.headers:
+        held = (it for it in headers.sections if it.pointer <= place < it.pointer + it.in_file)
+        rva = next((it.rva + place - it.pointer for it in held), -1)
+    if not 0 <= rva < headers.size:
+        raise NoPlace("the place is outside the image")
+    return rva
+
+
+def where(headers, rva, offset, words):
     in_file = "not in the file" if offset is None else f"file 0x{offset:x}"
-    use = " " + permissions(piece[2].flags) if piece and piece[2] else ""
-    slots = [(module, key) for module, slot, key in image.imports if slot <= rva < slot + (8 if image.wide else 4)]
-    slot = f"  slot of {shown(slots[0][0])} {key_words(slots[0][1])}" if slots else ""
-    words = export_words(image, rva) + slot + field_words(image, rva)
-    address = (image.headers.base + rva) % 2**64
-    return f"RVA 0x{rva:x}  address 0x{address:x}  {in_file}  {where}{use}{words}\n  {image.bytes[rva : rva + 16].hex(' ')}\n", None
+    return f"RVA 0x{rva:x}  address 0x{(headers.base + rva) % 2**64:x}  {in_file}  {words}"
+
+
+def image_place(file, image, options, place):
+    """What `at` prints for a place of an image that is laid out."""
+    rva = rva_of(image.headers, options, place)
+    (words, offset), piece = place_of(image, rva), image.piece(rva)
+    words += " " + permissions(piece[2].flags) if piece and piece[2] else ""
+    slots = [(module, key) for module, slot, key in image.imports or [] if slot <= rva < slot + (8 if image.wide else 4)]
+    words += export_words(image, rva) + (f"  slot of {shown(slots[0][0])} {key_words(slots[0][1])}" if slots else "") + field_words(image, rva)
+    row = row_words(file, image, rva)
+    return f"{where(image.headers, rva, offset, words)}{'  ' + row if row else ''}\n  {image.bytes[rva : rva + 16].hex(' ')}\n"
+
+
+def place_by_headers(file, headers, options, place):
+    """The same of an image that is not, since a section breaks a rule."""
+    rva = rva_of(headers, options, place)
+    held = [it for it in headers.sections if it.rva <= rva < it.end] if rva >= headers.headers else []
+    if "+" in place:
+        held = [in_section(headers.sections, place, 0, lambda it: it.extent)[0]]
+    if "file" in options and rva >= headers.headers:
+        held = [it for it in headers.sections if it.pointer <= int(place, 16) < it.pointer + it.in_file]
+    if held:
+        behind = rva - held[0].rva
+        offset = held[0].pointer + behind if behind < held[0].in_file and held[0].pointer + behind < len(file) else None
+        return where(headers, rva, offset, f"{shown(held[0].name, 40)}+0x{behind:x} {permissions(held[0].flags)}") + "\n"
+    if rva >= headers.headers:
+        return where(headers, rva, None, "no section") + "\n"
+    words = header_words(file, headers, rva)
+    return where(headers, rva, rva, f"headers+0x{rva:x}" + (f"  {words}" if words else "")) + "\n"
+
+
+#: How many bytes the relocations of a type patch, where that is not 4; none for ABSOLUTE and PAIR.
+WIDTHS = {"ABSOLUTE": 0, "PAIR": 0, "ADDR64": 8, "SECTION": 2, "SECREL7": 1, "DIR16": 2, "REL16": 2, "SEG12": 2, "MOV32": 8, "THUMB_MOV32": 8}
+
+
+def object_words(file, it, offset):
+    """What stands at an offset of an object's file."""
+    optional, table = uint(file, 16, 2), uint(file, 8, 4)
+    if offset < 20:
+        return f"{field_at(COFF_FIELDS, offset)} of the COFF header"
+    if offset < 20 + optional:
+        return "optional header"
+    index, behind = divmod(offset - 20 - optional, 40)
+    if index < len(it.sections):
+        return f"{field_at(SECTION_FIELDS, behind)} of section header {index + 1}"
+    index = in_rows(offset, table, 18, uint(file, 12, 4)) if table else None
+    if index is not None:
+        return f"record {index} of the symbol table"
+    strings = table + 18 * uint(file, 12, 4)
+    if table and strings <= offset < strings + max(4, uint(file, strings, 4)):
+        return "string table"
+    for number, section in enumerate(it.sections, 1):
+        index = in_rows(offset, section.relocations_at, 10, section.relocation_count)
+        if index is not None:
+            return f"relocation {index} of section {number}"
+    return ""
+
+
+def object_place(file, it, options, place):
+    """What `at` prints for a place of an object."""
+    if "+" in place:
+        section, index, offset = in_section(it.sections, place, 1, lambda it: it.raw_size)
+    elif "file" in options:
+        at = int(place, 16)
+        if at >= len(file):
+            raise NoPlace("the place is outside the file")
+        held = [(i, section) for i, section in enumerate(it.sections) if section.pointer <= at < section.pointer + section.in_file]
+        if not held:
+            words = object_words(file, it, at)
+            return f"file 0x{at:x}{'  ' + words if words else ''}\n  {file[at : at + 16].hex(' ')}\n"
+        index, section = held[0]
+        offset = at - section.pointer
+    else:
+        raise NoPlace("an object has no RVAs: SECTION+OFFSET or an offset in its file is a place")
+    names = {symbol[0]: " " + shown(symbol[1]) for symbol in it.symbols}
+    line = f"section {index + 1}  {shown(section.name, 40)}+0x{offset:x} {permissions(section.flags)}"
+    line += f"  file 0x{section.pointer + offset:x}" if section.in_file else "  not in the file"
+    for at, symbol, kind in section.relocations:
+        word = RELOCATIONS[it.machine].get(kind)
+        if at <= offset + section.rva < at + (WIDTHS.get(word, 4) if word else 1):
+            line += f"  relocation {word or f'0x{kind:04x}'} #{symbol}{names.get(symbol, '')}"
+            break
+    near = [it for it in it.symbols if it[3] == index + 1 and it[2] <= offset]
+    if near:
+        _, name, value, *_ = max(near, key=lambda it: (it[2], (it[5], it[2], it[1]) != (3, 0, section.name), -it[0]))
+        line += f"  symbol {shown(name)}" + (f"+0x{offset - value:x}" if offset > value else "")
+    held = file[section.pointer : section.pointer + section.in_file]
+    return f"{line}\n" + (f"  {held[offset : offset + 16].hex(' ')}\n" if held else "")
+
+
+def answers(places, answer):
+    """The answers for places, in their order."""
+    for place in places:
+        try:
+            yield answer(place)
+        except NoPlace as said:
+            yield f"{said}\n"
+
+
+def fault_line(fault):
+    return f"fault {fault.number} image 0 {fault.kind} 0x{fault.place:08x}\n"
+
+
+def text_at(file, options, places):
+    """What `at` prints for places of a file, and the file's fault."""
+    if is_object(file):
+        try:
+            it = Object(file)
+        except Refused as fault:
+            return fault_line(fault), fault
+        return "".join(answers(places, lambda place: object_place(file, it, options, place))), None
+    headers = image = fault = None
+    try:
+        headers = Headers(file)
+        image = Image(file, headers)
+        image.read_tables()
+    except Refused as refused:
+        fault = refused
+    begin = fault_line(fault) if fault else ""
+    if image:
+        return begin + "".join(answers(places, lambda place: image_place(file, image, options, place))), fault
+    if headers:
+        return begin + "".join(answers(places, lambda place: place_by_headers(file, headers, options, place))), fault
+    return begin, fault
 
 
 # ---- comparing
@@ -485,7 +725,7 @@ def case_text(data, line):
     kind, *words = line.split(" ")
     options, words = split_options(words)
     if kind == "at":
-        text, fault = text_at(changed(data, words[1:]), options, int(words[0], 16))
+        text, fault = text_at(changed(data, words[1:]), options, words[0].split(","))
     else:
         text, fault = page_of(words[0], changed(data, words), options)
     return text + f"status {1 if fault else 0}\n", fault
@@ -543,8 +783,8 @@ def main(words):
     elif words[:1] == ["--beside"]:
         failed = compare_files(shlex.split(words[1]), words[2:])
     elif words[:1] == ["--at"]:
-        options, (place, path) = split_options(words[1:])
-        failed = write_texts([text_at(read(path), options, int(place, 16))])
+        options, (path, *places) = split_options(words[1:])
+        failed = write_texts([text_at(read(path), options, places)])
     elif words:
         options, paths = split_options(words)
         failed = write_texts([page_of(path, read(path), options) for path in paths])

@@ -127,11 +127,24 @@ class Image:
             self.bytes[section.rva : section.rva + section.in_file] = file[section.pointer : section.pointer + section.in_file]
 
     def read_tables(self):
-        """Reads the tables in the order of their phases; what was read before a fault is kept."""
-        self.exports = self.read_exports()
-        slots = set()
-        self.imports = self.read_imports(slots)
-        self.fixups = self.read_fixups(slots)
+        """Reads the tables in the order of their phases, and raises the first fault. A table without a fault is kept; base relocations
+        are read only after imports without one, with whose slots they are compared."""
+        faults, slots = [], set()
+        self.exports = self.whole(faults, self.read_exports)
+        self.imports = self.whole(faults, self.read_imports, slots)
+        if self.imports is not None:
+            self.fixups = self.whole(faults, self.read_fixups, slots)
+        for fault in faults:
+            raise fault
+
+    @staticmethod
+    def whole(faults, read, *arguments):
+        """What was read of a table, or None if it has a fault, which is added to a list."""
+        try:
+            return read(*arguments)
+        except Refused as fault:
+            faults.append(fault)
+            return None
 
     def directory(self, index):
         return self.headers.directories[index] if index < len(self.headers.directories) else (0, 0)

@@ -67,7 +67,7 @@ class Bash(unittest.TestCase):
         self.assert_offered(["10000000=b=2.dll"], ["map", "10000000=b=2"])
 
     def test_options_are_those_of_the_command(self):
-        self.assert_offered(["--count", "--help", "--known", "--window"], ["map", "--"], ["map", "10000000=a.dll", "--"])
+        self.assert_offered(["--count", "--help", "--known", "--unbound", "--window"], ["map", "--"], ["map", "10000000=a.dll", "--"])
         self.assert_offered(["--help", "-h"], ["explain", "-"], ["check", "a.dll", "-"])
         self.assert_offered(["--imports"], ["show", "--i"])
 
@@ -76,7 +76,7 @@ class Bash(unittest.TestCase):
         self.assert_offered([], ["map", "--window", "a"], ["map", "--count", ""], ["map", "--window", "=", "a"])
         for command in ("show", "json", "dump", "object"):
             self.assert_offered([], [command, "--most", ""], [command, "--most", "a"], [command, "--most", "="])
-        self.assert_offered([], ["at", "a.dll", "a"], ["at", "--file", "a.dll", "a"], ["dump", "a.dll", "d"])
+        self.assert_offered([], ["at", "a.dll", "a"], ["at", "--file", "a.dll", "a"], ["at", "a.dll", "1", "a"], ["dump", "a.dll", "d"])
         self.assert_offered([], ["rebase", "a"], ["rebase", "10000000", "a.dll", "o.dll", "d"])
 
     def test_a_file_is_offered_wherever_one_can_stand(self):
@@ -100,6 +100,7 @@ class OtherShells(unittest.TestCase):
         self.assertIn("explain) _arguments -S '(-h --help)'{-h,--help}'[Print help]' '1:N:' ;;", zsh)
         self.assertIn("--window[Prints the bytes from this address on, 16 per line]:HEX:'", zsh)
         self.assertIn("'1:HEX:' '2:IN:_files' '3:OUT:_files' ;;", zsh)
+        self.assertIn("'1:FILE:_files' '*:ADDRESS:' ;;", zsh)
         self.assertIn("'*:HEX=FILE:{compset -P \"*=\" && _files}' ;;", zsh)
         self.assertIn("'dump 0' 'at 0' 'object 0' 'json *' 'rebase 1' 'rebase 2'\n", fish)
         self.assertIn("__fish_seen_subcommand_from map' -l window -x ", fish)

@@ -1,6 +1,7 @@
 """The tests of petool: `python3 -m unittest` in the folder above, with PETOOL_LIBRARY. They read small files of the repository."""
 
 import importlib.util
+import os
 import pathlib
 import sys
 from types import ModuleType
@@ -9,6 +10,8 @@ from typing import Any, List
 import petool
 
 sys.dont_write_bytecode = True
+# pages have the width that they have if nothing says how wide the terminal is
+os.environ.pop("COLUMNS", None)
 
 PACKAGE = pathlib.Path(__file__).resolve().parents[1]
 TOP = PACKAGE.parents[1]

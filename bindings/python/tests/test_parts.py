@@ -1,8 +1,9 @@
-"""Which parts of an image's file the program reads: of a regular file of 64 KB or more `check` and `dump` read the headers and the
-sections in which tables begin, if these decide the output, and otherwise all that the headers name. A file that comes by a pipe is
-read whole, so the two ways are compared; and an image has a section of 256 MB, for which there is no memory, so that the parts are
-all that can be read."""
+"""Which parts of an image's file the program reads: of a regular file of 64 KB or more `check`, `dump` and `json` read the headers and
+the sections in which tables begin, and `json` the string table for long names of sections, if these decide the output, and otherwise
+all that the headers name. A file that comes by a pipe is read whole, so the two ways are compared; and an image has a section of
+256 MB, for which there is no memory, so that the parts are all that can be read."""
 
+import json
 import os
 import pathlib
 import resource
@@ -20,6 +21,9 @@ TABLES, OTHER, MANY = 0x1000, 0x3000, 0x5000
 
 #: The bytes of the section with many, and the memory that a run may have where it must not read them.
 SIZE, MEMORY = 1 << 28, 1 << 27
+
+#: Where the headers have PointerToSymbolTable and NumberOfSymbols, and the name of the first section.
+SYMBOLS, NAME = 64 + 12, 64 + 24 + 224
 
 #: What the tables read, each at an offset in a section that holds it.
 PIECES = {
@@ -118,7 +122,7 @@ class Parts(unittest.TestCase):
     def assert_alike(self, file: bytes, size: int) -> None:
         """The outputs by path and by pipe are the same."""
         self.write(file, size)
-        for command in ("check", "dump"):
+        for command in ("check", "dump", "json"):
             self.assertEqual(self.by_path(command), self.by_pipe(command), command)
 
     def status_in_little_memory(self, file: bytes, many: int = SIZE) -> int:
@@ -136,6 +140,40 @@ class Parts(unittest.TestCase):
             self.assertIn(line + b"\n", dump)
         self.assertIn(b'section 2 ".many" va 0x00005000 extent 0x10000000 raw 0x00002400 rawlen 0x10000000', dump)
         self.assertEqual(self.by_path("check", MEMORY)[:2], (0, b"accepted PE32 sections 3\n"))
+        status, line, _ = self.by_path("json", MEMORY)
+        self.assertEqual(status, 0)
+        read = json.loads(line)
+        self.assertEqual([row["name"] for row in read["exports"]], ["first", "second"])
+        self.assertEqual([row["slot"] for row in read["imports"]], [0x1700, 0x1704])
+        self.assertEqual(read["fixups"], [{"rva": 0x1800, "bits": 32}])
+        self.assertEqual(read["sections"][2]["pointer_to_raw_data"], 0x2400)
+
+    def test_long_names_are_read_behind_the_rest(self):
+        # the string table is behind two symbols behind all raw data
+        file, table = bytearray(with_tables()), numbers(24) + b"the name of section\0"
+        end = len(file) + SIZE
+        file[NAME : NAME + 8] = b"/4".ljust(8, b"\0")
+        file[SYMBOLS : SYMBOLS + 8] = numbers(end, 2)
+        self.write(bytes(file), end)
+        with self.path.open("ab") as more:
+            more.write(bytes(36) + table)
+        status, line, _ = self.by_path("json", MEMORY)
+        self.assertEqual(status, 0)
+        self.assertEqual([row["name"] for row in json.loads(line)["sections"]], ["the name of section", ".other", ".many"])
+
+    def test_string_tables_count_alike(self):
+        file = bytearray(with_tables(many=0x10000))
+        end = len(file) + 0x10000
+        for field in (b"/4", b"/5", b"/0", b"/23", b"/24", b"/x"):
+            file[NAME : NAME + 8] = field.ljust(8, b"\0")
+            for pointer, count in ((end, 0), (end - 18, 1), (end - 1, 0), (end + 25, 0), (end + 24, 0), (0, 1), (0xFFFFFFFF, 0xFFFFFFFF), (0x1400, 0)):
+                for size in (0, 3, 4, 5, 24, 25, 28, 29, 0xFFFFFFFF):
+                    file[SYMBOLS : SYMBOLS + 8] = numbers(pointer, count)
+                    self.write(bytes(file), end)
+                    with self.path.open("ab") as more:
+                        more.write(numbers(size) + b"the name of section\0last")
+                    with self.subTest(field=field, pointer=pointer, count=count, size=size):
+                        self.assertEqual(self.by_path("json"), self.by_pipe("json"))
 
     def test_tables_in_two_sections_are_read(self):
         for elsewhere in ({"export table", "addresses", "names", "ordinals", "first name", "second name"},

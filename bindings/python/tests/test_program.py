@@ -106,9 +106,20 @@ EMPTY_JSON = (
 )
 
 AT_SIGNATURE = """\
-RVA 0x40  address 0x10000040  file 0x40  headers+0x40
+RVA 0x40  address 0x10000040  file 0x40  headers+0x40  signature
   50 45 00 00 4c 01 00 00 00 00 00 00 00 00 00 00
 """
+
+AT_REFUSED = """\
+fault 15 image 0 file 0x000000b8
+RVA 0x48  address 0x10000048  file 0x48  headers+0x48  TimeDateStamp of the COFF header
+RVA 0xb9  address 0x100000b9  file 0xb9  headers+0xb9  Name of section header 0
+"""
+
+SECTION_IN_HEADERS = (
+    "petool: a.dll: section header at 0xb8: the section begins before the end of the headers or of the previous section: it begins at "
+    "RVA 0x20, and the headers end at 0xe0\n"
+)
 
 EXPLAINED = """\
 fault 13: section header: the section's raw data extends past the end of the file
@@ -272,6 +283,24 @@ VIEW_ENDS = [
     replace(SILENT, words=["at", "--address", "a.dll", "0x10000040"], printed=AT_SIGNATURE),
     replace(SILENT, words=["at", "--file", "a.dll", "40"], printed=AT_SIGNATURE),
     replace(SILENT, words=["at", "a.dll", "100000040"], printed="the place is outside the image\n"),
+    # each of several addresses has an answer, and all are checked before the file is opened
+    replace(SILENT, words=["at", "a.dll", "100000040", "40"], printed="the place is outside the image\n" + AT_SIGNATURE),
+    replace(
+        SILENT,
+        words=["at", "b.dll", "40", "g"],
+        status=2,
+        complained="error: invalid value 'g' for '<ADDRESS>': not an address of 1 to 16 hexadecimal digits\n\n"
+        "Usage: petool at [OPTIONS] <FILE> <ADDRESS>...\n\nFor more information, try '--help'.\n",
+    ),
+    # of an image with a section that breaks a rule its headers answer
+    replace(
+        SILENT,
+        words=["at", "a.dll", "48", "b9"],
+        file=SECTION,
+        status=1,
+        printed=AT_REFUSED,
+        complained=SECTION_IN_HEADERS,
+    ),
     replace(
         SILENT, words=["at", "a.dll", "40"], file=b"", status=1, printed="fault 2 image 0 file 0x00000000\n", complained=NO_BYTES
     ),
@@ -370,7 +399,7 @@ FILES = [
         DUMP,
         SECTION,
         "fault 15 image 0 file 0x000000b8\n",
-        "petool: a.dll: section header at 0xb8: the section begins before the end of the headers or of the previous section: it begins at RVA 0x20, and the headers end at 0xe0\n",
+        SECTION_IN_HEADERS,
     ),
     (
         DUMP,
@@ -735,6 +764,16 @@ class Colours(unittest.TestCase):
     def test_a_page_that_is_cut_ends_its_colours(self):
         self.assertEqual(self.on_terminal(b"", None, "--most", "9"), ("\x1b[1;31ma.\x1b[0m\n(cut after 9 bytes)\n", 5))
         self.assertEqual(self.on_terminal(b"", "1", "--most", "3"), ("a.d\n(cut after 3 bytes)\n", 5))
+
+    def test_the_option_decides(self):
+        plain, coloured = (self.plain(HEADERS), 0), self.on_terminal(HEADERS, None)
+        self.assertNotEqual(plain, coloured)
+        self.assertEqual(self.on_terminal(HEADERS, None, "--color", "never"), plain)
+        self.assertEqual(self.on_terminal(HEADERS, None, "--color=auto"), coloured)
+        self.assertEqual(self.on_terminal(HEADERS, "1", "--color=auto"), plain)
+        for no_color, term in (("1", "xterm"), (None, "dumb"), ("1", "dumb")):
+            with self.subTest(no_color=no_color, term=term):
+                self.assertEqual(self.on_terminal(HEADERS, no_color, "--color=always", term=term), coloured)
 
     def test_no_color_turns_them_off(self):
         for no_color in ("1", "0", "no colours"):

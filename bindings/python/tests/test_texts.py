@@ -3,7 +3,7 @@ headers and look up exports. The first word of a case says what is run:
 
 `check`, `dump` and `object` print that command's text of a file, which further words change; `tables` the lines of a dump's
 exports, imports and base relocations; `begins` the first line of an object's; `show`, with `--all` or without, `json`, and `at`
-with an RVA before the file, that command's; `refusal` the line of a page that shows the fault. `map` and words of a set print the
+with places before the file, that command's; `refusal` the line of a page that shows the fault. `map` and words of a set print the
 set's report, with a window if there is one. `rebase` and a base print its line and the length of the new file, `rebased` also what
 differs in it. All of them print the status. `head` and `layout` print the first fault of a file's headers, and of its section table
 too; `find` and names or ordinals what they export. `faults` prints the words of each number, `kind` the kind of file that its first
@@ -38,7 +38,7 @@ for _name in ("texts", "views"):
 COUNTS = {
     "head": 93, "layout": 34, "find": 28, "tables": 172, "check": 33, "dump": 49, "object": 102, "begins": 81,
     "rebase": 43, "rebased": 8, "map": 14, "faults": 1, "kind": 31, "names": 1,
-    "show": 63, "json": 57, "refusal": 51, "at": 48,
+    "show": 63, "json": 57, "refusal": 51, "at": 98,
 }  # fmt: skip
 
 PLACES = {
@@ -244,7 +244,7 @@ class Program(Cases):
 
     def at(self, words):
         options, words = split_options(words)
-        lines, status = self.lines("at", *options, self.write(words[1:]), words[0])
+        lines, status = self.lines("at", *options, self.write(words[1:]), *words[0].split(","))
         return "\n".join([*lines, f"status {status}"])
 
     def test_places(self):

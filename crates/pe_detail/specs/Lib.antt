@@ -7,6 +7,7 @@ pub use Rattle.pe_tables.specs.Fixups
 pub use Rattle.coff_read.specs.Field
 pub use Rattle.coff_read.specs.Reading
 pub use Rattle.coff_read.specs.Strings
+pub mod DetailWords
 pub mod ExportDetail
 pub mod FaultDetail
 pub mod FixupDetail

@@ -19,7 +19,7 @@ pub enum Detail {
     Limit { count: u64, limit: u64 },
     /// An index, and the number of items that it counts.
     Index { index: u64, count: u64 },
-    /// Bits 31 to 62 of an import lookup entry.
+    /// Bits 31 and above of an import lookup entry.
     HighBits(u64),
     /// The time stamp of an import directory entry.
     TimeStamp(u64),

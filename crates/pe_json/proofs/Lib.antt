@@ -1,2 +1,5 @@
 pub mod Growing
+pub mod NoObject
+pub mod ByParts
 pub mod Sized
+pub mod HeadBytes

@@ -4,4 +4,5 @@ pub use Rattle.pe_text.specs.Engine
 pub use Rattle.pe_text.specs.FileKind
 pub use Rattle.pe_text.specs.Outcome
 pub mod Growing
+pub mod JsonByParts
 pub mod JsonReport

@@ -1,4 +1,4 @@
-//! The beginning of a line, and the whole line of a refused file. Neither allocates memory.
+//! The beginning of a line, which of a refused file has the fault. It allocates no memory.
 
 ghost use Rattle.std.specs.Prelude.{◌≡◌};
 ghost use Rattle.pe_json.specs.Growing.{Grows};
@@ -180,7 +180,24 @@ fn add_fault<W: Sink>(text: &mut TextWriter<W>, fault: &Fault)
     );
 }
 
-/// Adds the line of a refused file.
+/// Adds the beginning of the line of a refused file, up to and with the member `fault`.
+pub(crate) fn begin_refused<W: Sink>(
+    text: &mut TextWriter<W>,
+    name: &[u8],
+    file: ViewFile,
+    fault: Fault,
+)
+    requires { IsReady W.failures text.old }
+    ensures { Grows W.taken W.failures text.old text.new }
+{
+    begin(text, name, false);
+    add(text, &kind_parts(file.other_kind(&fault)));
+    add_fault(text, &fault);
+    add_values(text, file, &fault);
+    add(text, &[Text(b"}")]);
+}
+
+/// Adds the line of a refused file of which nothing else is shown.
 pub(crate) fn refuse<W: Sink>(
     text: &mut TextWriter<W>,
     name: &[u8],
@@ -191,10 +208,7 @@ pub(crate) fn refuse<W: Sink>(
     ensures outcome { result ≡ Outcome.Refused fault }
     ensures grows { Grows W.taken W.failures text.old text.new }
 {
-    begin(text, name, false);
-    add(text, &kind_parts(file.other_kind(&fault)));
-    add_fault(text, &fault);
-    add_values(text, file, &fault);
-    add(text, &[Text(b"}}\n")]);
+    begin_refused(text, name, file, fault);
+    add(text, &[Text(b"}\n")]);
     Outcome::Refused(fault)
 }

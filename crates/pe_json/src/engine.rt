@@ -9,15 +9,18 @@ ghost use Rattle.pe_reach.specs.Views.{seen_of};
 ghost use Rattle.pe_text.specs.TextWriter.{IsReady};
 ghost use Rattle.pe_text.specs.Outcome.{IsOutcomeOf};
 
-use crate::beginning::{begin, refuse};
-use crate::image::write_image;
+use crate::beginning::{begin, begin_refused, refuse};
+use crate::image::{write_headers, write_image, write_tables};
 use crate::json_text::JsonText;
 use crate::object::write_object;
 use coff_read::ObjectFile;
+use pe_head::Headers;
+use pe_layout::Layout;
 use pe_reach::laws::faults_agree;
-use pe_reach::{ViewFile, read_view};
+use pe_reach::{ViewFile, read_view, read_whole_tables};
 use pe_tables::TableError;
 use pe_text::{Outcome, Sink, Source, TextWriter, ToolError, read_whole};
+use pe_view::Fault;
 use std::alloc::{AllocError, Allocator};
 
 /// Checks an object, and writes its line.
@@ -44,6 +47,67 @@ fn write_object_line<A: Allocator + Copy, W: Sink>(
     }
 }
 
+/// Writes the line of a refused image that is laid out: its fault, its headers and sections, and its tables that have no fault.
+fn write_laid_out<A: Allocator + Copy, W: Sink>(
+    alloc: A,
+    text: &mut TextWriter<W>,
+    name: &[u8],
+    file: ViewFile,
+    layout: &Layout,
+    fault: Fault,
+) -> Result<(), AllocError>
+    requires { IsReady W.failures text.old }
+    ensures { Grows W.taken W.failures text.old text.new }
+{
+    let tables = read_whole_tables(alloc, layout)?;
+    begin_refused(text, name, file, fault);
+    let mut json = JsonText::new(alloc);
+    let headers = layout.headers();
+    write_headers(&mut json, text, file.strings(headers), headers);
+    write_tables(&mut json, text, &tables);
+    json.end(text)
+}
+
+/// Writes the line of an image with one of faults 13 to 15: its fault, its headers and its sections.
+fn write_unlaid<A: Allocator + Copy, W: Sink>(
+    alloc: A,
+    text: &mut TextWriter<W>,
+    name: &[u8],
+    file: ViewFile,
+    headers: &Headers,
+    fault: Fault,
+) -> Result<(), AllocError>
+    requires { IsReady W.failures text.old }
+    ensures { Grows W.taken W.failures text.old text.new }
+{
+    begin_refused(text, name, file, fault);
+    let mut json = JsonText::new(alloc);
+    write_headers(&mut json, text, file.strings(headers), headers);
+    json.end(text)
+}
+
+/// Writes the line of a refused image: its fault, and what has none.
+fn write_refused<A: Allocator + Copy, W: Sink>(
+    alloc: A,
+    text: &mut TextWriter<W>,
+    name: &[u8],
+    file: ViewFile,
+    fault: Fault,
+) -> Result<(), AllocError>
+    requires { IsReady W.failures text.old }
+    ensures grows { Grows W.taken W.failures text.old text.new }
+    ensures memory { OnErr result (0 < length (seen_of file.entry)) }
+{
+    let Ok(headers) = file.headers() else {
+        refuse(text, name, file, fault);
+        return Ok(());
+    };
+    match file.lay_out() {
+        Ok(layout) => write_laid_out(alloc, text, name, file, &layout, fault),
+        Err(_) => write_unlaid(alloc, text, name, file, &headers, fault),
+    }
+}
+
 /// Checks an image, and writes its line.
 fn write_image_line<A: Allocator + Copy, W: Sink>(
     alloc: A,
@@ -64,7 +128,10 @@ fn write_image_line<A: Allocator + Copy, W: Sink>(
             json.end(text)?;
             Ok(Outcome::Done)
         }
-        Err(TableError::Fault(fault)) => Ok(refuse(text, name, file, fault)),
+        Err(TableError::Fault(fault)) => {
+            write_refused(alloc, text, name, file, fault)?;
+            Ok(Outcome::Refused(fault))
+        }
         Err(TableError::Memory) => Err(AllocError),
     }
 }
@@ -109,8 +176,8 @@ fn print_line<A: Allocator + Copy, W: Sink>(
     }
 }
 
-/// Writes one JSON object and a line feed for the image or object whose file comes from the reader: its content, or its first
-/// fault. `name` is that of the file in the line.
+/// Writes one JSON object and a line feed for the image or object whose file comes from the reader: its content; or its first
+/// fault, and of an image what has no fault, as [`crate`] says. `name` is that of the file in the line.
 ///
 /// A file that begins like a COFF object is tested for the object faults of docs/FAULTS.md, and any other for the image faults.
 /// `Done` means that it has none of these, and `Refused` has the first that it has. The text of the line is not part of the

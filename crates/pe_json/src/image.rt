@@ -1,4 +1,4 @@
-//! The JSON members of an accepted image.
+//! The JSON members of an image.
 
 ghost use Rattle.pe_json.specs.Growing.{Grows};
 ghost use Rattle.pe_text.specs.TextWriter.{IsReady};
@@ -12,7 +12,7 @@ use crate::value::Value::{Number, Text};
 use crate::value::text_if;
 use coff_read::{FileHeader, ImageStrings, section_name};
 use pe_head::{Headers, Magic, SectionHeader, directory_name};
-use pe_image::Image;
+use pe_image::{Image, Tables};
 use pe_reach::ViewFile;
 use pe_text::{Sink, TextWriter};
 use std::alloc::Allocator;
@@ -76,7 +76,43 @@ fn write_sections<A: Allocator + Copy, W: Sink>(
     json.end_list();
 }
 
-/// Writes the members of an image, from its headers to its base relocations.
+/// Writes the members of an image that its headers say: the headers, the data directories and the sections, whose names may be in
+/// the string table.
+pub(crate) fn write_headers<A: Allocator + Copy, W: Sink>(
+    json: &mut JsonText<A>,
+    text: &mut TextWriter<W>,
+    strings: Option<ImageStrings>,
+    headers: &Headers,
+)
+    requires { IsReady W.failures text.old }
+    ensures { Grows W.taken W.failures text.old text.new }
+{
+    add_headers(json, headers);
+    json.put(text);
+    write_sections(json, text, strings, headers.sections.as_slice());
+}
+
+/// Writes the members of tables that were read.
+pub(crate) fn write_tables<A: Allocator + Copy, W: Sink>(
+    json: &mut JsonText<A>,
+    text: &mut TextWriter<W>,
+    tables: &Tables<A>,
+)
+    requires { IsReady W.failures text.old }
+    ensures { Grows W.taken W.failures text.old text.new }
+{
+    if let Some(exports) = &tables.exports {
+        write_exports(json, text, exports);
+    }
+    if let Some(imports) = &tables.imports {
+        write_imports(json, text, imports);
+    }
+    if let Some(fixups) = &tables.fixups {
+        write_fixups(json, text, fixups);
+    }
+}
+
+/// Writes the members of an accepted image, from its headers to its base relocations.
 pub(crate) fn write_image<A: Allocator + Copy, W: Sink>(
     json: &mut JsonText<A>,
     text: &mut TextWriter<W>,
@@ -87,10 +123,7 @@ pub(crate) fn write_image<A: Allocator + Copy, W: Sink>(
     ensures { Grows W.taken W.failures text.old text.new }
 {
     let headers = image.layout.headers();
-    add_headers(json, headers);
-    json.put(text);
-    let strings = file.strings(headers);
-    write_sections(json, text, strings, headers.sections.as_slice());
+    write_headers(json, text, file.strings(headers), headers);
     write_exports(json, text, &image.exports);
     write_imports(json, text, &image.imports);
     write_fixups(json, text, &image.fixups);

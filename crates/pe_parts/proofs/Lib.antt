@@ -5,3 +5,6 @@ pub mod ReadImports
 pub mod ReadTables
 pub mod Packed
 pub mod AtHand
+pub mod Pieces
+pub mod Walks
+pub mod Decides

@@ -9,4 +9,5 @@ pub use Rattle.pe_tables.specs.ImportView
 pub use Rattle.pe_tables.specs.Fixups
 pub mod Filled
 pub mod Packed
+pub mod AtHand
 pub mod PackedTables

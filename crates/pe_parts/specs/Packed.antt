@@ -25,13 +25,13 @@ AreHeld file packed (s ∷ ss) [] = ⊥
 AreHeld file packed (s ∷ ss) (t ∷ ts) =
     (t ≡ moved s t.pointer_to_raw_data) × ((0 < t.pointer_to_raw_data → IsHeld file packed s t.pointer_to_raw_data) × AreHeld file packed ss ts)
 
--- the headers with other sections
-abbrev pub with_sections : Headers → List SectionHeader → Headers
-with_sections h ss = record h { sections = record { items = ss } }
+-- the headers with the sections and the string table of packed ones
+abbrev pub repacked : Headers → Headers → Headers
+repacked h p = record h { sections = record { items = p.sections.items }; pointer_to_symbol_table = p.pointer_to_symbol_table; number_of_symbols = p.number_of_symbols }
 
 -- packed bytes with headers under which they stand for a file that has other headers
 pub record IsPacked (file : List ℕ) (h : Headers) (packed : List ℕ) (p : Headers) : Type 0 where
-  pub headers : p ≡ with_sections h p.sections.items
+  pub headers : p ≡ repacked h p
   pub bytes : (r : ℕ) → r < h.size_of_headers → byte_of packed r ≡ byte_of file r
   pub sections : AreHeld file packed h.sections.items p.sections.items
 

@@ -1,13 +1,14 @@
 //! Whether all that an import table reads is there.
 
-ghost use Rattle.std.specs.Prelude.{◌≡◌, ◌+◌, ◌%◌, ◌^◌, ◌≤◌, ◌==◌, ◌||◌, ℕ, IsTrue, List, Option, false, if◌then◌else◌};
+ghost use Rattle.std.specs.Prelude.{◌≡◌, ◌+◌, ◌%◌, ◌^◌, ◌≤◌, ◌==◌, ◌&&◌, ◌||◌, ℕ, IsTrue, List, Option, false, if◌then◌else◌};
 ghost use Rattle.pe_layout.specs.Image.{number_at};
 ghost use Rattle.pe_layout.specs.Layout.{headers_of, image_of};
 ghost use Rattle.pe_tables.specs.Imports.{is_ordinal};
+ghost use Rattle.pe_parts.specs.AtHand.{has_text, has_name, has_lookups, has_descriptors, has_imports};
 ghost use Rattle.pe_parts.specs.Filled.{HaveLookups, HaveDescriptors, MayHaveImports};
 ghost use Rattle.pe_parts.specs.Packed.{AgreeAtHand, IsPieceAtHand};
 
-use crate::held::{field, held_end, holds_text};
+use crate::held::{field, held_end, holds_text, is_before};
 use pe_head::directory_index;
 use pe_layout::Layout;
 
@@ -39,20 +40,22 @@ fn is_ordinal(layout: &Layout, value: u64) -> bool
 
 /// Whether the string is there that a lookup table entry with this value has, if it has one.
 fn holds_name(layout: &Layout, value: u64) -> bool
-    ensures { IsTrue result → is_ordinal (image_of layout.now) value ≡ false → IsPieceAtHand (headers_of layout.now) (value % 2 ^ 31 + 2) }
+    ensures text { IsTrue result → is_ordinal (image_of layout.now) value ≡ false → IsPieceAtHand (headers_of layout.now) (value % 2 ^ 31 + 2) }
+    ensures exact { result ≡ has_name (headers_of layout.now) (image_of layout.now) value }
 {
     is_ordinal(layout, value) || holds_text(layout, (value % (1 << 31)) as u32 + 2)
 }
 
 /// Whether all that a lookup table reads is there, from the entry at an RVA on.
 fn holds_lookups(layout: &Layout, first: u32) -> bool
-    ensures { IsTrue result → (b : ℕ → ℕ) (t : ℕ → Option (List ℕ))
+    ensures have { IsTrue result → (b : ℕ → ℕ) (t : ℕ → Option (List ℕ))
         → AgreeAtHand (headers_of layout.now) (image_of layout.now) b t → (n : ℕ) → HaveLookups n (image_of layout.now) b t first }
+    ensures exact { result ≡ has_lookups (headers_of layout.now) (image_of layout.now) first }
 {
     let width = layout.slot_width();
     let end = held_end(layout, first);
     let mut rva = first;
-    while layout.contains(rva, u64::from(width)) && u64::from(rva + width) <= end {
+    while is_before(layout, rva, width, end) {
         let value = value_at(layout, rva);
         if !holds_name(layout, value) {
             return false;
@@ -63,6 +66,16 @@ fn holds_lookups(layout: &Layout, first: u32) -> bool
         rva += width;
     }
     false
+}
+
+/// Whether the name of a module and its lookup table are there, which are at these RVAs.
+fn holds_module(layout: &Layout, name: u32, table: u32) -> bool
+    ensures text { IsTrue result → IsPieceAtHand (headers_of layout.now) name }
+    ensures have { IsTrue result → (b : ℕ → ℕ) (t : ℕ → Option (List ℕ))
+        → AgreeAtHand (headers_of layout.now) (image_of layout.now) b t → (n : ℕ) → HaveLookups n (image_of layout.now) b t table }
+    ensures exact { result ≡ (has_text (headers_of layout.now) name && has_lookups (headers_of layout.now) (image_of layout.now) table) }
+{
+    holds_text(layout, name) && holds_lookups(layout, table)
 }
 
 /// Whether a descriptor with these fields is null: it ends the import table.
@@ -81,21 +94,20 @@ fn lookup_table(lookup: u32, addresses: u32) -> u32
 
 /// Whether all that the import table reads is there, from the descriptor at an RVA on.
 fn holds_descriptors(layout: &Layout, first: u32) -> bool
-    ensures { IsTrue result → (b : ℕ → ℕ) (t : ℕ → Option (List ℕ))
+    ensures have { IsTrue result → (b : ℕ → ℕ) (t : ℕ → Option (List ℕ))
         → AgreeAtHand (headers_of layout.now) (image_of layout.now) b t → (n : ℕ) → HaveDescriptors n (image_of layout.now) b t first }
+    ensures exact { result ≡ has_descriptors (headers_of layout.now) (image_of layout.now) first }
 {
     let end = held_end(layout, first);
     let mut rva = first;
-    while layout.contains(rva, u64::from(DESCRIPTOR_SIZE))
-        && u64::from(rva + DESCRIPTOR_SIZE) <= end
-    {
+    while is_before(layout, rva, DESCRIPTOR_SIZE, end) {
         let name = field(layout, rva, 12);
         let addresses = field(layout, rva, 16);
         if is_null(name, addresses) {
             return true;
         }
         let table = lookup_table(field(layout, rva, 0), addresses);
-        if !holds_text(layout, name) || !holds_lookups(layout, table) {
+        if !holds_module(layout, name, table) {
             return false;
         }
         rva += DESCRIPTOR_SIZE;
@@ -105,9 +117,10 @@ fn holds_descriptors(layout: &Layout, first: u32) -> bool
 
 /// Whether all that the imports of an image depend on is there.
 pub(crate) fn holds_imports(layout: &Layout) -> bool
-    ensures { IsTrue result → (b : ℕ → ℕ) (t : ℕ → Option (List ℕ))
+    ensures have { IsTrue result → (b : ℕ → ℕ) (t : ℕ → Option (List ℕ))
         → AgreeAtHand (headers_of layout.now) (image_of layout.now) b t
         → MayHaveImports (image_of layout.now) b t ((image_of layout.now).directory 1) }
+    ensures exact { result ≡ has_imports (headers_of layout.now) (image_of layout.now) ((image_of layout.now).directory 1) }
 {
     match layout.directory(directory_index::IMPORT) {
         None => true,

@@ -1,10 +1,14 @@
 //! `read_packed`: the tables of an image of whose file only some parts are there.
 
-ghost use Rattle.std.specs.Prelude.{◌≡◌, ◌+◌, ◌<◌, ◌≤◌, ℕ, IsTrue, IfOk, IfSome, List, Option};
+ghost use Rattle.std.specs.Prelude.{◌≡◌, ◌+◌, ◌<◌, ◌≤◌, ℕ, IsTrue, IfOk, OnErr, IfSome, List, Option, is_some, is_none, length, true};
+ghost use Rattle.pe_view.specs.Faults.{first_standing};
 ghost use Rattle.pe_head.specs.declared.headers.Headers.{Headers};
 ghost use Rattle.pe_layout.specs.Image.{LaidOut, image_from};
-ghost use Rattle.pe_layout.specs.Layout.{headers_of, image_of};
+ghost use Rattle.pe_layout.specs.Layout.{headers_of, image_of, can_lay_out};
 ghost use Rattle.pe_image.specs.ImageOf.{AreTablesOf};
+ghost use Rattle.pe_image.specs.ImageTests.{table_tests};
+ghost use Rattle.pe_image.specs.Wants.{TablesTakeMemory};
+ghost use Rattle.pe_parts.specs.AtHand.{has_fixups, tables_at_hand, can_decide_tables};
 ghost use Rattle.pe_parts.specs.Filled.{HasTable, HaveTables};
 ghost use Rattle.pe_parts.specs.Packed.{AgreeAtHand, IsPacked};
 ghost use Rattle.pe_parts.specs.PackedTables.{AreContentsOf};
@@ -32,9 +36,10 @@ pub struct PackedTables<'a, A: Allocator> {
 
 /// Whether the base relocation table is there.
 fn holds_fixups(layout: &Layout) -> bool
-    ensures { IsTrue result → (b : ℕ → ℕ) (t : ℕ → Option (List ℕ))
+    ensures has { IsTrue result → (b : ℕ → ℕ) (t : ℕ → Option (List ℕ))
         → AgreeAtHand (headers_of layout.now) (image_of layout.now) b t
         → HasTable (image_of layout.now) b ((image_of layout.now).directory 5) }
+    ensures exact { result ≡ has_fixups (headers_of layout.now) ((image_of layout.now).directory 5) }
 {
     match layout.directory(directory_index::BASE_RELOCATION) {
         None => true,
@@ -44,15 +49,23 @@ fn holds_fixups(layout: &Layout) -> bool
 
 /// Whether all that the tables of an image depend on is there.
 fn holds_tables(layout: &Layout) -> bool
-    ensures { IsTrue result → (b : ℕ → ℕ) (t : ℕ → Option (List ℕ))
+    ensures have { IsTrue result → (b : ℕ → ℕ) (t : ℕ → Option (List ℕ))
         → AgreeAtHand (headers_of layout.now) (image_of layout.now) b t → HaveTables (image_of layout.now) b t }
+    ensures exact { result ≡ tables_at_hand (headers_of layout.now) (image_of layout.now) }
 {
-    holds_exports(layout) && holds_imports(layout) && holds_fixups(layout)
+    if !holds_exports(layout) {
+        return false;
+    }
+    if !holds_imports(layout) {
+        return false;
+    }
+    holds_fixups(layout)
 }
 
 /// All tables, if each is there.
 fn whole<'a, A: Allocator>(tables: Tables<'a, A>) -> Option<PackedTables<'a, A>>
-    ensures { (i : LaidOut) → AreTablesOf i tables.entry → IfSome result (AreContentsOf i) }
+    ensures contents { (i : LaidOut) → AreTablesOf i tables.entry → IfSome result (AreContentsOf i) }
+    ensures some { (i : LaidOut) → AreTablesOf i tables.entry → is_some result ≡ is_none (first_standing (table_tests i)) }
 {
     let Tables {
         exports,
@@ -68,23 +81,29 @@ fn whole<'a, A: Allocator>(tables: Tables<'a, A>) -> Option<PackedTables<'a, A>>
 }
 
 /// The tables of each image of whose file these are parts, with the headers under which they are packed; faults would name the image
-/// by `number`. `None` if the tables have a fault there, or depend on bytes that are not there; the file must be read then.
+/// by `number`. `None` exactly if [`Layout::of_parts`] refuses the parts, the tables have a fault there, or they depend on bytes that
+/// are not there; the file must be read then.
 ///
-/// The error is out of memory; then all memory is freed. ("PE Format": The .edata Section, The .idata Section, The .reloc Section.)
+/// The error is out of memory, where reading the tables takes any; then all memory is freed. ("PE Format": The .edata Section, The .idata Section, The .reloc Section.)
 pub fn read_packed<A: Allocator + Copy>(
     alloc: A,
     packed: &[u8],
     headers: Headers,
     number: u16,
 ) -> Result<Option<PackedTables<'_, A>>, AllocError>
-    ensures { IfOk result (λ tables. IfSome tables (λ tables. (file : List ℕ) (h : Headers)
+    ensures contents { IfOk result (λ tables. IfSome tables (λ tables. (file : List ℕ) (h : Headers)
         → IsPacked file h packed.now headers → AreContentsOf (image_from number h file) tables)) }
+    ensures some { IfOk result (λ tables. is_some tables ≡ can_decide_tables number headers packed.now) }
+    ensures memory { OnErr result ((can_lay_out number headers (length packed.now) ≡ true) × TablesTakeMemory (image_from number headers packed.now)) }
 {
     let Some(layout) = Layout::of_parts(View::new(packed), headers, number) else {
         return Ok(None);
     };
     let tables = read_tables(alloc, &layout)?;
-    if tables.fault.is_some() || !holds_tables(&layout) {
+    if tables.fault.is_some() {
+        return Ok(None);
+    }
+    if !holds_tables(&layout) {
         return Ok(None);
     }
     Ok(whole(tables))

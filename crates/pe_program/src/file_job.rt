@@ -36,7 +36,7 @@ where
 
 /// Whether the engine's own output has faults in words.
 fn tells_faults(engine: Engine) -> bool {
-    matches!(engine, Engine::Show(_) | Engine::Json)
+    matches!(engine, Engine::Show { .. } | Engine::Json)
 }
 
 /// Runs an engine over a file, with at most `most` bytes of output, and returns the exit status; it is an `Err` if standard output
@@ -95,7 +95,7 @@ where
 fn is_headed(engine: Engine, is_first: bool) -> bool {
     match engine {
         Engine::Check => true,
-        Engine::Show(_) => !is_first,
+        Engine::Show { .. } => !is_first,
         _ => false,
     }
 }

@@ -7,6 +7,7 @@
 //! ```
 #![tactic(auto)]
 
+mod at_job;
 mod command_line;
 mod draft;
 mod explain;
@@ -29,6 +30,6 @@ mod word_bytes;
 
 pub use command_line::{NoWords, refuse_command_line, words_of};
 pub use file_job::{run_file, run_files};
-pub use map_job::run_map;
+pub use map_job::{run_map, run_map_unbound};
 pub use program::run;
 pub use texts::{Engine, OUTPUT_BUFFER};

@@ -143,11 +143,13 @@ where
     status(&printed.answer)
 }
 
-/// Maps files, and returns the exit status.
-pub fn run_map<R: Files + Input + Print + Eprint + Alloc>(
+/// Maps files and prints the report, if `is_unbound` is set with the imports that are bound to nothing, and returns the exit
+/// status.
+fn print_map<R: Files + Input + Print + Eprint + Alloc>(
     rt: &R,
     policy: Policy,
     window: Option<(u64, u32)>,
+    is_unbound: bool,
     files: &[MapFile],
 ) -> u8
 where
@@ -167,6 +169,33 @@ where
         set: &set,
         policy,
         window,
+        is_unbound,
     };
     tell_set(rt, files, &set, print_text(rt, text))
+}
+
+/// Maps files, and returns the exit status.
+pub fn run_map<R: Files + Input + Print + Eprint + Alloc>(
+    rt: &R,
+    policy: Policy,
+    window: Option<(u64, u32)>,
+    files: &[MapFile],
+) -> u8
+where
+    R::A: Copy,
+{
+    print_map(rt, policy, window, false, files)
+}
+
+/// Maps files and prints the imports that are bound to nothing too, and returns the exit status.
+pub fn run_map_unbound<R: Files + Input + Print + Eprint + Alloc>(
+    rt: &R,
+    policy: Policy,
+    window: Option<(u64, u32)>,
+    files: &[MapFile],
+) -> u8
+where
+    R::A: Copy,
+{
+    print_map(rt, policy, window, true, files)
 }

@@ -1,15 +1,17 @@
 //! `run`: carries out the command line, and returns the exit status.
 
+use crate::at_job::run_at;
 use crate::command_line::{refuse_command_line, refuse_words, words_of};
 use crate::explain::run_explain;
 use crate::file_job::{run_file, run_files};
-use crate::map_job::run_map;
+use crate::map_job::{run_map, run_map_unbound};
 use crate::rebase_job::run_rebase;
 use crate::texts::Engine;
-use pe_tool::{Job, ShowOptions, parse_words};
+use pe_tool::{Colours, Job, Page, ShowOptions, parse_words};
 use std::env::FillError;
 use std::io::Input;
 use std::rt::{Env, Files};
+use std::str;
 
 /// Whether TERM says that the terminal shows no colours.
 fn is_dumb(rt: &impl Env) -> bool {
@@ -17,8 +19,8 @@ fn is_dumb(rt: &impl Env) -> bool {
     matches!(rt.var("TERM", &mut term), Ok(4)) && term == *b"dumb"
 }
 
-/// Whether pages have colours: if standard output is a terminal that shows them, and NO_COLOR is not set or empty.
-fn has_colours(rt: &impl Env, is_terminal: bool) -> bool {
+/// Whether pages have colours by themselves: if standard output is a terminal that shows them, and NO_COLOR is not set or empty.
+fn may_have_colours(rt: &impl Env, is_terminal: bool) -> bool {
     is_terminal
         && !is_dumb(rt)
         && matches!(
@@ -27,11 +29,48 @@ fn has_colours(rt: &impl Env, is_terminal: bool) -> bool {
         )
 }
 
-/// The options of a page, with colours if it may have them.
-fn options_of(rt: &impl Env, options: ShowOptions, is_terminal: bool) -> ShowOptions {
-    ShowOptions {
-        is_coloured: has_colours(rt, is_terminal),
-        ..options
+/// Whether pages have colours.
+fn has_colours(rt: &impl Env, colours: Colours, is_terminal: bool) -> bool {
+    match colours {
+        Colours::Auto => may_have_colours(rt, is_terminal),
+        Colours::Always => true,
+        Colours::Never => false,
+    }
+}
+
+/// The least width that COLUMNS may give.
+const LEAST_WIDTH: usize = 20;
+
+/// The greatest width that COLUMNS may give.
+const MOST_WIDTH: usize = 1000;
+
+/// A width in decimal digits.
+fn width_from(digits: &[u8]) -> Option<usize> {
+    let digits = str::from_utf8(digits).ok()?;
+    if !digits.bytes().all(|byte| byte.is_ascii_digit()) {
+        return None;
+    }
+    let width = digits.parse::<usize>().ok()?;
+    (LEAST_WIDTH..=MOST_WIDTH).contains(&width).then_some(width)
+}
+
+/// The width of pages: COLUMNS if it is a number that a terminal may be wide.
+fn width_of(rt: &impl Env) -> usize {
+    let mut columns = [0; 4];
+    match rt.var("COLUMNS", &mut columns) {
+        Ok(len) => width_from(&columns[..len]).unwrap_or(Page::WIDTH),
+        Err(_) => Page::WIDTH,
+    }
+}
+
+/// The engine of `show`.
+fn show_engine(rt: &impl Env, options: ShowOptions, colours: Colours, is_terminal: bool) -> Engine {
+    Engine::Show {
+        options: ShowOptions {
+            is_coloured: has_colours(rt, colours, is_terminal),
+            ..options
+        },
+        width: width_of(rt),
     }
 }
 
@@ -47,15 +86,18 @@ pub fn run<R: Files + Input + Env + Print + Eprint + AllocGlobal>(rt: &R, is_ter
         Ok(
             Job::Show {
                 options,
+                colours,
                 most,
                 files,
             },
-        ) => {
-            let options = options_of(rt, options, is_terminal);
-            run_files(rt, Engine::Show(options), most, &files)
-        }
+        ) => run_files(
+            rt,
+            show_engine(rt, options, colours, is_terminal),
+            most,
+            &files,
+        ),
         Ok(Job::Json { most, files }) => run_files(rt, Engine::Json, most, &files),
-        Ok(Job::At { file, place }) => run_file(rt, Engine::At(place), None, file.as_str()),
+        Ok(Job::At { file, places }) => run_at(rt, file.as_str(), &places),
         Ok(Job::Explain { number }) => run_explain(rt, number),
         Ok(Job::Dump { file }) => run_file(rt, Engine::Dump, None, file.as_str()),
         Ok(Job::DumpMost { most, file }) => {
@@ -72,6 +114,13 @@ pub fn run<R: Files + Input + Env + Print + Eprint + AllocGlobal>(rt: &R, is_ter
                 files,
             },
         ) => run_map(rt, policy, window, &files),
+        Ok(
+            Job::MapUnbound {
+                policy,
+                window,
+                files,
+            },
+        ) => run_map_unbound(rt, policy, window, &files),
         Ok(
             Job::Rebase {
                 base,

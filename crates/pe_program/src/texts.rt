@@ -5,12 +5,12 @@ ghost use Rattle.std.specs.Prelude.{◌-◌, ◌^◌, ◌<◌, ◌≤◌, OnOk};
 use crate::headed::{Headed, Heading};
 use crate::output::Output;
 use pe_tool::{
-    Counted, Detail, Outcome, PartSource, Placed, Policy, SetEntry, ShowOptions, Sink, Source,
-    ToolError, at_sized, at_text, check_parts, check_sized, check_text, dump_parts, dump_sized,
-    dump_text, fault_detail, json, json_sized, map_report, object_text, read_whole, show,
-    show_sized,
+    Counted, Detail, Outcome, Page, PartSource, Placed, Policy, SetEntry, ShowOptions, Sink,
+    Source, Spot, ToolError, at_each_sized, at_each_text, check_parts, check_sized, check_text,
+    dump_parts, dump_sized, dump_text, fault_detail, json, json_parts, json_sized, map_report,
+    map_report_unbound, object_text, read_whole, show_page, show_page_sized,
 };
-use pe_view::{Place, View};
+use pe_view::View;
 use std::alloc::Allocator;
 use std::io;
 use std::io::{BufWriter, Error, Read, Seek, Write};
@@ -20,19 +20,23 @@ pub const OUTPUT_BUFFER: usize = 1 << 16;
 
 /// The engines that read one file.
 #[derive(Clone, Copy)]
-pub enum Engine {
+pub enum Engine<'e> {
     /// `pe_tool::check`
     Check,
     /// `pe_tool::dump`
     Dump,
     /// `pe_tool::dump_object`
     Object,
-    /// `pe_tool::show`
-    Show(ShowOptions),
+    /// `pe_tool::show_page`
+    Show {
+        options: ShowOptions,
+        /// How many columns pages have.
+        width: usize,
+    },
     /// `pe_tool::json`
     Json,
-    /// `pe_tool::at`
-    At(Place),
+    /// `pe_tool::at_each`
+    At(&'e [Spot<'e>]),
 }
 
 /// What to print.
@@ -41,18 +45,19 @@ pub(crate) enum Text<'a, F> {
     /// The output of an engine for an open file, cut after `most` bytes. `size` is the file's size, if that is known; `is_headed`
     /// says whether a heading comes before the output.
     File {
-        engine: Engine,
+        engine: Engine<'a>,
         name: &'a [u8],
         size: Option<u64>,
         is_headed: bool,
         most: Option<u64>,
         file: F,
     },
-    /// The report of `map`.
+    /// The report of `map`, if `is_unbound` is set with the imports that are bound to nothing.
     Map {
         set: &'a [SetEntry<'a>],
         policy: Policy,
         window: Option<(u64, u32)>,
+        is_unbound: bool,
     },
 }
 
@@ -82,7 +87,7 @@ fn most_of<F>(text: &Text<'_, F>) -> u64 {
 fn colours_end<F>(text: &Text<'_, F>) -> &'static str {
     match text {
         Text::File {
-            engine: Engine::Show(options),
+            engine: Engine::Show { options, .. },
             ..
         } if options.is_coloured => "\x1b[0m",
         _ => "",
@@ -96,7 +101,7 @@ fn write_note(output: &mut Output<impl Write>, colours_end: &str, most: u64) -> 
 }
 
 /// What comes before the output for a file: its name, or a blank line before a page.
-fn heading_of(engine: Engine, name: &[u8], is_headed: bool) -> Heading<'_> {
+fn heading_of<'n>(engine: Engine, name: &'n [u8], is_headed: bool) -> Heading<'n> {
     match engine {
         _ if !is_headed => Heading::Nothing,
         Engine::Check => Heading::Name(name),
@@ -106,11 +111,11 @@ fn heading_of(engine: Engine, name: &[u8], is_headed: bool) -> Heading<'_> {
 
 /// The engines whose output has no faults in words.
 #[derive(Clone, Copy)]
-enum Lines {
+enum Lines<'e> {
     Check,
     Dump,
     Object,
-    At(Place),
+    At(&'e [Spot<'e>]),
 }
 
 /// The result of an engine, and the numbers that the rule of the fault compares, if they are known.
@@ -119,7 +124,7 @@ type Judged = (Result<Outcome, ToolError>, Option<Detail>);
 /// Writes the output of an engine for a file that was read whole.
 fn lines_of<A: Allocator + Copy, W: Sink>(
     alloc: A,
-    lines: Lines,
+    lines: Lines<'_>,
     file: &[u8],
     writer: &mut W,
 ) -> Result<Outcome, ToolError>
@@ -129,7 +134,7 @@ fn lines_of<A: Allocator + Copy, W: Sink>(
         Lines::Check => check_text(alloc, file, writer),
         Lines::Dump => dump_text(alloc, file, writer),
         Lines::Object => object_text(alloc, file, writer),
-        Lines::At(place) => at_text(alloc, place, file, writer),
+        Lines::At(spots) => at_each_text(alloc, spots, file, writer),
     }
 }
 
@@ -144,7 +149,7 @@ fn detail_in(file: &[u8], answer: Result<Outcome, ToolError>) -> Option<Detail> 
 /// Reads a file whole, and writes the output of an engine.
 fn write_lines<A: Allocator + Copy, R: Source, W: Sink>(
     alloc: A,
-    lines: Lines,
+    lines: Lines<'_>,
     reader: &mut R,
     writer: &mut W,
 ) -> Judged
@@ -175,9 +180,16 @@ fn write_whole<A: Allocator + Copy, R: Source, W: Sink>(
         Engine::Check => write_lines(alloc, Lines::Check, reader, writer),
         Engine::Dump => write_lines(alloc, Lines::Dump, reader, writer),
         Engine::Object => write_lines(alloc, Lines::Object, reader, writer),
-        Engine::Show(options) => (show(alloc, name, &options, reader, writer), None),
+        Engine::Show { options, width } => {
+            let page = Page {
+                name,
+                options: &options,
+                width,
+            };
+            (show_page(alloc, &page, reader, writer), None)
+        }
         Engine::Json => (json(alloc, name, reader, writer), None),
-        Engine::At(place) => write_lines(alloc, Lines::At(place), reader, writer),
+        Engine::At(spots) => write_lines(alloc, Lines::At(spots), reader, writer),
     }
 }
 
@@ -197,12 +209,16 @@ fn write_sized<A: Allocator + Copy, R: Source, W: Sink>(
         Engine::Check => (check_sized(alloc, reader, size, writer), None),
         Engine::Dump => (dump_sized(alloc, reader, size, writer), None),
         Engine::Object => write_lines(alloc, Lines::Object, reader, writer),
-        Engine::Show(options) => (
-            show_sized(alloc, name, &options, reader, size, writer),
-            None,
-        ),
+        Engine::Show { options, width } => {
+            let page = Page {
+                name,
+                options: &options,
+                width,
+            };
+            (show_page_sized(alloc, &page, reader, size, writer), None)
+        }
         Engine::Json => (json_sized(alloc, name, reader, size, writer), None),
-        Engine::At(place) => (at_sized(alloc, place, reader, size, writer), None),
+        Engine::At(spots) => (at_each_sized(alloc, spots, reader, size, writer), None),
     }
 }
 
@@ -211,6 +227,7 @@ fn write_sized<A: Allocator + Copy, R: Source, W: Sink>(
 fn write_parts<A: Allocator + Copy, R: PartSource, W: Sink>(
     alloc: A,
     engine: Engine,
+    name: &[u8],
     reader: &mut R,
     size: u64,
     writer: &mut W,
@@ -222,6 +239,7 @@ fn write_parts<A: Allocator + Copy, R: PartSource, W: Sink>(
     match engine {
         Engine::Check => check_parts(alloc, reader, size, writer),
         Engine::Dump => dump_parts(alloc, reader, size, writer),
+        Engine::Json => json_parts(alloc, name, reader, size, writer),
         _ => Ok(None),
     }
 }
@@ -230,6 +248,7 @@ fn write_parts<A: Allocator + Copy, R: PartSource, W: Sink>(
 fn try_parts<A: Allocator + Copy, F: Read + Seek, W: Sink>(
     alloc: A,
     engine: Engine,
+    name: &[u8],
     file: &mut F,
     size: u64,
     writer: &mut W,
@@ -238,7 +257,7 @@ fn try_parts<A: Allocator + Copy, F: Read + Seek, W: Sink>(
     ensures { OnOk result (W.failures writer.new ≤ W.failures writer.old) }
 {
     let mut reader = Placed::new(file);
-    write_parts(alloc, engine, &mut reader, size, writer)
+    write_parts(alloc, engine, name, &mut reader, size, writer)
 }
 
 /// Runs an engine over a file of `size` bytes, of which it may need only some parts.
@@ -251,7 +270,7 @@ fn write_regular<A: Allocator + Copy>(
     writer: impl Write + Drop,
 ) -> Judged {
     let mut writer = Counted::new(writer);
-    let tried = try_parts(alloc, engine, &mut file, size, &mut writer);
+    let tried = try_parts(alloc, engine, name, &mut file, size, &mut writer);
     if let Ok(Some(outcome)) = tried {
         return (Ok(outcome), None);
     }
@@ -293,10 +312,16 @@ fn write_text<A: Allocator + Copy>(
             set,
             policy,
             window,
-        } => (
-            map_report(alloc, set, policy, window, &mut Counted::new(writer)),
-            None,
-        ),
+            is_unbound,
+        } => {
+            let mut writer = Counted::new(writer);
+            let done = if is_unbound {
+                map_report_unbound(alloc, set, policy, window, &mut writer)
+            } else {
+                map_report(alloc, set, policy, window, &mut writer)
+            };
+            (done, None)
+        }
     }
 }
 

@@ -7,6 +7,7 @@ use Rattle.pe_view.specs.Number.{num, byte_of, part}
 use Rattle.pe_head.specs.declared.optional.Magic.TheVariants.{Pe32, Pe32Plus}
 use Rattle.pe_head.specs.declared.directory.Directory.{Directory}
 use Rattle.pe_head.specs.Head.{head_of, pe_offset, coff_field, field, either_field, is_pe32, optional_start, directory_count, directory_at, section_start, section_at}
+use Rattle.pe_parts.proofs.Numbers.{map_agrees}
 use Rattle.pe_reach.specs.Reach.{AgreeBefore, headers_end}
 
 -- a number before an end
@@ -53,12 +54,6 @@ directory_agrees f g a k lt =
     ap₂ (λ (r s : ℕ). let d : Directory = record { rva = r; size = s } in d)
     (either_agrees f g a (96 + 8 * k) 4 (112 + 8 * k) 4 (omega arith) (omega arith))
     (either_agrees f g a (96 + 8 * k + 4) 4 (112 + 8 * k + 4) 4 (omega arith) (omega arith))
-
--- lists that are made place by place
-pub map_agrees : {A : Type 0} (p q : ℕ → A) (start n : ℕ) → ((k : ℕ) → start ≤ k → k < start + n → p k ≡ q k) → map p (range_with_len start n) ≡ map q (range_with_len start n)
-map_agrees p q start zero same = refl
-map_agrees p q start (suc n) same =
-    ap₂ (λ x y. x ∷ y) (same start (omega arith) (omega arith)) (map_agrees p q (start + 1) n (λ k le lt. same k (omega arith) (omega arith)))
 
 directories_agree : (f g : List ℕ) → AgreeBefore (headers_end g) f g → map (directory_at f) (range_with_len 0 (directory_count f)) ≡ map (directory_at g) (range_with_len 0 (directory_count g))
 directories_agree f g a =

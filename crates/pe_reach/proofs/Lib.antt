@@ -6,5 +6,7 @@ pub mod Looks
 pub mod RawEnds
 pub mod SectionNames
 pub mod Sizes
-pub mod Parts
+pub mod StringTable
+pub mod PartBytes
 pub mod PartsRuns
+pub mod WholeTables

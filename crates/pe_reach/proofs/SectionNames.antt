@@ -48,7 +48,7 @@ short_names s t (section ∷ sections) none =
 
 -- ---- the string table
 -- without one
-no_table : (file : List ℕ) (h : Headers) → h.pointer_to_symbol_table ≡ 0 → image_strings file h ≡ None
+pub no_table : (file : List ℕ) (h : Headers) → h.pointer_to_symbol_table ≡ 0 → image_strings file h ≡ None
 no_table file h none = rw none refl
 
 -- with one that is past the end of the file
@@ -59,7 +59,7 @@ chosen_none false b x e = rw e refl
 and_second : (a b : Bool) → a ≡ false → (a && b) ≡ false
 and_second a b e = rw e refl
 
-past_table : (file : List ℕ) (h : Headers) → length file < strings_start h + 4 → image_strings file h ≡ None
+pub past_table : (file : List ℕ) (h : Headers) → length file < strings_start h + 4 → image_strings file h ≡ None
 past_table file h past =
     chosen_none (h.pointer_to_symbol_table == 0) (nat_le (strings_start h + 4) (length file) && nat_le (strings_start h + strings_size file h) (length file)) (Some (part file (strings_start h) (strings_size file h)))
     (and_second (nat_le (strings_start h + 4) (length file)) (nat_le (strings_start h + strings_size file h) (length file)) (lt-leb (strings_start h + 4) (length file) past))
@@ -69,7 +69,7 @@ and_false : (a b : Bool) → b ≡ false → (a && b) ≡ false
 and_false true b e = e
 and_false false b e = refl
 
-long_table : (file : List ℕ) (h : Headers) → length file < strings_start h + strings_size file h → image_strings file h ≡ None
+pub long_table : (file : List ℕ) (h : Headers) → length file < strings_start h + strings_size file h → image_strings file h ≡ None
 long_table file h past =
     chosen_none (h.pointer_to_symbol_table == 0) (nat_le (strings_start h + 4) (length file) && nat_le (strings_start h + strings_size file h) (length file)) (Some (part file (strings_start h) (strings_size file h)))
     (and_false (nat_le (strings_start h + 4) (length file)) (nat_le (strings_start h + strings_size file h) (length file)) (lt-leb (strings_start h + strings_size file h) (length file) past))

@@ -3,6 +3,7 @@ pub use Rattle.pe_layout.specs.SectionFaults
 pub use Rattle.pe_image.specs.ImageTests
 pub use Rattle.pe_text.specs.Engine
 pub use Rattle.pe_parts.specs.PackedTables
+pub mod PartNames
 pub mod Parts
 pub mod PartsRan
 pub mod PartsRead
@@ -12,3 +13,4 @@ pub mod Settled
 pub mod Sized
 pub mod ViewBytes
 pub mod Views
+pub mod WholeTables

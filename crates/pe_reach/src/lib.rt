@@ -6,10 +6,12 @@
 //!
 //! Views also show the names of sections, which may come after that end. [`read_view`] reads as much as they show, and they see it
 //! as a [`ViewFile`], which hands out no bytes of an image. [`run_view`] is the engine of a [`ViewReport`] over such a file.
+//! [`read_whole_tables`] reads what views show of the tables of a refused image.
 #![tactic(auto)]
 
 pub mod laws;
 mod names;
+mod part_names;
 mod part_source;
 mod parts_reading;
 mod parts_report;
@@ -20,8 +22,11 @@ mod told_parts;
 mod view_file;
 mod view_reading;
 mod view_report;
+mod whole_tables;
 
+pub use part_names::read_names;
 pub use part_source::{PartSource, Placed};
+pub use parts_reading::{Parts, read_parts};
 pub use parts_report::{TablesReport, run_parts};
 pub use reach::{early_fault, needed};
 pub use reading::read_enough;
@@ -29,3 +34,4 @@ pub use sized::run_sized;
 pub use view_file::ViewFile;
 pub use view_reading::{ViewBytes, read_view};
 pub use view_report::{ViewReport, WholeView, run_view};
+pub use whole_tables::read_whole_tables;

@@ -21,14 +21,14 @@ fn begins_with_slash(section: &SectionHeader) -> bool
 }
 
 /// Whether a section's name may be in the string table.
-fn has_long_name(sections: &[SectionHeader]) -> bool
+pub(crate) fn has_long_name(sections: &[SectionHeader]) -> bool
     ensures { result ≡ list_any (λ section. begins_with_slash section.name) sections.now }
 {
     sections.iter().any(begins_with_slash)
 }
 
 /// Where the string table of an image with these headers begins ("PE Format", COFF String Table).
-fn strings_start(headers: &Headers) -> u64
+pub(crate) fn strings_start(headers: &Headers) -> u64
     ensures value { result ≡ strings_start headers.now }
     ensures small { result < 2 ^ 37 }
 {

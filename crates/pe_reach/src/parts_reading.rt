@@ -1,6 +1,6 @@
 //! `read_parts`: the headers of an image and the raw data of the sections in which its tables begin.
 
-ghost use Rattle.std.specs.Prelude.{◌≡◌, ◌-◌, ◌+◌, ◌^◌, ◌<◌, ◌≤◌, ℕ, IsTrue, IfSome, List, ◌++◌, length, take, vec_len, MatchResult, None, true};
+ghost use Rattle.std.specs.Prelude.{◌≡◌, ◌-◌, ◌+◌, ◌^◌, ◌<◌, ◌≤◌, ℕ, IsTrue, IfSome, IsErrOf, List, ◌++◌, length, take, vec_len, MatchResult, None, true};
 ghost use Rattle.pe_view.specs.Faults.{first_standing};
 ghost use Rattle.pe_view.specs.Number.{byte_of};
 ghost use Rattle.pe_head.specs.Head.{head_of};
@@ -26,8 +26,10 @@ const FIRST: usize = 1 << 12;
 const LEAST: u64 = 1 << 16;
 
 /// Parts of an image's file: its headers, and the raw data of some sections, packed.
+///
+/// `pe_parts::read_packed` reads the tables of the image from `bytes`, under `packed`.
 #[derive(Drop)]
-pub(crate) struct Parts<A: Allocator> {
+pub struct Parts<A: Allocator> {
     /// The headers of the file.
     pub headers: Headers,
     /// The headers under which the parts are packed.
@@ -38,7 +40,7 @@ pub(crate) struct Parts<A: Allocator> {
 
 /// Reads `count` bytes at a file offset, and appends them to these. Returns whether the file has as many there; otherwise the bytes
 /// appended mean nothing.
-fn read_range<A: Allocator, R: PartSource>(
+pub(crate) fn read_range<A: Allocator, R: PartSource>(
     reader: &mut R,
     offset: u32,
     bytes: &mut Vec<u8, A>,
@@ -175,17 +177,23 @@ fn read_sections<A: Allocator, R: PartSource>(
     Ok(Some(sections))
 }
 
-/// Reads the headers of an image's file of `len` bytes, and the raw data of the sections in which its tables begin. `None` if this
-/// is not known to be worth it, or the headers may have a fault: the file must be read another way then.
-pub(crate) fn read_parts<A: Allocator + Copy, R: PartSource>(
+/// Reads the headers of an image's file of `len` bytes, and the raw data of the sections in which its tables begin: parts of each
+/// file of `len` bytes that has what was read, and such a file has none of faults 1 to 15. `None` if the file has fewer than 65,536
+/// bytes, or ends before it should, or its first 4,096 bytes have not all headers, or it has one of these faults: it must be read
+/// another way then.
+///
+/// The error is `Read` if the reader fails, or `Memory`, and then all memory is freed; a file of fewer than 65,536 bytes takes none.
+/// Condition: the reader has counted fewer than 2^64 - 1 failures so far.
+pub fn read_parts<A: Allocator + Copy, R: PartSource>(
     alloc: A,
     reader: &mut R,
     len: u64,
 ) -> Result<Option<Parts<A>>, ToolError>
     requires { R.failures reader.old < 2 ^ 64 - 1 }
-    ensures { (read : List Part) × (R.parts reader.new ≡ R.parts reader.old ++ read) × MatchResult result
+    ensures parts { (read : List Part) × (R.parts reader.new ≡ R.parts reader.old ++ read) × MatchResult result
         (λ parts. (R.failures reader.new ≡ R.failures reader.old) × IfSome parts (λ parts. (file : List ℕ) → length file ≡ len → HasParts file read → AreOf parts file))
         (FailsToRead (R.failures reader.old) (R.failures reader.new)) }
+    ensures memory { IsErrOf result ToolError.Memory → 2 ^ 16 ≤ len }
 {
     if len < LEAST {
         return Ok(None);
@@ -203,7 +211,12 @@ pub(crate) fn read_parts<A: Allocator + Copy, R: PartSource>(
     };
     Ok(Some(Parts {
         headers,
-        packed: Headers { sections, ..packed },
+        packed: Headers {
+            sections,
+            pointer_to_symbol_table: 0,
+            number_of_symbols: 0,
+            ..packed
+        },
         bytes,
     }))
 }

@@ -1,36 +1,34 @@
-//! `at`: the engine of `petool at`, which shows what is at one place of an image.
+//! What stands at a place of an image.
 
-ghost use Rattle.std.specs.Prelude.{◌-◌, ◌^◌, ◌<◌, ◌↔◌, length, IsErrOf};
-ghost use Rattle.pe_reach.specs.Sized.{RanSized};
-ghost use Rattle.pe_text.specs.Engine.{Puts, Ran};
+ghost use Rattle.std.specs.Prelude.{◌≡◌, ◌<◌, length, IfOk, OnErr};
+ghost use Rattle.pe_image.specs.ImageTests.{image_tests};
+ghost use Rattle.pe_reach.specs.Views.{seen_of};
+ghost use Rattle.pe_text.specs.Outcome.{IsOutcomeOf};
 ghost use Rattle.pe_text.specs.TextWriter.{IsReady};
-ghost use Rattle.pe_show.specs.Judged.{IsImageJudged};
 ghost use Rattle.pe_show.specs.Page.{AddsSome};
 
+use crate::at_headers::write_by_headers;
 use crate::cell::Cell::{self, Plain};
 use crate::cell::{NOTHING, write_cells};
-use crate::laws::outcomes_agree;
-use crate::place::SectionNames;
+use crate::header_places::header_row;
+use crate::image::outcome_of;
+use crate::place::{SectionNames, SectionPlace};
+use crate::row_name::{RowName, row_cells};
 use crate::sections::permissions;
-use pe_image::Image;
+use crate::spot::{OUTSIDE, Spot, offset_in_section};
+use crate::table_places::{is_within, table_row};
+use coff_read::ImageStrings;
+use pe_image::Tables;
 use pe_layout::{Layout, Located};
-use pe_reach::{ViewFile, ViewReport, WholeView, run_view};
-use pe_tables::{Exports, Fixup, FixupKind, Import, TableError, Target};
+use pe_reach::{ViewFile, read_whole_tables};
+use pe_tables::{Exports, Fixup, FixupKind, Import, Target};
 use pe_text::Part::{Decimal, Hex, Hex2, Text};
-use pe_text::{
-    Outcome, Sink, Source, TextWriter, ToolError, refuse, run_report, write_parts, write_report,
-};
-use pe_view::Place;
+use pe_text::{Outcome, Sink, TextWriter, refuse, write_parts};
+use pe_view::{Fault, Place};
 use std::alloc::{AllocError, Allocator};
 
 /// How many bytes are shown.
 const SHOWN: u32 = 16;
-
-/// The report of [`at`].
-#[derive(Clone, Copy)]
-struct AtReport {
-    place: Place,
-}
 
 /// The least RVA to which a file offset is mapped.
 fn laid_at(layout: &Layout, offset: u64) -> Option<u32> {
@@ -105,11 +103,6 @@ fn name_of<'a, A: Allocator + Copy>(exports: &Exports<'a, A>, ordinal: u64) -> O
         }
     }
     None
-}
-
-/// Whether an RVA is one of the `len` from `start` on.
-fn is_within(rva: u32, start: u32, len: u32) -> bool {
-    rva >= start && rva - start < len
 }
 
 /// The last export at or before an RVA in its section, like `  export crc32+0x10`.
@@ -198,16 +191,20 @@ fn field_cells<'a>(
     [NOTHING; 7]
 }
 
-/// The place of an RVA, like `RVA 0x251e4  address 0x241bb51e4  file 0x1ffe4  .idata+0x1e4 rw-`.
-fn where_cells<'a>(layout: &Layout, names: &SectionNames<'a>, rva: u32) -> [Cell<'a>; 10] {
-    let place = names.place(layout, rva);
-    let address = layout.image_base().wrapping_add(u64::from(rva));
+/// The place of an RVA, like `RVA 0x251e4  address 0x241bb51e4  file 0x1ffe4  .idata+0x1e4 rw-`. `flags` are those of its section.
+pub(crate) fn where_cells<'a>(
+    base: u64,
+    rva: u32,
+    place: SectionPlace<'a>,
+    flags: Option<u32>,
+) -> [Cell<'a>; 10] {
+    let address = base.wrapping_add(u64::from(rva));
     let (in_file, file) = match place.file {
         Some(file) => (Plain(Text(b"  file 0x")), Plain(Hex(file, 1))),
         None => (Plain(Text(b"  not in the file")), NOTHING),
     };
-    let (gap, flags) = match section_of(layout, rva) {
-        Some((_, flags)) => (Plain(Text(b" ")), Plain(Text(permissions(flags)))),
+    let (gap, use_words) = match flags {
+        Some(flags) => (Plain(Text(b" ")), Plain(Text(permissions(flags)))),
         None => (NOTHING, NOTHING),
     };
     [
@@ -220,8 +217,20 @@ fn where_cells<'a>(layout: &Layout, names: &SectionNames<'a>, rva: u32) -> [Cell
         Plain(Text(b"  ")),
         Cell::Place(place),
         gap,
-        flags,
+        use_words,
     ]
+}
+
+/// What stands at an RVA in the headers or a table, like `descriptor 3 of the import table`.
+fn row_at<A: Allocator + Copy>(layout: &Layout, tables: &Tables<A>, rva: u32) -> Option<RowName> {
+    let named = match layout.locate(rva) {
+        Located::Header { file } => header_row(layout.headers(), file),
+        _ => None,
+    };
+    match named {
+        Some(row) => Some(row),
+        None => table_row(layout, tables, rva),
+    }
 }
 
 /// Adds the 16 bytes from an RVA on, or fewer at the end of the image.
@@ -241,116 +250,157 @@ fn write_bytes<W: Sink>(text: &mut TextWriter<W>, layout: &Layout, rva: u32)
 /// Adds what is at an RVA of an image.
 fn write_at<A: Allocator + Copy, W: Sink>(
     text: &mut TextWriter<W>,
-    image: &Image<A>,
+    layout: &Layout,
+    tables: &Tables<A>,
     names: &SectionNames,
     rva: u32,
 )
     requires { IsReady W.failures text.old }
     ensures { AddsSome W.taken W.failures text.old text.new }
 {
-    let layout = &image.layout;
-    let first = match section_of(layout, rva) {
-        Some((first, _)) => first,
-        None => u32::MAX,
+    let section = section_of(layout, rva);
+    let (first, flags) = match section {
+        Some((first, flags)) => (first, Some(flags)),
+        None => (u32::MAX, None),
     };
-    write_cells(text, &where_cells(layout, names, rva));
-    write_cells(text, &export_cells(&image.exports, first, rva));
-    write_cells(text, &slot_cells(&image.imports, layout.slot_width(), rva));
-    write_cells(text, &field_cells(layout, names, &image.fixups, rva));
+    let exported = match &tables.exports {
+        Some(exports) => export_cells(exports, first, rva),
+        None => [NOTHING; 5],
+    };
+    let slot = match &tables.imports {
+        Some(imports) => slot_cells(imports, layout.slot_width(), rva),
+        None => [NOTHING; 4],
+    };
+    let field = match &tables.fixups {
+        Some(fixups) => field_cells(layout, names, fixups, rva),
+        None => [NOTHING; 7],
+    };
+    let place = names.place(layout, rva);
+    write_cells(text, &where_cells(layout.image_base(), rva, place, flags));
+    write_cells(text, &exported);
+    write_cells(text, &slot);
+    write_cells(text, &field);
+    write_cells(text, &row_cells(row_at(layout, tables, rva)));
     write_bytes(text, layout, rva);
 }
 
-/// Adds what is at a place of an image.
-fn write_place<A: Allocator + Copy, W: Sink>(
-    text: &mut TextWriter<W>,
-    image: &Image<A>,
-    names: &SectionNames,
-    place: Place,
-)
-    requires { IsReady W.failures text.old }
-    ensures { AddsSome W.taken W.failures text.old text.new }
-{
-    match rva_of(&image.layout, place) {
-        Some(rva) => write_at(text, image, names, rva),
-        None => text.text(b"the place is outside the image\n"),
-    }
-}
-
-impl ViewReport for AtReport {
-    ghost is_text = { IsImageJudged };
-
-    fn write<A: Allocator + Copy, W: Sink>(
-        &self,
-        alloc: A,
-        text: &mut TextWriter<W>,
-        file: ViewFile,
-    ) -> Result<Outcome, AllocError> {
-        match file.read_image(alloc) {
-            Ok(image) => {
-                let names = SectionNames::new(file, image.layout.headers());
-                write_place(text, &image, &names, self.place);
-                Ok(Outcome::Done)
+/// The RVA of a spot of the image, or what is said of one that has none.
+fn rva_at(
+    layout: &Layout,
+    strings: Option<ImageStrings>,
+    spot: &Spot,
+) -> Result<u32, &'static [u8]> {
+    match spot {
+        Spot::At(place) => match rva_of(layout, *place) {
+            Some(rva) => Ok(rva),
+            None => Err(OUTSIDE),
+        },
+        Spot::In { section, offset } => {
+            match offset_in_section(layout.headers(), strings, section, *offset) {
+                Ok((_, rva)) => Ok(rva),
+                Err(words) => Err(words),
             }
-            Err(TableError::Fault(fault)) => Ok(refuse(text, fault)),
-            Err(TableError::Memory) => Err(AllocError),
         }
     }
 }
 
-/// Writes what is at a place of the image whose file comes from the reader. The place is an RVA, an address with the image at its
-/// ImageBase, or a file offset. The output is the RVA, the address, the file offset and the section with its permissions; the last
-/// export at or before it in the section; the import whose slot contains it; the base relocation whose field contains it, with the
-/// field's target; and 16 bytes. For a refused image it is the line of the first fault.
-///
-/// Reading, writing and errors are as in [`crate::show`].
-pub fn at<A: Allocator + Copy, R: Source, W: Sink>(
-    alloc: A,
-    place: Place,
-    reader: &mut R,
-    writer: &mut W,
-) -> Result<Outcome, ToolError>
-    requires reads { R.failures reader.old < 2 ^ 64 - 1 }
-    requires writes { W.failures writer.old < 2 ^ 64 - 1 }
-    ensures ran { Ran IsImageJudged (R.given reader.old) (R.given reader.new)
-        (W.taken writer.old) (W.taken writer.new) (R.ended reader.new) result }
-    ensures read { IsErrOf result ToolError.Read ↔ (R.failures reader.old < R.failures reader.new) }
-    ensures write { IsErrOf result ToolError.Write ↔ (W.failures writer.old < W.failures writer.new) }
+/// Adds what is at a spot of an image.
+fn write_spot<A: Allocator + Copy, W: Sink>(
+    text: &mut TextWriter<W>,
+    file: ViewFile,
+    layout: &Layout,
+    tables: &Tables<A>,
+    names: &SectionNames,
+    spot: &Spot,
+)
+    requires { IsReady W.failures text.old }
+    ensures { AddsSome W.taken W.failures text.old text.new }
 {
-    run_report(&WholeView(&AtReport { place }), alloc, reader, writer)
+    match rva_at(layout, file.strings(layout.headers()), spot) {
+        Ok(rva) => write_at(text, layout, tables, names, rva),
+        Err(words) => text.text(words),
+    }
 }
 
-/// [`at`] for a file of `len` bytes, of which no more is read than [`crate::show_sized`] reads.
-pub fn at_sized<A: Allocator + Copy, R: Source, W: Sink>(
-    alloc: A,
-    place: Place,
-    reader: &mut R,
-    len: u64,
-    writer: &mut W,
-) -> Result<Outcome, ToolError>
-    requires reads { R.failures reader.old < 2 ^ 64 - 1 }
-    requires writes { W.failures writer.old < 2 ^ 64 - 1 }
-    ensures ran { RanSized IsImageJudged len (R.given reader.old) (R.given reader.new)
-        (W.taken writer.old) (W.taken writer.new) (R.ended reader.new) result }
-    ensures read { IsErrOf result ToolError.Read ↔ (R.failures reader.old < R.failures reader.new) }
-    ensures write { IsErrOf result ToolError.Write ↔ (W.failures writer.old < W.failures writer.new) }
+/// Adds what is at each of some spots of an image.
+fn write_spots<A: Allocator + Copy, W: Sink>(
+    text: &mut TextWriter<W>,
+    file: ViewFile,
+    layout: &Layout,
+    tables: &Tables<A>,
+    spots: &[Spot],
+)
+    requires { IsReady W.failures text.old }
+    ensures { AddsSome W.taken W.failures text.old text.new }
 {
-    outcomes_agree();
-    run_view(&AtReport { place }, alloc, reader, len, writer)
+    let names = SectionNames::new(file, layout.headers());
+    for spot in spots {
+        write_spot(text, file, layout, tables, &names, spot);
+    }
 }
 
-/// The output of [`at`] for a file that was read whole, and that its caller keeps. On the error `Write` the beginning of the output
-/// was written, on `Memory` nothing; `Read` never comes, and `Memory` not for an empty file. Condition: the writer has counted fewer
-/// than 2^64 - 1 failures so far.
-pub fn at_text<A: Allocator + Copy, W: Sink>(
-    alloc: A,
-    place: Place,
-    file: &[u8],
-    writer: &mut W,
-) -> Result<Outcome, ToolError>
-    requires { W.failures writer.old < 2 ^ 64 - 1 }
-    ensures puts { Puts (IsImageJudged file.now) (W.taken writer.old) (W.taken writer.new)
-        (W.failures writer.old) (W.failures writer.new) result }
-    ensures memory { IsErrOf result ToolError.Memory → 0 < length file.now }
+/// Adds the line of the first fault of an image's tables, if there is one.
+fn write_fault<W: Sink>(text: &mut TextWriter<W>, fault: Option<Fault>)
+    requires { IsReady W.failures text.old }
+    ensures { AddsSome W.taken W.failures text.old text.new }
 {
-    write_report(&WholeView(&AtReport { place }), alloc, writer, file)
+    if let Some(fault) = fault {
+        refuse(text, fault);
+    }
+}
+
+/// Adds what is at some spots of an image that is laid out, after the line of its fault if it has one.
+fn write_laid_out<A: Allocator + Copy, W: Sink>(
+    text: &mut TextWriter<W>,
+    file: ViewFile,
+    layout: &Layout,
+    tables: &Tables<A>,
+    spots: &[Spot],
+)
+    requires { IsReady W.failures text.old }
+    ensures { AddsSome W.taken W.failures text.old text.new }
+{
+    write_fault(text, tables.fault);
+    write_spots(text, file, layout, tables, spots);
+}
+
+/// Adds the line of one of faults 1 to 15, and what the headers say of some spots if they have no fault.
+fn write_refused<W: Sink>(text: &mut TextWriter<W>, file: ViewFile, fault: Fault, spots: &[Spot])
+    requires { IsReady W.failures text.old }
+    ensures { AddsSome W.taken W.failures text.old text.new }
+{
+    match file.headers() {
+        Ok(headers) => {
+            write_fault(text, Some(fault));
+            write_by_headers(text, file, &headers, spots);
+        }
+        Err(_) => write_fault(text, Some(fault)),
+    }
+}
+
+/// Checks an image's file, and adds what is at some spots of it. It allocates only before it adds the first byte.
+pub(crate) fn write_image_spots<A: Allocator + Copy, W: Sink>(
+    alloc: A,
+    text: &mut TextWriter<W>,
+    file: ViewFile,
+    spots: &[Spot],
+) -> Result<Outcome, AllocError>
+    requires { IsReady W.failures text.old }
+    ensures judged { IfOk result (IsOutcomeOf (image_tests 0 (seen_of file.entry))) }
+    ensures adds { IfOk result (λ _. AddsSome W.taken W.failures text.old text.new) }
+    ensures same { text.new.writer.ghost_name ≡ text.old.writer.ghost_name }
+    ensures adds_none { OnErr result (text.new ≡ text.old) }
+    ensures reads { OnErr result (0 < length (seen_of file.entry)) }
+{
+    match file.lay_out() {
+        Ok(layout) => {
+            let tables = read_whole_tables(alloc, &layout)?;
+            write_laid_out(text, file, &layout, &tables, spots);
+            Ok(outcome_of(tables.fault))
+        }
+        Err(fault) => {
+            write_refused(text, file, fault, spots);
+            Ok(Outcome::Refused(fault))
+        }
+    }
 }

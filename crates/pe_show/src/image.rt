@@ -1,4 +1,4 @@
-//! The page of an image, which shows what comes before the image's first fault.
+//! The page of an image, which shows of a refused one what has no fault.
 
 ghost use Rattle.std.specs.Prelude.{◌≡◌, ◌<◌, List, length, IfOk, OnErr};
 ghost use Rattle.pe_view.specs.Faults.{Test, first_standing};
@@ -19,9 +19,9 @@ use crate::heading::{Page, write_title};
 use crate::imports::write_imports;
 use crate::place::SectionNames;
 use crate::sections::write_sections;
-use pe_image::{Tables, read_tables};
+use pe_image::Tables;
 use pe_layout::Layout;
-use pe_reach::ViewFile;
+use pe_reach::{ViewFile, read_whole_tables};
 use pe_tables::NamesByOrdinal;
 use pe_text::Part::Text;
 use pe_text::{Outcome, Sink, TextWriter};
@@ -29,7 +29,7 @@ use pe_view::Fault;
 use std::alloc::{AllocError, Allocator};
 
 /// The outcome of an image whose headers and sections have no fault, from the first fault of its tables.
-fn outcome_of(fault: Option<Fault>) -> Outcome
+pub(crate) fn outcome_of(fault: Option<Fault>) -> Outcome
     ensures { (tests : List Test) → fault ≡ first_standing tests → IsOutcomeOf tests result }
 {
     match fault {
@@ -50,7 +50,7 @@ fn order_names<A: Allocator + Copy>(
     }
 }
 
-/// Adds the page of an image with one of faults 1 to 15, with its headers if they have no fault.
+/// Adds the page of an image with one of faults 1 to 15, with its headers and sections if the headers have no fault.
 fn write_refused<W: Sink>(text: &mut TextWriter<W>, page: &Page, file: ViewFile, outcome: Outcome)
     requires { IsReady W.failures text.old }
     ensures { AddsSome W.taken W.failures text.old text.new }
@@ -59,6 +59,8 @@ fn write_refused<W: Sink>(text: &mut TextWriter<W>, page: &Page, file: ViewFile,
         Ok(headers) => {
             write_title(text, page, outcome, image_kind(&headers), file.len());
             write_headers(text, page, &headers, None, false);
+            let names = SectionNames::new(file, &headers);
+            write_sections(text, page, &headers, &names);
             write_refusal(text, page.options, outcome, file);
         }
         Err(_) => {
@@ -111,7 +113,7 @@ pub(crate) fn show_image<A: Allocator + Copy, W: Sink>(
 {
     match file.lay_out() {
         Ok(layout) => {
-            let tables = read_tables(alloc, &layout)?;
+            let tables = read_whole_tables(alloc, &layout)?;
             let names = order_names(alloc, &tables, page.options.exports)?;
             write_image(text, page, file, &layout, &tables, &names);
             Ok(outcome_of(tables.fault))

@@ -40,7 +40,7 @@ pub(crate) fn read_sections<'a, A: Allocator + Copy>(
 }
 
 /// The size of a section, and how many of its bytes are in the file.
-fn sizes_of(raw: &RawData) -> (u64, u64) {
+pub(crate) fn sizes_of(raw: &RawData) -> (u64, u64) {
     match raw {
         RawData::Bytes(bytes) => (bytes.len() as u64, bytes.len() as u64),
         RawData::Absent(size) => (u64::from(*size), 0),

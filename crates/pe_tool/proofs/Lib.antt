@@ -5,3 +5,4 @@ pub mod RebasedSets
 pub mod RebaseRuns
 pub mod Rows
 pub mod SameSets
+pub mod Unbound

@@ -1,8 +1,11 @@
 -- Examples of lines of the report of a mapped set.
 use Rattle.std.proofs.Common.{◌≡◌, ℕ, ◌%◌, [], Option, None, Some, refl, codes}
 use Rattle.std.specs.Fmt.{digits}
+use Rattle.pe_lines.specs.TableLines.{key_text}
+use Rattle.pe_tables.specs.Key.{Ordinal, Name}
 use Rattle.pe_text.specs.Text.{hex, escaped, quoted}
 use Rattle.pe_tool.specs.MapReport.{image_line, bind_line, bytes_line, window_lines}
+use Rattle.pe_tool.specs.UnboundImports.{unbound_line}
 
 mapped_image : image_line 2 (codes "c.exe") 0x400000 0x3000 ≡ codes "image 2 \"c.exe\" base 0x0000000000400000 size 0x00003000\n"
 unfolding image_line quoted escaped hex digits
@@ -11,6 +14,14 @@ mapped_image = refl
 bound_slot : bind_line (record { image = 2; slot = 0x1030; exporter = 1; rva = 0x1010 }) 0x20001010 ≡ codes "bind 2 0x00001030 to 1 0x00001010 value 0x0000000020001010\n"
 unfolding bind_line hex digits
 bound_slot = refl
+
+unbound_name : unbound_line (1, record { module_name = codes "A.DLL"; key = Name (codes "f"); slot = 0x1030 }) ≡ codes "unbound 1 0x00001030 \"A.DLL\" \"f\"\n"
+unfolding unbound_line key_text quoted escaped hex digits
+unbound_name = refl
+
+unbound_ordinal : unbound_line (0, record { module_name = codes "b"; key = Ordinal 12; slot = 0x20004 }) ≡ codes "unbound 0 0x00020004 \"b\" #12\n"
+unfolding unbound_line key_text quoted escaped hex digits
+unbound_ordinal = refl
 
 -- bytes equal to the lowest digits of their addresses
 abbrev low_digit : ℕ → Option ℕ

@@ -1,6 +1,6 @@
 -- Sets of files with the same answers have the same errors and the same images.
 use Rattle.std.proofs.Common.{◌≡◌, ℕ, zero, suc, ◌+◌, Bool, List, [], ◌∷◌, ◌++◌, Option, None, Some, refl, sym, ◌∙◌, ap, ap₂, subst, take}
-use Rattle.std.specs.Prelude.{◌||◌, ◌==◌}
+use Rattle.std.specs.Prelude.{◌||◌, ◌==◌, flat_map}
 use Rattle.std.specs.List.{list_any}
 use Rattle.std.specs.Option.{option_or}
 use Rattle.pe_view.specs.declared.fault.Fault.{Fault}
@@ -20,6 +20,7 @@ use Rattle.pe_text.specs.declared.outcome.Outcome.TheVariants.{Done, Refused}
 use Rattle.pe_reach.specs.Reach.{SameAnswers}
 use Rattle.pe_tool.specs.SameSets.{AreSameSets}
 use Rattle.pe_tool.specs.MapReport.{IsMapText, IsRefusalText, window_fault, map_text}
+use Rattle.pe_tool.specs.UnboundImports.{IsUnboundText, unbound_of, unbound_line}
 
 module_agrees : (n : ℕ) (e f : Entry) → e.name ≡ f.name → e.base ≡ f.base → SameAnswers e.file f.file → module_of n e ≡ module_of n f
 module_agrees n e f name base same = λ i. module_from (name i) (base i) (same.headers i).magic (same.image n i)
@@ -116,3 +117,11 @@ text_follows policy es fs window error modules Done text is =
 text_follows policy es fs window error modules (Refused fault) text is =
     subst (λ (s : List Module). IsRefusalText (set_error policy es) (window_fault s window) fault text) (sym modules)
     (subst (λ (e : Option MapError). IsRefusalText e (window_fault (modules_of fs) window) fault text) (sym error) is)
+
+-- so do the lines of imports that are bound to nothing
+pub unbound_follows : (policy : Policy) (es fs : List Entry) (window : Option (ℕ × ℕ)) → modules_of es ≡ modules_of fs
+    → ((outcome : Outcome) (text : List ℕ) → IsMapText policy fs window outcome text → IsMapText policy es window outcome text)
+    → (outcome : Outcome) (text : List ℕ) → IsUnboundText policy fs window outcome text → IsUnboundText policy es window outcome text
+unbound_follows policy es fs window modules report Done text is =
+    (is.0, report Done is.0 is.1, is.2 ∙ ap (λ (s : List Module). is.0 ++ flat_map unbound_line (unbound_of s)) (sym modules))
+unbound_follows policy es fs window modules report (Refused fault) text is = report (Refused fault) text is

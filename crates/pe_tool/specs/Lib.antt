@@ -11,3 +11,4 @@ pub mod MapReport
 pub mod RebasedSet
 pub mod RebaseRun
 pub mod SameSets
+pub mod UnboundImports

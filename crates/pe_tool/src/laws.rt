@@ -9,6 +9,7 @@ ghost use Rattle.pe_text.specs.declared.outcome.Outcome.{Outcome};
 ghost use Rattle.pe_tool.specs.MapReport.{IsMapText};
 ghost use Rattle.pe_tool.specs.RebasedSet.{IsRebasedSet, IsElsewhere};
 ghost use Rattle.pe_tool.specs.SameSets.{AreSameSets};
+ghost use Rattle.pe_tool.specs.UnboundImports.{IsUnboundText};
 
 pub use coff_lines::laws::records_are_shown_under_their_indexes;
 
@@ -32,4 +33,12 @@ pub fn same_sets_map_alike()
 {
     pe_reach::laws::faults_agree();
     pe_set::laws::errors_count_class_by_class();
+}
+
+/// Such sets have the same report of [`map_report_unbound`](crate::map_report_unbound) too.
+pub fn same_sets_leave_alike()
+    ensures { (policy : Policy) (es fs : List Entry) (window : Option (ℕ × ℕ)) → AreSameSets es fs
+        → (outcome : Outcome) (text : List ℕ) → IsUnboundText policy fs window outcome text → IsUnboundText policy es window outcome text }
+{
+    same_sets_map_alike();
 }

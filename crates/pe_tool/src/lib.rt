@@ -17,23 +17,27 @@ pub mod laws;
 mod map_lines;
 mod rebasing;
 mod set_report;
+mod unbound_imports;
 mod window;
 mod words;
 
 pub use coff_lines::{dump_object, object_text};
 pub use pe_detail::{Detail, DetailText, fault_detail};
-pub use pe_json::{json, json_sized};
+pub use pe_json::{json, json_parts, json_sized};
 pub use pe_lines::{
     check, check_parts, check_sized, check_text, dump, dump_parts, dump_sized, dump_text,
 };
 pub use pe_reach::{PartSource, Placed, needed, read_enough, read_view};
-pub use pe_show::{ShowOptions, ShownName, at, at_sized, at_text, is_safe_text, show, show_sized};
+pub use pe_show::{
+    Page, ShowOptions, ShownName, Spot, at, at_each, at_each_sized, at_each_text, at_sized,
+    is_safe_text, show, show_page, show_page_sized, show_sized,
+};
 pub use pe_space::{Policy, SetEntry};
 pub use pe_text::{
     Counted, Failed, FaultText, FaultWords, FileKind, Outcome, Sink, Source, ToolError,
     fault_words, file_kind, other_kind, read_whole, status,
 };
-pub use pe_words::{MapFile, WordsError};
+pub use pe_words::{AtPlace, Colours, MapFile, WordsError};
 pub use rebasing::rebase;
-pub use set_report::map_report;
+pub use set_report::{map_report, map_report_unbound};
 pub use words::{Job, parse_words};

@@ -1,4 +1,5 @@
-//! `map_report`: the report of a mapped set, or the line of its first fault.
+//! `map_report`: the report of a mapped set, or the line of its first fault; and `map_report_unbound`, which adds the imports that
+//! are bound to nothing.
 
 ghost use Rattle.std.specs.Prelude.{◌≡◌, ◌≢◌, ◌-◌, ◌^◌, ◌<◌, ◌⊎◌, ◌↔◌, ℕ, List, None, Err, length, IfOk, OnErr, IsOk, IsErrOf};
 ghost use Rattle.pe_view.specs.Faults.{first_standing};
@@ -13,8 +14,10 @@ ghost use Rattle.pe_text.specs.FaultLine.{cycle_line};
 ghost use Rattle.pe_text.specs.TextWriter.{IsReady, Adds};
 ghost use Rattle.pe_text.specs.declared.outcome.Outcome.{Outcome};
 ghost use Rattle.pe_tool.specs.MapReport.{map_text, window_fault, IsSpaceText, IsMapText};
+ghost use Rattle.pe_tool.specs.UnboundImports.{IsUnboundText};
 
 use crate::map_lines::{write_bindings, write_images, write_window};
+use crate::unbound_imports::{told_after, unbound_imports, write_unbound};
 use crate::window::window_fault;
 use pe_space::{MapError, Policy, SetEntry, Space, open_space};
 use pe_text::{Outcome, Sink, TextWriter, ToolError, refuse, write_cycle_line};
@@ -126,6 +129,58 @@ pub fn map_report<A: Allocator + Copy, W: Sink>(
 {
     let mut text = TextWriter::new(writer);
     let Ok(outcome) = write_map(alloc, &mut text, set, policy, window) else {
+        return Err(ToolError::Memory);
+    };
+    match text.finish() {
+        Ok(()) => Ok(outcome),
+        Err(_) => Err(ToolError::Write),
+    }
+}
+
+/// Checks a set and a window, and then adds the report and a line for each import that is bound to nothing, or a fault's line. If
+/// memory runs out, it adds nothing.
+fn write_map_unbound<A: Allocator + Copy, W: Sink>(
+    alloc: A,
+    text: &mut TextWriter<W>,
+    set: &[SetEntry],
+    policy: Policy,
+    window: Option<(u64, u32)>,
+) -> Result<Outcome, AllocError>
+    requires { IsReady W.failures text.old }
+    ensures same { text.new.writer.ghost_name ≡ text.old.writer.ghost_name }
+    ensures adds { IfOk result (λ outcome. (added : List ℕ) × IsUnboundText policy (entries_of set.now) window outcome added × Adds W.taken W.failures text.old text.new added) }
+    ensures adds_none { OnErr result (text.new.writer.now ≡ text.old.writer.now) }
+    ensures no_memory { (length set.now ≡ 0) ⊎ (256 < length set.now) → IsOk result }
+    ensures named { OnErr result (first_standing (names_tests (entries_of set.now)) ≡ None) }
+{
+    let unbound = unbound_imports(alloc, set, policy)?;
+    let outcome = write_map(alloc, text, set, policy, window)?;
+    write_unbound(text, told_after(outcome, &unbound));
+    Ok(outcome)
+}
+
+/// [`map_report`], and after a report a line for each import that is bound to nothing, by image and then in the order of its
+/// imports: `unbound`, its image, the RVA of its slot, its module, and its name or `#` and its ordinal. With the policy `Strict` an
+/// accepted set has none.
+///
+/// The set is checked twice, which takes twice the time; the imports that are bound to nothing are kept meanwhile. Everything else
+/// is as with [`map_report`].
+pub fn map_report_unbound<A: Allocator + Copy, W: Sink>(
+    alloc: A,
+    set: &[SetEntry],
+    policy: Policy,
+    window: Option<(u64, u32)>,
+    writer: &mut W,
+) -> Result<Outcome, ToolError>
+    requires { W.failures writer.old < 2 ^ 64 - 1 }
+    ensures puts { Puts (IsUnboundText policy (entries_of set.now) window) (W.taken writer.old) (W.taken writer.new)
+        (W.failures writer.old) (W.failures writer.new) result }
+    ensures write { IsErrOf result ToolError.Write ↔ (W.failures writer.old < W.failures writer.new) }
+    ensures no_memory { (length set.now ≡ 0) ⊎ (256 < length set.now) → result ≢ Err ToolError.Memory }
+    ensures named { IsErrOf result ToolError.Memory → first_standing (names_tests (entries_of set.now)) ≡ None }
+{
+    let mut text = TextWriter::new(writer);
+    let Ok(outcome) = write_map_unbound(alloc, &mut text, set, policy, window) else {
         return Err(ToolError::Memory);
     };
     match text.finish() {

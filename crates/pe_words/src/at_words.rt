@@ -1,23 +1,25 @@
 //! The words of `petool at` and `petool explain`.
 
 use crate::builders::{argument, flag, new_command, required_argument, with_argument};
-use crate::word_values::{BadValue, address_of};
-use clap::{ArgMatches, Command};
+use crate::job::AtPlace;
+use crate::word_values::{BadValue, NoJob, address_of};
+use clap::{Arg, ArgAction, ArgMatches, Command};
 use pe_view::Place;
 use std::alloc::{AllocError, Global};
 
 /// The purpose of `at`, for help.
 const AT_ABOUT: &str =
-    "Prints what is at an RVA of an image: its address and file offset, its section, and the export, slot, field or header there";
+    "Prints what is at an RVA of an image: its address and file offset, its section, and the export, slot, field, row of a table or header there; or what is at an offset in a section of an object";
 
-/// The help on the address.
-const PLACE: &str = "Where, in hexadecimal: an RVA, unless an option says otherwise";
+/// The help on the addresses.
+const PLACES: &str =
+    "Where, in hexadecimal: an RVA, unless an option says otherwise; or SECTION+OFFSET, with the section's number or its name";
 
 /// The help on `--address`.
-const ADDRESS: &str = "ADDRESS is a virtual address, with the image at its ImageBase";
+const ADDRESS: &str = "Each ADDRESS is a virtual address, with the image at its ImageBase";
 
 /// The help on `--file`.
-const OFFSET: &str = "ADDRESS is a file offset";
+const OFFSET: &str = "Each ADDRESS is a file offset";
 
 /// The purpose of `explain`, for help.
 const EXPLAIN_ABOUT: &str = "Explains a fault by its number, or lists all faults";
@@ -28,24 +30,88 @@ pub(crate) fn at_command<'a>(alloc: Global) -> Result<Command<'a>, AllocError> {
     let command = Ok(new_command(alloc, "at", AT_ABOUT));
     let command = with_argument(command, flag(alloc, "address", ADDRESS));
     let command = with_argument(command, offset);
-    let file = required_argument(alloc, "FILE", "An image, or - for standard input");
+    let file = required_argument(
+        alloc,
+        "FILE",
+        "An image or an object, or - for standard input",
+    );
     let command = with_argument(command, file);
-    with_argument(command, required_argument(alloc, "ADDRESS", PLACE))
+    with_argument(command, address_arguments(alloc))
 }
 
-/// The place in the words of `at`. A greater RVA than 2^32 - 1 becomes this, which is outside every image.
-pub(crate) fn place_of<'a>(found: &ArgMatches<'a>) -> Result<Place, BadValue<'a>> {
-    let value = found.get_str("ADDRESS").unwrap_or("");
+/// The argument for the addresses.
+fn address_arguments<'a>(alloc: Global) -> Arg<'a> {
+    required_argument(alloc, "ADDRESS", PLACES)
+        .action(ArgAction::Append)
+        .num_args(1..)
+}
+
+/// A bad address.
+fn bad_address<'a>(value: &'a str, reason: &'static str) -> BadValue<'a> {
+    BadValue {
+        value,
+        argument: "<ADDRESS>",
+        reason,
+    }
+}
+
+/// A number that 32 bits may hold; a greater one becomes 2^32 - 1, which is outside every image and section.
+fn cut_number(number: u64) -> u32 {
+    u32::try_from(number).unwrap_or(u32::MAX)
+}
+
+/// The place of an address that is a number. An RVA over 2^32 - 1 becomes this, which is outside every image.
+fn place_of<'a>(found: &ArgMatches<'_>, value: &'a str) -> Result<Place, BadValue<'a>> {
     match address_of(value) {
         Some(address) if found.get_flag("address") => Ok(Place::Address(address)),
         Some(offset) if found.get_flag("file") => Ok(Place::File(offset)),
-        Some(rva) => Ok(Place::Rva(u32::try_from(rva).unwrap_or(u32::MAX))),
-        None => Err(BadValue {
-            value,
-            argument: "<ADDRESS>",
-            reason: "not an address of 1 to 16 hexadecimal digits",
-        }),
+        Some(rva) => Ok(Place::Rva(cut_number(rva))),
+        None => Err(bad_address(value, "not an address of 1 to 16 hexadecimal digits")),
     }
+}
+
+/// The section and the offset in it of an address that has a `+`, unless an option says what addresses count.
+fn section_of<'a>(found: &ArgMatches<'_>, value: &'a str) -> Option<(&'a str, &'a str)> {
+    if found.get_flag("address") || found.get_flag("file") {
+        return None;
+    }
+    value.rsplit_once('+')
+}
+
+/// The place of an address.
+fn at_place<'a>(
+    alloc: Global,
+    found: &ArgMatches<'_>,
+    value: &'a str,
+) -> Result<AtPlace, NoJob<'a>> {
+    let Some((section, digits)) = section_of(found, value) else {
+        return match place_of(found, value) {
+            Ok(place) => Ok(AtPlace::Counted(place)),
+            Err(bad) => Err(NoJob::Bad(bad)),
+        };
+    };
+    match address_of(digits) {
+        Some(offset) => Ok(AtPlace::InSection {
+            section: String::from_str(alloc, section)?,
+            offset: cut_number(offset),
+        }),
+        None => Err(NoJob::Bad(bad_address(
+            value,
+            "the offset is not of 1 to 16 hexadecimal digits",
+        ))),
+    }
+}
+
+/// The places in the words of `at`, in their order.
+pub(crate) fn places_of<'a>(
+    alloc: Global,
+    found: &ArgMatches<'a>,
+) -> Result<Vec<AtPlace>, NoJob<'a>> {
+    let mut places = Vec::new(alloc);
+    for value in found.get_strs("ADDRESS").unwrap_or(&[]) {
+        places.push(at_place(alloc, found, value)?)?;
+    }
+    Ok(places)
 }
 
 /// The subcommand `explain`.

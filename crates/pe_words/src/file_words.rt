@@ -1,7 +1,7 @@
 //! The words of the commands that read files one at a time: `show`, `check`, `dump`, `object` and `json`.
 
 use crate::builders::{argument, flag, new_command, required_argument, with_argument};
-use crate::job::Job;
+use crate::job::{Colours, Job};
 use crate::word_values::{BadValue, NoJob, size_of};
 use clap::{Arg, ArgAction, ArgMatches, Command};
 use pe_text::ShowOptions;
@@ -55,7 +55,7 @@ pub(crate) const FILE_COMMANDS: [FileCommand; 4] = [
     },
     FileCommand {
         name: "json",
-        about: "Prints each image or object, or its first fault, as one line of JSON",
+        about: "Prints each image or object, and its first fault if it is refused, as one line of JSON",
         file: "Images or objects, or - for standard input",
         takes_several: true,
         has_most: true,
@@ -66,7 +66,11 @@ pub(crate) const FILE_COMMANDS: [FileCommand; 4] = [
 const MOST: &str =
     "Prints at most so many bytes of each file's text, with K, M or G for 2^10, 2^20 or 2^30 of them; what is cut ends with a note";
 
-/// The options of `show`, each with its help.
+/// The help on `--color`.
+const COLOR: &str =
+    "When pages have colours: auto, on a terminal unless NO_COLOR is set or TERM is dumb; always; or never";
+
+/// The options of `show` that add rows, each with its help.
 const SHOW_OPTIONS: [(&str, &str); 5] = [
     ("exports", "Prints each export"),
     ("imports", "Prints each import"),
@@ -106,9 +110,17 @@ pub(crate) fn file_command<'a>(alloc: Global, row: FileCommand) -> Result<Comman
     }
 }
 
+/// The option `--color`.
+fn color_option<'a>(alloc: Global) -> Arg<'a> {
+    argument(alloc, "color", COLOR)
+        .long("color")
+        .value_name("WHEN")
+        .default_value("auto")
+}
+
 /// The command `show`, with its options.
 pub(crate) fn show_command<'a>(alloc: Global) -> Result<Command<'a>, AllocError> {
-    let mut command = file_command(alloc, SHOW);
+    let mut command = with_argument(file_command(alloc, SHOW), color_option(alloc));
     for (name, help) in SHOW_OPTIONS {
         command = with_argument(command, flag(alloc, name, help));
     }
@@ -155,6 +167,20 @@ fn options_of(found: &ArgMatches<'_>) -> ShowOptions {
     }
 }
 
+/// When pages have colours.
+fn colours_of<'a>(found: &ArgMatches<'a>) -> Result<Colours, BadValue<'a>> {
+    match found.get_str("color").unwrap_or("auto") {
+        "auto" => Ok(Colours::Auto),
+        "always" => Ok(Colours::Always),
+        "never" => Ok(Colours::Never),
+        value => Err(BadValue {
+            value,
+            argument: "--color <WHEN>",
+            reason: "not auto, always or never",
+        }),
+    }
+}
+
 /// The number of bytes given by `--most`, if any.
 fn most_of<'a>(found: &ArgMatches<'a>) -> Result<Option<u64>, BadValue<'a>> {
     let Some(value) = found.get_str("most") else {
@@ -197,19 +223,32 @@ fn object_job<P>(file: String, most: Option<u64>) -> Job<P> {
     }
 }
 
-/// The job of a file command, with at most `most` bytes of output, or `None` for another command.
-fn limited_job<P>(
+/// The job of `show`, with at most `most` bytes of output.
+fn show_job<'a, P>(
     alloc: Global,
-    name: &str,
-    found: &ArgMatches<'_>,
+    found: &ArgMatches<'a>,
     most: Option<u64>,
-) -> Result<Option<Job<P>>, AllocError> {
-    let job = match name {
-        "show" => Job::Show {
+) -> Result<Job<P>, NoJob<'a>> {
+    match colours_of(found) {
+        Ok(colours) => Ok(Job::Show {
             options: options_of(found),
+            colours,
             most,
             files: files_of(alloc, found)?,
-        },
+        }),
+        Err(bad) => Err(NoJob::Bad(bad)),
+    }
+}
+
+/// The job of a file command, with at most `most` bytes of output, or `None` for another command.
+fn limited_job<'a, P>(
+    alloc: Global,
+    name: &str,
+    found: &ArgMatches<'a>,
+    most: Option<u64>,
+) -> Result<Option<Job<P>>, NoJob<'a>> {
+    let job = match name {
+        "show" => show_job(alloc, found, most)?,
         "json" => Job::Json {
             most,
             files: files_of(alloc, found)?,
@@ -229,7 +268,7 @@ pub(crate) fn file_job<'a, P>(
     found: &ArgMatches<'a>,
 ) -> Result<Option<Job<P>>, NoJob<'a>> {
     match most_of(found) {
-        Ok(most) => Ok(limited_job(alloc, name, found, most)?),
+        Ok(most) => limited_job(alloc, name, found, most),
         Err(bad) => Err(NoJob::Bad(bad)),
     }
 }

@@ -15,6 +15,26 @@ pub struct MapFile {
     pub name: String,
 }
 
+/// When pages have colours.
+#[derive(Clone, Copy, Debug, PartialEq, Eq)]
+pub enum Colours {
+    /// On a terminal that shows them, unless the user wants none.
+    Auto,
+    /// Always.
+    Always,
+    /// Never.
+    Never,
+}
+
+/// A place that `at` shows.
+#[derive(Debug, Drop, PartialEq, Eq)]
+pub enum AtPlace {
+    /// An RVA, an address or a file offset.
+    Counted(Place),
+    /// An offset in a section, which is called by its number or its name.
+    InSection { section: String, offset: u32 },
+}
+
 /// What the words say to do.
 #[derive(Debug, Drop, PartialEq, Eq)]
 pub enum Job<P> {
@@ -26,9 +46,11 @@ pub enum Job<P> {
     CheckEach {
         files: Vec<String>,
     },
-    /// `show FILE...`: write a page on each image or object, with at most this many bytes. No word sets colours.
+    /// `show FILE...`: write a page on each image or object, with at most this many bytes. The options have no colours: `colours`
+    /// says when pages have them.
     Show {
         options: ShowOptions,
+        colours: Colours,
         most: Option<u64>,
         files: Vec<String>,
     },
@@ -37,10 +59,10 @@ pub enum Job<P> {
         most: Option<u64>,
         files: Vec<String>,
     },
-    /// `at FILE ADDRESS`: write what is at a place of an image.
+    /// `at FILE ADDRESS...`: write what is at places of an image or an object.
     At {
         file: String,
-        place: Place,
+        places: Vec<AtPlace>,
     },
     /// `explain N`: write the meaning of a fault, or the list of all faults.
     Explain {
@@ -75,6 +97,12 @@ pub enum Job<P> {
     /// `map HEX=FILE...`: map images at their bases, and write the bases, the bindings of their slots, and the bytes of a window,
     /// given by the address of its first byte and its length.
     Map {
+        policy: P,
+        window: Option<(u64, u32)>,
+        files: Vec<MapFile>,
+    },
+    /// `map --unbound HEX=FILE...`: write the same, and then the imports that are bound to nothing.
+    MapUnbound {
         policy: P,
         window: Option<(u64, u32)>,
         files: Vec<MapFile>,

@@ -1,6 +1,6 @@
 //! `parse_words`: the job of a command line.
 
-use crate::at_words::{at_command, explain_command, number_of, place_of};
+use crate::at_words::{at_command, explain_command, number_of, places_of};
 use crate::commands::{command, command_named};
 use crate::file_words::{file_job, file_of, usage_of};
 use crate::job::{Job, WordsError};
@@ -34,6 +34,28 @@ fn value_refusal(alloc: Global, command: Command<'_>, name: &str, bad: BadValue<
     }
 }
 
+/// The job of words of `map`.
+fn job_of_map<P>(words: MapWords, policy: P) -> Job<P> {
+    let MapWords {
+        is_unbound,
+        window,
+        files,
+        ..
+    } = words;
+    if is_unbound {
+        return Job::MapUnbound {
+            policy,
+            window,
+            files,
+        };
+    }
+    Job::Map {
+        policy,
+        window,
+        files,
+    }
+}
+
 /// The job of the words of `map`.
 fn map_job<P: Copy>(
     alloc: Global,
@@ -42,17 +64,10 @@ fn map_job<P: Copy>(
     known: P,
 ) -> Result<Job<P>, WordsError> {
     match map_words(alloc, found) {
-        Ok(
-            MapWords {
-                is_known,
-                window,
-                files,
-            },
-        ) => Ok(Job::Map {
-            policy: if is_known { known } else { strict },
-            window,
-            files,
-        }),
+        Ok(words) => {
+            let policy = if words.is_known { known } else { strict };
+            Ok(job_of_map(words, policy))
+        }
         Err(NoJob::Bad(bad)) => Err(value_refusal(alloc, map_command(alloc)?, "petool map", bad)),
         Err(NoJob::Memory) => Err(WordsError::Memory),
     }
@@ -72,12 +87,13 @@ fn rebase_job<P: Copy>(alloc: Global, found: &ArgMatches<'_>) -> Result<Job<P>, 
 
 /// The job of the words of `at`.
 fn at_job<P: Copy>(alloc: Global, found: &ArgMatches<'_>) -> Result<Job<P>, WordsError> {
-    match place_of(found) {
-        Ok(place) => Ok(Job::At {
+    match places_of(alloc, found) {
+        Ok(places) => Ok(Job::At {
             file: file_of(alloc, found, "FILE")?,
-            place,
+            places,
         }),
-        Err(bad) => Err(value_refusal(alloc, at_command(alloc)?, "petool at", bad)),
+        Err(NoJob::Bad(bad)) => Err(value_refusal(alloc, at_command(alloc)?, "petool at", bad)),
+        Err(NoJob::Memory) => Err(WordsError::Memory),
     }
 }
 

@@ -1,7 +1,7 @@
 //! Command lines, and their jobs.
 
 use crate::numbers::bytes_of;
-use pe_tool::{Job, MapFile, Policy, ShowOptions, WordsError, parse_words};
+use pe_tool::{AtPlace, Colours, Job, MapFile, Policy, ShowOptions, WordsError, parse_words};
 use std::alloc::Global;
 use std::str;
 
@@ -49,14 +49,24 @@ fn print_most<R: Print>(rt: &R, most: Option<u64>) -> Option<()> {
     }
 }
 
+/// Prints when pages have colours, if a word says so.
+fn print_colours<R: Print>(rt: &R, colours: Colours) -> Option<()> {
+    match colours {
+        Colours::Auto => Some(()),
+        _ => println!(rt; "colours {colours:?}").ok(),
+    }
+}
+
 /// Prints the options and the files of `show`.
 fn print_show<R: Print>(
     rt: &R,
     options: ShowOptions,
+    colours: Colours,
     most: Option<u64>,
     files: &[String],
 ) -> Option<()> {
     println!(rt; "{options:?}").ok()?;
+    print_colours(rt, colours)?;
     print_most(rt, most)?;
     print_files(rt, "show", files)
 }
@@ -67,6 +77,30 @@ fn print_json<R: Print>(rt: &R, most: Option<u64>, files: &[String]) -> Option<(
     print_files(rt, "json", files)
 }
 
+/// Prints the job of `map --unbound`.
+fn print_map_unbound<R: Print>(
+    rt: &R,
+    policy: Policy,
+    window: Option<(u64, u32)>,
+    files: &[MapFile],
+) -> Option<()> {
+    println!(rt; "unbound").ok()?;
+    print_map(rt, policy, window, files)
+}
+
+/// Prints the places of `at`, a line each.
+fn print_at<R: Print>(rt: &R, file: &str, places: &[AtPlace]) -> Option<()> {
+    for place in places {
+        match place {
+            AtPlace::Counted(place) => println!(rt; "at {file} {place:?}").ok()?,
+            AtPlace::InSection { section, offset } => {
+                println!(rt; "at {file} {section}+{offset:#x}").ok()?
+            }
+        }
+    }
+    Some(())
+}
+
 /// Prints a job.
 fn print_job<R: Print>(rt: &R, job: &Job) -> Option<()> {
     match job {
@@ -74,11 +108,12 @@ fn print_job<R: Print>(rt: &R, job: &Job) -> Option<()> {
         Job::CheckEach { files } => print_files(rt, "check each", files),
         Job::Show {
             options,
+            colours,
             most,
             files,
-        } => print_show(rt, *options, *most, files),
+        } => print_show(rt, *options, *colours, *most, files),
         Job::Json { most, files } => print_json(rt, *most, files),
-        Job::At { file, place } => println!(rt; "at {file} {place:?}").ok(),
+        Job::At { file, places } => print_at(rt, file, places),
         Job::Explain { number } => println!(rt; "explain {number:?}").ok(),
         Job::Dump { file } => println!(rt; "dump {file}").ok(),
         Job::DumpMost { most, file } => println!(rt; "dump {most} of {file}").ok(),
@@ -89,6 +124,11 @@ fn print_job<R: Print>(rt: &R, job: &Job) -> Option<()> {
             window,
             files,
         } => print_map(rt, *policy, *window, files),
+        Job::MapUnbound {
+            policy,
+            window,
+            files,
+        } => print_map_unbound(rt, *policy, *window, files),
         Job::Rebase {
             base,
             source,

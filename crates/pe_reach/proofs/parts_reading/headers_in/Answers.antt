@@ -6,7 +6,7 @@ use Rattle.pe_head.specs.HeaderFaults.{head_tests}
 use Rattle.pe_head.specs.declared.headers.Headers.{Headers}
 use Rattle.pe_layout.specs.SectionFaults.{placing_tests}
 use Rattle.pe_reach.specs.Reach.{headers_end}
-use Rattle.pe_reach.proofs.Parts.{ok_none, headers_same, sound_same}
+use Rattle.pe_reach.proofs.PartBytes.{ok_none, headers_same, sound_same}
 use Rattle.pe_reach.proofs.parts_reading.headers_in.Goals as goal
 
 pub returns-clause-sound : goal.returns-clause-sound

@@ -1,6 +1,6 @@
 use Rattle.std.proofs.Common.{rules, ◌∙◌, ◌+◌, ◌≤◌, List, [], ◌∷◌, ◌++◌, take, length, sym, refl, ap, arith, append-nil, append_assoc}
 use Rattle.pe_reach.specs.Parts.{Part, HasPart}
-use Rattle.pe_reach.proofs.Parts.{all_first, all_last, front_stays, stand_more}
+use Rattle.pe_reach.proofs.PartBytes.{all_first, all_last, front_stays, stand_more}
 use Rattle.pe_reach.proofs.parts_reading.read_range.Goals as goal
 
 pub returns-then-is_err : goal.returns-then-is_err

@@ -1,6 +1,6 @@
 use Rattle.std.proofs.Common.{rules, ◌≡◌, ◌+◌, ◌≤◌, [], length, vec_len, sym, refl, arith, append-nil}
 use Rattle.std.proofs.lemmas.List.{take_all}
-use Rattle.pe_reach.proofs.Parts.{has_pointer}
+use Rattle.pe_reach.proofs.PartBytes.{has_pointer}
 use Rattle.pe_reach.proofs.parts_reading.read_section.Goals as goal
 
 pub returns-then-not-is_wanted : goal.returns-then-not-is_wanted

@@ -2,7 +2,7 @@ use Rattle.std.proofs.Common.{rules, ◌≡◌, ◌∙◌, ◌+◌, ◌≤◌, L
 use Rattle.std.proofs.lemmas.List.{length-append, take_all}
 use Rattle.pe_head.specs.declared.section.SectionHeader.{SectionHeader}
 use Rattle.pe_reach.specs.Parts.{Part, HasPart}
-use Rattle.pe_reach.proofs.Parts.{all_first, all_rest, front_on, section_more}
+use Rattle.pe_reach.proofs.PartBytes.{all_first, all_rest, front_on, section_more}
 use Rattle.pe_reach.proofs.parts_reading.read_sections.Goals as goal
 
 pub loop-section-preserved : goal.loop-section-preserved

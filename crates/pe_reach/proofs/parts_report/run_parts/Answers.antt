@@ -5,19 +5,19 @@ use Rattle.pe_reach.proofs.parts_report.run_parts.Goals as goal
 pub returns-in-Ok-clause-ran : goal.returns-in-Ok-clause-ran
 unfolding some_outcome
 returns-in-Ok-clause-ran g c =
-    let e = c.in_ok-parts.ensures in
+    let e = c.in_ok-parts.ensures.parts in
     let parts = c.in-Some.parts in
     let tables = c.in-Ok-Some.tables in
     ran_by_parts g.T.TablesReport.is_text c.args.len _ _ _ _ _ _ parts.headers tables e.0 e.1
-    (are_read c.args.len e.0 parts c.deref.result.now tables c.deref.ensures.value (rw c.in-Some.is at e.2.1) (rw c.in-Ok-Some.field-0-is at c.in-Ok-Some.ensures))
+    (are_read c.args.len e.0 parts c.deref.result.now tables c.deref.ensures.value (rw c.in-Some.is at e.2.1) (rw c.in-Ok-Some.field-0-is at c.in-Ok-Some.ensures.contents))
     (Ok c.in-Ok.outcome) (rw c.in-Ok.is at c.write_tables.ensures)
 
 pub returns-in-Ok-Some-clause-ran : goal.returns-in-Ok-Some-clause-ran
 unfolding some_outcome
 returns-in-Ok-Some-clause-ran g c =
-    let e = c.in_ok-parts.ensures in
+    let e = c.in_ok-parts.ensures.parts in
     let parts = c.in-Some.parts in
     let tables = c.in-Ok-Some.tables in
     ran_by_parts g.T.TablesReport.is_text c.args.len _ _ _ _ _ _ parts.headers tables e.0 e.1
-    (are_read c.args.len e.0 parts c.deref.result.now tables c.deref.ensures.value (rw c.in-Some.is at e.2.1) (rw c.in-Ok-Some.field-0-is at c.in-Ok-Some.ensures))
+    (are_read c.args.len e.0 parts c.deref.result.now tables c.deref.ensures.value (rw c.in-Some.is at e.2.1) (rw c.in-Ok-Some.field-0-is at c.in-Ok-Some.ensures.contents))
     (Err c.in-Err-write_tables.error) (rw c.in-Err-write_tables.is at c.write_tables.ensures)

@@ -1,0 +1,18 @@
+use Rattle.std.proofs.Common.{refl}
+use Rattle.pe_reach.proofs.StringTable.{add_names}
+use Rattle.pe_reach.proofs.part_names.read_names.Goals as goal
+
+pub returns : goal.returns
+returns g c =
+    let e = c.in_ok-pointer.ensures in
+    let s = rw c.in-Some.is at e.2.1 in (
+      e.0,
+      e.1,
+      (
+        e.2.0,
+        (
+          refl,
+          λ file size has. add_names c.args.parts c.read_strings.new.bytes c.in-Some.pointer file s.0 s.1 (s.2 file size has),
+        ),
+      ),
+    )

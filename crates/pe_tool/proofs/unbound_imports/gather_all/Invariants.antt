@@ -1,0 +1,16 @@
+use Rattle.std.proofs.Common.{◌≡◌, ◌++◌, drop, map}
+use Rattle.std.specs.Prelude.{All}
+use Rattle.pe_set.specs.Bindings.{bindings_in}
+use Rattle.pe_set.specs.Numbered.{numbered}
+use Rattle.pe_set.specs.Set.{Module}
+use Rattle.pe_set.specs.SetView.{modules_view}
+use Rattle.pe_tool.specs.UnboundImports.{unbound_in, unbound_view, HaveOwnSlots}
+use Rattle.pe_tool.proofs.unbound_imports.gather_all.Given as goal
+
+abbrev pub invariant-loop-number : goal.invariant-loop-number
+invariant-loop-number g l = record {
+  left : l.left ≡ numbered (bindings_in (modules_view l.modules)) l.number (modules_view (drop l.number l.modules));
+  apart : All (λ (m : Module). HaveOwnSlots m.imports) (modules_view (drop l.number l.modules));
+  told : map unbound_view l.unbound.items ++ numbered (unbound_in (modules_view l.modules)) l.number (modules_view (drop l.number l.modules))
+      ≡ numbered (unbound_in (modules_view l.modules)) 0 (modules_view l.modules);
+}

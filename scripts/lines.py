@@ -1,0 +1,172 @@
+#!/usr/bin/env python3
+"""Makes the lines of `petool json` for images apart from petool, and compares them with stored ones, byte for byte.
+
+    lines.py FILE...              prints the lines of images
+    lines.py --cases FOLDER DATA  compares the cases `json` of images in FOLDER/views, of files in DATA, with FOLDER/views.answers
+
+The files are read as scripts/pages.py reads them. A line has the members of docs/JSON.md, except `kind` and `values`, which
+test_values.py compares. `--cases` tells each difference, counts at last, and ends with status 1 where something differs.
+"""
+
+import json
+import os
+import re
+import struct
+import sys
+
+sys.dont_write_bytecode = True
+
+from pages import changed, fault_words, read  # noqa: E402
+from pages_names import DIRECTORIES, DLL_FLAGS, IMAGE_FLAGS, MACHINES, SECTION_FLAGS, SUBSYSTEMS  # noqa: E402
+from pages_reader import Headers, Image, Refused, is_object, uint  # noqa: E402
+
+COFF = "machine number_of_sections time_date_stamp pointer_to_symbol_table number_of_symbols size_of_optional_header characteristics"
+OPTIONAL = """magic major_linker_version minor_linker_version size_of_code size_of_initialized_data size_of_uninitialized_data
+    address_of_entry_point base_of_code base_of_data image_base section_alignment file_alignment major_operating_system_version
+    minor_operating_system_version major_image_version minor_image_version major_subsystem_version minor_subsystem_version
+    win32_version_value size_of_image size_of_headers check_sum subsystem dll_characteristics size_of_stack_reserve
+    size_of_stack_commit size_of_heap_reserve size_of_heap_commit loader_flags number_of_rva_and_sizes"""
+#: The fields that are strings, since PE32+ has 64 bits of them.
+WIDE = re.compile("image_base|size_of_(stack|heap)_")
+SECTION = """virtual_size virtual_address size_of_raw_data pointer_to_raw_data pointer_to_relocations pointer_to_linenumbers
+    number_of_relocations number_of_linenumbers characteristics"""
+FLAGS = {"characteristics": IMAGE_FLAGS, "dll_characteristics": DLL_FLAGS}
+NAMES = {"machine": MACHINES, "subsystem": SUBSYSTEMS}
+
+
+def flags_in(names, number):
+    return [name for bit, name in names.items() if number >> bit & 1]
+
+
+def named(key, name):
+    """A name's member: a string if it is UTF-8, otherwise hexadecimal digits."""
+    try:
+        return {key: name.decode()}
+    except UnicodeDecodeError:
+        return {f"{key}_hex": name.hex()}
+
+
+def keyed(key):
+    return {"ordinal": key} if isinstance(key, int) else named("name", key)
+
+
+def members(names, values):
+    """Fields with what belongs to them."""
+    row = {}
+    for name, value in zip(names, values):
+        row[name] = hex(value) if WIDE.match(name) else value
+        if value in NAMES.get(name, {}):
+            row[f"{name}_name"] = NAMES[name][value]
+        if name in FLAGS:
+            row[f"{name}_flags"] = flags_in(FLAGS[name], value)
+    return row
+
+
+def header_members(file, headers):
+    """What the headers say."""
+    pe = uint(file, 60, 4)
+    names = OPTIONAL.split()
+    form = "<HBB9I6H4I2H4I2I" if headers.magic == 0x10B else "<HBB5IQ2I6H4I2H4Q2I"
+    if headers.magic != 0x10B:
+        names.remove("base_of_data")
+    coff = members(COFF.split(), struct.unpack_from("<HHIIIHH", file, pe + 4))
+    directories = [
+        {"index": i, "name": DIRECTORIES[i], "virtual_address": rva, "size": size} for i, (rva, size) in enumerate(headers.directories)
+    ]
+    return {
+        "format": "PE32" if headers.magic == 0x10B else "PE32+",
+        "pe_offset": pe,
+        "headers": coff | members(names, struct.unpack_from(form, file, pe + 24)),
+        "directories": directories,
+        "sections": [section_row(file, i, it) for i, it in enumerate(headers.sections)],
+    }
+
+
+def section_row(file, index, section):
+    field = section.field.rstrip(b"\0")
+    row = {"index": index, **named("name", section.name), **({} if field == section.name else named("short_name", field))}
+    row |= zip(SECTION.split(), struct.unpack_from("<6I2HI", file, section.at + 8))
+    return row | {"characteristics_flags": flags_in(SECTION_FLAGS, section.flags)}
+
+
+def target_members(target):
+    if isinstance(target, int):
+        return {"rva": target}
+    return {"forward": {**named("module", target[0]), **keyed(target[1])}}
+
+
+def fixup_row(field, kind):
+    return {"rva": field, **({"kind": {1: "high", 2: "low"}[kind]} if kind in (1, 2) else {"bits": 64 if kind == 10 else 32})}
+
+
+def table_members(image):
+    """The tables that were read."""
+    tables = {}
+    if image.exports is not None:
+        rows = [(ordinal, target, name) for ordinal, target, names in image.exports for name in names or [None]]
+        tables["exports"] = [
+            {"ordinal": ordinal, **({} if name is None else named("name", name)), **target_members(target)} for ordinal, target, name in rows
+        ]
+    if image.imports is not None:
+        tables["imports"] = [{**named("module", module), **keyed(key), "slot": slot} for module, slot, key in image.imports]
+    if image.fixups is not None:
+        tables["fixups"] = [fixup_row(field, kind) for field, kind in image.fixups]
+    return tables
+
+
+def fault_member(fault):
+    subject, rule = fault_words(fault.number)
+    return {"number": fault.number, "image": 0, "place": {fault.kind: fault.place}, "subject": subject, "rule": rule}
+
+
+def line_of(name, file):
+    """The line of an image."""
+    fault, row, image = None, {}, None
+    try:
+        headers = Headers(file)
+        row = header_members(file, headers)
+        image = Image(file, headers)
+        image.read_tables()
+    except Refused as refused:
+        fault = refused
+    if image:
+        row |= table_members(image)
+    begin = {"schema": 1, **named("file", os.fsencode(name)), "accepted": fault is None}
+    begin |= {"fault": fault_member(fault)} if fault else {}
+    return json.dumps(begin | row, ensure_ascii=False, separators=(",", ":"))
+
+
+def same(line, other):
+    """Whether two lines are the same, but for what the file is instead and the values of its fault."""
+    line = re.sub('"accepted":false,"kind":"[^"]*"', '"accepted":false', line)
+    return re.sub(r'("rule":"[^"]*"),"values":{[^}]*}', r"\1", line) == other
+
+
+def compare_cases(folder, data):
+    with open(os.path.join(folder, "views.answers"), encoding="utf-8", newline="") as file:
+        stored = dict(block.split("\n", 1) for block in re.split(r"^== ", file.read(), flags=re.M)[1:])
+    count = differing = 0
+    for case, answer in stored.items():
+        kind, *words = case.split(" ")
+        file = changed(data, words) if kind == "json" else b""
+        if kind != "json" or is_object(file):
+            continue
+        count += 1
+        wanted, line = line_of(words[0], file), answer.split("\n")[0]
+        if not same(line, wanted):
+            differing += 1
+            print(f"{case}: differs\n  petool {line}\n  script {wanted}")
+    print(f"{count} cases, {differing} differ")
+    return differing
+
+
+def main(words):
+    if words[:1] == ["--cases"]:
+        return 1 if compare_cases(words[1], words[2]) else 0
+    for path in words:
+        print(line_of(path, read(path)))
+    return 0
+
+
+if __name__ == "__main__":
+    sys.exit(main(sys.argv[1:]))
