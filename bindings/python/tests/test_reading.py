@@ -259,7 +259,7 @@ class Reading(unittest.TestCase):
         return sizes - {None}
 
     def test_a_file_that_shrinks_and_grows_meanwhile_was_cut_or_whole(self):
-        states = self.states((LARGE, LARGE[:0x200], b""))
+        states = self.states((LARGE, LARGE[:0x200], LARGE[: len(LARGE) // 2], b""))
         sizes = itertools.cycle((0x200, FIRST, len(LARGE) // 2, 0))
 
         def changes():
