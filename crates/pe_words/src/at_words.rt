@@ -1,5 +1,9 @@
 //! The words of `petool at` and `petool explain`.
 
+ghost use Rattle.std.specs.Prelude.{◌≡◌, ℕ, Some, codes, IfOk, IfErr};
+ghost use Rattle.clap.specs.Matches.{found_of, one_text};
+ghost use Rattle.pe_words.specs.AtPlaces.{cut_number, place_at, IsSectionAndOffset};
+
 use crate::builders::{argument, flag, new_command, required_argument, with_argument};
 use crate::job::AtPlace;
 use crate::word_values::{BadValue, NoJob, address_of};
@@ -46,8 +50,38 @@ fn address_arguments<'a>(alloc: Global) -> Arg<'a> {
         .num_args(1..)
 }
 
+/// What the number of an address counts.
+#[derive(Clone, Copy)]
+enum AddressKind {
+    /// Bytes from the beginning of the image.
+    Relative,
+    /// Bytes of the address space, with the image at its ImageBase.
+    Virtual,
+    /// Bytes from the beginning of the file.
+    InFile,
+}
+
+/// What the numbers of the addresses count.
+fn address_kind(found: &ArgMatches<'_>) -> AddressKind
+    ensures virtual_addresses { one_text (found_of found.now) (codes "address") ≡ Some (codes "true") → result ≡ AddressKind.Virtual }
+    ensures file_offsets { one_text (found_of found.now) (codes "address") ≡ Some (codes "false") → one_text (found_of found.now) (codes "file") ≡ Some (codes "true") → result ≡ AddressKind.InFile }
+    ensures rvas { one_text (found_of found.now) (codes "address") ≡ Some (codes "false") → one_text (found_of found.now) (codes "file") ≡ Some (codes "false") → result ≡ AddressKind.Relative }
+{
+    if found.get_flag("address") {
+        AddressKind::Virtual
+    } else if found.get_flag("file") {
+        AddressKind::InFile
+    } else {
+        AddressKind::Relative
+    }
+}
+
 /// A bad address.
-fn bad_address<'a>(value: &'a str, reason: &'static str) -> BadValue<'a> {
+fn bad_address<'a>(value: &'a str, reason: &'static str) -> BadValue<'a>
+    ensures value { result.value.now ≡ value.now }
+    ensures argument { result.argument.now ≡ codes "<ADDRESS>" }
+    ensures reason { result.reason.now ≡ reason.now }
+{
     BadValue {
         value,
         argument: "<ADDRESS>",
@@ -56,36 +90,48 @@ fn bad_address<'a>(value: &'a str, reason: &'static str) -> BadValue<'a> {
 }
 
 /// A number that 32 bits may hold; a greater one becomes 2^32 - 1, which is outside every image and section.
-fn cut_number(number: u64) -> u32 {
+fn cut_number(number: u64) -> u32
+    ensures { result ≡ cut_number number }
+{
     u32::try_from(number).unwrap_or(u32::MAX)
 }
 
-/// The place of an address that is a number. An RVA over 2^32 - 1 becomes this, which is outside every image.
-fn place_of<'a>(found: &ArgMatches<'_>, value: &'a str) -> Result<Place, BadValue<'a>> {
+/// The place of a number. An RVA over 2^32 - 1 becomes this, which is outside every image.
+fn place_at(kind: AddressKind, number: u64) -> Place
+    ensures { result ≡ place_at kind number }
+{
+    match kind {
+        AddressKind::Relative => Place::Rva(cut_number(number)),
+        AddressKind::Virtual => Place::Address(number),
+        AddressKind::InFile => Place::File(number),
+    }
+}
+
+/// The place of an address that is a number.
+fn place_of<'a>(kind: AddressKind, value: &'a str) -> Result<Place, BadValue<'a>>
+    ensures place { IfOk result (λ place. (number : ℕ) × (place ≡ place_at kind number)) }
+    ensures bad { IfErr result (λ bad. bad.value.now ≡ value.now) }
+{
     match address_of(value) {
-        Some(address) if found.get_flag("address") => Ok(Place::Address(address)),
-        Some(offset) if found.get_flag("file") => Ok(Place::File(offset)),
-        Some(rva) => Ok(Place::Rva(cut_number(rva))),
+        Some(number) => Ok(place_at(kind, number)),
         None => Err(bad_address(value, "not an address of 1 to 16 hexadecimal digits")),
     }
 }
 
 /// The section and the offset in it of an address that has a `+`, unless an option says what addresses count.
-fn section_of<'a>(found: &ArgMatches<'_>, value: &'a str) -> Option<(&'a str, &'a str)> {
-    if found.get_flag("address") || found.get_flag("file") {
-        return None;
+fn section_of<'a>(kind: AddressKind, value: &'a str) -> Option<(&'a str, &'a str)>
+    ensures { IsSectionAndOffset kind value.now result }
+{
+    match kind {
+        AddressKind::Relative => value.rsplit_once('+'),
+        AddressKind::Virtual | AddressKind::InFile => None,
     }
-    value.rsplit_once('+')
 }
 
 /// The place of an address.
-fn at_place<'a>(
-    alloc: Global,
-    found: &ArgMatches<'_>,
-    value: &'a str,
-) -> Result<AtPlace, NoJob<'a>> {
-    let Some((section, digits)) = section_of(found, value) else {
-        return match place_of(found, value) {
+fn at_place<'a>(alloc: Global, kind: AddressKind, value: &'a str) -> Result<AtPlace, NoJob<'a>> {
+    let Some((section, digits)) = section_of(kind, value) else {
+        return match place_of(kind, value) {
             Ok(place) => Ok(AtPlace::Counted(place)),
             Err(bad) => Err(NoJob::Bad(bad)),
         };
@@ -107,9 +153,10 @@ pub(crate) fn places_of<'a>(
     alloc: Global,
     found: &ArgMatches<'a>,
 ) -> Result<Vec<AtPlace>, NoJob<'a>> {
+    let kind = address_kind(found);
     let mut places = Vec::new(alloc);
     for value in found.get_strs("ADDRESS").unwrap_or(&[]) {
-        places.push(at_place(alloc, found, value)?)?;
+        places.push(at_place(alloc, kind, value)?)?;
     }
     Ok(places)
 }

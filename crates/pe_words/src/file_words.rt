@@ -1,5 +1,8 @@
 //! The words of the commands that read files one at a time: `show`, `check`, `dump`, `object` and `json`.
 
+ghost use Rattle.std.specs.Prelude.{◌≡◌, Some, None, IfOk, IfErr, OnErr};
+ghost use Rattle.pe_words.specs.Colours.{colour_word, colours_named, IsShow};
+
 use crate::builders::{argument, flag, new_command, required_argument, with_argument};
 use crate::job::{Colours, Job};
 use crate::word_values::{BadValue, NoJob, size_of};
@@ -167,13 +170,28 @@ fn options_of(found: &ArgMatches<'_>) -> ShowOptions {
     }
 }
 
+/// When pages have colours by the value of `--color`, if it is auto, always or never.
+fn colours_named(value: &str) -> Option<Colours>
+    ensures { result ≡ colours_named value.now }
+{
+    match value {
+        "auto" => Some(Colours::Auto),
+        "always" => Some(Colours::Always),
+        "never" => Some(Colours::Never),
+        _ => None,
+    }
+}
+
 /// When pages have colours.
-fn colours_of<'a>(found: &ArgMatches<'a>) -> Result<Colours, BadValue<'a>> {
-    match found.get_str("color").unwrap_or("auto") {
-        "auto" => Ok(Colours::Auto),
-        "always" => Ok(Colours::Always),
-        "never" => Ok(Colours::Never),
-        value => Err(BadValue {
+fn colours_of<'a>(found: &ArgMatches<'a>) -> Result<Colours, BadValue<'a>>
+    ensures colours { IfOk result (λ colours. colours_named (colour_word found.now) ≡ Some colours) }
+    ensures none { OnErr result (colours_named (colour_word found.now) ≡ None) }
+    ensures bad { IfErr result (λ bad. bad.value.now ≡ colour_word found.now) }
+{
+    let value = found.get_str("color").unwrap_or("auto");
+    match colours_named(value) {
+        Some(colours) => Ok(colours),
+        None => Err(BadValue {
             value,
             argument: "--color <WHEN>",
             reason: "not auto, always or never",
@@ -228,7 +246,9 @@ fn show_job<'a, P>(
     alloc: Global,
     found: &ArgMatches<'a>,
     most: Option<u64>,
-) -> Result<Job<P>, NoJob<'a>> {
+) -> Result<Job<P>, NoJob<'a>>
+    ensures { IfOk result (IsShow found.now most) }
+{
     match colours_of(found) {
         Ok(colours) => Ok(Job::Show {
             options: options_of(found),

@@ -1,5 +1,7 @@
 //! `parse_words`: the job of a command line.
 
+ghost use Rattle.std.specs.Prelude.{◌≡◌, if◌then◌else◌};
+
 use crate::at_words::{at_command, explain_command, number_of, places_of};
 use crate::commands::{command, command_named};
 use crate::file_words::{file_job, file_of, usage_of};
@@ -35,7 +37,9 @@ fn value_refusal(alloc: Global, command: Command<'_>, name: &str, bad: BadValue<
 }
 
 /// The job of words of `map`.
-fn job_of_map<P>(words: MapWords, policy: P) -> Job<P> {
+fn job_of_map<P>(words: MapWords, policy: P) -> Job<P>
+    ensures { result ≡ (if words.is_unbound then Job.MapUnbound policy words.window words.files else Job.Map policy words.window words.files) }
+{
     let MapWords {
         is_unbound,
         window,

@@ -1,0 +1,3 @@
+pub use Rattle.pe_view.specs.Faults
+pub mod AtPlaces
+pub mod Colours
