@@ -1,23 +1,25 @@
 -- What parts of a file that were read decide.
-use Rattle.std.proofs.Common.{◌≡◌, ℕ, ◌+◌, ◌-◌, ◌^◌, ◌<◌, ◌≤◌, false, is_err, Result, Ok, Err, List, [], ◌∷◌, ◌++◌, length, take, get_or, None, All, refl, sym, subst, ◌∙◌, ap, ap₂, arith, inl, inr}
-use Rattle.std.proofs.lemmas.Bool.{cases_lt}
-use Rattle.std.proofs.lemmas.List.{take_more, get_or-append-add, get_or-take, get_or_append_left, get_or-append_right, length-append, length-take-le, take-take, take-append-le}
+use Rattle.std.proofs.Common.{◌≡◌, ℕ, zero, suc, ◌+◌, ◌-◌, ◌^◌, ◌<◌, ◌≤◌, true, false, is_err, Result, Ok, Err, List, [], ◌∷◌, ◌++◌, length, take, drop, get_or, Option, None, Some, All, refl, sym, subst, ◌∙◌, ap, ap₂, arith, append_assoc, append-nil, drop-cons, inl, inr}
+use Rattle.std.proofs.lemmas.Bool.{cases_lt, ltb-false, lt-ltb, and_parts}
+use Rattle.std.proofs.lemmas.List.{ext_get_or, drop_all, take_more, get_or-append-add, get_or-take, get_or_append_left, get_or-append_right, length-append, length-take-le, take-take, take-append-le}
 use Rattle.std.proofs.Math.Seq.{get_or-append_seam}
-use Rattle.std.specs.Prelude.{⊤}
+use Rattle.std.specs.Prelude.{⊤, Bool, ◌&&◌, is_none, nat_lt, nat_le, max}
 use Rattle.std.specs.Option.{option_or}
 use Rattle.pe_view.specs.Number.{byte_of}
 use Rattle.pe_view.specs.declared.fault.Fault.{Fault}
 use Rattle.pe_view.specs.Faults.{Test, Answers, first_standing}
-use Rattle.pe_view.specs.FirstStanding.{first-append}
+use Rattle.pe_view.specs.FirstStanding.{first-append, none-append, none_stands}
 use Rattle.pe_head.specs.Head.{head_of}
 use Rattle.pe_head.specs.HeaderFaults.{head_tests}
 use Rattle.pe_head.specs.Section.{rawlen}
 use Rattle.pe_head.specs.declared.section.SectionHeader.{SectionHeader}
 use Rattle.pe_head.specs.declared.headers.Headers.{Headers}
-use Rattle.pe_layout.specs.SectionFaults.{layout_tests, placing_tests}
+use Rattle.pe_layout.specs.Piece.{end_of}
+use Rattle.pe_layout.specs.SectionFaults.{layout_tests, placing_tests, section_tests, sections_tests}
 use Rattle.pe_parts.specs.Packed.{moved, IsHeld, AreHeld}
 use Rattle.pe_reach.specs.Reach.{HaveBoth, headers_end}
-use Rattle.pe_reach.specs.Parts.{HasPart}
+use Rattle.pe_reach.specs.Parts.{Part, HasPart}
+use Rattle.pe_reach.specs.PartsRead.{EndsEarly, can_begin, has_headers, IsRawInside, place_of, next_place, packed_from}
 use Rattle.pe_reach.proofs.Headers.{headers_agree}
 use Rattle.pe_reach.proofs.Images.{lower, agree_of_both, head_first_agrees}
 
@@ -136,6 +138,11 @@ pub ok_none : (tests : List Test) (result : Result (Unit {0}) Fault) → Answers
 ok_none tests (Ok u) answers ok = answers.0
 ok_none tests (Err fault) answers ok = absurd cc
 
+-- tests with one
+pub err_some : (tests : List Test) (result : Result (Unit {0}) Fault) → Answers tests (λ _. ⊤) result → is_err result ≡ true → is_none (first_standing tests) ≡ false
+err_some tests (Ok u) answers err = absurd cc
+err_some tests (Err fault) answers err = ap is_none answers
+
 module _ (file begin : List ℕ) (len : ℕ) (small : len ≤ 2 ^ 32) (size : length file ≡ len) (within : length begin ≤ len) (has : HasPart file (record { offset = 0; bytes = begin })) where
   both : HaveBoth (length begin) file begin
   both = record { reach_f = omega (arith, size, within); reach_g = omega arith; small_f = omega (arith, size, small); small_g = omega (arith, within, small); bytes = λ k lt. sym (ap (λ j. get_or file j 0) (let e : 0 + k ≡ k = omega arith in e)) ∙ has k lt }
@@ -151,3 +158,91 @@ module _ (file begin : List ℕ) (len : ℕ) (small : len ≤ 2 ^ 32) (size : le
       first-append (head_tests 0 file) (placing_tests 0 (head_of file) (length file))
       ∙ ap₂ option_or (head_first_agrees 0 (length begin) file begin held covers both ∙ head)
       (ap₂ (λ (h : Headers) n. first_standing (placing_tests 0 h n)) (headers_same held) size ∙ placing)
+
+-- the last read returned nothing, before an end
+pub ends_early : (end : ℕ) (before mid now read : List Part) (offset n : ℕ) (room : List ℕ) → offset < end → mid ≡ before ++ read → n ≡ 0 → now ≡ mid ++ record { offset = offset; bytes = take n room } ∷ []
+    → EndsEarly end before now
+ends_early end before mid now read offset n room below reads none last = (
+  read,
+  offset,
+  below,
+  last ∙ ap (λ (k : ℕ). mid ++ record { offset = offset; bytes = take k room } ∷ []) none
+      ∙ ap (λ (ps : List Part). ps ++ record { offset = offset; bytes = [] } ∷ []) reads ∙ append_assoc before read (record { offset = offset; bytes = [] } ∷ []),
+)
+
+-- so it did after other reads
+pub early_on : (end : ℕ) (before mid now read : List Part) → mid ≡ before ++ read → EndsEarly end mid now → EndsEarly end before now
+early_on end before mid now read reads early = (
+  read ++ early.0,
+  early.1,
+  early.2,
+  early.3 ∙ ap (λ (ps : List Part). ps ++ (early.0 ++ record { offset = early.1; bytes = [] } ∷ [])) reads
+      ∙ append_assoc before read (early.0 ++ record { offset = early.1; bytes = [] } ∷ [])
+      ∙ ap (λ (ps : List Part). before ++ ps) (sym (append_assoc read early.0 (record { offset = early.1; bytes = [] } ∷ []))),
+)
+
+-- and before a later end
+pub early_within : (end later : ℕ) (before now : List Part) → end ≤ later → EndsEarly end before now → EndsEarly later before now
+early_within end later before now le early = (early.0, early.1, (let below = early.2 in omega (arith, below, le)), early.3)
+
+-- a file of a length has the raw data of the sections, if they have none of faults 13 to 15
+raw_inside : (image : ℕ) (h : Headers) (len before i : ℕ) (s : SectionHeader) → first_standing (section_tests image h len before i s) ≡ None → IsRawInside len s
+raw_inside image h len before i s none = λ some.
+    let test = none_stands (section_tests image h len before i s) 0 _ none refl in
+    let e : nat_lt 0 (rawlen s) ≡ true = lt-ltb _ _ some in
+    let fits : nat_lt len (s.pointer_to_raw_data + rawlen s) ≡ false = rw e at test in
+    ltb-false _ _ fits
+
+inside_more : (len : ℕ) (s : SectionHeader) (ss : List SectionHeader) → IsRawInside len s → All (IsRawInside len) ss → (k : ℕ) (d : SectionHeader) → k < length (s ∷ ss) → IsRawInside len (get_or (s ∷ ss) k d)
+inside_more len s ss first rest zero d lt = first
+inside_more len s ss first rest (suc k) d lt = rest k d (omega arith)
+
+pub all_inside : (image : ℕ) (h : Headers) (len before i : ℕ) (ss : List SectionHeader) → first_standing (sections_tests image h len before i ss) ≡ None → All (IsRawInside len) ss
+unfolding sections_tests
+all_inside image h len before i [] none = λ k d lt. absurd (omega arith)
+all_inside image h len before i (s ∷ ss) none =
+    let parts = none-append (section_tests image h len before i s) (sections_tests image h len (end_of s) (i + 1) ss) none in
+    inside_more len s ss (raw_inside image h len before i s parts.0) (all_inside image h len (end_of s) (i + 1) ss parts.1)
+
+-- one more section as it is packed
+pub packed_more : (h : Headers) (len place next : ℕ) (ss items ts all : List SectionHeader) (i : ℕ) (d : SectionHeader) (pointer : ℕ) → items ≡ ss → i < length items
+    → pointer ≡ place_of h len place (get_or items i d) → next ≡ next_place h len place (get_or items i d) → ts ++ packed_from h len place (drop i ss) ≡ all
+    → (ts ++ moved (get_or items i d) pointer ∷ []) ++ packed_from h len next (drop (i + 1) ss) ≡ all
+packed_more h len place next ss items ts all i d pointer same lt is goes old =
+    let lt' : i < length ss = subst (λ (xs : List SectionHeader). i < length xs) same lt in
+    let is' : pointer ≡ place_of h len place (get_or ss i d) = subst (λ (xs : List SectionHeader). pointer ≡ place_of h len place (get_or xs i d)) same is in
+    let goes' : next ≡ next_place h len place (get_or ss i d) = subst (λ (xs : List SectionHeader). next ≡ next_place h len place (get_or xs i d)) same goes in
+    let one : suc i ≡ i + 1 = omega arith in
+    let cons : drop i ss ≡ get_or ss i d ∷ drop (i + 1) ss = subst (λ n. drop i ss ≡ get_or ss i d ∷ drop n ss) one (drop-cons ss i d lt') in
+    let step : moved (get_or ss i d) pointer ∷ packed_from h len next (drop (i + 1) ss) ≡ packed_from h len place (drop i ss) =
+    ap₂ (λ q n. moved (get_or ss i d) q ∷ packed_from h len n (drop (i + 1) ss)) is' goes' ∙ sym (ap (packed_from h len place) cons) in
+    append_assoc ts (moved (get_or items i d) pointer ∷ []) (packed_from h len next (drop (i + 1) ss))
+    ∙ ap (λ (xs : List SectionHeader). ts ++ moved (get_or xs i d) pointer ∷ packed_from h len next (drop (i + 1) ss)) same
+    ∙ ap (λ (xs : List SectionHeader). ts ++ xs) step ∙ old
+
+-- all of them
+pub packed_all : (h : Headers) (len place : ℕ) (ss ts all : List SectionHeader) (i : ℕ) → length ss ≤ i → ts ++ packed_from h len place (drop i ss) ≡ all → ts ≡ all
+packed_all h len place ss ts all i past old = sym (append-nil ts) ∙ ap (λ (xs : List SectionHeader). ts ++ packed_from h len place xs) (sym (drop_all i ss past)) ∙ old
+
+-- a file begins with so many bytes
+pub begins_as : (file begin : List ℕ) (n : ℕ) → length begin ≡ n → n ≤ length file → ((k : ℕ) → k < n → get_or begin k 0 ≡ get_or file k 0) → take n file ≡ begin
+begins_as file begin n size le same = ext_get_or 0 (take n file) begin (length-take-le n file le ∙ sym size) (λ k lt.
+    let below : k < n = omega (arith, lt, length-take-le n file le) in
+    get_or-take n file k 0 below ∙ sym (same k below))
+
+-- an option that is not one of the values is none
+pub none_is : {X : Type 0} (o : Option X) → ((x : X) → o ≡ Some x → ⊥) → o ≡ None
+none_is None other = refl
+none_is (Some x) other = absurd (other x refl)
+
+pub none_by_test : {X : Type 0} (o : Option X) → is_none o ≡ true → o ≡ None
+none_by_test None is = refl
+none_by_test (Some x) is = absurd cc
+
+last_holds : (a b c d : Bool) → (a && (b && (c && d))) ≡ true → d ≡ true
+last_holds a b c d all = (and_parts c d (and_parts b (c && d) (and_parts a (b && (c && d)) all).1).1).1
+
+-- the sections of a file of a length have none of faults 13 to 15, if its first bytes have its headers
+pub placed_by_test : (len : ℕ) (begin : List ℕ) → has_headers len begin ≡ true → first_standing (placing_tests 0 (head_of begin) len) ≡ None
+placed_by_test len begin has = none_by_test _
+    (last_holds (can_begin len (length begin)) (is_none (first_standing (head_tests 0 begin))) (nat_le (max (headers_end begin) (head_of begin).size_of_headers) (length begin)) _ has)

@@ -1,10 +1,11 @@
 //! `TablesReport`, a report on an image's headers and tables; and `run_parts`, its engine over parts of a file.
 
-ghost use Rattle.std.specs.Prelude.{◌≡◌, ◌-◌, ◌^◌, ◌<◌, ◌↔◌, ℕ, List, IsErrOf};
+ghost use Rattle.std.specs.Prelude.{◌≡◌, ◌-◌, ◌^◌, ◌<◌, ◌≤◌, ◌⊎◌, ◌↔◌, ℕ, List, IfOk, IfNone, IsErrOf};
 ghost use Rattle.pe_text.specs.declared.outcome.Outcome.{Outcome};
 ghost use Rattle.pe_text.specs.Engine.{Puts};
 ghost use Rattle.pe_text.specs.TextWriter.{IsReady, Adds};
 ghost use Rattle.pe_reach.specs.PartsRan.{IsTextOfTables, RanByParts};
+ghost use Rattle.pe_reach.specs.PartsRead.{AreNotRead, AreUndecided};
 
 use crate::part_source::PartSource;
 use crate::parts_reading::{Parts, read_parts};
@@ -50,10 +51,12 @@ fn write_tables<T: TablesReport, A: Allocator + Copy, W: Sink>(
 }
 
 /// Reads the headers of an image's file of `len` bytes and the sections in which its tables begin, checks the image, and writes its
-/// text. The text is that of each file of `len` bytes that has these parts. `Ok(None)` means that they do not decide the text, or
-/// that the image may have a fault: nothing was written, and the file must be read another way.
+/// text. The text is that of each file of `len` bytes that has these parts. `Ok(None)` means that the file has fewer than 65,536
+/// bytes, that a read returned nothing, that its first 4,096 bytes have not all headers or it has one of faults 1 to 15, or that the
+/// parts do not decide its tables: nothing was written, and the file must be read another way.
 ///
-/// On the error `Write` the beginning of the text was written, on `Read` and `Memory` nothing. Condition: each device has counted
+/// On the error `Write` the beginning of the text was written, on `Read` and `Memory` nothing; a file of fewer than 65,536 bytes takes
+/// no memory. Condition: each device has counted
 /// fewer than 2^64 - 1 failures so far.
 pub fn run_parts<T: TablesReport, A: Allocator + Copy, R: PartSource, W: Sink>(
     report: &T,
@@ -65,6 +68,9 @@ pub fn run_parts<T: TablesReport, A: Allocator + Copy, R: PartSource, W: Sink>(
     requires reads { R.failures reader.old < 2 ^ 64 - 1 }
     requires writes { W.failures writer.old < 2 ^ 64 - 1 }
     ensures ran { RanByParts T.is_text len (R.parts reader.old) (R.parts reader.new) (W.taken writer.old) (W.taken writer.new) result }
+    ensures left { IfOk result (λ outcome. IfNone outcome
+        (AreNotRead len (R.parts reader.old) (R.parts reader.new) ⊎ AreUndecided len (R.parts reader.old) (R.parts reader.new))) }
+    ensures memory { IsErrOf result ToolError.Memory → 2 ^ 16 ≤ len }
     ensures read { IsErrOf result ToolError.Read ↔ (R.failures reader.old < R.failures reader.new) }
     ensures write { IsErrOf result ToolError.Write ↔ (W.failures writer.old < W.failures writer.new) }
 {

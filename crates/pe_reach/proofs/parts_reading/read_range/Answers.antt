@@ -1,10 +1,10 @@
 use Rattle.std.proofs.Common.{rules, ◌∙◌, ◌+◌, ◌≤◌, List, [], ◌∷◌, ◌++◌, take, length, sym, refl, ap, arith, append-nil, append_assoc}
 use Rattle.pe_reach.specs.Parts.{Part, HasPart}
-use Rattle.pe_reach.proofs.PartBytes.{all_first, all_last, front_stays, stand_more}
+use Rattle.pe_reach.proofs.PartBytes.{all_first, all_last, front_stays, stand_more, ends_early}
 use Rattle.pe_reach.proofs.parts_reading.read_range.Goals as goal
 
-pub returns-then-is_err : goal.returns-then-is_err
-returns-then-is_err g c = ([], sym (append-nil _), refl)
+pub returns-then-is_err-clause-reads : goal.returns-then-is_err-clause-reads
+returns-then-is_err-clause-reads g c = ([], sym (append-nil _), refl)
 
 pub loop-filled-preserved : goal.loop-filled-preserved
 loop-filled-preserved g c =
@@ -30,3 +30,8 @@ loop-filled-preserved g c =
       front = rw c.deref_mut.ensures.value (front_stays items room _ _ c.loop-filled.bytes.len start filled n within fits holds) ∙ c.loop-filled.invariant.front;
       within = omega (arith, holds, c.loop-filled.invariant.size);
     }
+
+pub returns-in-Ok-eq0-clause-early : goal.returns-in-Ok-eq0-clause-early
+returns-in-Ok-eq0-clause-early g c = λ no.
+    let r = c.loop-filled.invariant.reads in
+    ends_early _ _ _ _ r.0 _ c.in-Ok-eq0.field-0 c.read_at.new.buffer (omega (arith, c.loop-filled-test.true, c.from-place.ensures)) r.1 c.in-Ok-eq0.field-0-test c.in-Ok-eq0.ensures.parts
