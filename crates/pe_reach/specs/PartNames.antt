@@ -1,7 +1,21 @@
--- Where the string table of an image is among parts of its file.
-use Rattle.std.specs.Prelude.{ℕ}
+-- Where the string table of an image is among parts of its file, and why it is not.
+use Rattle.std.specs.Prelude.{ℕ, ◌≡◌, ◌+◌, ◌^◌, ◌<◌, ◌≤◌, ◌⊎◌, max, List, ◌++◌, length}
 use Rattle.pe_head.specs.declared.headers.Headers.{Headers}
+use Rattle.coff_read.specs.ImageNames.{strings_start, strings_size}
+use Rattle.pe_reach.specs.Parts.{Part, HasParts}
+use Rattle.pe_reach.specs.PartsRead.{EndsEarly}
 
 -- the headers with the string table at an offset of other bytes, or with none for 0
 abbrev pub with_strings : Headers → ℕ → Headers
 with_strings h pointer = record h { pointer_to_symbol_table = pointer; number_of_symbols = 0 }
+
+-- what was read says that the parts, which have so many bytes, would become longer than the file with the string table behind them
+pub record AreTooLong (len : ℕ) (h : Headers) (place : ℕ) (before now : List Part) : Type 0 where
+  pub read : List Part
+  pub reads : now ≡ before ++ read
+  pub longer : (file : List ℕ) → length file ≡ len → HasParts file read → len < place + max 4 (strings_size file h)
+
+-- why it was not put there: the file ended early, there are no parts, an offset has more than 32 bits, or they are too long
+abbrev pub AreNotNamed : ℕ → Headers → ℕ → List Part → List Part → Type 0
+AreNotNamed len h place before now =
+    EndsEarly len before now ⊎ ((place ≡ 0) ⊎ ((2 ^ 32 ≤ max place (strings_start h)) ⊎ AreTooLong len h place before now))

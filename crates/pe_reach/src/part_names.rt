@@ -1,12 +1,12 @@
 //! `read_names`: the string table of an image of whose file parts were read.
 
-ghost use Rattle.std.specs.Prelude.{◌≡◌, ◌-◌, ◌+◌, ◌*◌, ◌^◌, ◌<◌, ◌≤◌, ℕ, IfSome, List, ◌++◌, length, map, option_map, take, vec_len, MatchResult};
+ghost use Rattle.std.specs.Prelude.{◌≡◌, ◌-◌, ◌+◌, ◌*◌, ◌^◌, ◌<◌, ◌≤◌, ℕ, IfSome, IfOk, IfNone, List, ◌++◌, length, map, option_map, take, vec_len, MatchResult};
 ghost use Rattle.pe_view.specs.Number.{num, byte_of};
 ghost use Rattle.pe_head.specs.declared.headers.Headers.{Headers};
 ghost use Rattle.coff_read.specs.ImageNames.{image_strings, table_of};
 ghost use Rattle.pe_reach.specs.Parts.{Part, HasParts};
-ghost use Rattle.pe_reach.specs.PartsRead.{FailsToRead, AddNames};
-ghost use Rattle.pe_reach.specs.PartNames.{with_strings};
+ghost use Rattle.pe_reach.specs.PartsRead.{FailsToRead, EndsEarly, AddNames};
+ghost use Rattle.pe_reach.specs.PartNames.{with_strings, AreNotNamed};
 ghost use Rattle.pe_reach.specs.Views.{names_under};
 
 use crate::names::{has_long_name, strings_start};
@@ -39,7 +39,8 @@ fn read_size<A: Allocator, R: PartSource>(
 ) -> Result<Option<u32>, ToolError>
     requires counts { R.failures reader.old < 2 ^ 64 - 1 }
     requires room { vec_len bytes.old ≤ 2 ^ 32 }
-    ensures { (read : List Part) × (R.parts reader.new ≡ R.parts reader.old ++ read) × MatchResult result
+    ensures early { IfOk result (λ size. IfNone size (EndsEarly (offset + 4) (R.parts reader.old) (R.parts reader.new))) }
+    ensures reads { (read : List Part) × (R.parts reader.new ≡ R.parts reader.old ++ read) × MatchResult result
         (λ size. (R.failures reader.new ≡ R.failures reader.old) × IfSome size (λ size. (bytes.new.items ≡ bytes.old.items)
         × ((file : List ℕ) → HasParts file read → num (byte_of file) offset 4 ≡ size)))
         (FailsToRead (R.failures reader.old) (R.failures reader.new)) }
@@ -56,8 +57,8 @@ fn read_size<A: Allocator, R: PartSource>(
 }
 
 /// Reads the string table of an image's file of `len` bytes with these headers, if the name of a section may be in it, and appends it
-/// to the parts' bytes. Returns where it is among them, or 0 if there is none; `None` if the file has not all of it, or the parts would
-/// become longer than the file.
+/// to the parts' bytes. Returns where it is among them, or 0 if there is none; `None` if the file ends early, there are no parts, an
+/// offset has more than 32 bits, or the parts would become longer than the file.
 fn read_strings<A: Allocator, R: PartSource>(
     reader: &mut R,
     headers: &Headers,
@@ -65,7 +66,8 @@ fn read_strings<A: Allocator, R: PartSource>(
     bytes: &mut Vec<u8, A>,
 ) -> Result<Option<u32>, ToolError>
     requires { R.failures reader.old < 2 ^ 64 - 1 }
-    ensures { (read : List Part) × (R.parts reader.new ≡ R.parts reader.old ++ read) × MatchResult result
+    ensures left { IfOk result (λ pointer. IfNone pointer (AreNotNamed len headers.now (length bytes.old.items) (R.parts reader.old) (R.parts reader.new))) }
+    ensures reads { (read : List Part) × (R.parts reader.new ≡ R.parts reader.old ++ read) × MatchResult result
         (λ pointer. (R.failures reader.new ≡ R.failures reader.old) × IfSome pointer (λ pointer.
         (length bytes.old.items ≤ length bytes.new.items) × (take (length bytes.old.items) bytes.new.items ≡ bytes.old.items)
         × ((file : List ℕ) → length file ≡ len → HasParts file read
@@ -102,15 +104,16 @@ fn read_strings<A: Allocator, R: PartSource>(
 }
 
 /// Reads the string table of an image's file of `len` bytes, if the name of a section may be in it, and puts it behind the parts, whose
-/// packed headers lead to it then. `None` if the file has not all of it, or the parts would become longer than the file: the file must
-/// be read another way then.
+/// packed headers lead to it then. `None` if the file ends early, there are no parts, an offset has more than 32 bits, or the parts
+/// would become longer than the file: the file must be read another way then.
 pub fn read_names<A: Allocator, R: PartSource>(
     reader: &mut R,
     parts: Parts<A>,
     len: u64,
 ) -> Result<Option<Parts<A>>, ToolError>
     requires { R.failures reader.old < 2 ^ 64 - 1 }
-    ensures { (read : List Part) × (R.parts reader.new ≡ R.parts reader.old ++ read) × MatchResult result
+    ensures left { IfOk result (λ named. IfNone named (AreNotNamed len parts.headers (length parts.bytes.items) (R.parts reader.old) (R.parts reader.new))) }
+    ensures reads { (read : List Part) × (R.parts reader.new ≡ R.parts reader.old ++ read) × MatchResult result
         (λ named. (R.failures reader.new ≡ R.failures reader.old) × IfSome named (λ named. (named.headers ≡ parts.headers)
         × ((file : List ℕ) → length file ≡ len → HasParts file read → AddNames parts named file)))
         (FailsToRead (R.failures reader.old) (R.failures reader.new)) }

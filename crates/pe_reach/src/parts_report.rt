@@ -52,12 +52,11 @@ fn write_tables<T: TablesReport, A: Allocator + Copy, W: Sink>(
 
 /// Reads the headers of an image's file of `len` bytes and the sections in which its tables begin, checks the image, and writes its
 /// text. The text is that of each file of `len` bytes that has these parts. `Ok(None)` means that the file has fewer than 65,536
-/// bytes, that a read returned nothing, that its first 4,096 bytes have not all headers or it has one of faults 1 to 15, or that the
-/// parts do not decide its tables: nothing was written, and the file must be read another way.
+/// bytes or ends early, that its first 4,096 bytes have not all headers or it has one of faults 1 to 15, or that the parts do not decide
+/// its tables: nothing was written, and the file must be read another way.
 ///
 /// On the error `Write` the beginning of the text was written, on `Read` and `Memory` nothing; a file of fewer than 65,536 bytes takes
-/// no memory. Condition: each device has counted
-/// fewer than 2^64 - 1 failures so far.
+/// no memory. Condition: each device has counted fewer than 2^64 - 1 failures so far.
 pub fn run_parts<T: TablesReport, A: Allocator + Copy, R: PartSource, W: Sink>(
     report: &T,
     alloc: A,

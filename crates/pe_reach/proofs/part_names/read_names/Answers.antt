@@ -2,9 +2,9 @@ use Rattle.std.proofs.Common.{refl}
 use Rattle.pe_reach.proofs.StringTable.{add_names}
 use Rattle.pe_reach.proofs.part_names.read_names.Goals as goal
 
-pub returns : goal.returns
-returns g c =
-    let e = c.in_ok-pointer.ensures in
+pub returns-clause-reads : goal.returns-clause-reads
+returns-clause-reads g c =
+    let e = c.in_ok-pointer.ensures.reads in
     let s = rw c.in-Some.is at e.2.1 in (
       e.0,
       e.1,

@@ -3,9 +3,9 @@ use Rattle.pe_view.specs.Number.{num, byte_of}
 use Rattle.pe_reach.proofs.StringTable.{num_stands}
 use Rattle.pe_reach.proofs.part_names.read_size.Goals as goal
 
-pub returns : goal.returns
-returns g c =
-    let e = c.in_ok-read_range.ensures in
+pub returns-clause-reads : goal.returns-clause-reads
+returns-clause-reads g c =
+    let e = c.in_ok-read_range.ensures.reads in
     let all = e.2.1 c.if-not-branch.false in
     let items = c.read_range.new.bytes.items in
     let start = c.len-start.result in

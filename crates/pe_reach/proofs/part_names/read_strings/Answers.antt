@@ -1,4 +1,4 @@
-use Rattle.std.proofs.Common.{rules, ◌≡◌, ◌+◌, List, ℕ, [], ◌++◌, length, take, vec_len, refl, sym, ◌∙◌, ap, arith, append-nil, append_assoc}
+use Rattle.std.proofs.Common.{rules, ◌≡◌, ◌+◌, ◌≤◌, List, ℕ, [], ◌++◌, length, take, vec_len, refl, sym, ◌∙◌, ap, arith, append-nil, append_assoc, inl}
 use Rattle.std.specs.List.{list_any}
 use Rattle.std.proofs.lemmas.List.{take_all}
 use Rattle.pe_view.specs.Number.{num, byte_of}
@@ -7,14 +7,14 @@ use Rattle.coff_read.specs.ImageNames.{image_strings, strings_start, strings_siz
 use Rattle.coff_read.specs.Names.{begins_with_slash}
 use Rattle.pe_reach.specs.Parts.{Part, HasPart}
 use Rattle.pe_reach.specs.PartNames.{with_strings}
-use Rattle.pe_reach.proofs.PartBytes.{all_first, all_rest}
+use Rattle.pe_reach.proofs.PartBytes.{all_first, all_rest, early_on, early_within}
 use Rattle.pe_reach.proofs.SectionNames.{short_names, no_table, past_table, long_table}
 use Rattle.pe_reach.proofs.StringTable.{names_same, names_absent}
 use Rattle.pe_reach.proofs.part_names.read_strings.Goals as goal
 use Rattle.pe_reach.proofs.part_names.read_strings.Goals.{then-headers-eq0-via-then-headers-eq0, then-headers-eq0-via-else-headers-eq0+then-not-has_long_name}
 
-pub returns-then-headers-eq0 : goal.returns-then-headers-eq0
-returns-then-headers-eq0 g c =
+pub returns-then-headers-eq0-clause-reads : goal.returns-then-headers-eq0-clause-reads
+returns-then-headers-eq0-clause-reads g c =
     let h = c.args.headers.now in
     let items = c.args.bytes.now.items in (
       [],
@@ -34,8 +34,8 @@ returns-then-headers-eq0 g c =
       ),
     )
 
-pub returns-then-start-len : goal.returns-then-start-len
-returns-then-start-len g c =
+pub returns-then-start-len-clause-reads : goal.returns-then-start-len-clause-reads
+returns-then-start-len-clause-reads g c =
     let h = c.args.headers.now in
     let items = c.args.bytes.now.items in (
       [],
@@ -50,12 +50,12 @@ returns-then-start-len g c =
       ),
     )
 
-pub returns-then-start-from : goal.returns-then-start-from
-returns-then-start-from g c =
+pub returns-then-start-from-clause-reads : goal.returns-then-start-from-clause-reads
+returns-then-start-from-clause-reads g c =
     let h = c.args.headers.now in
     let old = c.args.bytes.now.items in
     let new = c.read_size.new.bytes.items in
-    let e = c.in_ok-size.ensures in
+    let e = c.in_ok-size.ensures.reads in
     let s = rw c.in-Some.is at e.2.1 in (
       e.0,
       e.1,
@@ -73,13 +73,13 @@ returns-then-start-from g c =
       ),
     )
 
-pub returns : goal.returns
-returns g c =
+pub returns-clause-reads : goal.returns-clause-reads
+returns-clause-reads g c =
     let h = c.args.headers.now in
     let old = c.args.bytes.now.items in
-    let e1 = c.in_ok-size.ensures in
+    let e1 = c.in_ok-size.ensures.reads in
     let s1 = rw c.in-Some.is at e1.2.1 in
-    let e2 = c.in_ok-read_range.ensures in
+    let e2 = c.in_ok-read_range.ensures.reads in
     let all = e2.2.1 c.if-not-branch.false in
     let new = c.read_range.new.bytes.items in
     let sized : vec_len c.read_size.new.bytes ≡ length old = (let l : vec_len c.read_size.new.bytes ≡ length c.read_size.new.bytes.items = search rules in l) ∙ ap (λ (l : List ℕ). length l) s1.0 in
@@ -103,3 +103,9 @@ returns g c =
         ),
       ),
     )
+
+pub returns-then-not-branch-clause-left : goal.returns-then-not-branch-clause-left
+returns-then-not-branch-clause-left g c =
+    let e1 = c.in_ok-size.ensures.reads in
+    let within : c.in-Ok.offset + c.max-count.result ≤ c.args.len = omega (arith, c.in-Ok.ensures.1, c.if-start-len.false, c.if-start-from.false, c.from.ensures, c.max-count.ensures) in
+    inl (early_on _ _ _ _ e1.0 e1.1 (early_within _ _ _ _ within (c.in_ok-read_range.ensures.early c.if-not-branch.true)))
