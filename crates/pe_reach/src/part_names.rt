@@ -1,6 +1,7 @@
 //! `read_names`: the string table of an image of whose file parts were read.
 
 ghost use Rattle.std.specs.Prelude.{◌≡◌, ◌-◌, ◌+◌, ◌*◌, ◌^◌, ◌<◌, ◌≤◌, ℕ, IfSome, IfOk, IfNone, List, ◌++◌, length, map, option_map, take, vec_len, MatchResult};
+ghost use Rattle.std.specs.Option.{MatchOption};
 ghost use Rattle.pe_view.specs.Number.{num, byte_of};
 ghost use Rattle.pe_head.specs.declared.headers.Headers.{Headers};
 ghost use Rattle.coff_read.specs.ImageNames.{image_strings, table_of};
@@ -112,9 +113,9 @@ pub fn read_names<A: Allocator, R: PartSource>(
     len: u64,
 ) -> Result<Option<Parts<A>>, ToolError>
     requires { R.failures reader.old < 2 ^ 64 - 1 }
-    ensures left { IfOk result (λ named. IfNone named (AreNotNamed len parts.headers (length parts.bytes.items) (R.parts reader.old) (R.parts reader.new))) }
-    ensures reads { (read : List Part) × (R.parts reader.new ≡ R.parts reader.old ++ read) × MatchResult result
-        (λ named. (R.failures reader.new ≡ R.failures reader.old) × IfSome named (λ named. (named.headers ≡ parts.headers)
+    ensures { (read : List Part) × (R.parts reader.new ≡ R.parts reader.old ++ read) × MatchResult result
+        (λ named. (R.failures reader.new ≡ R.failures reader.old) × MatchOption named
+        (AreNotNamed len parts.headers (length parts.bytes.items) (R.parts reader.old) (R.parts reader.new)) (λ named. (named.headers ≡ parts.headers)
         × ((file : List ℕ) → length file ≡ len → HasParts file read → AddNames parts named file)))
         (FailsToRead (R.failures reader.old) (R.failures reader.new)) }
 {

@@ -1,9 +1,10 @@
 use Rattle.std.proofs.Common.{refl}
+use Rattle.pe_reach.proofs.PartBytes.{none_is}
 use Rattle.pe_reach.proofs.StringTable.{add_names}
 use Rattle.pe_reach.proofs.part_names.read_names.Goals as goal
 
-pub returns-clause-reads : goal.returns-clause-reads
-returns-clause-reads g c =
+pub returns : goal.returns
+returns g c =
     let e = c.in_ok-pointer.ensures.reads in
     let s = rw c.in-Some.is at e.2.1 in (
       e.0,
@@ -16,3 +17,8 @@ returns-clause-reads g c =
         ),
       ),
     )
+
+pub returns-in_default : goal.returns-in_default
+returns-in_default g c =
+    let e = c.in_ok-pointer.ensures.reads in
+    (e.0, e.1, (e.2.0, rw (none_is _ c.in_default.not-Some) at c.in_ok-pointer.ensures.left))
