@@ -1,5 +1,5 @@
 -- Files that agree before the end of the headers have the same headers.
-use Rattle.std.proofs.Common.{◌≡◌, ℕ, zero, suc, ◌+◌, ◌-◌, ◌*◌, ◌<◌, ◌≤◌, Bool, List, ◌∷◌, length, None, Some, refl, sym, ◌∙◌, ap, ap₂, arith, drop}
+use Rattle.std.proofs.Common.{◌≡◌, ℕ, zero, suc, ◌+◌, ◌-◌, ◌*◌, ◌<◌, ◌≤◌, Bool, List, length, None, Some, refl, sym, ◌∙◌, ap, ap₂, arith, drop}
 use Rattle.std.specs.Prelude.{◌==◌, min, map, if◌then◌else◌}
 use Rattle.std.specs.List.{range_with_len}
 use Rattle.std.proofs.lemmas.List.{ext_get_or, length-take, length-drop, get_or-take, get_or-drop}
