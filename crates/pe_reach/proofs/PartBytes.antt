@@ -235,10 +235,12 @@ pub none_is : {X : Type 0} (o : Option X) → ((x : X) → o ≡ Some x → ⊥)
 none_is None other = refl
 none_is (Some x) other = absurd (other x refl)
 
+-- so is one that is none by its test
 pub none_by_test : {X : Type 0} (o : Option X) → is_none o ≡ true → o ≡ None
 none_by_test None is = refl
 none_by_test (Some x) is = absurd cc
 
+-- the last of four tests
 last_holds : (a b c d : Bool) → (a && (b && (c && d))) ≡ true → d ≡ true
 last_holds a b c d all = (and_parts c d (and_parts b (c && d) (and_parts a (b && (c && d)) all).1).1).1
 

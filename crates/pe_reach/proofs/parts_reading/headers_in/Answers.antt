@@ -32,6 +32,7 @@ returns-then-end-begin-clause-exact c =
     let past : length begin < max (headers_end begin) (head_of begin).size_of_headers = omega (arith, c.max-end.ensures, c.from.ensures, ends, size, c.if-end-begin.true) in
     sym (and_right _ _ (and_right _ _ (and_left _ _ (lt-leb (max (headers_end begin) (head_of begin).size_of_headers) (length begin) past))))
 
+-- the last of four tests fails
 no_last : (a b c d : Bool) → d ≡ false → false ≡ (a && (b && (c && d)))
 no_last a b c d last = sym (and_right a (b && (c && d)) (and_right b (c && d) (and_right c d last)))
 
