@@ -11,9 +11,9 @@ use pe_tables::{Exports, Fixup, FixupKind, Import, Key, Target};
 use pe_text::{Sink, TextWriter};
 use std::alloc::Allocator;
 
-/// Adds `#` and an ordinal, or a quoted name.
+/// Adds `#` and an ordinal, or a quoted name, as a line of `dump` has it.
 #[tactic(auto, unfolding(crate::specs::TableLines::key_text))]
-fn write_key<W: Sink>(line: &mut TextWriter<W>, key: &Key)
+pub fn write_key<W: Sink>(line: &mut TextWriter<W>, key: &Key)
     requires { IsReady W.failures line.old }
     ensures { Adds W.taken W.failures line.old line.new (key_text (key_view key.now)) }
 {
@@ -101,6 +101,7 @@ pub(crate) fn write_exports<A: Allocator + Copy, W: Sink>(
     write_names(text, exports.names());
 }
 
+/// Adds the line of an import.
 #[tactic(auto, unfolding(crate::specs::TableLines::import_line))]
 fn write_import<W: Sink>(line: &mut TextWriter<W>, import: &Import)
     requires { IsReady W.failures line.old }

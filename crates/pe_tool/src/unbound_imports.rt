@@ -4,7 +4,6 @@ ghost use Rattle.std.specs.Prelude.{◌≡◌, ◌++◌, ◌<◌, ◌≤◌, ◌
 ghost use Rattle.std.specs.List.{filter_map};
 ghost use Rattle.pe_view.specs.Faults.{first_standing};
 ghost use Rattle.pe_tables.specs.ImportView.{import_view};
-ghost use Rattle.pe_tables.specs.Key.{key_view};
 ghost use Rattle.pe_set.specs.Bindings.{binding_of, bindings_of};
 ghost use Rattle.pe_set.specs.Set as set;
 ghost use Rattle.pe_set.specs.Set.{modules_of};
@@ -12,12 +11,12 @@ ghost use Rattle.pe_set.specs.SetErrors.{set_error};
 ghost use Rattle.pe_set.specs.SetFaults.{names_tests};
 ghost use Rattle.pe_set.specs.SetView.{entries_of, modules_view};
 ghost use Rattle.pe_set.specs.declared.binding.Binding.{Binding};
-ghost use Rattle.pe_lines.specs.TableLines.{key_text};
 ghost use Rattle.pe_text.specs.TextWriter.{IsReady, Adds};
 ghost use Rattle.pe_tool.specs.UnboundImports.{unbound_import, unbound_of, unbound_line, unbound_view, after_slot, kept_unless, told_after, HaveOwnSlots};
 
+use pe_lines::write_key;
 use pe_set::{Binding, MapError, Module, Policy, SetEntry, judge};
-use pe_tables::{Import, Key};
+use pe_tables::Import;
 use pe_text::{Outcome, Sink, TextWriter};
 use std::alloc::{AllocError, Allocator};
 
@@ -126,21 +125,7 @@ pub(crate) fn unbound_imports<'a, A: Allocator + Copy>(
     }
 }
 
-/// Adds `#` and an ordinal, or a quoted name.
-#[tactic(auto, unfolding(pe_lines::specs::TableLines::key_text))]
-fn write_key<W: Sink>(line: &mut TextWriter<W>, key: &Key)
-    requires { IsReady W.failures line.old }
-    ensures { Adds W.taken W.failures line.old line.new (key_text (key_view key.now)) }
-{
-    match key {
-        Key::Ordinal(ordinal) => {
-            line.text(b"#");
-            line.decimal(*ordinal as u64);
-        }
-        Key::Name(name) => line.quoted(name),
-    }
-}
-
+/// Adds the line of an import that is bound to nothing.
 #[tactic(auto, unfolding(crate::specs::UnboundImports::unbound_line))]
 fn write_import<W: Sink>(line: &mut TextWriter<W>, unbound: &UnboundImport)
     requires { IsReady W.failures line.old }
