@@ -1,0 +1,17 @@
+pub use Rattle.pe_view.specs.Faults
+pub use Rattle.pe_view.specs.Number
+pub use Rattle.pe_view.specs.View
+pub use Rattle.pe_head.specs.Head
+pub mod CertificateTests
+pub mod Certificates
+pub mod CheckSum
+pub mod Der
+pub mod DerView
+pub mod Digests
+pub mod Overlay
+pub mod Rich
+pub mod RichTests
+pub mod RichView
+pub mod Signature
+pub mod SignatureView
+pub mod SignedBytes
