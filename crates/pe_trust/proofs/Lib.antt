@@ -3,4 +3,8 @@ pub mod Words
 pub mod Outside
 pub mod OneEntry
 pub mod Marks
+pub mod Rest
+mod DerRows
+mod FileRows
+mod RichRows
 mod Rows

@@ -15,3 +15,5 @@ pub mod RichView
 pub mod Signature
 pub mod SignatureView
 pub mod SignedBytes
+pub mod Signers
+pub mod SignersView

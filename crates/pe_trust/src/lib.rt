@@ -16,6 +16,7 @@
 
 mod certificate;
 mod certificate_finding;
+mod certified;
 mod der;
 mod digests;
 mod entries;
@@ -26,6 +27,7 @@ mod rich_rule;
 mod rich_words;
 mod signature;
 mod signed_bytes;
+mod signer;
 mod sum;
 
 pub use certificate::{Certificate, Certificates};
@@ -36,4 +38,5 @@ pub use rich::rich_header;
 pub use rich_rule::rich_finding;
 pub use rich_words::{RichHeader, RichPair};
 pub use signature::{SignedDigest, signed_digest};
+pub use signer::{Signer, Signers};
 pub use sum::check_sum;

@@ -7,7 +7,7 @@ ghost use Rattle.pe_trust.specs.SignatureView.{signed_view};
 use crate::der::first_element;
 
 /// The tags of the elements on the way to the digest.
-mod tag {
+pub(crate) mod tag {
     pub(crate) const INTEGER: u8 = 0x02;
 
     pub(crate) const OCTET_STRING: u8 = 0x04;
@@ -37,7 +37,7 @@ pub struct SignedDigest<'a> {
 }
 
 /// The content of the first element, if it has this tag.
-fn content_under(tag: u8, bytes: &[u8]) -> Option<&[u8]>
+pub(crate) fn content_under(tag: u8, bytes: &[u8]) -> Option<&[u8]>
     ensures { option_map (λ content. content.now) result ≡ content_under tag bytes.now }
 {
     let first = first_element(bytes)?;
@@ -48,7 +48,7 @@ fn content_under(tag: u8, bytes: &[u8]) -> Option<&[u8]>
 }
 
 /// What is behind the first element, if it has this tag.
-fn behind(tag: u8, bytes: &[u8]) -> Option<&[u8]>
+pub(crate) fn behind(tag: u8, bytes: &[u8]) -> Option<&[u8]>
     ensures { option_map (λ rest. rest.now) result ≡ behind tag bytes.now }
 {
     let first = first_element(bytes)?;

@@ -13,9 +13,10 @@ loop-certificate-preserved c =
     let fits = c.in-Some.ensures.fits in
     let end = c.min-end.ensures in
     let start = c.from-at.ensures in
-    let size = c.from.ensures in
-    (ap (λ (n : ℕ). stop_of file c.min-end.result (c.loop-certificate.at + n)) padded ∙ sym (stop_step file c.min-end.result c.loop-certificate.at x c.in-Some.ensures.value) ∙ c.loop-certificate.invariant.0,
-      omega (arith, padded, fits, end, start, size))
+    let size = c.from.ensures in (
+      ap (λ (n : ℕ). stop_of file c.min-end.result (c.loop-certificate.at + n)) padded ∙ sym (stop_step file c.min-end.result c.loop-certificate.at x c.in-Some.ensures.value) ∙ c.loop-certificate.invariant.0,
+      omega (arith, padded, fits, end, start, size),
+    )
 
 pub returns : goal.returns
 returns c = sym (stop_here (bytes_of c.args.file) c.min-end.result c.loop-certificate.at c.in_default.ensures.value) ∙ c.loop-certificate.invariant.0
