@@ -18,7 +18,7 @@ STATUSES = "crates/pe_program/src/statuses.rt"
 ONE_LINE = 60
 #: The source that has the purpose of each command for help, and what comes before the string.
 PURPOSES = {
-    **{name: ("file_words.rt", rf'name: "{name}",\s+about: ') for name in ("show", "check", "dump", "object", "json")},
+    **{name: ("file_words.rt", rf'name: "{name}",\s+about: ') for name in ("show", "check", "dump", "object", "json", "sum")},
     "at": ("at_words.rt", r"const AT_ABOUT: &str =\s+"),
     "map": ("map_words.rt", r"const ABOUT: &str =\s+"),
     "rebase": ("rebase_words.rt", r"const ABOUT: &str =\s+"),

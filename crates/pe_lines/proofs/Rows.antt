@@ -6,6 +6,7 @@ use Rattle.pe_tables.specs.Key.{Ordinal, Name, Forward, Rva}
 use Rattle.pe_tables.specs.declared.fixups.FixupKind.TheVariants.{Bits32, Bits64, High, Low}
 use Rattle.pe_text.specs.Text.{hex, escaped, quoted}
 use Rattle.pe_lines.specs.Dump.{directory_line, section_line}
+use Rattle.pe_lines.specs.SumLine.{sum_line}
 use Rattle.pe_lines.specs.TableLines.{key_text, target_text, ordinal_line, name_line, export_lines, import_line, kind_text, fixup_line}
 
 directory_5 : directory_line 5 (record { rva = 0x2000; size = 12 }) ≡ codes "Directory 5 0x00002000 0x0000000c\n"
@@ -101,3 +102,13 @@ high_field = refl
 low_field : fixup_line (record { entry = 0x200a; field = 0x1008; kind = Low }) ≡ codes "fixup 0x00001008 low\n"
 unfolding fixup_line kind_text hex
 low_field = refl
+
+-- the field and the checksum of Debian's signed shim, as pefile computes it
+sum : sum_line 0x0010791b 0x0010791b ≡ codes "check sum 0x0010791b computed 0x0010791b\n"
+unfolding sum_line hex digits
+sum = refl
+
+-- a field that is 0
+no_sum : sum_line 0 0x00012a5f ≡ codes "check sum 0x00000000 computed 0x00012a5f\n"
+unfolding sum_line hex digits
+no_sum = refl

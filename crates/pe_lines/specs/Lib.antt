@@ -12,4 +12,5 @@ pub use Rattle.pe_text.specs.HeaderFields
 pub mod Dump
 pub mod Format
 pub mod Reports
+pub mod SumLine
 pub mod TableLines

@@ -94,7 +94,7 @@ where
 /// Whether the output for one of several files has a heading: its name, or a blank line after the previous page.
 fn is_headed(engine: Engine, is_first: bool) -> bool {
     match engine {
-        Engine::Check => true,
+        Engine::Check | Engine::Sum => true,
         Engine::Show { .. } => !is_first,
         _ => false,
     }

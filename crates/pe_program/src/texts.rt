@@ -8,7 +8,7 @@ use pe_tool::{
     Counted, Detail, Outcome, Page, PartSource, Placed, Policy, SetEntry, ShowOptions, Sink,
     Source, Spot, ToolError, at_each_sized, at_each_text, check_parts, check_sized, check_text,
     dump_parts, dump_sized, dump_text, fault_detail, json, json_parts, json_sized, map_report,
-    map_report_unbound, object_text, read_whole, show_page, show_page_sized,
+    map_report_unbound, object_text, read_whole, show_page, show_page_sized, sum_text,
 };
 use pe_view::View;
 use std::alloc::Allocator;
@@ -35,6 +35,8 @@ pub enum Engine<'e> {
     },
     /// `pe_tool::json`
     Json,
+    /// `pe_tool::sum`
+    Sum,
     /// `pe_tool::at_each`
     At(&'e [Spot<'e>]),
 }
@@ -104,7 +106,7 @@ fn write_note(output: &mut Output<impl Write>, colours_end: &str, most: u64) -> 
 fn heading_of<'n>(engine: Engine, name: &'n [u8], is_headed: bool) -> Heading<'n> {
     match engine {
         _ if !is_headed => Heading::Nothing,
-        Engine::Check => Heading::Name(name),
+        Engine::Check | Engine::Sum => Heading::Name(name),
         _ => Heading::BlankLine,
     }
 }
@@ -115,6 +117,7 @@ enum Lines<'e> {
     Check,
     Dump,
     Object,
+    Sum,
     At(&'e [Spot<'e>]),
 }
 
@@ -134,6 +137,7 @@ fn lines_of<A: Allocator + Copy, W: Sink>(
         Lines::Check => check_text(alloc, file, writer),
         Lines::Dump => dump_text(alloc, file, writer),
         Lines::Object => object_text(alloc, file, writer),
+        Lines::Sum => sum_text(alloc, file, writer),
         Lines::At(spots) => at_each_text(alloc, spots, file, writer),
     }
 }
@@ -189,6 +193,7 @@ fn write_whole<A: Allocator + Copy, R: Source, W: Sink>(
             (show_page(alloc, &page, reader, writer), None)
         }
         Engine::Json => (json(alloc, name, reader, writer), None),
+        Engine::Sum => write_lines(alloc, Lines::Sum, reader, writer),
         Engine::At(spots) => write_lines(alloc, Lines::At(spots), reader, writer),
     }
 }
@@ -218,6 +223,7 @@ fn write_sized<A: Allocator + Copy, R: Source, W: Sink>(
             (show_page_sized(alloc, &page, reader, size, writer), None)
         }
         Engine::Json => (json_sized(alloc, name, reader, size, writer), None),
+        Engine::Sum => write_lines(alloc, Lines::Sum, reader, writer),
         Engine::At(spots) => (at_each_sized(alloc, spots, reader, size, writer), None),
     }
 }

@@ -25,7 +25,8 @@ pub use coff_lines::{dump_object, object_text};
 pub use pe_detail::{Detail, DetailText, fault_detail};
 pub use pe_json::{json, json_parts, json_sized};
 pub use pe_lines::{
-    check, check_parts, check_sized, check_text, dump, dump_parts, dump_sized, dump_text,
+    check, check_parts, check_sized, check_text, dump, dump_parts, dump_sized, dump_text, sum,
+    sum_text,
 };
 pub use pe_reach::{PartSource, Placed, needed, read_enough, read_view};
 pub use pe_show::{

@@ -1,4 +1,4 @@
-//! The words of the commands that read files one at a time: `show`, `check`, `dump`, `object` and `json`.
+//! The words of the commands that read files one at a time: `show`, `check`, `dump`, `object`, `json` and `sum`.
 
 ghost use Rattle.std.specs.Prelude.{◌≡◌, Some, None, IfOk, IfErr, OnErr};
 ghost use Rattle.pe_words.specs.Colours.{colour_word, colours_named, IsShow};
@@ -34,7 +34,7 @@ pub(crate) const SHOW: FileCommand = FileCommand {
 };
 
 /// The file commands that have no options but `--most`.
-pub(crate) const FILE_COMMANDS: [FileCommand; 4] = [
+pub(crate) const FILE_COMMANDS: [FileCommand; 5] = [
     FileCommand {
         name: "check",
         about: "Prints one line for each image: accepted, with its format and number of sections, or its first fault",
@@ -62,6 +62,13 @@ pub(crate) const FILE_COMMANDS: [FileCommand; 4] = [
         file: "Images or objects, or - for standard input",
         takes_several: true,
         has_most: true,
+    },
+    FileCommand {
+        name: "sum",
+        about: "Prints one line for each image: its CheckSum field, and what it is to hold, or the first fault of its headers",
+        file: "Images, or - for standard input",
+        takes_several: true,
+        has_most: false,
     },
 ];
 
@@ -274,6 +281,9 @@ fn limited_job<'a, P>(
             files: files_of(alloc, found)?,
         },
         "check" => check_job(files_of(alloc, found)?),
+        "sum" => Job::Sum {
+            files: files_of(alloc, found)?,
+        },
         "dump" => dump_job(file_of(alloc, found, "FILE")?, most),
         "object" => object_job(file_of(alloc, found, "FILE")?, most),
         _ => return Ok(None),

@@ -59,6 +59,10 @@ pub enum Job<P> {
         most: Option<u64>,
         files: Vec<String>,
     },
+    /// `sum FILE...`: compute the CheckSum of images and write one line for each.
+    Sum {
+        files: Vec<String>,
+    },
     /// `at FILE ADDRESS...`: write what is at places of an image or an object.
     At {
         file: String,
