@@ -1,7 +1,7 @@
 -- Texts to which bytes are added, and what is written in the end.
-use Rattle.std.proofs.Common.{ℕ, List, [], ◌++◌, ◌≡◌, ◌∙◌, ◌+◌, append_assoc, append-nil}
+use Rattle.std.proofs.Common.{ℕ, List, [], ◌++◌, ◌≡◌, ◌∙◌, ◌+◌, append_assoc, append-nil, refl}
 use Rattle.pe_text.specs.declared.text_writer.TextWriter.{TextWriter}
-use Rattle.pe_text.specs.TextWriter.{IsBeginning, IsFresh, Stands, Adds}
+use Rattle.pe_text.specs.TextWriter.{IsBeginning, IsFresh, IsReady, Stands, Adds}
 use Rattle.pe_text.proofs.Adding.{Stands-fresh}
 use Rattle.pe_json.specs.Growing.{Stood, Grows}
 
@@ -13,6 +13,10 @@ module _ {W : Type 0} {taken : W → List ℕ} {failures : W → ℕ} where
     ready = p.ready;
     text = λ start count s. record { rest = s.rest ++ bytes; stands = rw (← append_assoc start s.rest bytes) (p.text start _ count s.stands) };
   }
+
+  -- it grows by nothing
+  pub grows_none : {a : TextWriter W} → IsReady failures a → Grows taken failures a a
+  grows_none ready = record { same = refl; ready = ready; text = λ start count s. s }
 
   infixl 20 ◌then◌
   -- it grows, and then grows again

@@ -3,3 +3,9 @@ pub mod NoObject
 pub mod ByParts
 pub mod Sized
 pub mod HeadBytes
+pub mod Escapes
+pub mod FlagItems
+pub mod Objects
+pub mod Tested
+pub mod Zeros
+pub mod Values

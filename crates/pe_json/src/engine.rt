@@ -1,29 +1,31 @@
 //! `json`: the engine of `petool json`, which checks a file as an image or an object and writes its line.
 
-ghost use Rattle.std.specs.Prelude.{◌-◌, ◌^◌, ◌<◌, ◌↔◌, length, IfOk, OnErr, IsErrOf};
+ghost use Rattle.std.specs.Prelude.{◌-◌, ◌^◌, ◌<◌, ◌↔◌, length, [], IfOk, OnErr, IsErrOf};
 ghost use Rattle.coff_read.specs.ObjectFaults.{object_tests};
 ghost use Rattle.pe_image.specs.ImageTests.{image_tests};
 ghost use Rattle.pe_json.specs.Growing.{Grows};
 ghost use Rattle.pe_json.specs.JsonReport.{file_tests, Prints, Ran, RanSized};
 ghost use Rattle.pe_reach.specs.Views.{seen_of};
-ghost use Rattle.pe_text.specs.TextWriter.{IsReady};
+ghost use Rattle.pe_text.specs.TextWriter.{IsReady, Adds};
 ghost use Rattle.pe_text.specs.Outcome.{IsOutcomeOf};
 
-use crate::beginning::{begin, begin_refused, refuse};
-use crate::image::{write_headers, write_image, write_tables};
+use crate::beginning::begin;
+use crate::image::{Content, write_image};
 use crate::json_text::JsonText;
 use crate::object::write_object;
+use crate::refused::{refuse, refuse_laid_out, refuse_unlaid};
 use coff_read::ObjectFile;
-use pe_head::Headers;
+use pe_image::Image;
 use pe_layout::Layout;
 use pe_reach::laws::faults_agree;
 use pe_reach::{ViewFile, read_view, read_whole_tables};
-use pe_tables::TableError;
+use pe_tables::{Exports, NamesByOrdinal, TableError};
 use pe_text::{Outcome, Sink, Source, TextWriter, ToolError, read_whole};
 use pe_view::Fault;
 use std::alloc::{AllocError, Allocator};
 
 /// Checks an object, and writes its line.
+#[tactic(auto, using(crate::proofs::Growing::grows_by, crate::proofs::Growing::grows_none, crate::proofs::Objects::adds_none))]
 fn write_object_line<A: Allocator + Copy, W: Sink>(
     alloc: A,
     text: &mut TextWriter<W>,
@@ -43,59 +45,56 @@ fn write_object_line<A: Allocator + Copy, W: Sink>(
             json.end(text)?;
             Ok(Outcome::Done)
         }
-        Err(fault) => Ok(refuse(text, name, ViewFile::whole(file), fault)),
+        Err(fault) => {
+            refuse(text, name, ViewFile::whole(file), &fault);
+            Ok(Outcome::Refused(fault))
+        }
     }
 }
 
-/// Writes the line of a refused image that is laid out: its fault, its headers and sections, and its tables that have no fault.
+/// The names of an image's exports by their ordinals; none if the exports have a fault.
+fn names_of<A: Allocator + Copy>(
+    alloc: A,
+    exports: &Option<Exports<A>>,
+) -> Result<NamesByOrdinal<A>, AllocError> {
+    match exports {
+        Some(exports) => NamesByOrdinal::new(alloc, exports),
+        None => Ok(NamesByOrdinal::none(alloc)),
+    }
+}
+
+/// Writes the line of a refused image that is laid out. All memory is taken before its first byte.
+#[tactic(auto, using(crate::proofs::Growing::grows_by, crate::proofs::Growing::grows_none, crate::proofs::Objects::adds_none))]
 fn write_laid_out<A: Allocator + Copy, W: Sink>(
     alloc: A,
     text: &mut TextWriter<W>,
     name: &[u8],
     file: ViewFile,
     layout: &Layout,
-    fault: Fault,
+    fault: &Fault,
 ) -> Result<(), AllocError>
     requires { IsReady W.failures text.old }
-    ensures { Grows W.taken W.failures text.old text.new }
+    ensures grows { Grows W.taken W.failures text.old text.new }
+    ensures unwritten { OnErr result (Adds W.taken W.failures text.old text.new []) }
 {
     let tables = read_whole_tables(alloc, layout)?;
-    begin_refused(text, name, file, fault);
-    let mut json = JsonText::new(alloc);
-    let headers = layout.headers();
-    write_headers(&mut json, text, file.strings(headers), headers);
-    write_tables(&mut json, text, &tables);
-    json.end(text)
-}
-
-/// Writes the line of an image with one of faults 13 to 15: its fault, its headers and its sections.
-fn write_unlaid<A: Allocator + Copy, W: Sink>(
-    alloc: A,
-    text: &mut TextWriter<W>,
-    name: &[u8],
-    file: ViewFile,
-    headers: &Headers,
-    fault: Fault,
-) -> Result<(), AllocError>
-    requires { IsReady W.failures text.old }
-    ensures { Grows W.taken W.failures text.old text.new }
-{
-    begin_refused(text, name, file, fault);
-    let mut json = JsonText::new(alloc);
-    write_headers(&mut json, text, file.strings(headers), headers);
-    json.end(text)
+    let names = names_of(alloc, &tables.exports)?;
+    refuse_laid_out(text, name, file, fault, layout.headers(), &tables, &names);
+    Ok(())
 }
 
 /// Writes the line of a refused image: its fault, and what has none.
+#[tactic(auto, using(crate::proofs::Growing::grows_by, crate::proofs::Growing::grows_none, crate::proofs::Objects::adds_none))]
 fn write_refused<A: Allocator + Copy, W: Sink>(
     alloc: A,
     text: &mut TextWriter<W>,
     name: &[u8],
     file: ViewFile,
-    fault: Fault,
+    fault: &Fault,
 ) -> Result<(), AllocError>
     requires { IsReady W.failures text.old }
     ensures grows { Grows W.taken W.failures text.old text.new }
+    ensures unwritten { OnErr result (Adds W.taken W.failures text.old text.new []) }
     ensures memory { OnErr result (0 < length (seen_of file.entry)) }
 {
     let Ok(headers) = file.headers() else {
@@ -104,11 +103,42 @@ fn write_refused<A: Allocator + Copy, W: Sink>(
     };
     match file.lay_out() {
         Ok(layout) => write_laid_out(alloc, text, name, file, &layout, fault),
-        Err(_) => write_unlaid(alloc, text, name, file, &headers, fault),
+        Err(_) => {
+            refuse_unlaid(text, name, file, fault, &headers);
+            Ok(())
+        }
     }
 }
 
+/// Writes the line of an image without a fault. All memory is taken before its first byte.
+#[tactic(auto, using(crate::proofs::Growing::grows_by, crate::proofs::Growing::grows_none, crate::proofs::Objects::adds_none))]
+fn write_accepted<A: Allocator + Copy, W: Sink>(
+    alloc: A,
+    text: &mut TextWriter<W>,
+    name: &[u8],
+    file: ViewFile,
+    image: &Image<A>,
+) -> Result<(), AllocError>
+    requires { IsReady W.failures text.old }
+    ensures grows { Grows W.taken W.failures text.old text.new }
+    ensures unwritten { OnErr result (Adds W.taken W.failures text.old text.new []) }
+{
+    let names = NamesByOrdinal::new(alloc, &image.exports)?;
+    let headers = image.layout.headers();
+    let content = Content {
+        headers,
+        strings: file.strings(headers),
+        exports: &image.exports,
+        names: &names,
+        imports: &image.imports,
+        fixups: &image.fixups,
+    };
+    write_image(text, name, content);
+    Ok(())
+}
+
 /// Checks an image, and writes its line.
+#[tactic(auto, using(crate::proofs::Growing::grows_by, crate::proofs::Growing::grows_none, crate::proofs::Objects::adds_none))]
 fn write_image_line<A: Allocator + Copy, W: Sink>(
     alloc: A,
     text: &mut TextWriter<W>,
@@ -118,18 +148,16 @@ fn write_image_line<A: Allocator + Copy, W: Sink>(
     requires { IsReady W.failures text.old }
     ensures verdict { IfOk result (IsOutcomeOf (image_tests 0 (seen_of file.entry))) }
     ensures grows { Grows W.taken W.failures text.old text.new }
+    ensures unwritten { OnErr result (Adds W.taken W.failures text.old text.new []) }
     ensures memory { OnErr result (0 < length (seen_of file.entry)) }
 {
     match file.read_image(alloc) {
         Ok(image) => {
-            begin(text, name, true);
-            let mut json = JsonText::new(alloc);
-            write_image(&mut json, text, file, &image);
-            json.end(text)?;
+            write_accepted(alloc, text, name, file, &image)?;
             Ok(Outcome::Done)
         }
         Err(TableError::Fault(fault)) => {
-            write_refused(alloc, text, name, file, fault)?;
+            write_refused(alloc, text, name, file, &fault)?;
             Ok(Outcome::Refused(fault))
         }
         Err(TableError::Memory) => Err(AllocError),
@@ -137,6 +165,7 @@ fn write_image_line<A: Allocator + Copy, W: Sink>(
 }
 
 /// Checks a file as an object if it begins like one, else as an image, and writes its line.
+#[tactic(auto, using(crate::proofs::Growing::grows_by, crate::proofs::Growing::grows_none, crate::proofs::Objects::adds_none))]
 fn write_line<A: Allocator + Copy, W: Sink>(
     alloc: A,
     text: &mut TextWriter<W>,

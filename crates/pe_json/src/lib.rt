@@ -18,14 +18,22 @@
 #![tactic(auto)]
 
 mod beginning;
+mod directories;
 mod engine;
 mod exports;
+mod fault;
+mod flags;
 mod headers;
 mod image;
 mod json_text;
 mod object;
+mod old_headers;
+mod old_sections;
+mod optional_header;
 mod parts;
+mod refused;
 mod sections;
+mod string;
 mod tables;
 mod value;
 

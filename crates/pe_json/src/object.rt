@@ -3,9 +3,9 @@
 ghost use Rattle.pe_json.specs.Growing.{Grows};
 ghost use Rattle.pe_text.specs.TextWriter.{IsReady};
 
-use crate::headers::coff_members;
 use crate::json_text::JsonText;
-use crate::sections::section_members;
+use crate::old_headers::coff_members;
+use crate::old_sections::section_members;
 use crate::value::Value::{Bytes, Name, Number, Text};
 use crate::value::{Member, text_if};
 use coff_read::{

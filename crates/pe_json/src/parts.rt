@@ -2,53 +2,19 @@
 //! are read.
 
 ghost use Rattle.std.specs.Prelude.{◌≡◌, ◌-◌, ◌^◌, ◌<◌, ◌↔◌, IsErrOf};
-ghost use Rattle.pe_text.specs.TextWriter.{IsReady};
-ghost use Rattle.pe_json.specs.Growing.{Grows};
 ghost use Rattle.pe_json.specs.JsonByParts.{PrintsDone, PrintsParts, RanByParts};
 
-use crate::beginning::begin;
-use crate::exports::write_exports;
-use crate::image::write_headers;
-use crate::json_text::JsonText;
-use crate::tables::{write_fixups, write_imports};
+use crate::image::{Content, write_image};
 use coff_read::ImageStrings;
-use pe_head::Headers;
-use pe_parts::{PackedTables, read_packed};
+use pe_parts::read_packed;
 use pe_reach::{PartSource, Parts, read_names, read_parts};
+use pe_tables::NamesByOrdinal;
 use pe_text::{Outcome, Sink, TextWriter, ToolError};
 use pe_view::View;
-use std::alloc::{AllocError, Allocator};
-
-/// What is known of an image without a fault.
-#[derive(Clone, Copy)]
-struct Content<'t, 'a, A: Allocator> {
-    headers: &'t Headers,
-    strings: Option<ImageStrings<'a>>,
-    tables: &'t PackedTables<'a, A>,
-}
-
-/// Writes the line of an image without a fault.
-fn write_content<A: Allocator + Copy, W: Sink>(
-    alloc: A,
-    text: &mut TextWriter<W>,
-    name: &[u8],
-    content: Content<A>,
-) -> Result<(), AllocError>
-    requires { IsReady W.failures text.old }
-    ensures { Grows W.taken W.failures text.old text.new }
-{
-    begin(text, name, true);
-    let mut json = JsonText::new(alloc);
-    write_headers(&mut json, text, content.strings, content.headers);
-    write_exports(&mut json, text, &content.tables.exports);
-    write_imports(&mut json, text, &content.tables.imports);
-    write_fixups(&mut json, text, &content.tables.fixups);
-    json.end(text)
-}
+use std::alloc::Allocator;
 
 /// Writes the line of an image without a fault to a sink.
 fn print_content<A: Allocator + Copy, W: Sink>(
-    alloc: A,
     writer: &mut W,
     name: &[u8],
     content: Content<A>,
@@ -57,12 +23,9 @@ fn print_content<A: Allocator + Copy, W: Sink>(
     ensures { PrintsDone (W.taken writer.old) (W.taken writer.new) (W.failures writer.old) (W.failures writer.new) result }
 {
     let mut text = TextWriter::new(writer);
-    let answer = write_content(alloc, &mut text, name, content);
+    write_image(&mut text, name, content);
     match text.finish() {
-        Ok(()) => match answer {
-            Ok(()) => Ok(Outcome::Done),
-            Err(_) => Err(ToolError::Memory),
-        },
+        Ok(()) => Ok(Outcome::Done),
         Err(_) => Err(ToolError::Write),
     }
 }
@@ -86,12 +49,18 @@ fn print_parts<A: Allocator + Copy, W: Sink>(
     let strings = ImageStrings::new(View::new(&bytes), &packed);
     match read_packed(alloc, &bytes, packed, 0) {
         Ok(Some(tables)) => {
+            let Ok(names) = NamesByOrdinal::new(alloc, &tables.exports) else {
+                return Err(ToolError::Memory);
+            };
             let content = Content {
                 headers: &headers,
                 strings,
-                tables: &tables,
+                exports: &tables.exports,
+                names: &names,
+                imports: &tables.imports,
+                fixups: &tables.fixups,
             };
-            match print_content(alloc, writer, name, content) {
+            match print_content(writer, name, content) {
                 Ok(outcome) => Ok(Some(outcome)),
                 Err(error) => Err(error),
             }

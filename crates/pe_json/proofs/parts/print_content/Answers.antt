@@ -1,16 +1,12 @@
 use Rattle.std.proofs.Common.{rules, refl}
-use Rattle.pe_json.proofs.Growing.{written_whole, written_part}
+use Rattle.pe_json.proofs.Growing.{grows_by, written_whole, written_part}
 use Rattle.pe_json.proofs.parts.print_content.Goals as goal
 
-pub returns-in-Ok-answer : goal.returns-in-Ok-answer
-returns-in-Ok-answer g c =
-    let told = written_whole g.W.Sink.taken g.W.Sink.failures _ _ c.finish.new.self _ _ c.new-text.ensures.fresh c.write_content-answer.ensures c.in-Ok.ensures.written (search rules) in
+pub returns-in-Ok : goal.returns-in-Ok
+returns-in-Ok g c =
+    let told = written_whole g.W.Sink.taken g.W.Sink.failures _ _ c.finish.new.self _ _ c.new-text.ensures.fresh (grows_by c.write_image.ensures) c.in-Ok.ensures.written (search rules) in
     (told.0, (refl, told.1))
-
-pub returns-in-Err-answer : goal.returns-in-Err-answer
-returns-in-Err-answer g c =
-    written_whole g.W.Sink.taken g.W.Sink.failures _ _ c.finish.new.self _ _ c.new-text.ensures.fresh c.write_content-answer.ensures c.in-Ok.ensures.written (search rules)
 
 pub returns-in-Err : goal.returns-in-Err
 returns-in-Err g c =
-    written_part g.W.Sink.taken g.W.Sink.failures _ _ c.finish.new.self _ _ c.new-text.ensures.fresh c.write_content-answer.ensures c.in-Err.ensures.written (search rules)
+    written_part g.W.Sink.taken g.W.Sink.failures _ _ c.finish.new.self _ _ c.new-text.ensures.fresh (grows_by c.write_image.ensures) c.in-Err.ensures.written (search rules)
