@@ -40,7 +40,7 @@ ran_by_parts len ps ps' taken taken' count count' parts read reads of (Ok None) 
   writes = prints.0 ∙ sym (append-nil taken);
   judged = refl;
 }
-ran_by_parts len ps ps' taken taken' count count' parts read reads of (Err Read) prints = absurd prints.1
+ran_by_parts len ps ps' taken taken' count count' parts read reads of (Err Read) prints = absurd prints
 ran_by_parts len ps ps' taken taken' count count' parts read reads of (Err Write) prints = record {
   read = read;
   written = prints.0.0;
@@ -50,8 +50,8 @@ ran_by_parts len ps ps' taken taken' count count' parts read reads of (Err Write
 }
 ran_by_parts len ps ps' taken taken' count count' parts read reads of (Err Memory) prints = record {
   read = read;
-  written = prints.0.0;
+  written = [];
   reads = reads;
-  writes = prints.0.1;
-  judged = tt;
+  writes = prints.0 ∙ sym (append-nil taken);
+  judged = refl;
 }

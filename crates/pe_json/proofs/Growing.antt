@@ -41,6 +41,14 @@ module _ {W : Type 0} (taken : W → List ℕ) (failures : W → ℕ) where
       let e = ends (taken w) (taken w ++ s.rest) (failures w) s.stands in
       ((s.rest, rw is e.0), rw is e.1)
 
+  -- exactly these bytes were written
+  pub line_written : (a b c : TextWriter W) (w v : W) (line : List ℕ) → IsFresh w a → Adds taken failures a b line
+      → ((start text : List ℕ) (count : ℕ) → Stands taken failures b start text count → (taken c.writer.now ≡ text) × (failures c.writer.now ≡ count))
+      → v ≡ c.writer.now → (taken v ≡ taken w ++ line) × (failures v ≡ failures w)
+  line_written a b c w v line fresh adds ends is =
+      let e = ends (taken w) (taken w ++ line) (failures w) (adds.text _ _ _ (Stands-fresh taken failures a w fresh)) in
+      (rw is e.0, rw is e.1)
+
   -- the beginning of the line was written, and a write failed
   pub written_part : (a b c : TextWriter W) (w v : W) → IsFresh w a → Grows taken failures a b
       → ((start text : List ℕ) (count : ℕ) → Stands taken failures b start text count

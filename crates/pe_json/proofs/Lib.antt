@@ -9,3 +9,4 @@ pub mod Objects
 pub mod Tested
 pub mod Zeros
 pub mod Values
+pub mod LineRows

@@ -6,7 +6,7 @@ use Rattle.std.proofs.lemmas.List.{take-append-drop}
 use Rattle.std.proofs.Math.ListN.{drop_of_length-le}
 use Rattle.json.specs.Print.{quoted, escape}
 use Rattle.pe_text.specs.Text.{hex, numbered}
-use Rattle.pe_json.specs.JsonText.{with_commas, hex_string, member, object, list, name_as, text_if, numbered_rows}
+use Rattle.pe_json.specs.JsonText.{with_commas, hex_string, member, object, name_as, text_if, numbered_rows}
 use Rattle.pe_text.specs.declared.text_writer.TextWriter.{TextWriter}
 use Rattle.pe_text.specs.TextWriter.{IsReady, Adds, TakesNoMore}
 use Rattle.pe_text.proofs.Adding.{◌then◌}

@@ -1,9 +1,9 @@
 -- The values of a fault.
-use Rattle.std.proofs.Common.{◌≡◌, ◌&&◌, ℕ, Bool, true, false, List, [], ◌∷◌, ◌++◌, refl, sym, ◌∙◌, ap, map}
+use Rattle.std.proofs.Common.{◌≡◌, ◌&&◌, ℕ, Bool, true, false, List, [], ◌∷◌, ◌++◌, refl, sym, ◌∙◌, ap}
 use Rattle.std.specs.Prelude.{flat_map}
 use Rattle.std.specs.List.{list_all}
 use Rattle.json.specs.Print.{escape_byte}
-use Rattle.pe_json.specs.JsonText.{member, object, with_commas}
+use Rattle.pe_json.specs.JsonText.{member, object}
 use Rattle.pe_json.specs.Listed.{is_nil, items_text, more}
 use Rattle.pe_json.specs.Refused.{values_object}
 use Rattle.pe_json.proofs.Objects.{nil_more}

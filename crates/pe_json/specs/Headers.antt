@@ -6,7 +6,7 @@ use Rattle.pe_head.specs.declared.names.FlagKind.TheVariants.{File, Dll}
 use Rattle.pe_head.specs.declared.directory.Directory.{Directory}
 use Rattle.pe_head.specs.declared.headers.Headers.{Headers}
 use Rattle.coff_read.specs.declared.headers.FileHeader.{FileHeader}
-use Rattle.pe_json.specs.JsonText.{member, object, list, number, wide, text_if, numbered_rows}
+use Rattle.pe_json.specs.JsonText.{object, list, number, wide, text_if, numbered_rows}
 use Rattle.pe_json.specs.Flags.{flags_member}
 
 -- ---- the COFF file header

@@ -1,5 +1,5 @@
 -- The line of a refused file.
-use Rattle.std.specs.Prelude.{ℕ, Bool, true, false, List, [], ◌∷◌, ◌++◌, codes, flat_map, Option, None, Some, option_map}
+use Rattle.std.specs.Prelude.{ℕ, false, List, [], ◌∷◌, ◌++◌, codes, flat_map, Option, None, Some, option_map}
 use Rattle.json.specs.Print.{quoted}
 use Rattle.pe_view.specs.declared.fault.Place.{Place}
 use Rattle.pe_view.specs.declared.fault.Place.TheVariants as at

@@ -1,12 +1,11 @@
 -- The section table's rows in a line of JSON.
-use Rattle.std.specs.Prelude.{ℕ, ◌==◌, ◌&&◌, if◌then◌else◌, Bool, true, false, List, [], ◌∷◌, ◌++◌, codes, Option}
+use Rattle.std.specs.Prelude.{ℕ, ◌==◌, if◌then◌else◌, Bool, true, false, List, [], ◌∷◌, ◌++◌, codes, Option}
 use Rattle.std.specs.Cmp.Lexicographic.{pointwise}
 use Rattle.std.specs.Prelude.{nat_eq}
 use Rattle.pe_head.specs.declared.names.FlagKind.TheVariants.{Section}
 use Rattle.pe_head.specs.declared.section.SectionHeader.{SectionHeader}
 use Rattle.coff_read.specs.ImageNames.{section_name}
 use Rattle.pe_json.specs.JsonText.{object, list, number, name, numbered_rows}
-use Rattle.pe_json.specs.Listed.{more}
 use Rattle.pe_json.specs.Flags.{flags_member}
 
 -- a byte and those that are kept of the bytes after it: it is left out if it is zero and none of them is kept

@@ -1,7 +1,11 @@
 //! `json_parts`: `json` for an image's file of a known size, of which only the headers, the sections with tables and the string table
 //! are read.
 
-ghost use Rattle.std.specs.Prelude.{◌≡◌, ◌-◌, ◌^◌, ◌<◌, ◌↔◌, IsErrOf};
+ghost use Rattle.std.specs.Prelude.{map, option_map, ◌≡◌, ◌-◌, ◌^◌, ◌<◌, ◌↔◌, IsErrOf};
+ghost use Rattle.coff_read.specs.ImageNames.{table_of};
+ghost use Rattle.pe_tables.specs.ExportsView.{exports_view, by_ordinal_view};
+ghost use Rattle.pe_tables.specs.ImportView.{import_view};
+ghost use Rattle.pe_json.specs.ImageLine.{image_line};
 ghost use Rattle.pe_json.specs.JsonByParts.{PrintsDone, PrintsParts, RanByParts};
 
 use crate::image::{Content, write_image};
@@ -20,7 +24,10 @@ fn print_content<A: Allocator + Copy, W: Sink>(
     content: Content<A>,
 ) -> Result<Outcome, ToolError>
     requires { W.failures writer.old < 2 ^ 64 - 1 }
-    ensures { PrintsDone (W.taken writer.old) (W.taken writer.new) (W.failures writer.old) (W.failures writer.new) result }
+    ensures { PrintsDone
+        (image_line name.now (option_map table_of content.entry.strings) content.entry.headers.now (exports_view content.entry.exports.now)
+        (by_ordinal_view content.entry.names.now) (map import_view content.entry.imports.now) content.entry.fixups.now)
+        (W.taken writer.old) (W.taken writer.new) (W.failures writer.old) (W.failures writer.new) result }
 {
     let mut text = TextWriter::new(writer);
     write_image(&mut text, name, content);
@@ -31,7 +38,7 @@ fn print_content<A: Allocator + Copy, W: Sink>(
 }
 
 /// Reads the tables of an image from its parts, and writes its line. `None` if the parts do not decide that it has no fault; then, and
-/// on the error `Memory` for want of memory for tables, nothing was written.
+/// on the error `Memory`, nothing was written.
 fn print_parts<A: Allocator + Copy, W: Sink>(
     alloc: A,
     writer: &mut W,
@@ -75,7 +82,7 @@ fn print_parts<A: Allocator + Copy, W: Sink>(
 /// these parts. `Ok(None)` means that they do not decide it, or that the image may have a fault: nothing was written, and
 /// [`json_sized`](crate::json_sized) is for this file.
 ///
-/// On the error `Read` nothing was written; on `Write` and `Memory` bytes may have been. Condition: each device has counted fewer than
+/// On the errors `Read` and `Memory` nothing was written, on `Write` the beginning of the line. Condition: each device has counted fewer than
 /// 2^64 - 1 failures so far.
 pub fn json_parts<A: Allocator + Copy, R: PartSource, W: Sink>(
     alloc: A,

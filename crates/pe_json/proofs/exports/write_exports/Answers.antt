@@ -1,4 +1,4 @@
-use Rattle.std.proofs.Common.{true, List, ℕ, map, ap, sym, ◌∙◌, subst}
+use Rattle.std.proofs.Common.{true, List, ℕ, map, ap, sym, ◌∙◌}
 use Rattle.std.specs.Prelude.{flat_map}
 use Rattle.std.proofs.lemmas.List.Folds.{flat_map-map}
 use Rattle.pe_tables.specs.Key.{Target}

@@ -1,5 +1,5 @@
-use Rattle.std.proofs.Common.{refl, codes, ◌++◌}
-use Rattle.json.specs.Print.{escape_byte, quoted}
+use Rattle.std.proofs.Common.{refl, codes}
+use Rattle.json.specs.Print.{escape_byte}
 use Rattle.pe_text.proofs.Adding.{◌then◌}
 use Rattle.pe_json.specs.JsonText.{member, object, with_commas}
 use Rattle.pe_json.specs.Listed.{more}

@@ -1,5 +1,4 @@
-use Rattle.std.proofs.Common.{[], ◌&&◌, Bool, List, ℕ, map, refl, ap, sym, ◌∙◌, subst, arith}
-use Rattle.std.specs.Prelude.{flat_map}
+use Rattle.std.proofs.Common.{[], ◌&&◌, List, ℕ, map, refl, ap, ◌∙◌, subst}
 use Rattle.pe_tables.specs.Key.{target_view}
 use Rattle.pe_tables.specs.NameIndex.{export_view}
 use Rattle.pe_json.specs.ExportRows.{name_at, row_if}

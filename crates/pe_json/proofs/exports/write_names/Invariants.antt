@@ -1,4 +1,4 @@
-use Rattle.std.proofs.Common.{◌≡◌, ◌&&◌, ◌++◌, Bool, ℕ, List, drop, map}
+use Rattle.std.proofs.Common.{◌≡◌, ◌&&◌, ◌++◌, ℕ, List, drop, map}
 use Rattle.std.specs.Prelude.{flat_map}
 use Rattle.pe_tables.specs.Key.{target_view}
 use Rattle.pe_tables.specs.NameIndex.{export_view}

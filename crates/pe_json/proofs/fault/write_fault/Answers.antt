@@ -1,6 +1,6 @@
 use Rattle.std.proofs.Common.{codes}
 use Rattle.json.specs.Print.{escape_byte}
-use Rattle.pe_json.specs.JsonText.{member, object, number}
+use Rattle.pe_json.specs.JsonText.{member, number}
 use Rattle.pe_json.specs.Listed.{more}
 use Rattle.pe_json.specs.Refused.{fault_members}
 use Rattle.pe_json.proofs.Objects.{also, ended, object_after}

@@ -1,5 +1,4 @@
 use Rattle.std.proofs.Common.{codes, true}
-use Rattle.pe_text.proofs.Adding.{◌then◌}
 use Rattle.pe_json.specs.JsonText.{number}
 use Rattle.pe_json.specs.ImageLine.{first_members}
 use Rattle.pe_json.proofs.Objects.{also, whole_line}

@@ -1,7 +1,5 @@
 use Rattle.std.proofs.Common.{refl, codes}
 use Rattle.json.specs.Print.{escape_byte}
-use Rattle.std.specs.Prelude.{option_map}
-use Rattle.pe_text.specs.FileKind.{kind_name}
 use Rattle.pe_json.proofs.Objects.{texted, also}
 use Rattle.pe_json.proofs.refused.write_refusal.Goals as goal
 

@@ -1,4 +1,3 @@
-use Rattle.std.proofs.Common.{ℕ, List}
 use Rattle.pe_json.proofs.Zeros.{len_more}
 use Rattle.pe_json.proofs.sections.without_zeros.Goals as goal
 
