@@ -22,7 +22,7 @@ const ROWS: usize = 16;
 /// [`JsonText::end`] returns the error.
 #[derive(Drop)]
 pub(crate) struct JsonText<A: Allocator> {
-    pub alloc: A,
+    alloc: A,
     row: Writer<A>,
     /// How many rows are not written yet.
     rows: usize,
@@ -43,7 +43,7 @@ impl<A: Allocator + Copy> JsonText<A> {
     }
 
     /// Notes an allocation that failed.
-    pub fn note(&mut self, done: Result<(), AllocError>) {
+    fn note(&mut self, done: Result<(), AllocError>) {
         if done.is_err() {
             self.refused = true;
         }
@@ -105,14 +105,6 @@ impl<A: Allocator + Copy> JsonText<A> {
         self.token(Token::EndArray);
     }
 
-    /// Adds a number of 64 bits to the row, as a string of hexadecimal digits.
-    fn wide(&mut self, number: u64) {
-        match format!(in self.alloc; "{number:#x}") {
-            Ok(digits) => self.token(Token::String(digits.as_str())),
-            Err(error) => self.note(Err(error)),
-        }
-    }
-
     /// Adds a member that is a fixed string to the row.
     pub fn text(&mut self, key: &str, text: &str) {
         self.key(key);
@@ -139,10 +131,6 @@ impl<A: Allocator + Copy> JsonText<A> {
         match value {
             Value::Absent => {}
             Value::Number(number) => self.number(key, *number),
-            Value::Wide(number) => {
-                self.key(key);
-                self.wide(*number);
-            }
             Value::Text(text) => self.text(key, text),
             Value::Name(key_hex, name) => self.name(key, key_hex, name),
             Value::Bytes(bytes) => {

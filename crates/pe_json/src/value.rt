@@ -9,8 +9,6 @@ pub(crate) enum Value<'a> {
     Absent,
     /// A number that every reader of JSON represents exactly: it is under 2^53.
     Number(u64),
-    /// A 64-bit number, as a string of `0x` and hexadecimal digits, since it may be over 2^53.
-    Wide(u64),
     /// A fixed string.
     Text(&'static str),
     /// A name from the file: a string if it is UTF-8, else a string of two hexadecimal digits for each byte, under this key.
