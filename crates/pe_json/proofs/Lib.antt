@@ -1,4 +1,6 @@
-pub mod Growing
+pub mod OrderedNames
+pub mod SameLines
+pub mod Members
 pub mod NoObject
 pub mod ByParts
 pub mod Sized
@@ -10,3 +12,5 @@ pub mod Tested
 pub mod Zeros
 pub mod Values
 pub mod LineRows
+pub mod ObjectLineRows
+pub mod RowByRow

@@ -1,13 +1,20 @@
 -- Lines of JSON as the definitions give them, written out.
-use Rattle.std.proofs.Common.{◌≡◌, [], ◌∷◌, ◌++◌, Some, None, refl, codes}
+use Rattle.std.proofs.Common.{◌≡◌, [], ◌∷◌, ◌++◌, Some, None, false, refl, codes}
 use Rattle.std.specs.Fmt.{digits}
 use Rattle.std.specs.Str.{is_utf8, chars}
 use lib.Utf8.{encode}
 use Rattle.json.specs.Print.{quoted, escape_byte}
 use Rattle.pe_text.specs.Text.{hex}
+use Rattle.pe_text.specs.FaultWords.{rules}
+use Rattle.pe_view.specs.declared.fault.Place.TheVariants.{File}
+use Rattle.pe_head.specs.declared.detail.FaultDetail.TheVariants.{PastFile}
+use Rattle.pe_detail.specs.DetailWords.{detail_words}
+use Rattle.pe_detail.specs.declared.detail.Detail.TheVariants.{Head}
 use Rattle.pe_tables.specs.Key as key
 use Rattle.pe_tables.specs.declared.fixups.FixupKind.TheVariants.{Bits64, High}
-use Rattle.pe_json.specs.JsonText.{with_commas, hex_string, member, object, list, name}
+use Rattle.pe_json.specs.JsonText.{with_commas, hex_string, member, number, object, list, name}
+use Rattle.pe_json.specs.Line.{first_members, line}
+use Rattle.pe_json.specs.Refused.{fault_members, place_members, place_object, words_members, values_members}
 use Rattle.pe_json.specs.TableRows.{key_member, import_row, imports_list, kind_member, fixup_row}
 use Rattle.pe_json.specs.ExportRows.{name_if, target_members, export_row}
 
@@ -53,3 +60,9 @@ forwarder = refl
 unnamed_export : export_row 9 None (key.Rva 5378) ≡ codes "{\"ordinal\":9,\"rva\":5378}"
 unfolding export_row name_if target_members member object with_commas escape_byte digits
 unnamed_export = refl
+
+-- the line of a refused file, with the first members of what has no fault
+refused : line (codes "short.dll") false (fault_members (record { number = 13; image = 0; place = File 312 }) (Some (Head (PastFile 16 512 520))) ++ (member (codes "format") (quoted (codes "PE32")) ∷ number (codes "pe_offset") 64 ∷ []))
+    ≡ codes "{\"schema\":1,\"file\":\"short.dll\",\"accepted\":false,\"fault\":{\"number\":13,\"image\":0,\"place\":{\"file\":312},\"subject\":\"section header\",\"rule\":\"the section's raw data extends past the end of the file\",\"values\":{\"size\":16,\"offset\":512,\"file_size\":520}},\"format\":\"PE32\",\"pe_offset\":64}\n"
+unfolding first_members fault_members place_members place_object words_members values_members detail_words rules member object with_commas is_utf8 chars encode escape_byte digits
+refused = refl

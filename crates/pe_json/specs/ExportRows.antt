@@ -1,5 +1,7 @@
 -- The exports of an image in a line of JSON: a row for each name, and for each ordinal that has none.
 use Rattle.std.specs.Prelude.{ℕ, ◌==◌, List, [], ◌∷◌, ◌++◌, codes, flat_map, filter, slice_get, Option, None, Some, option_map}
+use Rattle.std.specs.List.Sorted.{IsPermutation}
+use Rattle.pe_tables.specs.ExportNames.{indexed}
 use Rattle.pe_tables.specs.Key.{Target, Rva, Forward}
 use Rattle.pe_tables.specs.Exports.{Exports}
 use Rattle.pe_json.specs.JsonText.{member, object, list, number, name}
@@ -36,9 +38,13 @@ own_rows exports ordinal target (own ∷ names) = flat_map (λ name. row_if ordi
 abbrev pub ordinal_rows : List (List ℕ × Target) → List (ℕ × ℕ) → ℕ × Target → List (List ℕ)
 ordinal_rows exports names pair = own_rows exports pair.0 pair.1 (filter (λ name. name.0 == pair.0) names)
 
--- the rows of all ordinals, with the names of each
-abbrev pub export_rows : Exports → List (ℕ × ℕ) → List (List ℕ)
-export_rows exports names = flat_map (ordinal_rows exports.names names) exports.ordinals
+-- the rows of all ordinals, each with its names in the order of the name pointer table
+abbrev pub export_rows : Exports → List (List ℕ)
+export_rows exports = flat_map (ordinal_rows exports.names (indexed exports.name_ordinals)) exports.ordinals
 
-abbrev pub exports_list : Exports → List (ℕ × ℕ) → List ℕ
-exports_list exports names = list (export_rows exports names)
+abbrev pub exports_list : Exports → List ℕ
+exports_list exports = list (export_rows exports)
+
+-- names, each an ordinal and an index, are those of exports
+abbrev pub AreNamesOf : Exports → List (ℕ × ℕ) → Type 0
+AreNamesOf exports names = IsPermutation (indexed exports.name_ordinals) names

@@ -7,14 +7,16 @@ pub use Rattle.pe_text.specs.Engine
 pub use Rattle.pe_text.specs.FileKind
 pub use Rattle.pe_text.specs.Outcome
 pub mod ExportRows
+pub mod FileLine
 pub mod Flags
-pub mod Growing
 pub mod Headers
 pub mod ImageLine
 pub mod JsonByParts
 pub mod JsonReport
 pub mod JsonText
+pub mod Line
 pub mod Listed
+pub mod ObjectLine
 pub mod Refused
 pub mod Sections
 pub mod Strings

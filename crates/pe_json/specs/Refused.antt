@@ -16,7 +16,8 @@ use Rattle.pe_tables.specs.Exports.{Exports}
 use Rattle.pe_tables.specs.Imports.{Import}
 use Rattle.pe_tables.specs.declared.fixups.Fixup.{Fixup}
 use Rattle.pe_json.specs.JsonText.{member, object, number, text_if, address_string}
-use Rattle.pe_json.specs.ImageLine.{line, exports_members, imports_members, fixups_members}
+use Rattle.pe_json.specs.ImageLine.{exports_members, imports_members, fixups_members}
+use Rattle.pe_json.specs.Line.{line}
 
 -- ---- the fault
 -- what is at the place of the fault
@@ -60,9 +61,9 @@ unfoldable pub fault_members : Fault → Option Detail → List (List ℕ)
 fault_members f detail = member (codes "fault") (fault_object f detail) ∷ []
 
 -- ---- the tables that have no fault
-unfoldable pub exports_if : Option Exports → List (ℕ × ℕ) → List (List ℕ)
-exports_if None names = []
-exports_if (Some exports) names = exports_members exports names
+unfoldable pub exports_if : Option Exports → List (List ℕ)
+exports_if None = []
+exports_if (Some exports) = exports_members exports
 
 unfoldable pub imports_if : Option (List Import) → List (List ℕ)
 imports_if None = []

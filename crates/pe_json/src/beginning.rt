@@ -2,7 +2,7 @@
 
 ghost use Rattle.std.specs.Prelude.{◌≡◌, ◌++◌, codes};
 ghost use Rattle.pe_text.specs.TextWriter.{IsReady, Adds};
-ghost use Rattle.pe_json.specs.ImageLine.{first_members, begun};
+ghost use Rattle.pe_json.specs.Line.{first_members, begun};
 ghost use Rattle.pe_json.specs.JsonText.{member, boolean};
 ghost use Rattle.pe_json.specs.Listed.{more};
 

@@ -5,7 +5,7 @@ ghost use Rattle.pe_tables.specs.ExportsView.{exports_view, ordinal_view, by_ord
 ghost use Rattle.pe_tables.specs.Key.{target_view};
 ghost use Rattle.pe_tables.specs.NameIndex.{export_view};
 ghost use Rattle.pe_text.specs.TextWriter.{IsReady, Adds};
-ghost use Rattle.pe_json.specs.ExportRows.{name_if, target_members, export_row, name_at, row_if, own_rows, ordinal_rows, export_rows, exports_list};
+ghost use Rattle.pe_json.specs.ExportRows.{name_if, target_members, export_row, name_at, row_if, own_rows, ordinal_rows, exports_list, AreNamesOf};
 ghost use Rattle.pe_json.specs.Listed.{is_nil, more, items_text};
 
 use crate::string::{write_name, write_number};
@@ -181,8 +181,9 @@ pub(crate) fn write_exports<A: Allocator + Copy, W: Sink>(
     exports: &Exports<A>,
     names: &NamesByOrdinal<A>,
 )
-    requires { IsReady W.failures text.old }
-    ensures { Adds W.taken W.failures text.old text.new (exports_list (exports_view exports.now) (by_ordinal_view names.now)) }
+    requires ready { IsReady W.failures text.old }
+    requires own { AreNamesOf (exports_view exports.now) (by_ordinal_view names.now) }
+    ensures { Adds W.taken W.failures text.old text.new (exports_list (exports_view exports.now)) }
 {
     text.text(b"[");
     write_ordinals(text, exports.names(), names, exports.ordinals());

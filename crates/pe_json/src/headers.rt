@@ -16,6 +16,7 @@ fn write_coff_numbers<W: Sink>(text: &mut TextWriter<W>, header: &FileHeader)
     requires { IsReady W.failures text.old }
     ensures { Adds W.taken W.failures text.old text.new (more (coff_numbers header.now)) }
 {
+    // from describe/records.txt: coff of headers
     write_number(
         text,
         b",\"number_of_sections\":",
@@ -52,6 +53,7 @@ fn write_coff_numbers<W: Sink>(text: &mut TextWriter<W>, header: &FileHeader)
         FlagKind::File,
         header.characteristics as u32,
     );
+    // end of describe/records.txt
 }
 
 /// Adds the fields of a COFF file header, in the header's order ("PE Format", COFF File Header).

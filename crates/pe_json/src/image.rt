@@ -6,6 +6,7 @@ ghost use Rattle.coff_read.specs.ImageNames.{table_of};
 ghost use Rattle.pe_tables.specs.ExportsView.{exports_view, by_ordinal_view};
 ghost use Rattle.pe_tables.specs.ImportView.{import_view};
 ghost use Rattle.pe_text.specs.TextWriter.{IsReady, Adds};
+ghost use Rattle.pe_json.specs.ExportRows.{AreNamesOf};
 ghost use Rattle.pe_json.specs.Headers.{headers_object};
 ghost use Rattle.pe_json.specs.ImageLine.{format_name, head_members, exports_members, imports_members, fixups_members, image_line};
 ghost use Rattle.pe_json.specs.JsonText.{member};
@@ -93,8 +94,9 @@ pub(crate) fn write_export_table<A: Allocator + Copy, W: Sink>(
     exports: &Exports<A>,
     names: &NamesByOrdinal<A>,
 )
-    requires { IsReady W.failures text.old }
-    ensures { Adds W.taken W.failures text.old text.new (more (exports_members (exports_view exports.now) (by_ordinal_view names.now))) }
+    requires ready { IsReady W.failures text.old }
+    requires own { AreNamesOf (exports_view exports.now) (by_ordinal_view names.now) }
+    ensures { Adds W.taken W.failures text.old text.new (more (exports_members (exports_view exports.now))) }
 {
     text.text(b",\"exports\":");
     write_exports(text, exports, names);
@@ -124,10 +126,11 @@ pub(crate) fn write_image<A: Allocator + Copy, W: Sink>(
     name: &[u8],
     image: Content<A>,
 )
-    requires { IsReady W.failures text.old }
+    requires ready { IsReady W.failures text.old }
+    requires own { AreNamesOf (exports_view image.exports.now) (by_ordinal_view image.names.now) }
     ensures { Adds W.taken W.failures text.old text.new
         (image_line name.now (option_map table_of image.entry.strings) image.entry.headers.now (exports_view image.entry.exports.now)
-        (by_ordinal_view image.entry.names.now) (map import_view image.entry.imports.now) image.entry.fixups.now) }
+        (map import_view image.entry.imports.now) image.entry.fixups.now) }
 {
     begin(text, name, true);
     write_head(text, image.strings, image.headers);

@@ -14,6 +14,7 @@ fn write_standard<W: Sink>(text: &mut TextWriter<W>, headers: &Headers)
     requires { IsReady W.failures text.old }
     ensures { Adds W.taken W.failures text.old text.new (more (standard_members headers.now)) }
 {
+    // from describe/records.txt: standard of headers
     write_number(text, b",\"magic\":", headers.magic.number() as u64);
     write_number(
         text,
@@ -42,6 +43,7 @@ fn write_standard<W: Sink>(text: &mut TextWriter<W>, headers: &Headers)
         headers.address_of_entry_point as u64,
     );
     write_number(text, b",\"base_of_code\":", headers.base_of_code as u64);
+    // end of describe/records.txt
 }
 
 /// Adds BaseOfData, which only PE32 has.
@@ -59,6 +61,7 @@ fn write_versions<W: Sink>(text: &mut TextWriter<W>, headers: &Headers)
     requires { IsReady W.failures text.old }
     ensures { Adds W.taken W.failures text.old text.new (more (version_members headers.now)) }
 {
+    // from describe/records.txt: versions of headers
     write_wide(text, b",\"image_base\":\"0x", headers.image_base);
     write_number(
         text,
@@ -96,6 +99,7 @@ fn write_versions<W: Sink>(text: &mut TextWriter<W>, headers: &Headers)
         b",\"minor_subsystem_version\":",
         headers.minor_subsystem_version as u64,
     );
+    // end of describe/records.txt
 }
 
 /// Adds the fields from Win32VersionValue to Subsystem.
@@ -103,6 +107,7 @@ fn write_sizes<W: Sink>(text: &mut TextWriter<W>, headers: &Headers)
     requires { IsReady W.failures text.old }
     ensures { Adds W.taken W.failures text.old text.new (more (size_members headers.now)) }
 {
+    // from describe/records.txt: sizes of headers
     write_number(
         text,
         b",\"win32_version_value\":",
@@ -116,6 +121,7 @@ fn write_sizes<W: Sink>(text: &mut TextWriter<W>, headers: &Headers)
     );
     write_number(text, b",\"check_sum\":", headers.check_sum as u64);
     write_number(text, b",\"subsystem\":", headers.subsystem as u64);
+    // end of describe/records.txt
 }
 
 /// Adds the fields from DllCharacteristics to NumberOfRvaAndSizes.
@@ -123,6 +129,7 @@ fn write_last<W: Sink>(text: &mut TextWriter<W>, headers: &Headers)
     requires { IsReady W.failures text.old }
     ensures { Adds W.taken W.failures text.old text.new (more (last_members headers.now)) }
 {
+    // from describe/records.txt: last of headers
     write_number(
         text,
         b",\"dll_characteristics\":",
@@ -160,6 +167,7 @@ fn write_last<W: Sink>(text: &mut TextWriter<W>, headers: &Headers)
         b",\"number_of_rva_and_sizes\":",
         headers.number_of_rva_and_sizes as u64,
     );
+    // end of describe/records.txt
 }
 
 /// Adds the fields of an optional header, in the header's order ("PE Format", Optional Header).

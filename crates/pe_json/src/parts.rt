@@ -1,12 +1,15 @@
 //! `json_parts`: `json` for an image's file of a known size, of which only the headers, the sections with tables and the string table
 //! are read.
 
-ghost use Rattle.std.specs.Prelude.{map, option_map, ◌≡◌, ◌-◌, ◌^◌, ◌<◌, ◌↔◌, IsErrOf};
+ghost use Rattle.std.specs.Prelude.{map, option_map, ◌-◌, ◌^◌, ◌<◌, ◌↔◌, IsErrOf};
 ghost use Rattle.coff_read.specs.ImageNames.{table_of};
+ghost use Rattle.pe_json.specs.ExportRows.{AreNamesOf};
+ghost use Rattle.pe_json.specs.JsonByParts.{IsImageLine, PutsParts};
+ghost use Rattle.pe_json.specs.JsonReport.{IsLineOf};
+ghost use Rattle.pe_reach.specs.PartsRan.{RanByParts};
 ghost use Rattle.pe_tables.specs.ExportsView.{exports_view, by_ordinal_view};
 ghost use Rattle.pe_tables.specs.ImportView.{import_view};
-ghost use Rattle.pe_json.specs.ImageLine.{image_line};
-ghost use Rattle.pe_json.specs.JsonByParts.{PrintsDone, PrintsParts, RanByParts};
+ghost use Rattle.pe_text.specs.Engine.{Puts};
 
 use crate::image::{Content, write_image};
 use coff_read::ImageStrings;
@@ -23,10 +26,11 @@ fn print_content<A: Allocator + Copy, W: Sink>(
     name: &[u8],
     content: Content<A>,
 ) -> Result<Outcome, ToolError>
-    requires { W.failures writer.old < 2 ^ 64 - 1 }
-    ensures { PrintsDone
-        (image_line name.now (option_map table_of content.entry.strings) content.entry.headers.now (exports_view content.entry.exports.now)
-        (by_ordinal_view content.entry.names.now) (map import_view content.entry.imports.now) content.entry.fixups.now)
+    requires writes { W.failures writer.old < 2 ^ 64 - 1 }
+    requires own { AreNamesOf (exports_view content.exports.now) (by_ordinal_view content.names.now) }
+    ensures { Puts
+        (IsImageLine name.now (option_map table_of content.entry.strings) content.entry.headers.now (exports_view content.entry.exports.now)
+        (map import_view content.entry.imports.now) content.entry.fixups.now)
         (W.taken writer.old) (W.taken writer.new) (W.failures writer.old) (W.failures writer.new) result }
 {
     let mut text = TextWriter::new(writer);
@@ -46,7 +50,7 @@ fn print_parts<A: Allocator + Copy, W: Sink>(
     parts: Parts<A>,
 ) -> Result<Option<Outcome>, ToolError>
     requires { W.failures writer.old < 2 ^ 64 - 1 }
-    ensures { PrintsParts parts (W.taken writer.old) (W.taken writer.new) (W.failures writer.old) (W.failures writer.new) result }
+    ensures { PutsParts name.now parts (W.taken writer.old) (W.taken writer.new) (W.failures writer.old) (W.failures writer.new) result }
 {
     let Parts {
         headers,
@@ -78,8 +82,8 @@ fn print_parts<A: Allocator + Copy, W: Sink>(
 }
 
 /// [`json`](crate::json) for an image's file of `len` bytes, of which the headers are read, the sections in which its tables begin, and
-/// the string table if a name of a section may be in it. The outcome, which is `Done`, is that of each file of `len` bytes that has
-/// these parts. `Ok(None)` means that they do not decide it, or that the image may have a fault: nothing was written, and
+/// the string table if a name of a section may be in it. The line and the outcome, which is `Done`, are those of each file of `len`
+/// bytes that has these parts. `Ok(None)` means that they do not decide it, or that the image may have a fault: nothing was written, and
 /// [`json_sized`](crate::json_sized) is for this file.
 ///
 /// On the errors `Read` and `Memory` nothing was written, on `Write` the beginning of the line. Condition: each device has counted fewer than
@@ -93,7 +97,7 @@ pub fn json_parts<A: Allocator + Copy, R: PartSource, W: Sink>(
 ) -> Result<Option<Outcome>, ToolError>
     requires reads { R.failures reader.old < 2 ^ 64 - 1 }
     requires writes { W.failures writer.old < 2 ^ 64 - 1 }
-    ensures ran { RanByParts len (R.parts reader.old) (R.parts reader.new) (W.taken writer.old) (W.taken writer.new) result }
+    ensures ran { RanByParts (IsLineOf name.now) len (R.parts reader.old) (R.parts reader.new) (W.taken writer.old) (W.taken writer.new) result }
     ensures read { IsErrOf result ToolError.Read ↔ (R.failures reader.old < R.failures reader.new) }
     ensures write { IsErrOf result ToolError.Write ↔ (W.failures writer.old < W.failures writer.new) }
 {

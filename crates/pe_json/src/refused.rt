@@ -1,6 +1,6 @@
 //! The line of a refused file: its fault, and what of an image has none.
 
-ghost use Rattle.std.specs.Prelude.{◌≡◌, ◌++◌, [], map, option_map, codes};
+ghost use Rattle.std.specs.Prelude.{◌≡◌, ◌++◌, [], map, option_map, codes, IfSome};
 ghost use Rattle.coff_read.specs.ImageNames.{image_strings};
 ghost use Rattle.pe_detail.specs.FaultDetail.{fault_detail};
 ghost use Rattle.pe_tables.specs.ExportsView.{exports_view, by_ordinal_view};
@@ -8,7 +8,9 @@ ghost use Rattle.pe_tables.specs.ImportView.{import_view};
 ghost use Rattle.pe_text.specs.FileKind.{kind_name, other_kind};
 ghost use Rattle.pe_text.specs.TextWriter.{IsReady, Adds};
 ghost use Rattle.pe_reach.specs.Views.{seen_of, told_of};
-ghost use Rattle.pe_json.specs.ImageLine.{begun, head_members};
+ghost use Rattle.pe_json.specs.ExportRows.{AreNamesOf};
+ghost use Rattle.pe_json.specs.ImageLine.{head_members};
+ghost use Rattle.pe_json.specs.Line.{begun};
 ghost use Rattle.pe_json.specs.JsonText.{text_if};
 ghost use Rattle.pe_json.specs.Listed.{more};
 ghost use Rattle.pe_json.specs.Refused.{fault_members, exports_if, imports_if, fixups_if, refused_line, kind_of_refused};
@@ -72,8 +74,9 @@ fn write_exports_if<A: Allocator + Copy, W: Sink>(
     exports: &Option<Exports<A>>,
     names: &NamesByOrdinal<A>,
 )
-    requires { IsReady W.failures text.old }
-    ensures { Adds W.taken W.failures text.old text.new (more (exports_if (option_map exports_view exports.now) (by_ordinal_view names.now))) }
+    requires ready { IsReady W.failures text.old }
+    requires own { IfSome exports.now (λ exports. AreNamesOf (exports_view exports) (by_ordinal_view names.now)) }
+    ensures { Adds W.taken W.failures text.old text.new (more (exports_if (option_map exports_view exports.now))) }
 {
     if let Some(exports) = exports {
         write_export_table(text, exports, names);
@@ -116,11 +119,12 @@ pub(crate) fn refuse_laid_out<A: Allocator + Copy, W: Sink>(
     tables: &Tables<A>,
     names: &NamesByOrdinal<A>,
 )
-    requires { IsReady W.failures text.old }
+    requires ready { IsReady W.failures text.old }
+    requires own { IfSome tables.now.exports (λ exports. AreNamesOf (exports_view exports) (by_ordinal_view names.now)) }
     ensures { Adds W.taken W.failures text.old text.new
         (refused_line name.now (seen_of file.entry) (told_of file.entry) fault.now
         (head_members (image_strings (seen_of file.entry) headers.now) headers.now
-        ++ (exports_if (option_map exports_view tables.now.exports) (by_ordinal_view names.now)
+        ++ (exports_if (option_map exports_view tables.now.exports)
         ++ (imports_if (option_map (λ imports. map import_view imports.items) tables.now.imports)
         ++ fixups_if (option_map (λ fixups. fixups.items) tables.now.fixups))))) }
 {

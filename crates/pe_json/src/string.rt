@@ -108,7 +108,7 @@ pub(crate) fn write_string<W: Sink>(text: &mut TextWriter<W>, bytes: &[u8])
 }
 
 /// Adds two hexadecimal digits for each byte.
-fn write_digits<W: Sink>(text: &mut TextWriter<W>, bytes: &[u8])
+pub(crate) fn write_digits<W: Sink>(text: &mut TextWriter<W>, bytes: &[u8])
     requires { IsReady W.failures text.old }
     ensures { Adds W.taken W.failures text.old text.new (flat_map (hex 2) bytes.now) }
 {

@@ -2,7 +2,7 @@ use Rattle.std.proofs.Common.{refl, codes}
 use Rattle.json.specs.Print.{escape_byte}
 use Rattle.pe_text.proofs.Adding.{◌then◌}
 use Rattle.pe_json.specs.Listed.{more}
-use Rattle.pe_json.specs.ImageLine.{first_members}
+use Rattle.pe_json.specs.Line.{first_members}
 use Rattle.pe_json.proofs.Objects.{named, ended}
 use Rattle.pe_json.proofs.beginning.write_first.Goals as goal
 

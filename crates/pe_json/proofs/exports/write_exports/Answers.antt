@@ -8,6 +8,7 @@ use Rattle.pe_text.proofs.Adding.{◌then◌}
 use Rattle.pe_json.specs.JsonText.{list}
 use Rattle.pe_json.specs.ExportRows.{ordinal_rows}
 use Rattle.pe_json.proofs.Objects.{items_are}
+use Rattle.pe_json.proofs.OrderedNames.{rows_by_names}
 use Rattle.pe_json.proofs.exports.write_exports.Goals as goal
 
 pub returns : goal.returns
@@ -18,6 +19,7 @@ returns g c =
     let exports = map export_view c.names.result.now in
     let is = sym (flat_map-map (ordinal_rows exports n) ordinal_view c.ordinals.result.now)
     ∙ ap (flat_map (ordinal_rows exports n)) c.ordinals.ensures
-    ∙ ap (λ (xs : List (List ℕ × Target)). flat_map (ordinal_rows xs n) e.ordinals) c.names.ensures in
+    ∙ ap (λ (xs : List (List ℕ × Target)). flat_map (ordinal_rows xs n) e.ordinals) c.names.ensures
+    ∙ rows_by_names e n c.args.names.now.ordered c.requires.own in
     let rows = items_are true _ _ is c.write_ordinals.ensures in
     c.text.ensures then rows then c.text-2.ensures

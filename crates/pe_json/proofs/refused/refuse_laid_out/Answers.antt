@@ -1,6 +1,6 @@
 use Rattle.std.proofs.Common.{codes, false}
 use Rattle.pe_json.specs.JsonText.{number}
-use Rattle.pe_json.specs.ImageLine.{first_members}
+use Rattle.pe_json.specs.Line.{first_members}
 use Rattle.pe_json.proofs.Objects.{also, whole_line}
 use Rattle.pe_json.proofs.refused.refuse_laid_out.Goals as goal
 

@@ -9,4 +9,4 @@ returns-in-Some g c = rw c.in-Some.is c.write_export_table.ensures
 
 pub returns-in_default : goal.returns-in_default
 unfolding exports_if more
-returns-in_default g c = rw c.in_default.is (adds_none c.requires)
+returns-in_default g c = rw c.in_default.is (adds_none c.requires.ready)
