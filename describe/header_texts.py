@@ -149,31 +149,58 @@ def dump_definition_part(description: Description, what: str) -> List[str]:
     return [rows[0], *(f"∷ {row}" for row in rows[1:]), "∷ []"]
 
 
-def _matched_member(it: Field, value: str, arms: List[str]) -> List[str]:
-    return ["(", f'    "{it.name}",', f"    match {value} {{", *(f"        {arm}," for arm in arms), "    },", "),"]
+#: The groups of the optional header's fields that pe_json writes at once, by their offsets in PE32. Between the first two is
+#: BaseOfData, and after the third a name.
+JSON_GROUPS = {"standard": range(0, 24), "versions": range(28, 52), "sizes": range(52, 70), "last": range(70, 96)}
+
+
+def _in_json(description: Description, what: str) -> List[Field]:
+    """The fields in a group of pe_json: `coff of headers`, those of the COFF header after Machine, or a group of the others."""
+    group, fields = what.removesuffix(" of headers"), fields_of(description)
+    if group == "coff":
+        return [it for it in fields if place_of(it).is_coff and not it.is_named]
+    offsets = JSON_GROUPS[group]
+    return [it for it in fields if not place_of(it).is_coff and place_of(it).narrow[0] in offsets]
+
+
+def _written(function: str, words: List[str]) -> List[str]:
+    """A call that adds a member."""
+    if len(", ".join(words)) <= ARGUMENTS:
+        return [f"{function}({', '.join(words)});"]
+    return [f"{function}(", *(f"    {word}," for word in words), ");"]
 
 
 def _member(it: Field, header: str) -> List[str]:
-    """A field as a member of JSON."""
-    place = place_of(it)
-    if it.origin and it.origin.definition:
-        return [f'("{it.name}", Number({_number(it, f"{header}.{it.name}")} as u64)),']
-    if place.wide is None:
-        return _matched_member(it, f"{header}.{it.name}", ["Some(rva) => Number(rva as u64)", "None => Absent"])
-    return [f"{'wide' if place.is_extended() else 'number'}!({header}, {it.name}),"]
+    """The code that adds a field as a member of JSON, with the names of its flags."""
+    value = f"{header}.{it.name}"
+    if place_of(it).is_extended():
+        return _written("write_wide", ["text", f'b",\\"{it.name}\\":\\"0x"', value])
+    lines = _written("write_number", ["text", f'b",\\"{it.name}\\":"', f"{_number(it, value)} as u64"])
+    if it.flags:
+        lines += _written("write_flags", ["text", f'b",\\"{it.name}_flags\\":["', f"FlagKind::{it.flags}", f"{value} as u32"])
+    return lines
 
 
 def json_part(description: Description, what: str) -> List[str]:
-    """The members of JSON in pe_json: `coff of headers` or `optional of headers`."""
-    header = {"coff": "header", "optional": "headers"}[what.removesuffix(" of headers")]
-    lines: List[str] = []
-    for it in fields_of(description):
-        if place_of(it).is_coff == (header == "header"):
-            lines += _member(it, header)
-            value = f"{header}.{it.name}"
-            lines += [f'("{it.name}_name", text_if({it.name}_name({value}))),'] if it.is_named else []
-            lines += ["(", f'    "{it.name}_flags",', f"    Flags(FlagKind::{it.flags}, {value} as u32),", "),"] if it.flags else []
-    return lines
+    """The code of a group of pe_json."""
+    header = "header" if what == "coff of headers" else "headers"
+    return [line for it in _in_json(description, what) for line in _member(it, header)]
+
+
+def _member_definition(it: Field) -> List[str]:
+    """A field as a member of JSON in its definition, and the names of its flags."""
+    value = f"h.{it.name}"
+    if place_of(it).is_extended():
+        return [f'wide (codes "{it.name}") {value}']
+    number = f"({it.origin.definition} {value})" if it.origin and it.origin.definition else value
+    members = [f'number (codes "{it.name}") {number}']
+    return members + ([f'flags_member (codes "{it.name}_flags") {it.flags} {value}'] if it.flags else [])
+
+
+def json_definition_part(description: Description, what: str) -> List[str]:
+    """The same in its definition."""
+    rows = [row for it in _in_json(description, what) for row in _member_definition(it)]
+    return [rows[0], *(f"∷ {row}" for row in rows[1:]), "∷ []"]
 
 
 def _pair(place: Place, is_wide: bool) -> str:

@@ -17,14 +17,8 @@ from header_texts import definition
 TEXT = [("at", "bytes"), ("len", "usize")]
 #: The functions of a source, each up to the next one.
 FUNCTION = re.compile(r"^\s*(?:pub(?:\(crate\))? )?fn (\w+)(.*?)(?=^\s*(?:pub(?:\(crate\))? )?fn |\Z)", re.M | re.S)
-#: A key of JSON in Rattle, or where another list or kind of object begins.
-KEY = re.compile(
-    r'begin_list\(\s*"(?P<list>\w+)"|\(\s*"kind",\s*Text\(\s*"(?P<kind>\w+)"|\.key\(\s*"(?P<own>\w+)"'
-    r'|(?:number|wide)!\(\s*\w+,\s*(?P<field>\w+)\s*\)|\(\s*"(?P<first>\w+)",|"(?P<hex>\w+_hex)"'
-)
-#: A key in the strings of the beginning of a line, which are bytes.
-TEXT_KEY = re.compile(r'(?:b|\\)"([a-z]\w*)(?:\\":|")')
-VALUES = {"true", "false"}
+#: A key of JSON in Rattle: strings of bytes begin with it, or with what comes before it.
+KEY = re.compile(r'\\"([a-z]\w*)\\":')
 #: The types of Rattle for types of C without a width in their names.
 NUMBERS = {"char": "u8", "int": "i32"}
 
@@ -145,34 +139,15 @@ def call_faults(description: Description, sources: Dict[str, str]) -> List[str]:
     return faults
 
 
-def _keys_of(body: str, place: str) -> List[Tuple[str, str]]:
-    """The keys in a function's body, each with its place: the function, the list or the kind."""
-    found, inside = [], place
-    for it in KEY.finditer(body):
-        key = it["list"] or it["own"] or it["field"] or it["first"] or it["hex"]
-        if it["kind"]:
-            found.append((place, "kind"))
-            inside = f"{place}.{it['kind']}"
-        elif it["list"]:
-            found.append((place, key))
-            inside = f"{place}.{key}"
-        else:
-            found.append((inside, key))
-    return found
-
-
 def keys_in(sources: Dict[str, str]) -> Dict[str, Set[str]]:
-    """The keys that each place writes."""
+    """The keys that each function writes, by its place: FILE.FUNCTION."""
     found: Dict[str, Set[str]] = {}
     for file, text in sources.items():
         name = pathlib.PurePath(file).stem
         for function in FUNCTION.finditer(_without_comments(text)):
-            place = f"{name}.{function[1]}"
-            rows = _keys_of(function[2], place)
-            if name == "beginning":
-                rows = [(place, key) for key in TEXT_KEY.findall(function[2]) if key not in VALUES]
-            for where, key in rows:
-                found.setdefault(where, set()).add(key)
+            keys = KEY.findall(function[2])
+            if keys:
+                found.setdefault(f"{name}.{function[1]}", set()).update(keys)
     return found
 
 

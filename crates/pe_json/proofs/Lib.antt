@@ -1,5 +1,16 @@
-pub mod Growing
+pub mod OrderedNames
+pub mod SameLines
+pub mod Members
 pub mod NoObject
 pub mod ByParts
 pub mod Sized
 pub mod HeadBytes
+pub mod Escapes
+pub mod FlagItems
+pub mod Objects
+pub mod Tested
+pub mod Zeros
+pub mod Values
+pub mod LineRows
+pub mod ObjectLineRows
+pub mod RowByRow

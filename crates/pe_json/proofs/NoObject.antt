@@ -51,7 +51,7 @@ first_none None y e = refl
 first_none (Some a) y e = e
 
 -- the headers' faults are the first that count
-head_none : (file : List ℕ) → first_standing (layout_tests 0 file) ≡ None → first_standing (head_tests 0 file) ≡ None
+pub head_none : (file : List ℕ) → first_standing (layout_tests 0 file) ≡ None → first_standing (head_tests 0 file) ≡ None
 head_none file none =
     first_none (first_standing (head_tests 0 file)) (first_standing (placing_tests 0 (head_of file) (length file)))
     (sym (first-append (head_tests 0 file) (placing_tests 0 (head_of file) (length file))) ∙ none)
@@ -60,9 +60,13 @@ mark_of : (file : List ℕ) → first_standing (head_tests 0 file) ≡ None → 
 unfolding head_tests
 mark_of file none = eqb-true _ _ (not_false (num (byte_of file) 0 2 == 0x5a4d) (none_stands (head_tests 0 file) 2 _ none refl))
 
--- so it has no fault if its image has none
+-- so it is no object
+pub no_object : (file : List ℕ) → first_standing (layout_tests 0 file) ≡ None → is_object (kind_of file) ≡ false
+no_object file sound = not_object file (mark_of file (head_none file sound))
+
+-- and has no fault if its image has none
 pub no_fault : (file : List ℕ) → first_standing (layout_tests 0 file) ≡ None → first_standing (table_tests (image_of_file 0 file)) ≡ None → first_standing (file_tests file) ≡ None
 unfolding image_tests
 no_fault file sound tables =
-    ap (λ (b : Bool). first_standing (if b then object_tests file else image_tests 0 file)) (not_object file (mark_of file (head_none file sound)))
+    ap (λ (b : Bool). first_standing (if b then object_tests file else image_tests 0 file)) (no_object file sound)
     ∙ first-append (layout_tests 0 file) (table_tests (image_of_file 0 file)) ∙ ap₂ option_or sound tables

@@ -1,21 +1,28 @@
--- What `json` reads and writes if it knows the size of its file.
-use Rattle.std.proofs.Common.{◌≡◌, ℕ, ◌+◌, ◌^◌, ◌<◌, ◌≤◌, Bool, List, ◌++◌, length, Result, Ok, Err, ◌∙◌, subst, inl, inr}
-use Rattle.std.specs.Prelude.{IsErrOf, MatchResult}
+-- What `json` reads and writes, from the contracts of its steps.
+use Rattle.std.proofs.Common.{◌≡◌, ℕ, ◌+◌, ◌^◌, ◌<◌, ◌≤◌, Bool, List, [], ◌++◌, length, Some, None, Result, Ok, Err, ◌∙◌, sym, subst, inl, inr, refl, append-nil}
+use Rattle.std.specs.Prelude.{IsErrOf, IsErrAnd}
 use Rattle.pe_view.specs.Faults.{Test, first_standing}
 use Rattle.pe_image.specs.ImageTests.{image_tests}
 use Rattle.pe_text.specs.declared.outcome.Outcome.{Outcome}
 use Rattle.pe_text.specs.declared.outcome.Outcome.TheVariants.{Done, Refused}
 use Rattle.pe_text.specs.declared.outcome.ToolError.{ToolError}
 use Rattle.pe_text.specs.declared.outcome.ToolError.TheVariants.{Read, Write, Memory}
-use Rattle.pe_text.specs.Engine.{OnJudged}
-use Rattle.pe_text.specs.Outcome.{IsOutcomeOf}
-use Rattle.pe_reach.specs.Reach.{SameAnswers, IsEnough}
+use Rattle.pe_text.specs.Engine.{IsWhole, FailsAfter, OnJudged, Puts, Written, Ran}
+use Rattle.pe_text.specs.FileKind.{is_object}
+use Rattle.pe_reach.specs.Reach.{SameAnswers}
 use Rattle.pe_reach.specs.Views.{LookAlike, IsSeen}
-use Rattle.pe_json.specs.JsonReport.{file_tests, Fails, Prints, JudgedSized, RanSized}
+use Rattle.pe_reach.specs.Sized.{IsKnown}
+use Rattle.pe_json.specs.FileLine.{accepted_line, file_line}
+use Rattle.pe_json.specs.JsonReport.{file_tests, IsLine, IsLineOf, IsTold, RanSized}
+use Rattle.pe_json.proofs.SameLines.{alike_lines}
 
-outcome_follows : (ts us : List Test) → first_standing ts ≡ first_standing us → (outcome : Outcome) → IsOutcomeOf us outcome → IsOutcomeOf ts outcome
-outcome_follows ts us same Done is = same ∙ is
-outcome_follows ts us same (Refused fault) is = same ∙ is
+-- what was written, by the result
+written_by : (IsText : Outcome → List ℕ → Type 0) (before now : List ℕ) (count count' : ℕ) (result : Result Outcome ToolError) → Puts IsText before now count count' result
+    → (written : List ℕ) × (now ≡ before ++ written) × Written IsText result written
+written_by IsText before now count count' (Ok outcome) puts = (puts.0, puts.1, puts.2.0)
+written_by IsText before now count count' (Err Read) puts = absurd puts.2
+written_by IsText before now count count' (Err Write) puts = (puts.0, puts.1, puts.2.1)
+written_by IsText before now count count' (Err Memory) puts = (puts.0, puts.1, puts.2.1)
 
 on_judged : (result : Result Outcome ToolError) (P : Type 0) → P → OnJudged result P
 on_judged (Ok outcome) P p = p
@@ -23,38 +30,102 @@ on_judged (Err Read) P p = tt
 on_judged (Err Write) P p = p
 on_judged (Err Memory) P p = tt
 
-enough : (ended : Bool) (len told : ℕ) (input : List ℕ) → IsSeen ended len input told → IsEnough ended len input
-enough ended len told input (inl whole) = inl whole.0
-enough ended len told input (inr shown) = inr (λ file b. (shown.0 file b).answers)
+-- an engine that read its file whole
+pub ran_whole : (name given given' taken taken' : List ℕ) (ended : Bool) (count count' told : ℕ) (result : Result Outcome ToolError) (bytes input : List ℕ) → bytes ≡ input → told ≡ length input
+    → given' ≡ given ++ input → IsWhole ended input → length input ≤ 2 ^ 32 + 1 → Puts (IsLine name told bytes) taken taken' count count' result → (IsErrOf result Memory → 0 < length bytes)
+    → Ran (IsLineOf name) given given' taken taken' ended result
+ran_whole name given given' taken taken' ended count count' told result bytes input same size reads whole limit puts memory =
+    let put : Puts (IsLineOf name input) taken taken' count count' result = rw (same, size) at puts in
+    let written = written_by (IsLineOf name input) taken taken' count count' result put in
+    record {
+      input = input;
+      written = written.0;
+      reads = reads;
+      writes = written.1;
+      text = written.2;
+      limit = limit;
+      whole = on_judged result (IsWhole ended input) whole;
+      memory = subst (λ (xs : List ℕ). IsErrOf result Memory → 0 < length xs) same memory;
+    }
+
+-- one whose reading failed
+pub unread : (name : List ℕ) (len : ℕ) (given given' taken : List ℕ) (ended : Bool) (count count' : ℕ) (error : ToolError) (result : Result Outcome ToolError) → IsErrAnd result (λ e. e ≡ error)
+    → (input : List ℕ) × (given' ≡ given ++ input) × FailsAfter input count count' error × (length input ≤ 2 ^ 32 + 1) → RanSized name len given given' taken taken ended result
+unread name len given given' taken ended count count' error (Ok outcome) is read = absurd is
+unread name len given given' taken ended count count' Read (Err e) is read =
+    rw is (record { input = read.0; told = 0; written = []; reads = read.1; writes = sym (append-nil taken); text = refl; known = tt; seen = tt; limit = read.3; memory = λ is. cc })
+unread name len given given' taken ended count count' Write (Err e) is read = absurd read.2
+unread name len given given' taken ended count count' Memory (Err e) is read =
+    rw is (record { input = read.0; told = 0; written = []; reads = read.1; writes = sym (append-nil taken); text = refl; known = tt; seen = tt; limit = read.3; memory = λ is. read.2.0 })
 
 module _ (first : (number : ℕ) (f g : List ℕ) → SameAnswers f g → first_standing (image_tests number f) ≡ first_standing (image_tests number g)) where
   -- a file that begins with `MZ` is tested as an image
-  follows : (f g : List ℕ) → LookAlike f g → (outcome : Outcome) → IsOutcomeOf (file_tests g) outcome → IsOutcomeOf (file_tests f) outcome
-  follows f g look outcome is =
-      let tests : first_standing (file_tests f) ≡ first_standing (file_tests g) = rw (look.kind_f, look.kind_g) (first 0 f g look.answers) in
-      outcome_follows (file_tests f) (file_tests g) tests outcome is
+  same_tests : (f g : List ℕ) → LookAlike f g → first_standing (file_tests f) ≡ first_standing (file_tests g)
+  same_tests f g look = rw (look.kind_f, look.kind_g) (first 0 f g look.answers)
 
-  judged : (ended : Bool) (len told : ℕ) (input written : List ℕ) (count count' : ℕ) (result : Result Outcome ToolError) → IsSeen ended len input told
-      → MatchResult result (λ outcome. IsOutcomeOf (file_tests input) outcome × (count' ≡ count)) (Fails count count') → JudgedSized ended len input written result
-  judged ended len told input written count count' (Ok outcome) (inl whole) is = inl (whole.0, is.0)
-  judged ended len told input written count count' (Ok outcome) (inr shown) is = inr (λ file b. follows file input (shown.0 file b) outcome is.0)
-  judged ended len told input written count count' (Err Read) seen is = absurd is
-  judged ended len told input written count count' (Err Write) seen is = tt
-  judged ended len told input written count count' (Err Memory) seen is = tt
+  -- what is told of the bytes that were read is told of the file
+  told_whole : (name : List ℕ) (told : ℕ) (file : List ℕ) (outcome : Outcome) (text : List ℕ) → IsLine name told file outcome text → IsTold name outcome text file
+  told_whole name told file Done text is = (is.0, is.1 ∙ told_done name told file)
+    where
+      told_done : (name : List ℕ) (told : ℕ) (file : List ℕ) → file_line name told file Done ≡ accepted_line name file
+      told_done name told file = refl
+  told_whole name told file (Refused fault) text is = is.0
+
+  -- and of each file that looks like them
+  told_alike : (name f g : List ℕ) → LookAlike f g → (outcome : Outcome) (text : List ℕ) → IsTold name outcome text g → IsTold name outcome text f
+  told_alike name f g look Done text is = (same_tests f g look ∙ is.0, is.1 ∙ sym (alike_lines name f g look))
+  told_alike name f g look (Refused fault) text is = same_tests f g look ∙ is
+
+  known : (name : List ℕ) (ended : Bool) (len told : ℕ) (input : List ℕ) (outcome : Outcome) (text : List ℕ) → IsSeen ended len input told → IsLine name told input outcome text
+      → IsKnown ended len input (IsTold name outcome text)
+  known name ended len told input outcome text (inl whole) is = inl (whole.0, told_whole name told input outcome text is)
+  known name ended len told input outcome text (inr shown) is = inr (λ file b. told_alike name file input (shown.0 file b) outcome text (told_whole name told input outcome text is))
 
   -- an engine that read what a view shows of its file
-  pub ran : (len told : ℕ) (given given' taken taken' : List ℕ) (ended : Bool) (count count' : ℕ) (result : Result Outcome ToolError) (bytes input : List ℕ) → bytes ≡ input
-      → given' ≡ given ++ input → IsSeen ended len input told → length input ≤ 2 ^ 32 + 1 → Prints bytes taken taken' count count' result → (IsErrOf result Memory → 0 < length bytes)
-      → RanSized len given given' taken taken' ended result
-  ran len told given given' taken taken' ended count count' result bytes input same reads seen limit prints memory =
-      let printed : Prints input taken taken' count count' result = subst (λ (xs : List ℕ). Prints xs taken taken' count count' result) same prints in
-      record {
-        input = input;
-        written = printed.0.0;
-        reads = reads;
-        writes = printed.0.1;
-        judged = judged ended len told input printed.0.0 count count' result seen printed.1;
-        limit = limit;
-        enough = on_judged result (IsEnough ended len input) (enough ended len told input seen);
-        memory = subst (λ (xs : List ℕ). IsErrOf result Memory → 0 < length xs) same memory;
-      }
+  ran_seen : (name : List ℕ) (len told : ℕ) (given given' taken taken' : List ℕ) (ended : Bool) (count count' : ℕ) (result : Result Outcome ToolError) (input : List ℕ)
+      → given' ≡ given ++ input → IsSeen ended len input told → length input ≤ 2 ^ 32 + 1 → Puts (IsLine name told input) taken taken' count count' result → (IsErrOf result Memory → 0 < length input)
+      → RanSized name len given given' taken taken' ended result
+  ran_seen name len told given given' taken taken' ended count count' (Ok outcome) input reads seen limit puts memory = record {
+    input = input;
+    told = told;
+    written = puts.0;
+    reads = reads;
+    writes = puts.1;
+    text = puts.2.0;
+    known = known name ended len told input outcome puts.0 seen puts.2.0;
+    seen = seen;
+    limit = limit;
+    memory = memory;
+  }
+  ran_seen name len told given given' taken taken' ended count count' (Err Read) input reads seen limit puts memory = absurd puts.2
+  ran_seen name len told given given' taken taken' ended count count' (Err Write) input reads seen limit puts memory = record {
+    input = input;
+    told = told;
+    written = puts.0;
+    reads = reads;
+    writes = puts.1;
+    text = puts.2.1;
+    known = tt;
+    seen = seen;
+    limit = limit;
+    memory = memory;
+  }
+  ran_seen name len told given given' taken taken' ended count count' (Err Memory) input reads seen limit puts memory = record {
+    input = input;
+    told = told;
+    written = puts.0;
+    reads = reads;
+    writes = puts.1;
+    text = puts.2.1;
+    known = tt;
+    seen = tt;
+    limit = limit;
+    memory = memory;
+  }
+
+  pub ran : (name : List ℕ) (len told : ℕ) (given given' taken taken' : List ℕ) (ended : Bool) (count count' : ℕ) (result : Result Outcome ToolError) (bytes input : List ℕ) (size : ℕ)
+      → bytes ≡ input → size ≡ told → given' ≡ given ++ input → IsSeen ended len input told → length input ≤ 2 ^ 32 + 1 → Puts (IsLine name size bytes) taken taken' count count' result
+      → (IsErrOf result Memory → 0 < length bytes) → RanSized name len given given' taken taken' ended result
+  ran name len told given given' taken taken' ended count count' result bytes input size same is reads seen limit puts memory =
+      ran_seen name len told given given' taken taken' ended count count' result input reads seen limit (rw (same, is) at puts)
+      (subst (λ (xs : List ℕ). IsErrOf result Memory → 0 < length xs) same memory)

@@ -1,53 +1,30 @@
--- What `json` returns for an image of whose file parts are read, and what it reads and writes.
-use Rattle.std.specs.Prelude.{ℕ, ◌≡◌, List, [], ◌++◌, length, Option, None, Some, Result, Ok, Err, MatchResult}
-use Rattle.pe_view.specs.Faults.{first_standing}
-use Rattle.pe_layout.specs.Image.{image_of_file}
-use Rattle.pe_image.specs.ImageTests.{table_tests}
-use Rattle.pe_parts.specs.Packed.{IsPacked}
-use Rattle.pe_layout.specs.Image.{image_from}
+-- What `json` returns for an image of whose file parts are read, and what it writes.
+use Rattle.std.specs.Prelude.{ℕ, ◌≡◌, List, Option, None, Some, Result, Ok, Err, map}
+use Rattle.pe_head.specs.Head.{head_of}
 use Rattle.pe_head.specs.declared.headers.Headers.{Headers}
+use Rattle.pe_tables.specs.Exports.{Exports}
+use Rattle.pe_tables.specs.Imports.{Import}
+use Rattle.pe_tables.specs.declared.fixups.Fixup.{Fixup}
 use Rattle.pe_text.specs.declared.outcome.Outcome.{Outcome}
-use Rattle.pe_text.specs.declared.outcome.Outcome.TheVariants.{Done, Refused}
+use Rattle.pe_text.specs.declared.outcome.Outcome.TheVariants.{Done}
 use Rattle.pe_text.specs.declared.outcome.ToolError.{ToolError}
-use Rattle.pe_text.specs.declared.outcome.ToolError.TheVariants.{Read, Write, Memory}
-use Rattle.pe_text.specs.Outcome.{IsOutcomeOf}
+use Rattle.pe_text.specs.Engine.{Puts}
 use Rattle.pe_reach.specs.declared.parts_reading.Parts.{Parts}
-use Rattle.pe_reach.specs.Parts.{Part}
-use Rattle.pe_reach.specs.PartsRan.{IsKnownByParts}
-use Rattle.pe_json.specs.JsonReport.{file_tests, Fails}
+use Rattle.pe_reach.specs.PartsRead.{AreOf, names_in}
+use Rattle.pe_reach.specs.Views.{names_under}
+use Rattle.pe_json.specs.ImageLine.{image_line}
+use Rattle.pe_json.specs.JsonReport.{IsLineOf}
 
--- bytes were written after the sink's earlier bytes
-abbrev pub HasWritten : List ℕ → List ℕ → Type 0
-HasWritten before now = (written : List ℕ) × (now ≡ before ++ written)
+-- the outcome and the line of an image without a fault
+abbrev pub IsImageLine : List ℕ → Option (List ℕ) → Headers → Exports → List Import → List Fixup → Outcome → List ℕ → Type 0
+IsImageLine name strings h exports imports fixups outcome text = (outcome ≡ Done) × (text ≡ image_line name strings h exports imports fixups)
 
--- the line of an image without a fault was written, or it failed, and `count` failures became `count'`
-abbrev pub PrintsDone : List ℕ → List ℕ → ℕ → ℕ → Result Outcome ToolError → Type 0
-PrintsDone before now count count' result = HasWritten before now × MatchResult result
-    (λ outcome. (outcome ≡ Done) × (count' ≡ count))
-    (Fails count count')
+-- the outcome and the line of each file with these parts, in which its sections have their names
+abbrev pub IsLineOfParts : {A : Type 0} → List ℕ → Parts A → Outcome → List ℕ → Type 0
+IsLineOfParts name parts outcome text = (file : List ℕ) → AreOf parts file → names_in parts ≡ names_under file (head_of file) → IsLineOf name file outcome text
 
--- the tables of each image with these parts have no fault
-abbrev pub AreSound : {A : Type 0} → Parts A → Type 0
-AreSound parts = (file : List ℕ) (h : Headers) → IsPacked file h parts.bytes.items parts.packed → first_standing (table_tests (image_from 0 h file)) ≡ None
-
--- the same of an image with parts, whose tables have no fault if it is written
-abbrev pub PrintsParts : {A : Type 0} → Parts A → List ℕ → List ℕ → ℕ → ℕ → Result (Option Outcome) ToolError → Type 0
-PrintsParts parts before now count count' (Ok (Some outcome)) = HasWritten before now × ((outcome ≡ Done) × AreSound parts × (count' ≡ count))
-PrintsParts parts before now count count' (Ok None) = (now ≡ before) × (count' ≡ count)
-PrintsParts parts before now count count' (Err error) = HasWritten before now × Fails count count' error
-
--- what holds of the file and of the written bytes, by the engine's result
-abbrev pub JudgedByParts : ℕ → List Part → List ℕ → Result (Option Outcome) ToolError → Type 0
-JudgedByParts len read written (Ok (Some outcome)) = IsKnownByParts len read (λ file. IsOutcomeOf (file_tests file) outcome)
-JudgedByParts len read written (Ok None) = written ≡ []
-JudgedByParts len read written (Err Read) = written ≡ []
-JudgedByParts len read written (Err Write) = Unit {0}
-JudgedByParts len read written (Err Memory) = Unit {0}
-
--- what the engine read and wrote
-pub record RanByParts (len : ℕ) (parts parts' : List Part) (taken taken' : List ℕ) (result : Result (Option Outcome) ToolError) : Type 0 where
-  pub read : List Part
-  pub written : List ℕ
-  pub reads : parts' ≡ parts ++ read
-  pub writes : taken' ≡ taken ++ written
-  pub judged : JudgedByParts len read written result
+-- what was written after the sink's earlier bytes: the line, or nothing if the parts do not decide it
+abbrev pub PutsParts : {A : Type 0} → List ℕ → Parts A → List ℕ → List ℕ → ℕ → ℕ → Result (Option Outcome) ToolError → Type 0
+PutsParts name parts before now count count' (Ok (Some outcome)) = Puts (IsLineOfParts name parts) before now count count' (Ok outcome)
+PutsParts name parts before now count count' (Ok None) = (now ≡ before) × (count' ≡ count)
+PutsParts name parts before now count count' (Err error) = Puts (IsLineOfParts name parts) before now count count' (Err error)

@@ -1,65 +1,46 @@
 -- What `json` returns for a file, and what it reads and writes.
-use Rattle.std.specs.Prelude.{ℕ, ◌≡◌, ◌<◌, ◌≤◌, ◌+◌, ◌^◌, Bool, List, [], ◌++◌, length, Result, Ok, Err, MatchResult, IsErrOf}
+use Rattle.std.specs.Prelude.{ℕ, ◌≡◌, ◌<◌, ◌≤◌, ◌+◌, ◌^◌, Bool, List, ◌++◌, length, None, Some, Result, IfOk, IsErrOf}
 use Rattle.pe_text.specs.declared.outcome.Outcome.{Outcome}
+use Rattle.pe_text.specs.declared.outcome.Outcome.TheVariants.{Done, Refused}
 use Rattle.pe_text.specs.declared.outcome.ToolError.{ToolError}
-use Rattle.pe_text.specs.declared.outcome.ToolError.TheVariants.{Read, Write, Memory}
-use Rattle.pe_text.specs.Engine.{IsWhole, OnJudged}
-use Rattle.pe_view.specs.Faults.{Test}
+use Rattle.pe_text.specs.declared.outcome.ToolError.TheVariants.{Memory}
+use Rattle.pe_text.specs.Engine.{OnJudged, Written}
+use Rattle.pe_view.specs.Faults.{Test, first_standing}
 use Rattle.pe_image.specs.ImageTests.{image_tests}
 use Rattle.coff_read.specs.ObjectFaults.{object_tests}
 use Rattle.pe_text.specs.FileKind.{tests_by_kind}
 use Rattle.pe_text.specs.Outcome.{IsOutcomeOf}
-use Rattle.pe_reach.specs.Reach.{IsEnough}
 use Rattle.pe_reach.specs.Sized.{IsKnown}
+use Rattle.pe_reach.specs.Views.{IsSeen}
+use Rattle.pe_json.specs.FileLine.{accepted_line, file_line}
 
 -- the tests of a file: those of an object if its first bytes are those of one, otherwise those of an image with the number 0
 abbrev pub file_tests : List ℕ → List Test
 file_tests file = tests_by_kind file (object_tests file) (image_tests 0 file)
 
--- why a line was not written whole: a write failed, or memory ran out
-abbrev pub Fails : ℕ → ℕ → ToolError → Type 0
-Fails count count' Read = ⊥
-Fails count count' Write = count' ≡ count + 1
-Fails count count' Memory = count' ≡ count
+-- the outcome and the line of a file of a size with this name, of which these bytes were read
+abbrev pub IsLine : List ℕ → ℕ → List ℕ → Outcome → List ℕ → Type 0
+IsLine name size file outcome text = IsOutcomeOf (file_tests file) outcome × (text ≡ file_line name size file outcome)
 
--- bytes were written after the sink's earlier bytes, and `count` failures became `count'`, by the result
-abbrev pub Prints : List ℕ → List ℕ → List ℕ → ℕ → ℕ → Result Outcome ToolError → Type 0
-Prints file before now count count' result = ((written : List ℕ) × (now ≡ before ++ written)) × MatchResult result
-    (λ outcome. IsOutcomeOf (file_tests file) outcome × (count' ≡ count))
-    (Fails count count')
+-- those of a file that was read whole
+abbrev pub IsLineOf : List ℕ → List ℕ → Outcome → List ℕ → Type 0
+IsLineOf name file = IsLine name (length file) file
 
--- what holds of the file and of the written bytes, by the engine's result
-abbrev pub Judged : List ℕ → List ℕ → Result Outcome ToolError → Type 0
-Judged file written (Ok outcome) = IsOutcomeOf (file_tests file) outcome
-Judged file written (Err Read) = written ≡ []
-Judged file written (Err Write) = Unit {0}
-Judged file written (Err Memory) = Unit {0}
+-- an outcome is that of a file, and so is the text if the file has no fault
+abbrev pub IsTold : List ℕ → Outcome → List ℕ → List ℕ → Type 0
+IsTold name Done text file = (first_standing (file_tests file) ≡ None) × (text ≡ accepted_line name file)
+IsTold name (Refused fault) text file = first_standing (file_tests file) ≡ Some fault
 
--- what the engine read and wrote
-pub record Ran (given given' taken taken' : List ℕ) (ended : Bool) (result : Result Outcome ToolError) : Type 0 where
+-- What the engine read and wrote over a file of a known size. The line is that of what it read of the file, whose size it tells as
+-- `told`; and if it has no fault, that of each file of the size that begins so.
+pub record RanSized (name : List ℕ) (len : ℕ) (given given' taken taken' : List ℕ) (ended : Bool) (result : Result Outcome ToolError) : Type 0 where
   pub input : List ℕ
+  pub told : ℕ
   pub written : List ℕ
   pub reads : given' ≡ given ++ input
   pub writes : taken' ≡ taken ++ written
-  pub judged : Judged input written result
+  pub text : Written (IsLine name told input) result written
+  pub known : IfOk result (λ outcome. IsKnown ended len input (IsTold name outcome written))
+  pub seen : OnJudged result (IsSeen ended len input told)
   pub limit : length input ≤ 2 ^ 32 + 1
-  pub whole : OnJudged result (IsWhole ended input)
-  pub memory : IsErrOf result Memory → 0 < length input
-
--- what holds of a file of a known size and of the written bytes, by the engine's result
-abbrev pub JudgedSized : Bool → ℕ → List ℕ → List ℕ → Result Outcome ToolError → Type 0
-JudgedSized ended len input written (Ok outcome) = IsKnown ended len input (λ file. IsOutcomeOf (file_tests file) outcome)
-JudgedSized ended len input written (Err Read) = written ≡ []
-JudgedSized ended len input written (Err Write) = Unit {0}
-JudgedSized ended len input written (Err Memory) = Unit {0}
-
--- what the engine read and wrote over a file of a known size
-pub record RanSized (len : ℕ) (given given' taken taken' : List ℕ) (ended : Bool) (result : Result Outcome ToolError) : Type 0 where
-  pub input : List ℕ
-  pub written : List ℕ
-  pub reads : given' ≡ given ++ input
-  pub writes : taken' ≡ taken ++ written
-  pub judged : JudgedSized ended len input written result
-  pub limit : length input ≤ 2 ^ 32 + 1
-  pub enough : OnJudged result (IsEnough ended len input)
   pub memory : IsErrOf result Memory → 0 < length input

@@ -1,101 +1,102 @@
 //! `json`: the engine of `petool json`, which checks a file as an image or an object and writes its line.
 
-ghost use Rattle.std.specs.Prelude.{◌-◌, ◌^◌, ◌<◌, ◌↔◌, length, IfOk, OnErr, IsErrOf};
+ghost use Rattle.std.specs.Prelude.{◌≡◌, ◌-◌, ◌^◌, ◌<◌, ◌↔◌, length, None, IfOk, IfSome, OnErr, IsErrOf};
 ghost use Rattle.coff_read.specs.ObjectFaults.{object_tests};
+ghost use Rattle.pe_image.specs.ImageOf.{IsImageOf};
 ghost use Rattle.pe_image.specs.ImageTests.{image_tests};
-ghost use Rattle.pe_json.specs.Growing.{Grows};
-ghost use Rattle.pe_json.specs.JsonReport.{file_tests, Prints, Ran, RanSized};
-ghost use Rattle.pe_reach.specs.Views.{seen_of};
-ghost use Rattle.pe_text.specs.TextWriter.{IsReady};
+ghost use Rattle.pe_json.specs.ExportRows.{AreNamesOf};
+ghost use Rattle.pe_json.specs.FileLine.{image_members, image_file_line, object_file_line, file_line};
+ghost use Rattle.pe_json.specs.JsonReport.{file_tests, IsLine, IsLineOf, RanSized};
+ghost use Rattle.pe_json.specs.Refused.{refused_line};
+ghost use Rattle.pe_layout.specs.Layout.{IsLayoutOf};
+ghost use Rattle.pe_layout.specs.SectionFaults.{layout_tests};
+ghost use Rattle.pe_reach.specs.Views.{seen_of, told_of};
+ghost use Rattle.pe_tables.specs.ExportsView.{exports_view, by_ordinal_view};
+ghost use Rattle.pe_text.specs.Engine.{Puts, Ran};
 ghost use Rattle.pe_text.specs.Outcome.{IsOutcomeOf};
+ghost use Rattle.pe_text.specs.TextWriter.{IsReady, Adds};
+ghost use Rattle.pe_view.specs.Faults.{first_standing};
 
-use crate::beginning::{begin, begin_refused, refuse};
-use crate::image::{write_headers, write_image, write_tables};
-use crate::json_text::JsonText;
+use crate::image::{Content, write_image};
 use crate::object::write_object;
+use crate::refused::{refuse, refuse_laid_out, refuse_unlaid};
 use coff_read::ObjectFile;
-use pe_head::Headers;
+use pe_image::Image;
 use pe_layout::Layout;
 use pe_reach::laws::faults_agree;
 use pe_reach::{ViewFile, read_view, read_whole_tables};
-use pe_tables::TableError;
+use pe_tables::{Exports, NamesByOrdinal, TableError};
 use pe_text::{Outcome, Sink, Source, TextWriter, ToolError, read_whole};
 use pe_view::Fault;
 use std::alloc::{AllocError, Allocator};
 
-/// Checks an object, and writes its line.
-fn write_object_line<A: Allocator + Copy, W: Sink>(
-    alloc: A,
-    text: &mut TextWriter<W>,
-    name: &[u8],
-    file: &[u8],
-) -> Result<Outcome, AllocError>
+/// Checks an object, and adds its line.
+fn write_object_line<W: Sink>(text: &mut TextWriter<W>, name: &[u8], file: &[u8]) -> Outcome
     requires { IsReady W.failures text.old }
-    ensures verdict { IfOk result (IsOutcomeOf (object_tests file.now)) }
-    ensures grows { Grows W.taken W.failures text.old text.new }
-    ensures memory { OnErr result (0 < length file.now) }
+    ensures verdict { IsOutcomeOf (object_tests file.now) result }
+    ensures adds { Adds W.taken W.failures text.old text.new (object_file_line name.now file.now result) }
 {
     match ObjectFile::new(file) {
         Ok(object) => {
-            begin(text, name, true);
-            let mut json = JsonText::new(alloc);
-            write_object(&mut json, text, &object);
-            json.end(text)?;
-            Ok(Outcome::Done)
+            write_object(text, name, &object);
+            Outcome::Done
         }
-        Err(fault) => Ok(refuse(text, name, ViewFile::whole(file), fault)),
+        Err(fault) => {
+            refuse(text, name, ViewFile::whole(file), &fault);
+            Outcome::Refused(fault)
+        }
     }
 }
 
-/// Writes the line of a refused image that is laid out: its fault, its headers and sections, and its tables that have no fault.
+/// The names of an image's exports by their ordinals; none if the exports have a fault.
+fn names_of<A: Allocator + Copy>(
+    alloc: A,
+    exports: &Option<Exports<A>>,
+) -> Result<NamesByOrdinal<A>, AllocError>
+    ensures { IfOk result (λ names. IfSome exports.now (λ exports. AreNamesOf (exports_view exports) (by_ordinal_view names))) }
+{
+    match exports {
+        Some(exports) => NamesByOrdinal::new(alloc, exports),
+        None => Ok(NamesByOrdinal::none(alloc)),
+    }
+}
+
+/// Adds the line of a refused image that is laid out. All memory is taken before its first byte.
 fn write_laid_out<A: Allocator + Copy, W: Sink>(
     alloc: A,
     text: &mut TextWriter<W>,
     name: &[u8],
     file: ViewFile,
     layout: &Layout,
-    fault: Fault,
+    fault: &Fault,
 ) -> Result<(), AllocError>
-    requires { IsReady W.failures text.old }
-    ensures { Grows W.taken W.failures text.old text.new }
+    requires ready { IsReady W.failures text.old }
+    requires layout { IsLayoutOf (seen_of file) 0 layout.now }
+    requires sound { first_standing (layout_tests 0 (seen_of file)) ≡ None }
+    ensures adds { IfOk result (λ _. Adds W.taken W.failures text.old text.new
+        (refused_line name.now (seen_of file.entry) (told_of file.entry) fault.now (image_members (seen_of file.entry)))) }
+    ensures same { text.new.writer.ghost_name ≡ text.old.writer.ghost_name }
+    ensures unwritten { OnErr result (text.new.writer.now ≡ text.old.writer.now) }
 {
     let tables = read_whole_tables(alloc, layout)?;
-    begin_refused(text, name, file, fault);
-    let mut json = JsonText::new(alloc);
-    let headers = layout.headers();
-    write_headers(&mut json, text, file.strings(headers), headers);
-    write_tables(&mut json, text, &tables);
-    json.end(text)
+    let names = names_of(alloc, &tables.exports)?;
+    refuse_laid_out(text, name, file, fault, layout.headers(), &tables, &names);
+    Ok(())
 }
 
-/// Writes the line of an image with one of faults 13 to 15: its fault, its headers and its sections.
-fn write_unlaid<A: Allocator + Copy, W: Sink>(
-    alloc: A,
-    text: &mut TextWriter<W>,
-    name: &[u8],
-    file: ViewFile,
-    headers: &Headers,
-    fault: Fault,
-) -> Result<(), AllocError>
-    requires { IsReady W.failures text.old }
-    ensures { Grows W.taken W.failures text.old text.new }
-{
-    begin_refused(text, name, file, fault);
-    let mut json = JsonText::new(alloc);
-    write_headers(&mut json, text, file.strings(headers), headers);
-    json.end(text)
-}
-
-/// Writes the line of a refused image: its fault, and what has none.
+/// Adds the line of a refused image: its fault, and what has none.
 fn write_refused<A: Allocator + Copy, W: Sink>(
     alloc: A,
     text: &mut TextWriter<W>,
     name: &[u8],
     file: ViewFile,
-    fault: Fault,
+    fault: &Fault,
 ) -> Result<(), AllocError>
     requires { IsReady W.failures text.old }
-    ensures grows { Grows W.taken W.failures text.old text.new }
+    ensures adds { IfOk result (λ _. Adds W.taken W.failures text.old text.new
+        (refused_line name.now (seen_of file.entry) (told_of file.entry) fault.now (image_members (seen_of file.entry)))) }
+    ensures same { text.new.writer.ghost_name ≡ text.old.writer.ghost_name }
+    ensures unwritten { OnErr result (text.new.writer.now ≡ text.old.writer.now) }
     ensures memory { OnErr result (0 < length (seen_of file.entry)) }
 {
     let Ok(headers) = file.headers() else {
@@ -104,11 +105,43 @@ fn write_refused<A: Allocator + Copy, W: Sink>(
     };
     match file.lay_out() {
         Ok(layout) => write_laid_out(alloc, text, name, file, &layout, fault),
-        Err(_) => write_unlaid(alloc, text, name, file, &headers, fault),
+        Err(_) => {
+            refuse_unlaid(text, name, file, fault, &headers);
+            Ok(())
+        }
     }
 }
 
-/// Checks an image, and writes its line.
+/// Adds the line of an image without a fault. All memory is taken before its first byte.
+fn write_accepted<A: Allocator + Copy, W: Sink>(
+    alloc: A,
+    text: &mut TextWriter<W>,
+    name: &[u8],
+    file: ViewFile,
+    image: &Image<A>,
+) -> Result<(), AllocError>
+    requires ready { IsReady W.failures text.old }
+    requires image { IsImageOf 0 (seen_of file) image.now }
+    ensures adds { IfOk result (λ _. Adds W.taken W.failures text.old text.new
+        (image_file_line name.now (told_of file.entry) (seen_of file.entry) Outcome.Done)) }
+    ensures same { text.new.writer.ghost_name ≡ text.old.writer.ghost_name }
+    ensures unwritten { OnErr result (text.new.writer.now ≡ text.old.writer.now) }
+{
+    let names = NamesByOrdinal::new(alloc, &image.exports)?;
+    let headers = image.layout.headers();
+    let content = Content {
+        headers,
+        strings: file.strings(headers),
+        exports: &image.exports,
+        names: &names,
+        imports: &image.imports,
+        fixups: &image.fixups,
+    };
+    write_image(text, name, content);
+    Ok(())
+}
+
+/// Checks an image, and adds its line.
 fn write_image_line<A: Allocator + Copy, W: Sink>(
     alloc: A,
     text: &mut TextWriter<W>,
@@ -117,26 +150,26 @@ fn write_image_line<A: Allocator + Copy, W: Sink>(
 ) -> Result<Outcome, AllocError>
     requires { IsReady W.failures text.old }
     ensures verdict { IfOk result (IsOutcomeOf (image_tests 0 (seen_of file.entry))) }
-    ensures grows { Grows W.taken W.failures text.old text.new }
+    ensures adds { IfOk result (λ outcome. Adds W.taken W.failures text.old text.new
+        (image_file_line name.now (told_of file.entry) (seen_of file.entry) outcome)) }
+    ensures same { text.new.writer.ghost_name ≡ text.old.writer.ghost_name }
+    ensures unwritten { OnErr result (text.new.writer.now ≡ text.old.writer.now) }
     ensures memory { OnErr result (0 < length (seen_of file.entry)) }
 {
     match file.read_image(alloc) {
         Ok(image) => {
-            begin(text, name, true);
-            let mut json = JsonText::new(alloc);
-            write_image(&mut json, text, file, &image);
-            json.end(text)?;
+            write_accepted(alloc, text, name, file, &image)?;
             Ok(Outcome::Done)
         }
         Err(TableError::Fault(fault)) => {
-            write_refused(alloc, text, name, file, fault)?;
+            write_refused(alloc, text, name, file, &fault)?;
             Ok(Outcome::Refused(fault))
         }
         Err(TableError::Memory) => Err(AllocError),
     }
 }
 
-/// Checks a file as an object if it begins like one, else as an image, and writes its line.
+/// Checks a file as an object if it begins like one, else as an image, and adds its line.
 fn write_line<A: Allocator + Copy, W: Sink>(
     alloc: A,
     text: &mut TextWriter<W>,
@@ -145,11 +178,14 @@ fn write_line<A: Allocator + Copy, W: Sink>(
 ) -> Result<Outcome, AllocError>
     requires { IsReady W.failures text.old }
     ensures verdict { IfOk result (IsOutcomeOf (file_tests (seen_of file.entry))) }
-    ensures grows { Grows W.taken W.failures text.old text.new }
+    ensures adds { IfOk result (λ outcome. Adds W.taken W.failures text.old text.new
+        (file_line name.now (told_of file.entry) (seen_of file.entry) outcome)) }
+    ensures same { text.new.writer.ghost_name ≡ text.old.writer.ghost_name }
+    ensures unwritten { OnErr result (text.new.writer.now ≡ text.old.writer.now) }
     ensures memory { OnErr result (0 < length (seen_of file.entry)) }
 {
     match file.object() {
-        Some(object) => write_object_line(alloc, text, name, object),
+        Some(object) => Ok(write_object_line(text, name, object)),
         None => write_image_line(alloc, text, name, file),
     }
 }
@@ -162,16 +198,16 @@ fn print_line<A: Allocator + Copy, W: Sink>(
     file: ViewFile,
 ) -> Result<Outcome, ToolError>
     requires { W.failures writer.old < 2 ^ 64 - 1 }
-    ensures prints { Prints (seen_of file.entry) (W.taken writer.old) (W.taken writer.new) (W.failures writer.old) (W.failures writer.new) result }
+    ensures puts { Puts (IsLine name.now (told_of file.entry) (seen_of file.entry)) (W.taken writer.old) (W.taken writer.new)
+        (W.failures writer.old) (W.failures writer.new) result }
     ensures memory { IsErrOf result ToolError.Memory → 0 < length (seen_of file.entry) }
 {
     let mut text = TextWriter::new(writer);
-    let answer = write_line(alloc, &mut text, name, file);
+    let Ok(outcome) = write_line(alloc, &mut text, name, file) else {
+        return Err(ToolError::Memory);
+    };
     match text.finish() {
-        Ok(()) => match answer {
-            Ok(outcome) => Ok(outcome),
-            Err(_) => Err(ToolError::Memory),
-        },
+        Ok(()) => Ok(outcome),
         Err(_) => Err(ToolError::Write),
     }
 }
@@ -180,13 +216,12 @@ fn print_line<A: Allocator + Copy, W: Sink>(
 /// fault, and of an image what has no fault, as [`crate`] says. `name` is that of the file in the line.
 ///
 /// A file that begins like a COFF object is tested for the object faults of docs/FAULTS.md, and any other for the image faults.
-/// `Done` means that it has none of these, and `Refused` has the first that it has. The text of the line is not part of the
-/// contract.
+/// `Done` means that it has none of these, and `Refused` has the first that it has.
 ///
 /// At most 2^32 + 1 bytes are read; an outcome and `Write` come only after that many, or after the reader's end. The error is
-/// `Read` or `Write` exactly if a call of that device failed, and `Memory` never comes if the reader returned no byte. On `Read`
-/// nothing was written. On `Write` and `Memory` bytes may have been: the line is written row by row, and a row may need memory.
-/// Condition: each device has counted fewer than 2^64 - 1 failures so far.
+/// `Read` or `Write` exactly if a call of that device failed, and `Memory` never comes if the reader returned no byte. On `Write`
+/// the beginning of the line was written, on `Read` and `Memory` nothing. Condition: each device has counted fewer than 2^64 - 1
+/// failures so far.
 pub fn json<A: Allocator + Copy, R: Source, W: Sink>(
     alloc: A,
     name: &[u8],
@@ -195,7 +230,7 @@ pub fn json<A: Allocator + Copy, R: Source, W: Sink>(
 ) -> Result<Outcome, ToolError>
     requires reads { R.failures reader.old < 2 ^ 64 - 1 }
     requires writes { W.failures writer.old < 2 ^ 64 - 1 }
-    ensures ran { Ran (R.given reader.old) (R.given reader.new)
+    ensures ran { Ran (IsLineOf name.now) (R.given reader.old) (R.given reader.new)
         (W.taken writer.old) (W.taken writer.new) (R.ended reader.new) result }
     ensures read { IsErrOf result ToolError.Read ↔ (R.failures reader.old < R.failures reader.new) }
     ensures write { IsErrOf result ToolError.Write ↔ (W.failures writer.old < W.failures writer.new) }
@@ -205,10 +240,11 @@ pub fn json<A: Allocator + Copy, R: Source, W: Sink>(
 }
 
 /// [`json`] for a file of `len` bytes. Of an image no more is read than the bytes before the end that its headers name, and those
-/// before the end of its string table if a name of a section may be in it; the outcome is that of each file of `len` bytes that
-/// begins so. A file that does not begin with `MZ`, and one whose first 4,096 bytes do not say where that end is, is read whole.
+/// before the end of its string table if a name of a section may be in it. The outcome is that of each file of `len` bytes that
+/// begins so, and so is the line of an image without a fault; that of a refused one is what is told of the bytes that were read. A
+/// file that does not begin with `MZ`, and one whose first 4,096 bytes do not say where that end is, is read whole.
 ///
-/// The line, the errors and the conditions are those of [`json`].
+/// The errors and the conditions are those of [`json`].
 pub fn json_sized<A: Allocator + Copy, R: Source, W: Sink>(
     alloc: A,
     name: &[u8],
@@ -218,7 +254,7 @@ pub fn json_sized<A: Allocator + Copy, R: Source, W: Sink>(
 ) -> Result<Outcome, ToolError>
     requires reads { R.failures reader.old < 2 ^ 64 - 1 }
     requires writes { W.failures writer.old < 2 ^ 64 - 1 }
-    ensures ran { RanSized len (R.given reader.old) (R.given reader.new)
+    ensures ran { RanSized name.now len (R.given reader.old) (R.given reader.new)
         (W.taken writer.old) (W.taken writer.new) (R.ended reader.new) result }
     ensures read { IsErrOf result ToolError.Read ↔ (R.failures reader.old < R.failures reader.new) }
     ensures write { IsErrOf result ToolError.Write ↔ (W.failures writer.old < W.failures writer.new) }

@@ -1,89 +1,67 @@
-//! The JSON members of an image's headers and data directories.
+//! The COFF file header of an image or an object.
 
-use crate::value::Value::{Absent, Flags, Number, Wide};
-use crate::value::{Member, text_if};
+ghost use Rattle.pe_text.specs.TextWriter.{IsReady, Adds};
+ghost use Rattle.pe_json.specs.Headers.{coff_numbers, coff_members};
+ghost use Rattle.pe_json.specs.JsonText.{with_commas};
+ghost use Rattle.pe_json.specs.Listed.{more};
+
+use crate::flags::write_flags;
+use crate::string::{write_number, write_text_if};
 use coff_read::FileHeader;
-use pe_head::{FlagKind, Headers, machine_name, subsystem_name};
+use pe_head::{FlagKind, machine_name};
+use pe_text::{Sink, TextWriter};
 
-/// A member that is a number.
-macro_rules! number {
-    ($headers:ident, $field:ident) => {
-        (stringify!($field), Number($headers.$field as u64))
-    };
+/// Adds the fields of a COFF file header after Machine.
+fn write_coff_numbers<W: Sink>(text: &mut TextWriter<W>, header: &FileHeader)
+    requires { IsReady W.failures text.old }
+    ensures { Adds W.taken W.failures text.old text.new (more (coff_numbers header.now)) }
+{
+    // from describe/records.txt: coff of headers
+    write_number(
+        text,
+        b",\"number_of_sections\":",
+        header.number_of_sections as u64,
+    );
+    write_number(
+        text,
+        b",\"time_date_stamp\":",
+        header.time_date_stamp as u64,
+    );
+    write_number(
+        text,
+        b",\"pointer_to_symbol_table\":",
+        header.pointer_to_symbol_table as u64,
+    );
+    write_number(
+        text,
+        b",\"number_of_symbols\":",
+        header.number_of_symbols as u64,
+    );
+    write_number(
+        text,
+        b",\"size_of_optional_header\":",
+        header.size_of_optional_header as u64,
+    );
+    write_number(
+        text,
+        b",\"characteristics\":",
+        header.characteristics as u64,
+    );
+    write_flags(
+        text,
+        b",\"characteristics_flags\":[",
+        FlagKind::File,
+        header.characteristics as u32,
+    );
+    // end of describe/records.txt
 }
 
-/// A member that is a number of 64 bits in PE32+.
-macro_rules! wide {
-    ($headers:ident, $field:ident) => {
-        (stringify!($field), Wide($headers.$field))
-    };
-}
-
-/// The fields of a COFF file header, in the header's order ("PE Format", COFF File Header).
-pub(crate) fn coff_members(header: &FileHeader) -> [Member<'static>; 9] {
-    [
-        // from describe/records.txt: coff of headers
-        number!(header, machine),
-        ("machine_name", text_if(machine_name(header.machine))),
-        number!(header, number_of_sections),
-        number!(header, time_date_stamp),
-        number!(header, pointer_to_symbol_table),
-        number!(header, number_of_symbols),
-        number!(header, size_of_optional_header),
-        number!(header, characteristics),
-        (
-            "characteristics_flags",
-            Flags(FlagKind::File, header.characteristics as u32),
-        ),
-        // end of describe/records.txt
-    ]
-}
-
-/// The fields of an optional header, in the header's order ("PE Format", Optional Header).
-pub(crate) fn optional_members(headers: &Headers) -> [Member<'static>; 32] {
-    [
-        // from describe/records.txt: optional of headers
-        ("magic", Number(headers.magic.number() as u64)),
-        number!(headers, major_linker_version),
-        number!(headers, minor_linker_version),
-        number!(headers, size_of_code),
-        number!(headers, size_of_initialized_data),
-        number!(headers, size_of_uninitialized_data),
-        number!(headers, address_of_entry_point),
-        number!(headers, base_of_code),
-        (
-            "base_of_data",
-            match headers.base_of_data {
-                Some(rva) => Number(rva as u64),
-                None => Absent,
-            },
-        ),
-        wide!(headers, image_base),
-        number!(headers, section_alignment),
-        number!(headers, file_alignment),
-        number!(headers, major_operating_system_version),
-        number!(headers, minor_operating_system_version),
-        number!(headers, major_image_version),
-        number!(headers, minor_image_version),
-        number!(headers, major_subsystem_version),
-        number!(headers, minor_subsystem_version),
-        number!(headers, win32_version_value),
-        number!(headers, size_of_image),
-        number!(headers, size_of_headers),
-        number!(headers, check_sum),
-        number!(headers, subsystem),
-        ("subsystem_name", text_if(subsystem_name(headers.subsystem))),
-        number!(headers, dll_characteristics),
-        (
-            "dll_characteristics_flags",
-            Flags(FlagKind::Dll, headers.dll_characteristics as u32),
-        ),
-        wide!(headers, size_of_stack_reserve),
-        wide!(headers, size_of_stack_commit),
-        wide!(headers, size_of_heap_reserve),
-        wide!(headers, size_of_heap_commit),
-        number!(headers, loader_flags),
-        number!(headers, number_of_rva_and_sizes),
-        // end of describe/records.txt
-    ]
+/// Adds the fields of a COFF file header, in the header's order ("PE Format", COFF File Header).
+pub(crate) fn write_coff<W: Sink>(text: &mut TextWriter<W>, header: &FileHeader)
+    requires { IsReady W.failures text.old }
+    ensures { Adds W.taken W.failures text.old text.new (with_commas (coff_members header.now)) }
+{
+    write_number(text, b"\"machine\":", header.machine as u64);
+    write_text_if(text, b",\"machine_name\":", machine_name(header.machine));
+    write_coff_numbers(text, header);
 }

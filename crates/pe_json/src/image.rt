@@ -1,35 +1,60 @@
-//! The JSON members of an image.
+//! The line of an image without a fault, and the members that it has in common with a refused one.
 
-ghost use Rattle.pe_json.specs.Growing.{Grows};
-ghost use Rattle.pe_text.specs.TextWriter.{IsReady};
+ghost use Rattle.std.specs.Prelude.{◌≡◌, ◌++◌, codes, map, option_map};
+ghost use Rattle.json.specs.Print.{quoted};
+ghost use Rattle.coff_read.specs.ImageNames.{table_of};
+ghost use Rattle.pe_tables.specs.ExportsView.{exports_view, by_ordinal_view};
+ghost use Rattle.pe_tables.specs.ImportView.{import_view};
+ghost use Rattle.pe_text.specs.TextWriter.{IsReady, Adds};
+ghost use Rattle.pe_json.specs.ExportRows.{AreNamesOf};
+ghost use Rattle.pe_json.specs.Headers.{headers_object};
+ghost use Rattle.pe_json.specs.ImageLine.{format_name, head_members, exports_members, imports_members, fixups_members, image_line};
+ghost use Rattle.pe_json.specs.JsonText.{member};
+ghost use Rattle.pe_json.specs.Listed.{more};
 
+use crate::beginning::begin;
+use crate::directories::write_directories;
 use crate::exports::write_exports;
-use crate::headers::{coff_members, optional_members};
-use crate::json_text::JsonText;
-use crate::sections::section_members;
+use crate::headers::write_coff;
+use crate::optional_header::write_optional;
+use crate::sections::write_sections;
+use crate::string::write_number;
 use crate::tables::{write_fixups, write_imports};
-use crate::value::Value::{Number, Text};
-use crate::value::text_if;
-use coff_read::{FileHeader, ImageStrings, section_name};
-use pe_head::{Headers, Magic, SectionHeader, directory_name};
-use pe_image::{Image, Tables};
-use pe_reach::ViewFile;
+use coff_read::{FileHeader, ImageStrings};
+use pe_head::{Headers, Magic};
+use pe_tables::{Exports, Fixup, Import, NamesByOrdinal};
 use pe_text::{Sink, TextWriter};
 use std::alloc::Allocator;
 
-/// Adds the headers and the list of data directories ("PE Format", Optional Header Data Directories).
-fn add_headers<A: Allocator + Copy>(json: &mut JsonText<A>, headers: &Headers) {
-    let format = match headers.magic {
-        Magic::Pe32 => "PE32",
-        Magic::Pe32Plus => "PE32+",
-    };
-    json.members(&[
-        ("format", Text(format)),
-        ("pe_offset", Number(headers.pe_offset as u64)),
-    ]);
-    json.key("headers");
-    json.begin_object();
-    json.members(&coff_members(&FileHeader {
+/// What the line of an image without a fault shows.
+#[derive(Clone, Copy)]
+pub(crate) struct Content<'t, 's, 'a, A: Allocator> {
+    pub headers: &'t Headers,
+    /// Its string table, in which names of sections may be.
+    pub strings: Option<ImageStrings<'s>>,
+    pub exports: &'t Exports<'a, A>,
+    pub names: &'t NamesByOrdinal<A>,
+    pub imports: &'t [Import<'a>],
+    pub fixups: &'t [Fixup],
+}
+
+/// The member that names the form of an image.
+fn format_member(magic: Magic) -> &'static [u8]
+    ensures { result.now ≡ codes "," ++ member (codes "format") (quoted (format_name magic)) }
+{
+    match magic {
+        Magic::Pe32 => b",\"format\":\"PE32\"",
+        Magic::Pe32Plus => b",\"format\":\"PE32+\"",
+    }
+}
+
+/// Adds the fields of both headers.
+fn write_fields<W: Sink>(text: &mut TextWriter<W>, headers: &Headers)
+    requires { IsReady W.failures text.old }
+    ensures { Adds W.taken W.failures text.old text.new (headers_object headers.now) }
+{
+    text.text(b"{");
+    let header = FileHeader {
         machine: headers.machine,
         number_of_sections: headers.number_of_sections,
         time_date_stamp: headers.time_date_stamp,
@@ -37,94 +62,81 @@ fn add_headers<A: Allocator + Copy>(json: &mut JsonText<A>, headers: &Headers) {
         number_of_symbols: headers.number_of_symbols,
         size_of_optional_header: headers.size_of_optional_header,
         characteristics: headers.characteristics,
-    }));
-    json.members(&optional_members(headers));
-    json.end_object();
-    json.begin_list("directories");
-    for (index, directory) in headers.directories.as_slice().iter().enumerate() {
-        let index = index as u32;
-        json.object(&[
-            ("index", Number(index as u64)),
-            ("name", text_if(directory_name(index))),
-            ("virtual_address", Number(directory.rva as u64)),
-            ("size", Number(directory.size as u64)),
-        ]);
-    }
-    json.end_list();
+    };
+    write_coff(text, &header);
+    write_optional(text, headers);
+    text.text(b"}");
 }
 
-/// Writes the list of sections.
-fn write_sections<A: Allocator + Copy, W: Sink>(
-    json: &mut JsonText<A>,
-    text: &mut TextWriter<W>,
-    strings: Option<ImageStrings>,
-    sections: &[SectionHeader],
-)
-    requires { IsReady W.failures text.old }
-    ensures { Grows W.taken W.failures text.old text.new }
-{
-    json.begin_list("sections");
-    for (index, section) in sections.iter().enumerate() {
-        if text.has_failed() {
-            break;
-        }
-        let name = section_name(strings, &section.name);
-        let index = ("index", Number(index as u64));
-        json.object(&section_members(index, name, section));
-        json.put(text);
-    }
-    json.end_list();
-}
-
-/// Writes the members of an image that its headers say: the headers, the data directories and the sections, whose names may be in
+/// Adds the members of an image that its headers say: the headers, the data directories and the sections, whose names may be in
 /// the string table.
-pub(crate) fn write_headers<A: Allocator + Copy, W: Sink>(
-    json: &mut JsonText<A>,
+pub(crate) fn write_head<W: Sink>(
     text: &mut TextWriter<W>,
     strings: Option<ImageStrings>,
     headers: &Headers,
 )
     requires { IsReady W.failures text.old }
-    ensures { Grows W.taken W.failures text.old text.new }
+    ensures { Adds W.taken W.failures text.old text.new (more (head_members (option_map table_of strings.entry) headers.now)) }
 {
-    add_headers(json, headers);
-    json.put(text);
-    write_sections(json, text, strings, headers.sections.as_slice());
+    text.text(format_member(headers.magic));
+    write_number(text, b",\"pe_offset\":", headers.pe_offset as u64);
+    text.text(b",\"headers\":");
+    write_fields(text, headers);
+    text.text(b",\"directories\":");
+    write_directories(text, headers.directories.as_slice());
+    text.text(b",\"sections\":");
+    write_sections(text, strings, headers.sections.as_slice());
 }
 
-/// Writes the members of tables that were read.
-pub(crate) fn write_tables<A: Allocator + Copy, W: Sink>(
-    json: &mut JsonText<A>,
+/// Adds the member that lists the exports.
+pub(crate) fn write_export_table<A: Allocator + Copy, W: Sink>(
     text: &mut TextWriter<W>,
-    tables: &Tables<A>,
+    exports: &Exports<A>,
+    names: &NamesByOrdinal<A>,
 )
-    requires { IsReady W.failures text.old }
-    ensures { Grows W.taken W.failures text.old text.new }
+    requires ready { IsReady W.failures text.old }
+    requires own { AreNamesOf (exports_view exports.now) (by_ordinal_view names.now) }
+    ensures { Adds W.taken W.failures text.old text.new (more (exports_members (exports_view exports.now))) }
 {
-    if let Some(exports) = &tables.exports {
-        write_exports(json, text, exports);
-    }
-    if let Some(imports) = &tables.imports {
-        write_imports(json, text, imports);
-    }
-    if let Some(fixups) = &tables.fixups {
-        write_fixups(json, text, fixups);
-    }
+    text.text(b",\"exports\":");
+    write_exports(text, exports, names);
 }
 
-/// Writes the members of an accepted image, from its headers to its base relocations.
+/// Adds the member that lists the imports.
+pub(crate) fn write_import_table<W: Sink>(text: &mut TextWriter<W>, imports: &[Import])
+    requires { IsReady W.failures text.old }
+    ensures { Adds W.taken W.failures text.old text.new (more (imports_members (map import_view imports.now))) }
+{
+    text.text(b",\"imports\":");
+    write_imports(text, imports);
+}
+
+/// Adds the member that lists the base relocations.
+pub(crate) fn write_relocation_table<W: Sink>(text: &mut TextWriter<W>, fixups: &[Fixup])
+    requires { IsReady W.failures text.old }
+    ensures { Adds W.taken W.failures text.old text.new (more (fixups_members fixups.now)) }
+{
+    text.text(b",\"fixups\":");
+    write_fixups(text, fixups);
+}
+
+/// Adds the line of an image without a fault, whose file has this name.
 pub(crate) fn write_image<A: Allocator + Copy, W: Sink>(
-    json: &mut JsonText<A>,
     text: &mut TextWriter<W>,
-    file: ViewFile,
-    image: &Image<A>,
+    name: &[u8],
+    image: Content<A>,
 )
-    requires { IsReady W.failures text.old }
-    ensures { Grows W.taken W.failures text.old text.new }
+    requires ready { IsReady W.failures text.old }
+    requires own { AreNamesOf (exports_view image.exports.now) (by_ordinal_view image.names.now) }
+    ensures { Adds W.taken W.failures text.old text.new
+        (image_line name.now (option_map table_of image.entry.strings) image.entry.headers.now (exports_view image.entry.exports.now)
+        (map import_view image.entry.imports.now) image.entry.fixups.now) }
 {
-    let headers = image.layout.headers();
-    write_headers(json, text, file.strings(headers), headers);
-    write_exports(json, text, &image.exports);
-    write_imports(json, text, &image.imports);
-    write_fixups(json, text, &image.fixups);
+    begin(text, name, true);
+    write_head(text, image.strings, image.headers);
+    write_export_table(text, image.exports, image.names);
+    write_import_table(text, image.imports);
+    write_relocation_table(text, image.fixups);
+    text.text(b"}");
+    text.text(b"\n");
 }

@@ -11,23 +11,30 @@
 //! [`json_sized`] takes the file's size too, and reads only as much of an image as the line shows. [`json_parts`] reads only the
 //! parts from which the line of an image without a fault may be known.
 //!
-//! The line's members are those of docs/JSON.md. It is written as its rows are made, with at most 16 of them in memory; after a
-//! failed write no further row is made. Of a refused image it has the fault, the headers and sections if the headers have no fault,
-//! and the tables that [`pe_reach::read_whole_tables`] reads if the image is laid out; all tables are read before the first byte is
-//! written. The beginning of a line, up to and with the fault, allocates nothing.
+//! The line's members are those of docs/JSON.md, and the contracts define each byte. It is written straight into the text; after a
+//! failed write no further row is made. All memory is taken before its first byte, so after want of memory nothing of it was
+//! written. Of a refused image the line has the fault, the headers and sections if the headers have no fault, and the tables that
+//! [`pe_reach::read_whole_tables`] reads if the image is laid out.
 #![tactic(auto)]
 
+mod auxiliary;
 mod beginning;
+mod directories;
 mod engine;
 mod exports;
+mod fault;
+mod flags;
 mod headers;
 mod image;
-mod json_text;
 mod object;
+mod object_sections;
+mod optional_header;
 mod parts;
+mod refused;
 mod sections;
+mod string;
+mod symbols;
 mod tables;
-mod value;
 
 pub use engine::{json, json_sized};
 pub use parts::json_parts;

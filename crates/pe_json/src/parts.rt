@@ -1,74 +1,48 @@
 //! `json_parts`: `json` for an image's file of a known size, of which only the headers, the sections with tables and the string table
 //! are read.
 
-ghost use Rattle.std.specs.Prelude.{◌≡◌, ◌-◌, ◌^◌, ◌<◌, ◌↔◌, IsErrOf};
-ghost use Rattle.pe_text.specs.TextWriter.{IsReady};
-ghost use Rattle.pe_json.specs.Growing.{Grows};
-ghost use Rattle.pe_json.specs.JsonByParts.{PrintsDone, PrintsParts, RanByParts};
+ghost use Rattle.std.specs.Prelude.{map, option_map, ◌-◌, ◌^◌, ◌<◌, ◌↔◌, IsErrOf};
+ghost use Rattle.coff_read.specs.ImageNames.{table_of};
+ghost use Rattle.pe_json.specs.ExportRows.{AreNamesOf};
+ghost use Rattle.pe_json.specs.JsonByParts.{IsImageLine, PutsParts};
+ghost use Rattle.pe_json.specs.JsonReport.{IsLineOf};
+ghost use Rattle.pe_reach.specs.PartsRan.{RanByParts};
+ghost use Rattle.pe_tables.specs.ExportsView.{exports_view, by_ordinal_view};
+ghost use Rattle.pe_tables.specs.ImportView.{import_view};
+ghost use Rattle.pe_text.specs.Engine.{Puts};
 
-use crate::beginning::begin;
-use crate::exports::write_exports;
-use crate::image::write_headers;
-use crate::json_text::JsonText;
-use crate::tables::{write_fixups, write_imports};
+use crate::image::{Content, write_image};
 use coff_read::ImageStrings;
-use pe_head::Headers;
-use pe_parts::{PackedTables, read_packed};
+use pe_parts::read_packed;
 use pe_reach::{PartSource, Parts, read_names, read_parts};
+use pe_tables::NamesByOrdinal;
 use pe_text::{Outcome, Sink, TextWriter, ToolError};
 use pe_view::View;
-use std::alloc::{AllocError, Allocator};
-
-/// What is known of an image without a fault.
-#[derive(Clone, Copy)]
-struct Content<'t, 'a, A: Allocator> {
-    headers: &'t Headers,
-    strings: Option<ImageStrings<'a>>,
-    tables: &'t PackedTables<'a, A>,
-}
-
-/// Writes the line of an image without a fault.
-fn write_content<A: Allocator + Copy, W: Sink>(
-    alloc: A,
-    text: &mut TextWriter<W>,
-    name: &[u8],
-    content: Content<A>,
-) -> Result<(), AllocError>
-    requires { IsReady W.failures text.old }
-    ensures { Grows W.taken W.failures text.old text.new }
-{
-    begin(text, name, true);
-    let mut json = JsonText::new(alloc);
-    write_headers(&mut json, text, content.strings, content.headers);
-    write_exports(&mut json, text, &content.tables.exports);
-    write_imports(&mut json, text, &content.tables.imports);
-    write_fixups(&mut json, text, &content.tables.fixups);
-    json.end(text)
-}
+use std::alloc::Allocator;
 
 /// Writes the line of an image without a fault to a sink.
 fn print_content<A: Allocator + Copy, W: Sink>(
-    alloc: A,
     writer: &mut W,
     name: &[u8],
     content: Content<A>,
 ) -> Result<Outcome, ToolError>
-    requires { W.failures writer.old < 2 ^ 64 - 1 }
-    ensures { PrintsDone (W.taken writer.old) (W.taken writer.new) (W.failures writer.old) (W.failures writer.new) result }
+    requires writes { W.failures writer.old < 2 ^ 64 - 1 }
+    requires own { AreNamesOf (exports_view content.exports.now) (by_ordinal_view content.names.now) }
+    ensures { Puts
+        (IsImageLine name.now (option_map table_of content.entry.strings) content.entry.headers.now (exports_view content.entry.exports.now)
+        (map import_view content.entry.imports.now) content.entry.fixups.now)
+        (W.taken writer.old) (W.taken writer.new) (W.failures writer.old) (W.failures writer.new) result }
 {
     let mut text = TextWriter::new(writer);
-    let answer = write_content(alloc, &mut text, name, content);
+    write_image(&mut text, name, content);
     match text.finish() {
-        Ok(()) => match answer {
-            Ok(()) => Ok(Outcome::Done),
-            Err(_) => Err(ToolError::Memory),
-        },
+        Ok(()) => Ok(Outcome::Done),
         Err(_) => Err(ToolError::Write),
     }
 }
 
 /// Reads the tables of an image from its parts, and writes its line. `None` if the parts do not decide that it has no fault; then, and
-/// on the error `Memory` for want of memory for tables, nothing was written.
+/// on the error `Memory`, nothing was written.
 fn print_parts<A: Allocator + Copy, W: Sink>(
     alloc: A,
     writer: &mut W,
@@ -76,7 +50,7 @@ fn print_parts<A: Allocator + Copy, W: Sink>(
     parts: Parts<A>,
 ) -> Result<Option<Outcome>, ToolError>
     requires { W.failures writer.old < 2 ^ 64 - 1 }
-    ensures { PrintsParts parts (W.taken writer.old) (W.taken writer.new) (W.failures writer.old) (W.failures writer.new) result }
+    ensures { PutsParts name.now parts (W.taken writer.old) (W.taken writer.new) (W.failures writer.old) (W.failures writer.new) result }
 {
     let Parts {
         headers,
@@ -86,12 +60,18 @@ fn print_parts<A: Allocator + Copy, W: Sink>(
     let strings = ImageStrings::new(View::new(&bytes), &packed);
     match read_packed(alloc, &bytes, packed, 0) {
         Ok(Some(tables)) => {
+            let Ok(names) = NamesByOrdinal::new(alloc, &tables.exports) else {
+                return Err(ToolError::Memory);
+            };
             let content = Content {
                 headers: &headers,
                 strings,
-                tables: &tables,
+                exports: &tables.exports,
+                names: &names,
+                imports: &tables.imports,
+                fixups: &tables.fixups,
             };
-            match print_content(alloc, writer, name, content) {
+            match print_content(writer, name, content) {
                 Ok(outcome) => Ok(Some(outcome)),
                 Err(error) => Err(error),
             }
@@ -102,11 +82,11 @@ fn print_parts<A: Allocator + Copy, W: Sink>(
 }
 
 /// [`json`](crate::json) for an image's file of `len` bytes, of which the headers are read, the sections in which its tables begin, and
-/// the string table if a name of a section may be in it. The outcome, which is `Done`, is that of each file of `len` bytes that has
-/// these parts. `Ok(None)` means that they do not decide it, or that the image may have a fault: nothing was written, and
+/// the string table if a name of a section may be in it. The line and the outcome, which is `Done`, are those of each file of `len`
+/// bytes that has these parts. `Ok(None)` means that they do not decide it, or that the image may have a fault: nothing was written, and
 /// [`json_sized`](crate::json_sized) is for this file.
 ///
-/// On the error `Read` nothing was written; on `Write` and `Memory` bytes may have been. Condition: each device has counted fewer than
+/// On the errors `Read` and `Memory` nothing was written, on `Write` the beginning of the line. Condition: each device has counted fewer than
 /// 2^64 - 1 failures so far.
 pub fn json_parts<A: Allocator + Copy, R: PartSource, W: Sink>(
     alloc: A,
@@ -117,7 +97,7 @@ pub fn json_parts<A: Allocator + Copy, R: PartSource, W: Sink>(
 ) -> Result<Option<Outcome>, ToolError>
     requires reads { R.failures reader.old < 2 ^ 64 - 1 }
     requires writes { W.failures writer.old < 2 ^ 64 - 1 }
-    ensures ran { RanByParts len (R.parts reader.old) (R.parts reader.new) (W.taken writer.old) (W.taken writer.new) result }
+    ensures ran { RanByParts (IsLineOf name.now) len (R.parts reader.old) (R.parts reader.new) (W.taken writer.old) (W.taken writer.new) result }
     ensures read { IsErrOf result ToolError.Read ↔ (R.failures reader.old < R.failures reader.new) }
     ensures write { IsErrOf result ToolError.Write ↔ (W.failures writer.old < W.failures writer.new) }
 {

@@ -1,74 +1,137 @@
-//! The JSON lists of an image's imports and base relocations.
+//! The lists of an image's imports and base relocations, and the member that a key is.
 
-ghost use Rattle.pe_json.specs.Growing.{Grows};
-ghost use Rattle.pe_text.specs.TextWriter.{IsReady};
+ghost use Rattle.std.specs.Prelude.{◌≡◌, ◌++◌, codes, flat_map, map};
+ghost use Rattle.pe_tables.specs.Key.{key_view};
+ghost use Rattle.pe_tables.specs.ImportView.{import_view};
+ghost use Rattle.pe_text.specs.TextWriter.{IsReady, Adds};
+ghost use Rattle.pe_json.specs.TableRows.{key_member, import_row, imports_list, kind_member, fixup_row, fixups_list};
 
-use crate::json_text::JsonText;
+use crate::string::write_name;
 use pe_tables::{Fixup, FixupKind, Import, Key};
 use pe_text::{Sink, TextWriter};
-use std::alloc::Allocator;
 
 /// Adds an ordinal or a name.
-pub(crate) fn add_key<A: Allocator + Copy>(json: &mut JsonText<A>, key: &Key) {
+pub(crate) fn write_key<W: Sink>(text: &mut TextWriter<W>, key: &Key)
+    requires { IsReady W.failures text.old }
+    ensures { Adds W.taken W.failures text.old text.new (key_member (key_view key.now)) }
+{
     match key {
-        Key::Ordinal(ordinal) => json.number("ordinal", *ordinal as u64),
-        Key::Name(name) => json.name("name", "name_hex", name),
+        Key::Ordinal(ordinal) => {
+            text.text(b"\"ordinal\":");
+            text.decimal(*ordinal as u64);
+        }
+        Key::Name(name) => write_name(text, b"\"name\":\"", b"\"name_hex\":\"", name),
     }
 }
 
-/// Writes the list of imports.
-pub(crate) fn write_imports<A: Allocator + Copy, W: Sink>(
-    json: &mut JsonText<A>,
-    text: &mut TextWriter<W>,
-    imports: &[Import],
-)
+/// Adds an import.
+fn write_import<W: Sink>(text: &mut TextWriter<W>, import: &Import)
     requires { IsReady W.failures text.old }
-    ensures { Grows W.taken W.failures text.old text.new }
+    ensures { Adds W.taken W.failures text.old text.new (import_row (import_view import.now)) }
 {
-    json.begin_list("imports");
+    write_name(
+        text,
+        b"{\"module\":\"",
+        b"{\"module_hex\":\"",
+        import.module,
+    );
+    text.text(b",");
+    write_key(text, &import.key);
+    text.text(b",\"slot\":");
+    text.decimal(import.slot as u64);
+    text.text(b"}");
+}
+
+/// Adds an import after a comma.
+fn write_next_import<W: Sink>(text: &mut TextWriter<W>, import: &Import)
+    requires { IsReady W.failures text.old }
+    ensures { Adds W.taken W.failures text.old text.new (codes "," ++ import_row (import_view import.now)) }
+{
+    text.text(b",");
+    write_import(text, import);
+}
+
+/// Adds imports, each after a comma.
+fn write_next_imports<W: Sink>(text: &mut TextWriter<W>, imports: &[Import])
+    requires { IsReady W.failures text.old }
+    ensures { Adds W.taken W.failures text.old text.new (flat_map (λ i. codes "," ++ import_row (import_view i)) imports.now) }
+{
     for import in imports {
         if text.has_failed() {
-            break;
+            return;
         }
-        json.begin_object();
-        json.name("module", "module_hex", import.module);
-        add_key(json, &import.key);
-        json.number("slot", import.slot as u64);
-        json.end_object();
-        json.put(text);
+        write_next_import(text, import);
     }
-    json.end_list();
 }
 
-/// Adds a base relocation: how many bits of an address its field has, or which half of one.
-fn add_fixup<A: Allocator + Copy>(json: &mut JsonText<A>, fixup: &Fixup) {
-    json.begin_object();
-    json.number("rva", fixup.field as u64);
-    match fixup.kind {
-        FixupKind::Bits32 => json.number("bits", 32),
-        FixupKind::Bits64 => json.number("bits", 64),
-        FixupKind::High => json.text("kind", "high"),
-        FixupKind::Low => json.text("kind", "low"),
-    }
-    json.end_object();
-}
-
-/// Writes the list of base relocations.
-pub(crate) fn write_fixups<A: Allocator + Copy, W: Sink>(
-    json: &mut JsonText<A>,
-    text: &mut TextWriter<W>,
-    fixups: &[Fixup],
-)
+/// Adds the list of imports.
+pub(crate) fn write_imports<W: Sink>(text: &mut TextWriter<W>, imports: &[Import])
     requires { IsReady W.failures text.old }
-    ensures { Grows W.taken W.failures text.old text.new }
+    ensures { Adds W.taken W.failures text.old text.new (imports_list (map import_view imports.now)) }
 {
-    json.begin_list("fixups");
+    text.text(b"[");
+    if let Some((first, rest)) = imports.split_first() {
+        write_import(text, first);
+        write_next_imports(text, rest);
+    }
+    text.text(b"]");
+}
+
+/// The member that says how many bits of an address a field has, or which half of one.
+fn kind_member(kind: FixupKind) -> &'static [u8]
+    ensures { result.now ≡ kind_member kind }
+{
+    match kind {
+        FixupKind::Bits32 => b"\"bits\":32",
+        FixupKind::Bits64 => b"\"bits\":64",
+        FixupKind::High => b"\"kind\":\"high\"",
+        FixupKind::Low => b"\"kind\":\"low\"",
+    }
+}
+
+/// Adds a base relocation.
+fn write_fixup<W: Sink>(text: &mut TextWriter<W>, fixup: &Fixup)
+    requires { IsReady W.failures text.old }
+    ensures { Adds W.taken W.failures text.old text.new (fixup_row fixup.now) }
+{
+    text.text(b"{\"rva\":");
+    text.decimal(fixup.field as u64);
+    text.text(b",");
+    text.text(kind_member(fixup.kind));
+    text.text(b"}");
+}
+
+/// Adds a base relocation after a comma.
+fn write_next_fixup<W: Sink>(text: &mut TextWriter<W>, fixup: &Fixup)
+    requires { IsReady W.failures text.old }
+    ensures { Adds W.taken W.failures text.old text.new (codes "," ++ fixup_row fixup.now) }
+{
+    text.text(b",");
+    write_fixup(text, fixup);
+}
+
+/// Adds base relocations, each after a comma.
+fn write_next_fixups<W: Sink>(text: &mut TextWriter<W>, fixups: &[Fixup])
+    requires { IsReady W.failures text.old }
+    ensures { Adds W.taken W.failures text.old text.new (flat_map (λ f. codes "," ++ fixup_row f) fixups.now) }
+{
     for fixup in fixups {
         if text.has_failed() {
-            break;
+            return;
         }
-        add_fixup(json, fixup);
-        json.put(text);
+        write_next_fixup(text, fixup);
     }
-    json.end_list();
+}
+
+/// Adds the list of base relocations.
+pub(crate) fn write_fixups<W: Sink>(text: &mut TextWriter<W>, fixups: &[Fixup])
+    requires { IsReady W.failures text.old }
+    ensures { Adds W.taken W.failures text.old text.new (fixups_list fixups.now) }
+{
+    text.text(b"[");
+    if let Some((first, rest)) = fixups.split_first() {
+        write_fixup(text, first);
+        write_next_fixups(text, rest);
+    }
+    text.text(b"]");
 }

@@ -5,6 +5,3 @@ use Rattle.pe_json.proofs.engine.write_refused.Goals as goal
 
 pub returns-in-Ok-lay_out-clause-memory : goal.returns-in-Ok-lay_out-clause-memory
 returns-in-Ok-lay_out-clause-memory g c = on_any c.write_laid_out.result _ (head_has_bytes 0 (seen_of c.args.file) c.in-Ok.ensures.0)
-
-pub returns-in-Err-clause-memory : goal.returns-in-Err-clause-memory
-returns-in-Err-clause-memory g c = on_any c.write_unlaid.result _ (head_has_bytes 0 (seen_of c.args.file) c.in-Ok.ensures.0)

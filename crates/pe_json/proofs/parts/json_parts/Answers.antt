@@ -10,7 +10,8 @@ returns-in-Some-2-clause-ran g c =
     let e2 = c.in_ok-parts-2.ensures in
     let of = rw c.in-Some.is at e1.2.1 in
     let named = rw c.in-Some-2.is at e2.2.1 in
-    ran_by_parts c.args.len _ _ _ _ _ _ c.in-Some-2.parts (e1.0 ++ e2.0)
+    ran_by_parts c.args.name.now c.args.len _ _ _ _ _ _ c.in-Some-2.parts (e1.0 ++ e2.0)
     (e2.1 ∙ ap (λ (ps : List Part). ps ++ e2.0) e1.1 ∙ append_assoc (g.R.PartSource.parts c.args.reader.now) e1.0 e2.0)
     (λ file size has. (named.1 file size (all_rest (HasPart file) e1.0 e2.0 has)).parts (of file size (all_first (HasPart file) e1.0 e2.0 has)))
+    (λ file size has. (named.1 file size (all_rest (HasPart file) e1.0 e2.0 has)).names (of file size (all_first (HasPart file) e1.0 e2.0 has)))
     c.print_parts.result c.print_parts.ensures

@@ -1,16 +1,23 @@
-use Rattle.std.proofs.Common.{rules, refl}
-use Rattle.pe_json.proofs.Growing.{written_whole, written_part}
+use Rattle.std.proofs.Common.{rules, refl, map}
+use Rattle.std.specs.Prelude.{option_map}
+use Rattle.coff_read.specs.ImageNames.{table_of}
+use Rattle.pe_tables.specs.ExportsView.{exports_view}
+use Rattle.pe_tables.specs.ImportView.{import_view}
+use Rattle.pe_text.specs.declared.outcome.Outcome.TheVariants.{Done}
+use Rattle.pe_text.proofs.Reports.{Puts-whole, Puts-failed}
+use Rattle.pe_json.specs.JsonByParts.{IsImageLine}
 use Rattle.pe_json.proofs.parts.print_content.Goals as goal
 
-pub returns-in-Ok-answer : goal.returns-in-Ok-answer
-returns-in-Ok-answer g c =
-    let told = written_whole g.W.Sink.taken g.W.Sink.failures _ _ c.finish.new.self _ _ c.new-text.ensures.fresh c.write_content-answer.ensures c.in-Ok.ensures.written (search rules) in
-    (told.0, (refl, told.1))
-
-pub returns-in-Err-answer : goal.returns-in-Err-answer
-returns-in-Err-answer g c =
-    written_whole g.W.Sink.taken g.W.Sink.failures _ _ c.finish.new.self _ _ c.new-text.ensures.fresh c.write_content-answer.ensures c.in-Ok.ensures.written (search rules)
+pub returns-in-Ok : goal.returns-in-Ok
+returns-in-Ok g c =
+    let content = c.args.content in
+    Puts-whole g.W.Sink.taken g.W.Sink.failures
+    (IsImageLine c.args.name.now (option_map table_of content.strings) content.headers.now (exports_view content.exports.now) (map import_view content.imports.now) content.fixups.now)
+    _ _ c.finish.new.self _ _ Done c.new-text.ensures.fresh (_, (refl, refl), c.write_image.ensures) c.in-Ok.ensures.written (search rules)
 
 pub returns-in-Err : goal.returns-in-Err
 returns-in-Err g c =
-    written_part g.W.Sink.taken g.W.Sink.failures _ _ c.finish.new.self _ _ c.new-text.ensures.fresh c.write_content-answer.ensures c.in-Err.ensures.written (search rules)
+    let content = c.args.content in
+    Puts-failed g.W.Sink.taken g.W.Sink.failures
+    (IsImageLine c.args.name.now (option_map table_of content.strings) content.headers.now (exports_view content.exports.now) (map import_view content.imports.now) content.fixups.now)
+    _ _ c.finish.new.self _ _ Done c.new-text.ensures.fresh (_, (refl, refl), c.write_image.ensures) c.in-Err.ensures.written (search rules)

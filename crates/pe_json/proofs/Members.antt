@@ -1,0 +1,29 @@
+-- What a refused image shows of its file.
+use Rattle.std.proofs.Common.{◌≡◌, ℕ, List, [], ◌++◌, None, refl}
+use Rattle.std.specs.Prelude.{Option}
+use Rattle.pe_view.specs.Faults.{first_standing}
+use Rattle.coff_read.specs.ImageNames.{image_strings}
+use Rattle.pe_head.specs.Head.{head_of}
+use Rattle.pe_head.specs.declared.headers.Headers.{Headers}
+use Rattle.pe_layout.specs.Image.{LaidOut, image_of_file}
+use Rattle.pe_layout.specs.SectionFaults.{layout_tests}
+use Rattle.pe_tables.specs.ExportFaults.{export_tests}
+use Rattle.pe_tables.specs.Exports.{Exports, exports_of}
+use Rattle.pe_tables.specs.ImportFaults.{import_tests}
+use Rattle.pe_tables.specs.Imports.{Import, imports_of}
+use Rattle.pe_tables.specs.Fixups.{fixups_of}
+use Rattle.pe_tables.specs.declared.fixups.Fixup.{Fixup}
+use Rattle.pe_image.specs.ImageOf.{unless}
+use Rattle.pe_image.specs.ImageTests.{relocation_tests}
+use Rattle.pe_json.specs.FileLine.{image_members}
+use Rattle.pe_json.specs.ImageLine.{head_members}
+use Rattle.pe_json.specs.Refused.{exports_if, imports_if, fixups_if}
+use Rattle.pe_json.proofs.NoObject.{head_none}
+
+-- that of an image that is laid out, from its headers and its tables that have no fault
+pub laid_out : (file : List ℕ) (h : Headers) (i : LaidOut) (exports : Option Exports) (imports : Option (List Import)) (fixups : Option (List Fixup))
+    → h ≡ head_of file → i ≡ image_of_file 0 file → first_standing (layout_tests 0 file) ≡ None
+    → exports ≡ unless (export_tests i) (exports_of i) → imports ≡ unless (import_tests i) (imports_of i) → fixups ≡ unless (relocation_tests i) (fixups_of i)
+    → head_members (image_strings file h) h ++ (exports_if exports ++ (imports_if imports ++ fixups_if fixups)) ≡ image_members file
+laid_out file h i exports imports fixups heads image sound is_exports is_imports is_fixups =
+    rw (is_exports, is_imports, is_fixups, image, heads, head_none file sound, sound) refl

@@ -1,0 +1,11 @@
+use Rattle.std.proofs.Common.{codes, true}
+use Rattle.pe_json.specs.JsonText.{number}
+use Rattle.pe_json.specs.Line.{first_members}
+use Rattle.pe_json.proofs.Objects.{also, whole_line}
+use Rattle.pe_json.proofs.image.write_image.Goals as goal
+
+pub returns : goal.returns
+returns g c =
+    whole_line (number (codes "schema") 1) (first_members c.args.name.now true) _ c.begin.ensures
+    (also _ _ c.write_head.ensures (also _ _ c.write_export_table.ensures (also _ _ c.write_import_table.ensures c.write_relocation_table.ensures)))
+    c.text.ensures c.text-2.ensures

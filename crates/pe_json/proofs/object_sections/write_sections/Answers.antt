@@ -1,0 +1,7 @@
+use Rattle.pe_text.proofs.Adding.{◌then◌}
+use Rattle.pe_json.specs.JsonText.{list}
+use Rattle.pe_json.proofs.object_sections.write_sections.Goals as goal
+
+pub returns : goal.returns
+unfolding list
+returns g c = c.text.ensures then c.write_rows.ensures then c.text-2.ensures

@@ -1,0 +1,18 @@
+-- What the strings of JSON are made of.
+use Rattle.std.specs.Prelude.{ℕ, Bool, true, false, List, [], ◌++◌, codes, flat_map, Option, None, Some, not, nat_le, ◌==◌, ◌&&◌}
+use Rattle.json.specs.Print.{escape, quoted}
+use Rattle.pe_text.specs.Text.{hex}
+
+-- the byte stands for itself
+abbrev pub is_plain : ℕ → Bool
+is_plain byte = nat_le 0x20 byte && not (byte == 0x22) && not (byte == 0x5c)
+
+-- a name behind the one key or the other, with a quote at its end
+abbrev pub name_value : Bool → List ℕ → List ℕ → List ℕ → List ℕ
+name_value true key key_hex text = key ++ escape text ++ codes "\""
+name_value false key key_hex text = key_hex ++ flat_map (hex 2) text ++ codes "\""
+
+-- a string after a key, if there is one
+abbrev pub value_if : List ℕ → Option (List ℕ) → List ℕ
+value_if key None = []
+value_if key (Some text) = key ++ quoted text
