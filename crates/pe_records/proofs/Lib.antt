@@ -1,0 +1,4 @@
+pub mod DebugRows
+pub mod Found
+pub mod FunctionRows
+pub mod Rows

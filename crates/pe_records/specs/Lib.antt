@@ -1,0 +1,16 @@
+pub use Rattle.pe_view.specs.Faults
+pub use Rattle.pe_view.specs.Number
+pub use Rattle.pe_view.specs.Text
+pub use Rattle.pe_view.specs.View
+pub use Rattle.pe_layout.specs.Image
+pub use Rattle.pe_layout.specs.Layout
+pub mod ArmFunctions
+pub mod CodeView
+pub mod CodeViewView
+pub mod Debug
+pub mod DebugTests
+pub mod Exceptions
+pub mod Functions
+pub mod Records
+pub mod Standing
+pub mod TableTests

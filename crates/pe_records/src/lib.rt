@@ -1,0 +1,33 @@
+//! Tables of an image that no fault asks about: records of one length, one after the other.
+//!
+//! No call refuses an image. A table that breaks its own rules has findings, and the records that the file holds are read:
+//!
+//! ```text
+//! let entries: Records<DebugEntry> = Records::of(&layout);
+//! for index in 0..entries.len() {
+//!     let entry = entries.get(index).unwrap();
+//!     let code_view = entry.data(file).map(code_view);
+//! }
+//! let findings = table_findings::<DebugEntry, _>(alloc, &layout, file)?;
+//! ```
+//!
+//! Only [`table_findings`] allocates, for the findings. A record is read when it is asked for. A table is never longer than the bytes
+//! that the file holds from its RVA on, in the headers or the raw data of one section, whatever its Size is.
+#![tactic(auto)]
+
+mod arm_function;
+mod debug;
+mod exceptions;
+mod finding;
+mod function;
+mod pdb;
+mod record;
+mod records;
+
+pub use arm_function::ArmFunction;
+pub use debug::{DEBUG_CODE_VIEW, DebugEntry};
+pub use exceptions::{ExceptionTable, exception_findings, exception_table};
+pub use function::Function;
+pub use pdb::{CodeView, Pdb20, Pdb70, code_view};
+pub use record::Record;
+pub use records::{Records, table_findings};
