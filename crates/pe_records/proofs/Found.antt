@@ -47,3 +47,11 @@ rule_more image place number true rules old new whole before after =
     ap (λ (fs : List Fault). fs ++ standing (tests_at image place rules)) after ∙ append_assoc old (fault ∷ []) (standing (tests_at image place rules)) ∙ before
 rule_more image place number false rules old new whole before after =
     ap (λ (fs : List Fault). fs ++ standing (tests_at image place rules)) after ∙ append_assoc old [] (standing (tests_at image place rules)) ∙ before
+
+-- what two tables of rules find, one after the other
+pub both_found : (xs ys : List Test) (old middle new : List Fault) → middle ≡ old ++ standing xs → new ≡ middle ++ standing ys → new ≡ old ++ standing (xs ++ ys)
+both_found xs ys old middle new first second =
+    second
+    ∙ ap (λ (fs : List Fault). fs ++ standing ys) first
+    ∙ append_assoc old (standing xs) (standing ys)
+    ∙ ap (λ (fs : List Fault). old ++ fs) (sym (standing-append xs ys))

@@ -2,3 +2,4 @@ pub mod DebugRows
 pub mod Found
 pub mod FunctionRows
 pub mod Rows
+pub mod Zeros

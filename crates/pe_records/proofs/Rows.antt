@@ -1,5 +1,5 @@
 -- Records one after the other.
-use Rattle.std.proofs.Common.{◌≡◌, ◌∙◌, ℕ, ◌+◌, ◌*◌, ◌/◌, ◌<◌, ◌≤◌, ◌≢◌, ◌-◌, Bool, cond, Some, None, ap, zero-add, arith}
+use Rattle.std.proofs.Common.{zero, suc, ◌^◌, ◌≡◌, ◌∙◌, ℕ, ◌+◌, ◌*◌, ◌/◌, ◌<◌, ◌≤◌, ◌≢◌, ◌-◌, Bool, cond, Some, None, ap, zero-add, arith}
 use Rattle.std.specs.Prelude.{List, map, slice_get}
 use Rattle.std.proofs.lemmas.Bool.{ne_eqb}
 use Rattle.pe_records.specs.Records.{record_before}
@@ -27,3 +27,8 @@ record_fits len k size lt =
 -- the record before one that is not the first
 pub before_some : {R : Type 0} (at : List ℕ → ℕ → R) (len : ℕ) (bytes : List ℕ) (k : ℕ) → k ≢ 0 → record_before at len bytes k ≡ Some (at bytes (len * (k - 1)))
 before_some at len bytes k ne = ap (λ (b : Bool). cond b None (Some (at bytes (len * (k - 1))))) (ne_eqb k 0 ne)
+
+-- a table that lies in an image has few bytes
+pub held_small : (n rva size : ℕ) → (0 < n → rva + n ≤ size) → size ≤ 2 ^ 31 → n < 2 ^ 32
+held_small zero rva size inside small = omega arith
+held_small (suc n) rva size inside small = let held = inside (omega arith) in omega (arith, held, small)

@@ -16,8 +16,21 @@ use pe_layout::Layout;
 use pe_view::{Fault, Place, View};
 use std::alloc::{AllocError, Allocator};
 
-/// The type of an entry whose data is a CodeView record.
-pub const DEBUG_CODE_VIEW: u32 = 2;
+/// Types of entries of the debug directory ("PE Format", Debug Type).
+pub mod debug_type {
+    /// A CodeView record, which names the PDB file.
+    pub const CODE_VIEW: u32 = 2;
+    /// How many object files were compiled how.
+    pub const VC_FEATURE: u32 = 12;
+    /// Where parts of the image's sections came from.
+    pub const POGO: u32 = 13;
+    /// The image is the same whenever it is linked; a hash of its contents.
+    pub const REPRO: u32 = 16;
+    /// A checksum of the PDB file.
+    pub const PDB_CHECKSUM: u32 = 19;
+    /// Flags beyond DllCharacteristics.
+    pub const EX_DLL_CHARACTERISTICS: u32 = 20;
+}
 
 /// An entry of the debug directory ("PE Format", Debug Directory).
 #[derive(Clone, Copy, Debug, PartialEq, Eq)]
@@ -127,7 +140,7 @@ impl DebugEntry {
     fn is_endless(&self, file: View) -> bool
         ensures { result ≡ is_endless (bytes_of file.entry) self.now }
     {
-        if self.kind != DEBUG_CODE_VIEW {
+        if self.kind != debug_type::CODE_VIEW {
             return false;
         }
         match self.data(file) {

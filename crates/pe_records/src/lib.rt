@@ -15,19 +15,32 @@
 //! that the file holds from its RVA on, in the headers or the raw data of one section, whatever its Size is.
 #![tactic(auto)]
 
+mod address;
 mod arm_function;
 mod debug;
+mod debug_data;
 mod exceptions;
 mod finding;
 mod function;
 mod pdb;
 mod record;
 mod records;
+mod structure;
+mod tls_callbacks;
+mod tls_directory;
+mod tls_finding;
 
 pub use arm_function::ArmFunction;
-pub use debug::{DEBUG_CODE_VIEW, DebugEntry};
+pub use debug::{DebugEntry, debug_type};
+pub use debug_data::{
+    FeatureCounts, PdbChecksum, feature_counts, first_number, pdb_checksum, repro_hash,
+};
 pub use exceptions::{ExceptionTable, exception_findings, exception_table};
 pub use function::Function;
 pub use pdb::{CodeView, Pdb20, Pdb70, code_view};
 pub use record::Record;
 pub use records::{Records, table_findings};
+pub use structure::{Field, Structure, Width};
+pub use tls_callbacks::TlsCallbacks;
+pub use tls_directory::{TlsDirectory, tls};
+pub use tls_finding::tls_findings;
