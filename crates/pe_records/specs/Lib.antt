@@ -15,6 +15,10 @@ pub mod DebugData
 pub mod DebugTests
 pub mod Exceptions
 pub mod Functions
+pub mod LoadConfiguration
+pub mod LoadFields
+pub mod LoadTables
+pub mod LoadTests
 pub mod Records
 pub mod Standing
 pub mod Structure

@@ -1,5 +1,5 @@
 -- The rules of a TLS directory and its callbacks, in the order of its findings.
-use Rattle.std.specs.Prelude.{ℕ, ◌/◌, not, nat_lt, List, [], ◌∷◌, ◌++◌, length, Option, None, Some}
+use Rattle.std.specs.Prelude.{◌/◌, not, nat_lt, List, [], ◌∷◌, ◌++◌, length, Option, None, Some}
 use Rattle.pe_view.specs.declared.fault.Place.TheVariants.{Rva}
 use Rattle.pe_view.specs.Faults.{Test, test}
 use Rattle.pe_head.specs.declared.directory.Directory.{Directory}
