@@ -1,3 +1,4 @@
+pub mod BoundRows
 pub mod DataRows
 pub mod DebugRows
 pub mod Found

@@ -6,6 +6,8 @@ pub use Rattle.pe_layout.specs.Image
 pub use Rattle.pe_layout.specs.Layout
 pub mod Address
 pub mod ArmFunctions
+pub mod BoundImportTests
+pub mod BoundImports
 pub mod CallbackView
 pub mod Callbacks
 pub mod CodeView

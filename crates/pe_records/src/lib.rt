@@ -17,6 +17,8 @@
 
 mod address;
 mod arm_function;
+mod bound_finding;
+mod bound_imports;
 mod debug;
 mod debug_data;
 mod exceptions;
@@ -34,6 +36,8 @@ mod tls_directory;
 mod tls_finding;
 
 pub use arm_function::ArmFunction;
+pub use bound_finding::bound_findings;
+pub use bound_imports::{BoundImport, BoundImports};
 pub use debug::{DebugEntry, debug_type};
 pub use debug_data::{
     FeatureCounts, PdbChecksum, feature_counts, first_number, pdb_checksum, repro_hash,

@@ -48,7 +48,7 @@ impl<'a> TlsCallbacks<'a> {
         TlsCallbacks {
             bytes,
             start: rva,
-            count: count_callbacks(bytes, is_plus),
+            count: count_entries(bytes, is_plus),
             is_plus,
         }
     }
@@ -106,7 +106,7 @@ fn entry(bytes: View, index: u64, is_plus: bool) -> u64
 }
 
 /// How many entries of a table of addresses are before the first that is 0.
-fn count_callbacks(bytes: View, is_plus: bool) -> u32
+pub(crate) fn count_entries(bytes: View, is_plus: bool) -> u32
     requires { size_of bytes < 2 ^ 32 }
     ensures count { result ≡ callback_count (address_width is_plus) (bytes_of bytes.entry) }
     ensures whole { result ≤ size_of bytes.entry / address_width is_plus }

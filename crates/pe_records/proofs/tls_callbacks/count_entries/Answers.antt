@@ -3,8 +3,8 @@ use Rattle.pe_view.specs.View.{bytes_of, size_of}
 use Rattle.pe_records.specs.Callbacks.{entry_at}
 use Rattle.pe_records.specs.Structure.{address_width}
 use Rattle.pe_records.proofs.Zeros.{next_zero, this_zero}
-use Rattle.pe_records.proofs.tls_callbacks.count_callbacks.Goals as goal
-use Rattle.pe_records.proofs.tls_callbacks.count_callbacks.Goals.{then-is_plus, else-is_plus}
+use Rattle.pe_records.proofs.tls_callbacks.count_entries.Goals as goal
+use Rattle.pe_records.proofs.tls_callbacks.count_entries.Goals.{then-is_plus, else-is_plus}
 
 pub returns-then-entry-eq0-clause-count : goal.returns-then-entry-eq0-clause-count
 returns-then-entry-eq0-clause-count c =
