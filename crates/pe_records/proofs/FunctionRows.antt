@@ -1,9 +1,11 @@
 -- Exception tables by the definitions, as examples ("PE Format", The .pdata Section).
 use Rattle.std.proofs.Common.{◌≡◌, ℕ, false, List, [], ◌∷◌, Option, Some, None, refl}
+use Rattle.std.specs.Prelude.{◌==◌, if◌then◌else◌}
 use Rattle.pe_view.specs.declared.fault.Fault.{Fault}
 use Rattle.pe_view.specs.declared.fault.Place.TheVariants.{Rva}
 use Rattle.pe_layout.specs.Image.{LaidOut}
 use Rattle.pe_records.specs.ArmFunctions as arm
+use Rattle.pe_records.specs.Exceptions.{exception_tests}
 use Rattle.pe_records.specs.Functions.{function_at, function_tests}
 use Rattle.pe_records.specs.Records.{records_in}
 use Rattle.pe_records.specs.Standing.{standing}
@@ -81,3 +83,22 @@ arm_packed = refl
 
 arm_all : arm_findings (Some (arm_function 0x3001 0)) (arm_function 0x3000 0x3000) ≡ found 114 ∷ found 115 ∷ found 116 ∷ []
 arm_all = refl
+
+-- ---- by machine: a table of one record, which is out of the image for either
+abbrev table : LaidOut
+table = record image { raw_left = λ _. 12; byte = λ _. 0xff; directory = λ k. if k == 3 then Some (record { rva = 0x1000; size = 12 }) else None }
+
+abbrev found_at : ℕ → Fault
+found_at number = record { number = number; image = 7; place = Rva 0x1000 }
+
+amd64 : standing (exception_tests 0x8664 table []) ≡ found_at 114 ∷ found_at 115 ∷ []
+amd64 = refl
+
+arm64 : standing (exception_tests 0xaa64 table []) ≡ found_at 112 ∷ found_at 114 ∷ []
+arm64 = refl
+
+armnt : standing (exception_tests 0x1c4 table []) ≡ found_at 112 ∷ found_at 114 ∷ []
+armnt = refl
+
+i386 : standing (exception_tests 0x14c table []) ≡ []
+i386 = refl

@@ -1,4 +1,5 @@
 pub mod BoundRows
+pub mod ClrRows
 pub mod DataRows
 pub mod DebugRows
 pub mod Found

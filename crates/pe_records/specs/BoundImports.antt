@@ -1,12 +1,8 @@
 -- The bound import table ("PE Format", Bound Import Table): records of 8 bytes, up to one of zeros.
-use Rattle.std.specs.Prelude.{ℕ, ◌+◌, ◌*◌, ◌/◌, not, nat_lt, List, [], ◌∷◌, length, map, Option, None, Some}
-use Rattle.std.specs.List.{flat_map, range_with_len}
-use Rattle.pe_view.specs.declared.fault.Place.TheVariants.{Rva}
-use Rattle.pe_view.specs.Faults.{Test, test}
-use Rattle.pe_head.specs.declared.directory.Directory.{Directory}
-use Rattle.pe_layout.specs.Image.{LaidOut, is_inside}
+use Rattle.std.specs.Prelude.{ℕ, ◌+◌, ◌*◌, List, map}
+use Rattle.std.specs.List.{range_with_len}
 use Rattle.pe_records.specs.Callbacks.{callback_count}
-use Rattle.pe_records.specs.Records.{number, table_bytes}
+use Rattle.pe_records.specs.Records.{number}
 use Rattle.pe_records.specs.declared.bound_imports.BoundImport.{BoundImport}
 
 -- record k of a table

@@ -10,6 +10,7 @@ pub mod BoundImportTests
 pub mod BoundImports
 pub mod CallbackView
 pub mod Callbacks
+pub mod ClrHeader
 pub mod CodeView
 pub mod CodeViewView
 pub mod Debug

@@ -1,24 +1,34 @@
-//! Tables of an image that no fault asks about: records of one length, one after the other.
+//! Tables of an image that its profile leaves out: debug directory, exception functions, TLS, load configuration, bound imports, CLR
+//! header.
 //!
-//! No call refuses an image. A table that breaks its own rules has findings, and the records that the file holds are read:
+//! No call refuses an image. A rule of a table that is broken is a finding, of type [`pe_view::Fault`] with a number from 101 on; all
+//! findings are told, and what the file holds of the table is read:
 //!
 //! ```text
 //! let entries: Records<DebugEntry> = Records::of(&layout);
 //! for index in 0..entries.len() {
 //!     let entry = entries.get(index).unwrap();
-//!     let code_view = entry.data(file).map(code_view);
+//!     if entry.kind == debug_type::CODE_VIEW
+//!         && let Some(data) = entry.data(file)
+//!     {
+//!         show(code_view(data))?;
+//!     }
 //! }
 //! let findings = table_findings::<DebugEntry, _>(alloc, &layout, file)?;
 //! ```
 //!
-//! Only [`table_findings`] allocates, for the findings. A record is read when it is asked for. A table is never longer than the bytes
-//! that the file holds from its RVA on, in the headers or the raw data of one section, whatever its Size is.
+//! Tables are of two kinds. [`Records`] have one length, each right after the one before it, and a type that is a [`Record`] describes
+//! one. A [`Structure`] has fields at offsets of their own, and as many of them as its size allows.
+//!
+//! Only the calls for findings allocate. All others read when they are asked. No table is longer than the bytes that the file holds
+//! from its RVA on in one run, of the headers or of a section's raw data, whatever its Size is: what is in zero fill costs nothing.
 #![tactic(auto)]
 
 mod address;
 mod arm_function;
 mod bound_finding;
 mod bound_imports;
+mod clr_fields;
 mod debug;
 mod debug_data;
 mod exceptions;
@@ -38,6 +48,7 @@ mod tls_finding;
 pub use arm_function::ArmFunction;
 pub use bound_finding::bound_findings;
 pub use bound_imports::{BoundImport, BoundImports};
+pub use clr_fields::{CLR_FIELD_COUNT, clr_field, clr_findings, clr_header};
 pub use debug::{DebugEntry, debug_type};
 pub use debug_data::{
     FeatureCounts, PdbChecksum, feature_counts, first_number, pdb_checksum, repro_hash,
