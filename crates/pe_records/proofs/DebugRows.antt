@@ -1,6 +1,6 @@
 -- The debug directory and CodeView records by the definitions, as examples ("PE Format", Debug Directory).
 use Rattle.std.proofs.Common.{◌≡◌, ℕ, ◌-◌, false, List, [], ◌∷◌, ◌++◌, Some, None, get_or, length, take, refl}
-use Rattle.std.specs.Prelude.{codes}
+use Rattle.std.specs.Prelude.{◌==◌, codes, if◌then◌else◌}
 use Rattle.pe_view.specs.declared.fault.Fault.{Fault}
 use Rattle.pe_view.specs.declared.fault.Place.TheVariants.{Rva}
 use Rattle.pe_head.specs.declared.directory.Directory.{Directory}
@@ -21,7 +21,7 @@ image bytes = record {
   byte = λ rva. get_or bytes (rva - 0x2000) 0;
   raw_left = λ rva. length bytes - (rva - 0x2000);
   text = λ _. None;
-  directory = λ _. None;
+  directory = λ k. if k == 6 then Some (record { rva = 0x2000; size = 56 }) else None;
   slot_width = 4;
   image_base = 0x10000000;
   is_stripped = false;
@@ -137,8 +137,11 @@ data_at_pointer = refl
 no_data : data_of file (entry 3 0x2fe2 0) ≡ None
 no_data = refl
 
+abbrev found_at : ℕ → ℕ → Fault
+found_at number rva = record { number = number; image = 7; place = Rva rva }
+
 abbrev found : ℕ → Fault
-found number = record { number = number; image = 7; place = Rva 0x201c }
+found number = found_at number 0x201c
 
 nothing : standing (entry_tests (image bytes) file None (entry 30 0x2fe2 2) 0x201c) ≡ []
 nothing = refl
@@ -152,6 +155,13 @@ passes_image = refl
 no_end : standing (entry_tests (image bytes) file None (entry 29 0x2fe2 2) 0x201c) ≡ found 105 ∷ []
 no_end = refl
 
+-- its path is not searched in an entry after the first 32
+early : standing (entry_tests (image bytes) file None (entry 29 0x2fe2 2) 0x2364) ≡ found_at 105 0x2364 ∷ []
+early = refl
+
+not_early : standing (entry_tests (image bytes) file None (entry 29 0x2fe2 2) 0x2380) ≡ []
+not_early = refl
+
 only_code_view : standing (entry_tests (image bytes) file None (record (entry 29 0x2fe2 2) { kind = 3 }) 0x201c) ≡ []
 only_code_view = refl
 
@@ -160,9 +170,6 @@ points_nowhere : standing (entry_tests (image bytes) file None (entry 0xffffffff
 points_nowhere = refl
 
 -- ---- findings of the table: 56 bytes are two entries, the file holds 60, and each of these entries passes the file and the image
-abbrev found_at : ℕ → ℕ → Fault
-found_at number rva = record { number = number; image = 7; place = Rva rva }
-
 of_entries : standing (table_tests debug_entry_at entry_tests 28 101 (image bytes) file (Some (directory 56)))
     ≡ found_at 103 0x2000 ∷ found_at 104 0x2000 ∷ found_at 103 0x201c ∷ found_at 104 0x201c ∷ []
 of_entries = refl

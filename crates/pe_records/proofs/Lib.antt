@@ -7,4 +7,5 @@ pub mod FunctionRows
 pub mod LoadRows
 pub mod Rows
 pub mod TlsRows
+pub mod Wanting
 pub mod Zeros

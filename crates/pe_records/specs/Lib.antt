@@ -17,6 +17,7 @@ pub mod Debug
 pub mod DebugData
 pub mod DebugTests
 pub mod Exceptions
+pub mod FindingTests
 pub mod Functions
 pub mod LoadConfiguration
 pub mod LoadFields
@@ -25,6 +26,7 @@ pub mod LoadTests
 pub mod Records
 pub mod Standing
 pub mod Structure
+pub mod TableNames
 pub mod TableTests
 pub mod TlsFields
 pub mod TlsTests

@@ -1,10 +1,10 @@
 //! `ArmFunction`: a function of an ARM64 or ARMNT image, as its exception table has it.
 
 ghost use Rattle.std.proofs.Common.{lit≤};
-ghost use Rattle.std.specs.Prelude.{◌≡◌, ◌++◌, OnOk};
+ghost use Rattle.std.specs.Prelude.{◌≡◌};
 ghost use Rattle.pe_layout.specs.Layout.{image_of};
 ghost use Rattle.pe_view.specs.View.{bytes_of};
-ghost use Rattle.pe_records.specs.Standing.{standing};
+ghost use Rattle.pe_records.specs.Standing.{Adds};
 ghost use Rattle.pe_records.specs.ArmFunctions.{arm_function_at, arm_function_tests, begins_early, is_lost};
 
 use crate::finding::add;
@@ -59,7 +59,7 @@ impl Record for ArmFunction {
         before: Option<Self>,
         rva: u32,
     ) -> Result<(), AllocError>
-        ensures { OnOk result (findings.new.items ≡ findings.old.items ++ standing (arm_function_tests (image_of layout.now) (bytes_of _file.entry) before self.now rva)) }
+        ensures { Adds (arm_function_tests (image_of layout.now) (bytes_of _file.entry) before self.now rva) findings.old.items findings.new.items result }
     {
         let rules = [
             (114, self.begin >= layout.size()),

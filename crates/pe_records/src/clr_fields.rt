@@ -1,10 +1,10 @@
 //! `clr_header`: the CLR header, its fields, and its findings.
 
-ghost use Rattle.std.specs.Prelude.{◌≡◌, ◌+◌, ◌<◌, ◌^◌, ◌++◌, IfOk, IfSome, option_map, slice_get};
+ghost use Rattle.std.specs.Prelude.{◌≡◌, ◌+◌, ◌<◌, ◌^◌, IfSome, option_map, slice_get};
 ghost use Rattle.pe_view.specs.View.{bytes_of};
 ghost use Rattle.pe_layout.specs.Layout.{image_of};
 ghost use Rattle.pe_records.specs.ClrHeader.{any_directory_passes, clr_bytes, clr_fields, clr_tests, directory_passes};
-ghost use Rattle.pe_records.specs.Standing.{standing};
+ghost use Rattle.pe_records.specs.Standing.{Adds};
 ghost use Rattle.pe_records.specs.Structure.{address_width};
 
 use crate::finding::add;
@@ -64,34 +64,26 @@ pub fn clr_header<'a>(layout: &Layout<'a>) -> Option<Structure<'a>>
     Some(Structure::of(layout, directory.rva, size))
 }
 
-/// The findings of an image's CLR header. The error is that no memory is left.
-pub fn clr_findings<A: Allocator + Copy>(
-    alloc: A,
+/// Adds the findings of an image's CLR header.
+pub(crate) fn find_clr<A: Allocator>(
+    findings: &mut Vec<Fault, A>,
     layout: &Layout,
-) -> Result<Vec<Fault, A>, AllocError>
-    ensures { IfOk result (λ findings. findings.items ≡ standing (clr_tests (image_of layout.now))) }
+) -> Result<(), AllocError>
+    ensures { Adds (clr_tests (image_of layout.now)) findings.old.items findings.new.items result }
 {
-    let mut findings = Vec::new(alloc);
     let Some(directory) = layout.directory(directory_index::CLR) else {
-        return Ok(findings);
+        return Ok(());
     };
     let rva = directory.rva;
     let Some(size) = size_at(layout, rva) else {
-        add(
-            &mut findings,
-            layout.image(),
-            Place::Rva(rva),
-            &[(251, true)],
-        )?;
-        return Ok(findings);
+        return add(findings, layout.image(), Place::Rva(rva), &[(251, true)]);
     };
     let bytes = Structure::of(layout, rva, size).bytes;
     let rules = [
         (251, layout.raw_bytes(rva).len() < size as usize),
         (252, any_directory_passes(layout, bytes)),
     ];
-    add(&mut findings, layout.image(), Place::Rva(rva), &rules)?;
-    Ok(findings)
+    add(findings, layout.image(), Place::Rva(rva), &rules)
 }
 
 /// Whether the RVA and the size at an offset are those of bytes that are not all in the image.

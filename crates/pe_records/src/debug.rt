@@ -1,12 +1,12 @@
 //! `DebugEntry`: an entry of the debug directory, and its data.
 
 ghost use Rattle.std.proofs.Common.{lit≤};
-ghost use Rattle.std.specs.Prelude.{◌≡◌, ◌++◌, OnOk, option_map};
+ghost use Rattle.std.specs.Prelude.{◌≡◌, option_map};
 ghost use Rattle.pe_layout.specs.Layout.{image_of};
 ghost use Rattle.pe_view.specs.View.{bytes_of};
 ghost use Rattle.pe_records.specs.Debug.{debug_entry_at, data_of};
-ghost use Rattle.pe_records.specs.Standing.{standing};
-ghost use Rattle.pe_records.specs.DebugTests.{entry_tests, is_endless, passes_file, passes_image};
+ghost use Rattle.pe_records.specs.Standing.{Adds};
+ghost use Rattle.pe_records.specs.DebugTests.{entry_tests, is_early, is_endless, passes_file, passes_image};
 
 use crate::finding::add;
 use crate::pdb::code_view;
@@ -95,15 +95,26 @@ impl Record for DebugEntry {
         _before: Option<Self>,
         rva: u32,
     ) -> Result<(), AllocError>
-        ensures { OnOk result (findings.new.items ≡ findings.old.items ++ standing (entry_tests (image_of layout.now) (bytes_of file.entry) _before self.now rva)) }
+        ensures { Adds (entry_tests (image_of layout.now) (bytes_of file.entry) _before self.now rva) findings.old.items findings.new.items result }
     {
         let rules = [
             (103, self.passes_file(file)),
             (104, self.passes_image(layout)),
-            (105, self.is_endless(file)),
+            (105, is_early(layout, rva) && self.is_endless(file)),
         ];
         add(findings, layout.image(), Place::Rva(rva), &rules)
     }
+}
+
+/// Whether the entry at an RVA is one of the first 32 of the debug directory.
+fn is_early(layout: &Layout, rva: u32) -> bool
+    ensures { result ≡ is_early (image_of layout.now) rva }
+{
+    let start = match layout.directory(directory_index::DEBUG) {
+        None => 0,
+        Some(directory) => directory.rva,
+    };
+    u64::from(rva) < u64::from(start) + 896
 }
 
 impl DebugEntry {

@@ -1,14 +1,14 @@
 //! `exception_table`: the exception table of an image, by its machine.
 
-ghost use Rattle.std.specs.Prelude.{◌≡◌, IfOk};
+ghost use Rattle.std.specs.Prelude.{◌≡◌};
 ghost use Rattle.pe_view.specs.View.{bytes_of};
 ghost use Rattle.pe_layout.specs.Layout.{headers_of, image_of};
 ghost use Rattle.pe_records.specs.Exceptions.{Holds, exception_tests};
-ghost use Rattle.pe_records.specs.Standing.{standing};
+ghost use Rattle.pe_records.specs.Standing.{Adds};
 
 use crate::arm_function::ArmFunction;
 use crate::function::Function;
-use crate::records::{Records, table_findings};
+use crate::records::{Records, find_table};
 use pe_head::machine;
 use pe_layout::Layout;
 use pe_view::{Fault, View};
@@ -36,17 +36,17 @@ pub fn exception_table<'a>(layout: &Layout<'a>) -> ExceptionTable<'a>
     }
 }
 
-/// The findings of an image's exception table. That of a machine with another form has none. The error is that no memory is left.
-pub fn exception_findings<A: Allocator + Copy>(
-    alloc: A,
+/// Adds the findings of an image's exception table. That of a machine with another form has none.
+pub(crate) fn find_exceptions<A: Allocator>(
+    findings: &mut Vec<Fault, A>,
     layout: &Layout,
     file: View,
-) -> Result<Vec<Fault, A>, AllocError>
-    ensures { IfOk result (λ findings. findings.items ≡ standing (exception_tests (headers_of layout.now).machine (image_of layout.now) (bytes_of file.entry))) }
+) -> Result<(), AllocError>
+    ensures { Adds (exception_tests (headers_of layout.now).machine (image_of layout.now) (bytes_of file.entry)) findings.old.items findings.new.items result }
 {
     match layout.headers().machine {
-        machine::AMD64 => table_findings::<Function, _>(alloc, layout, file),
-        machine::ARM64 | machine::ARMNT => table_findings::<ArmFunction, _>(alloc, layout, file),
-        _ => Ok(Vec::new(alloc)),
+        machine::AMD64 => find_table::<Function, _>(findings, layout, file),
+        machine::ARM64 | machine::ARMNT => find_table::<ArmFunction, _>(findings, layout, file),
+        _ => Ok(()),
     }
 }

@@ -1,7 +1,7 @@
 //! `add`: the findings of one place.
 
-ghost use Rattle.std.specs.Prelude.{◌≡◌, ◌++◌, OnOk};
-ghost use Rattle.pe_records.specs.Standing.{standing, tests_at};
+ghost use Rattle.std.specs.Prelude.{◌≡◌};
+ghost use Rattle.pe_records.specs.Standing.{Adds, tests_at};
 
 use pe_view::{Fault, Place};
 use std::alloc::{AllocError, Allocator};
@@ -13,7 +13,7 @@ pub(crate) fn add<A: Allocator>(
     place: Place,
     rules: &[(u16, bool)],
 ) -> Result<(), AllocError>
-    ensures { OnOk result (findings.new.items ≡ findings.old.items ++ standing (tests_at image place rules.now)) }
+    ensures { Adds (tests_at image place rules.now) findings.old.items findings.new.items result }
 {
     for rule in rules {
         let (number, stands) = *rule;

@@ -1,10 +1,10 @@
 //! `Function`: a function of an AMD64 image, as its exception table has it.
 
 ghost use Rattle.std.proofs.Common.{lit≤};
-ghost use Rattle.std.specs.Prelude.{◌≡◌, ◌++◌, OnOk};
+ghost use Rattle.std.specs.Prelude.{◌≡◌};
 ghost use Rattle.pe_layout.specs.Layout.{image_of};
 ghost use Rattle.pe_view.specs.View.{bytes_of};
-ghost use Rattle.pe_records.specs.Standing.{standing};
+ghost use Rattle.pe_records.specs.Standing.{Adds};
 ghost use Rattle.pe_records.specs.Functions.{begins_early, function_at, function_tests, is_lost};
 
 use crate::finding::add;
@@ -63,7 +63,7 @@ impl Record for Function {
         before: Option<Self>,
         rva: u32,
     ) -> Result<(), AllocError>
-        ensures { OnOk result (findings.new.items ≡ findings.old.items ++ standing (function_tests (image_of layout.now) (bytes_of _file.entry) before self.now rva)) }
+        ensures { Adds (function_tests (image_of layout.now) (bytes_of _file.entry) before self.now rva) findings.old.items findings.new.items result }
     {
         let rules = [
             (113, self.end < self.begin),

@@ -14,13 +14,13 @@
 //!         show(code_view(data))?;
 //!     }
 //! }
-//! let findings = table_findings::<DebugEntry, _>(alloc, &layout, file)?;
+//! let findings = findings(alloc, &layout, file)?;
 //! ```
 //!
 //! Tables are of two kinds. [`Records`] have one length, each right after the one before it, and a type that is a [`Record`] describes
 //! one. A [`Structure`] has fields at offsets of their own, and as many of them as its size allows.
 //!
-//! Only the calls for findings allocate. All others read when they are asked. No table is longer than the bytes that the file holds
+//! Only the call for findings allocates. All others read when they are asked. No table is longer than the bytes that the file holds
 //! from its RVA on in one run, of the headers or of a section's raw data, whatever its Size is: what is in zero fill costs nothing.
 #![tactic(auto)]
 
@@ -34,9 +34,11 @@ mod debug_data;
 mod exceptions;
 mod finding;
 mod function;
+mod image_findings;
 mod load_finding;
 mod load_layout;
 mod load_tables;
+mod names;
 mod pdb;
 mod record;
 mod records;
@@ -46,22 +48,21 @@ mod tls_directory;
 mod tls_finding;
 
 pub use arm_function::ArmFunction;
-pub use bound_finding::bound_findings;
 pub use bound_imports::{BoundImport, BoundImports};
-pub use clr_fields::{CLR_FIELD_COUNT, clr_field, clr_findings, clr_header};
+pub use clr_fields::{CLR_FIELD_COUNT, clr_field, clr_header};
 pub use debug::{DebugEntry, debug_type};
 pub use debug_data::{
     FeatureCounts, PdbChecksum, feature_counts, first_number, pdb_checksum, repro_hash,
 };
-pub use exceptions::{ExceptionTable, exception_findings, exception_table};
+pub use exceptions::{ExceptionTable, exception_table};
 pub use function::Function;
-pub use load_finding::load_findings;
+pub use image_findings::findings;
 pub use load_layout::{LOAD_FIELD_COUNT, load_configuration, load_field};
 pub use load_tables::{LoadTable, LoadTableKind, load_table};
+pub use names::{debug_type_name, load_field_name};
 pub use pdb::{CodeView, Pdb20, Pdb70, code_view};
 pub use record::Record;
-pub use records::{Records, table_findings};
+pub use records::Records;
 pub use structure::{Field, Structure, Width};
 pub use tls_callbacks::TlsCallbacks;
 pub use tls_directory::{TlsDirectory, tls};
-pub use tls_finding::tls_findings;

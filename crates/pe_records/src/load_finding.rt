@@ -1,10 +1,10 @@
 //! The findings of the load configuration.
 
-ghost use Rattle.std.specs.Prelude.{◌≡◌, ◌++◌, IfOk, OnOk};
+ghost use Rattle.std.specs.Prelude.{◌≡◌};
 ghost use Rattle.pe_view.specs.View.{bytes_of};
 ghost use Rattle.pe_layout.specs.Layout.{image_of};
 ghost use Rattle.pe_records.specs.LoadTests.{load_tests, size_tests, tables_tests};
-ghost use Rattle.pe_records.specs.Standing.{standing};
+ghost use Rattle.pe_records.specs.Standing.{Adds};
 ghost use Rattle.pe_records.specs.Structure.{address_width};
 
 use crate::finding::add;
@@ -16,31 +16,23 @@ use pe_layout::Layout;
 use pe_view::{Fault, Place};
 use std::alloc::{AllocError, Allocator};
 
-/// The findings of an image's load configuration. The error is that no memory is left.
-pub fn load_findings<A: Allocator + Copy>(
-    alloc: A,
+/// Adds the findings of an image's load configuration.
+pub(crate) fn find_load_configuration<A: Allocator>(
+    findings: &mut Vec<Fault, A>,
     layout: &Layout,
-) -> Result<Vec<Fault, A>, AllocError>
-    ensures { IfOk result (λ findings. findings.items ≡ standing (load_tests (image_of layout.now))) }
+) -> Result<(), AllocError>
+    ensures { Adds (load_tests (image_of layout.now)) findings.old.items findings.new.items result }
 {
-    let mut findings = Vec::new(alloc);
     let Some(directory) = layout.directory(directory_index::LOAD_CONFIGURATION) else {
-        return Ok(findings);
+        return Ok(());
     };
     let rva = directory.rva;
     let Some(size) = size_at(layout, rva) else {
-        add(
-            &mut findings,
-            layout.image(),
-            Place::Rva(rva),
-            &[(141, true)],
-        )?;
-        return Ok(findings);
+        return add(findings, layout.image(), Place::Rva(rva), &[(141, true)]);
     };
-    find_size(&mut findings, layout, rva, size)?;
+    find_size(findings, layout, rva, size)?;
     let structure = Structure::of(layout, rva, size);
-    find_tables(&mut findings, layout, rva, &structure)?;
-    Ok(findings)
+    find_tables(findings, layout, rva, &structure)
 }
 
 /// Adds the findings of the field Size.
@@ -50,7 +42,7 @@ fn find_size<A: Allocator>(
     rva: u32,
     size: u32,
 ) -> Result<(), AllocError>
-    ensures { OnOk result (findings.new.items ≡ findings.old.items ++ standing (size_tests (image_of layout.now) rva size)) }
+    ensures { Adds (size_tests (image_of layout.now) rva size) findings.old.items findings.new.items result }
 {
     let rules = [
         (142, layout.raw_bytes(rva).len() < size as usize),
@@ -66,7 +58,7 @@ fn find_tables<A: Allocator>(
     rva: u32,
     structure: &Structure,
 ) -> Result<(), AllocError>
-    ensures { OnOk result (findings.new.items ≡ findings.old.items ++ standing (tables_tests (image_of layout.now) rva (address_width structure.now.is_plus) (bytes_of structure.now.bytes))) }
+    ensures { Adds (tables_tests (image_of layout.now) rva (address_width structure.now.is_plus) (bytes_of structure.now.bytes)) findings.old.items findings.new.items result }
 {
     let guarded = table_passes(layout, structure, LoadTableKind::IatEntries)
         || table_passes(layout, structure, LoadTableKind::LongJumpTargets);

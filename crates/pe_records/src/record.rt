@@ -1,11 +1,11 @@
 //! `Record`: what a table of equal records is made of.
 
-ghost use Rattle.std.specs.Prelude.{◌≡◌, ℕ, List, Option, ◌+◌, ◌<◌, ◌≤◌, ◌^◌, ◌++◌, OnOk};
+ghost use Rattle.std.specs.Prelude.{◌≡◌, ℕ, List, Option, ◌+◌, ◌<◌, ◌≤◌, ◌^◌};
 ghost use Rattle.pe_view.specs.View.{bytes_of, size_of};
 ghost use Rattle.pe_view.specs.Faults.{Test};
 ghost use Rattle.pe_layout.specs.Image.{LaidOut};
 ghost use Rattle.pe_layout.specs.Layout.{image_of};
-ghost use Rattle.pe_records.specs.Standing.{standing};
+ghost use Rattle.pe_records.specs.Standing.{Adds};
 
 use pe_layout::Layout;
 use pe_view::{Fault, View};
@@ -48,7 +48,7 @@ pub trait Record: Copy {
         before: Option<Self>,
         rva: u32,
     ) -> Result<(), AllocError>
-        ensures { OnOk result (findings.new.items ≡ findings.old.items ++ standing (tests (image_of layout.now) (bytes_of file.entry) before self.now rva)) };
+        ensures { Adds (tests (image_of layout.now) (bytes_of file.entry) before self.now rva) findings.old.items findings.new.items result };
 
     ghost some: { 0 < LEN };
 

@@ -1,9 +1,9 @@
-//! `Records`: the records of a table, read when they are asked for, and `table_findings`.
+//! `Records`: the records of a table, read when they are asked for, and `find_table`, which adds the findings of a table.
 
-ghost use Rattle.std.specs.Prelude.{◌≡◌, ◌+◌, ◌*◌, ◌/◌, ◌<◌, ◌≤◌, ◌^◌, ◌++◌, IfOk, OnOk, length};
+ghost use Rattle.std.specs.Prelude.{◌≡◌, ◌+◌, ◌*◌, ◌/◌, ◌<◌, ◌≤◌, ◌^◌, length};
 ghost use Rattle.pe_view.specs.View.{bytes_of, size_of};
 ghost use Rattle.pe_layout.specs.Layout.{image_of};
-ghost use Rattle.pe_records.specs.Standing.{standing};
+ghost use Rattle.pe_records.specs.Standing.{Adds};
 ghost use Rattle.pe_records.specs.TableTests.{records_tests, table_tests};
 
 use crate::finding::add;
@@ -95,7 +95,7 @@ fn find_records<R: Record, A: Allocator>(
     file: View,
     records: &Records<R>,
 ) -> Result<(), AllocError>
-    ensures { OnOk result (findings.new.items ≡ findings.old.items ++ standing (records_tests R.record_at R.tests R.LEN (image_of layout.now) (bytes_of file.entry) (bytes_of records.now.table) records.now.start)) }
+    ensures { Adds (records_tests R.record_at R.tests R.LEN (image_of layout.now) (bytes_of file.entry) (bytes_of records.now.table) records.now.start) findings.old.items findings.new.items result }
 {
     for index in 0..records.count {
         let record = records.get(index).unwrap();
@@ -111,29 +111,22 @@ fn find_records<R: Record, A: Allocator>(
     Ok(())
 }
 
-/// The findings of an image's table: of its directory, and then of each record in the order of the table. A table that is not present
-/// has none. The error is that no memory is left.
-pub fn table_findings<R: Record, A: Allocator + Copy>(
-    alloc: A,
+/// Adds the findings of an image's table: of its directory, and then of each record in the order of the table. A table that is not
+/// present has none.
+pub(crate) fn find_table<R: Record, A: Allocator>(
+    findings: &mut Vec<Fault, A>,
     layout: &Layout,
     file: View,
-) -> Result<Vec<Fault, A>, AllocError>
-    ensures { IfOk result (λ findings. findings.items ≡ standing (table_tests R.record_at R.tests R.LEN R.FINDING (image_of layout.now) (bytes_of file.entry) ((image_of layout.now).directory R.DIRECTORY))) }
+) -> Result<(), AllocError>
+    ensures { Adds (table_tests R.record_at R.tests R.LEN R.FINDING (image_of layout.now) (bytes_of file.entry) ((image_of layout.now).directory R.DIRECTORY)) findings.old.items findings.new.items result }
 {
-    let mut findings = Vec::new(alloc);
     let Some(directory) = layout.directory(R::DIRECTORY) else {
-        return Ok(findings);
+        return Ok(());
     };
     let passes = layout.raw_bytes(directory.rva).len() < directory.size as usize;
     let is_cut = directory.size % R::LEN != 0;
     let rules = [(R::FINDING, passes), (R::FINDING + 1, is_cut)];
-    add(
-        &mut findings,
-        layout.image(),
-        Place::Rva(directory.rva),
-        &rules,
-    )?;
+    add(findings, layout.image(), Place::Rva(directory.rva), &rules)?;
     let records: Records<R> = Records::of(layout);
-    find_records(&mut findings, layout, file, &records)?;
-    Ok(findings)
+    find_records(findings, layout, file, &records)
 }

@@ -1,10 +1,10 @@
 //! The findings of a TLS directory and its callbacks.
 
-ghost use Rattle.std.specs.Prelude.{◌≡◌, ◌++◌, IfOk, OnOk};
+ghost use Rattle.std.specs.Prelude.{◌≡◌};
 ghost use Rattle.pe_layout.specs.Layout.{image_of};
 ghost use Rattle.pe_records.specs.Callbacks.{entries_tests};
 ghost use Rattle.pe_records.specs.CallbackView.{callback_table};
-ghost use Rattle.pe_records.specs.Standing.{standing};
+ghost use Rattle.pe_records.specs.Standing.{Adds};
 ghost use Rattle.pe_records.specs.TlsFields.{is_backward, strays, structure_tests};
 ghost use Rattle.pe_records.specs.TlsTests.{callbacks_tests, tls_tests};
 
@@ -18,22 +18,20 @@ use pe_layout::Layout;
 use pe_view::{Fault, Place};
 use std::alloc::{AllocError, Allocator};
 
-/// The findings of an image's TLS directory. The error is that no memory is left.
-pub fn tls_findings<A: Allocator + Copy>(
-    alloc: A,
+/// Adds the findings of an image's TLS directory.
+pub(crate) fn find_tls<A: Allocator>(
+    findings: &mut Vec<Fault, A>,
     layout: &Layout,
-) -> Result<Vec<Fault, A>, AllocError>
-    ensures { IfOk result (λ findings. findings.items ≡ standing (tls_tests (image_of layout.now))) }
+) -> Result<(), AllocError>
+    ensures { Adds (tls_tests (image_of layout.now)) findings.old.items findings.new.items result }
 {
-    let mut findings = Vec::new(alloc);
     let Some(directory) = layout.directory(directory_index::TLS) else {
-        return Ok(findings);
+        return Ok(());
     };
     let structure = Structure::of(layout, directory.rva, 40);
     let tls = fields(&structure);
-    find_structure(&mut findings, layout, directory.rva, &tls)?;
-    find_callbacks(&mut findings, layout)?;
-    Ok(findings)
+    find_structure(findings, layout, directory.rva, &tls)?;
+    find_callbacks(findings, layout)
 }
 
 /// Adds the findings of the directory at an RVA.
@@ -43,7 +41,7 @@ fn find_structure<A: Allocator>(
     rva: u32,
     tls: &TlsDirectory,
 ) -> Result<(), AllocError>
-    ensures { OnOk result (findings.new.items ≡ findings.old.items ++ standing (structure_tests (image_of layout.now) rva tls.now)) }
+    ensures { Adds (structure_tests (image_of layout.now) rva tls.now) findings.old.items findings.new.items result }
 {
     let rules = [
         (131, tls.characteristics.is_none()),
@@ -78,7 +76,7 @@ fn find_callbacks<A: Allocator>(
     findings: &mut Vec<Fault, A>,
     layout: &Layout,
 ) -> Result<(), AllocError>
-    ensures { OnOk result (findings.new.items ≡ findings.old.items ++ standing (callbacks_tests (image_of layout.now))) }
+    ensures { Adds (callbacks_tests (image_of layout.now)) findings.old.items findings.new.items result }
 {
     let Some(callbacks) = TlsCallbacks::of(layout) else {
         return Ok(());
@@ -99,7 +97,7 @@ fn find_entries<A: Allocator>(
     layout: &Layout,
     callbacks: &TlsCallbacks,
 ) -> Result<(), AllocError>
-    ensures { OnOk result (findings.new.items ≡ findings.old.items ++ standing (entries_tests (image_of layout.now) (callback_table callbacks.now))) }
+    ensures { Adds (entries_tests (image_of layout.now) (callback_table callbacks.now)) findings.old.items findings.new.items result }
 {
     for index in 0..callbacks.count {
         let rules = [(136, leads_nowhere(layout, callbacks.get(index)))];
