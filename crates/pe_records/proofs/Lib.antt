@@ -1,0 +1,11 @@
+pub mod BoundRows
+pub mod ClrRows
+pub mod DataRows
+pub mod DebugRows
+pub mod Found
+pub mod FunctionRows
+pub mod LoadRows
+pub mod Rows
+pub mod TlsRows
+pub mod Wanting
+pub mod Zeros
