@@ -113,6 +113,7 @@ fn print_job<R: Print>(rt: &R, job: &Job) -> Option<()> {
             files,
         } => print_show(rt, *options, *colours, *most, files),
         Job::Json { most, files } => print_json(rt, *most, files),
+        Job::Sum { files } => print_files(rt, "sum", files),
         Job::At { file, places } => print_at(rt, file, places),
         Job::Explain { number } => println!(rt; "explain {number:?}").ok(),
         Job::Dump { file } => println!(rt; "dump {file}").ok(),
