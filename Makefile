@@ -61,8 +61,8 @@ install: all
 	    $(SHARE)/bash-completion/completions $(ZSH) $(SHARE)/fish/vendor_completions.d
 	install -m 755 $(PROGRAM) $(BIN)/petool
 	install -m 644 bindings/c/petool.h $(INCLUDE)/petool.h
-	install -m 644 $(O)/c/libpetool.a $(O)/c/libpetool.so.0 $(LIB)
-	ln -sf libpetool.so.0 $(LIB)/libpetool.so
+	install -m 644 $(O)/c/libpetool.a $(O)/c/libpetool.so.2 $(LIB)
+	ln -sf libpetool.so.2 $(LIB)/libpetool.so
 	install -m 644 $(O)/c/petool.pc $(LIB)/pkgconfig/petool.pc
 	install -m 644 man/petool.1 $(SHARE)/man/man1/petool.1
 	install -m 644 man/petool.h.3 $(SHARE)/man/man3/petool.h.3
@@ -75,7 +75,7 @@ install: all
 
 # the installed files, but not the folders, which others may use too
 uninstall:
-	rm -f $(BIN)/petool $(INCLUDE)/petool.h $(LIB)/libpetool.a $(LIB)/libpetool.so.0 $(LIB)/libpetool.so \
+	rm -f $(BIN)/petool $(INCLUDE)/petool.h $(LIB)/libpetool.a $(LIB)/libpetool.so.2 $(LIB)/libpetool.so \
 	    $(LIB)/pkgconfig/petool.pc $(SHARE)/man/man1/petool.1 $(SHARE)/man/man3/petool.h.3 \
 	    $(SHARE)/bash-completion/completions/petool $(ZSH)/_petool $(SHARE)/fish/vendor_completions.d/petool.fish
 	rm -rf $(SHARE)/doc/petool

@@ -1,4 +1,4 @@
-"""What is written for C: the enums and structs of petool.h, layout.c, and the names that the linker exports."""
+"""What is written for C: the enums and structs of petool.h, what it asserts of them, and the names that the linker exports."""
 
 from typing import List
 
@@ -8,18 +8,8 @@ NUMBERS = {"usize": "size_t", "bool": "bool", "char": "char", **{f"u{bits}": f"u
 POINTERS = {"bytes": "const uint8_t *", "state": "void *"}
 RESULTS = {"u32": "uint32_t", "int": "int", "nothing": "void"}
 
-LAYOUT = """\
-/* Compiles only if the records of petool.h are laid out as in the library, on a 64-bit machine.
- * describe/describe.py writes this file. */
-#include "petool.h"
-
-#ifdef __cplusplus
-#define _Static_assert static_assert
-#endif
-
-#define SIZE(type, size) _Static_assert(sizeof(type) == (size), #type " has another size")
-#define AT(type, field, offset) _Static_assert(offsetof(type, field) == (offset), #type "." #field " stands elsewhere")
-"""
+#: The parts of petool.h that are no enums or structs.
+LAYOUTS, NULLS = "layouts", "calls with NULL"
 
 
 def type_of(kind: str) -> str:
@@ -70,7 +60,9 @@ def enum(found: Values) -> List[str]:
 
 
 def declarations(description: Description, what: str) -> List[str]:
-    """The enums and structs of these names, with a blank line between two."""
+    """The enums and structs of these names, with a blank line between two; or a part that is neither."""
+    if what in (LAYOUTS, NULLS):
+        return layouts(description) if what == LAYOUTS else nullable(description)
     lines: List[str] = []
     for name in what.split(", "):
         lines += [""] if lines else []
@@ -78,15 +70,65 @@ def declarations(description: Description, what: str) -> List[str]:
     return lines
 
 
-def layout(description: Description) -> str:
-    """layout.c: the size of each record and the offset of each field."""
-    parts = [LAYOUT]
+def layouts(description: Description) -> List[str]:
+    """What petool.h asserts: the size of each record and the offset of each field."""
+    lines: List[str] = []
     for record in description.records.values():
         size, _, places = description.layout(record)
         name = f"petool_{record.name}"
-        rows = [f"SIZE({name}, {size});", *(f"AT({name}, {it.name}, {place});" for it, place in zip(record.fields, places))]
-        parts.append("\n".join(rows) + "\n")
-    return "\n".join(parts)
+        lines.append(f"PETOOL_SIZE({name}, {size});")
+        lines += [f"PETOOL_AT({name}, {it.name}, {place});" for it, place in zip(record.fields, places)]
+    return lines
+
+
+def _given(it: Parameter) -> List[str]:
+    """The arguments that a call gets for a parameter: NULL with length 0 is replaced."""
+    if not it.length:
+        return [it.name]
+    constant, replaced = ("", "petool_room") if it.is_mutable else ("const ", "petool_some")
+    return [f"({constant}{type_of(it.type)}*){replaced}({it.name})", it.length]
+
+
+#: The widest line of petool.h.
+WIDTH = 132
+
+
+def _broken(head: str, words: List[str], end: str) -> List[str]:
+    """What comes before words that are joined by commas, the words, and what comes after them, in lines that fit."""
+    lines, indent = [head], " " * (len(head) if len(head) < 100 else 8)
+    for number, word in enumerate(words):
+        last = number == len(words) - 1
+        part = word + (end if last else ",")
+        joined = lines[-1] + ("" if number == 0 else " ") + part
+        if len(joined) <= WIDTH:
+            lines[-1] = joined
+        else:
+            lines.append(indent + part)
+    return lines
+
+
+def _nullable(call: Call) -> List[str]:
+    """A function in place of a call with lengths, which may get NULL."""
+    slices = [it for it in call.parameters if it.length]
+    declared = [word for it in call.parameters for word in parameters(it)]
+    arguments = [word for it in call.parameters for word in _given(it)]
+    name = call.name.replace("petool_", "petool_nullable_", 1)
+    is_status = call.result == "u32"
+    lines = _broken(f"{'PETOOL_WARN_UNUSED ' if is_status else ''}static inline {RESULTS[call.result]} {name}(", declared, ")")
+    lines.append("{")
+    for it in slices:
+        lost = f"PETOOL_IS_LOST({it.name}, {it.length})"
+        lines += [f"    if ({lost})", "        return PETOOL_ARGUMENT;" if is_status else f"        {it.length} = 0;"]
+    return [*lines, *_broken(f"    return {call.name}(", arguments, ");"), "}", f"#define {call.name} {name}"]
+
+
+def nullable(description: Description) -> List[str]:
+    """The functions of petool.h in place of calls with lengths, with a blank line between two."""
+    lines: List[str] = []
+    for call in description.calls:
+        if any(it.length for it in call.parameters):
+            lines += ([""] if lines else []) + _nullable(call)
+    return lines
 
 
 def parameters(it: Parameter) -> List[str]:
@@ -116,7 +158,7 @@ def linker_map(description: Description) -> str:
 
 
 def debian_symbols(description: Description) -> str:
-    """libpetool0.symbols: each name with the release that introduced it."""
+    """The symbols file of Debian's package: each name with the release that introduced it."""
     library = description.library
     since = {call.name: call.since for call in description.calls}
     rows = {library.symbols: library.release, **since}

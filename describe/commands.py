@@ -6,10 +6,10 @@ from typing import Dict, List
 
 from description import Mistake, read_lines
 
-#: The rows below each kind of heading, in order; a command has `options` if it has any.
+#: The rows below each kind of heading, in order; a command has `options`, and a word `values`, if it has any.
 ROWS = {
     "option": ("field", "help"),
-    "word": ("help",),
+    "word": ("help", "values"),
     "status": ("means",),
     "command": ("options", "help", "readme", "guide"),
     "other": ("guide",),
@@ -42,7 +42,7 @@ class Commands:
         self.all_help = ""
         read_lines(text, self._read)
         for it in self.items:
-            missing = [row for row in ROWS[it.kind] if row not in it.rows and row != "options"]
+            missing = [row for row in ROWS[it.kind] if row not in it.rows and row not in ("options", "values")]
             if missing:
                 raise Mistake(f"{it.kind} {it.words} has no row {missing[0]}")
         self._check_options()

@@ -49,11 +49,10 @@ HEAD = "crates/pe_head/specs/Head.antt"
 
 #: The files that are written completely, without the sources in Rattle.
 WHOLE = {
-    "bindings/c/layout.c": c_texts.layout,
     "bindings/c/petool.map": c_texts.linker_map,
     "bindings/rust/petool-sys/tests/layout.rs": rust_texts.layout_test,
     f"{PACKAGE}/_records.py": python_texts.records_module,
-    "packaging/debian/libpetool0.symbols": c_texts.debian_symbols,
+    "packaging/debian/libpetool2.symbols": c_texts.debian_symbols,
 }
 
 
@@ -194,7 +193,7 @@ def compared(path, wanted):
 def parts(description):
     """The parts that files must have: each enum and record in petool.h, each table in JSON.md, what each module of Python has."""
     declared = {**description.values, **description.records}
-    yield HEADER, list(declared)
+    yield HEADER, [*declared, c_texts.LAYOUTS, c_texts.NULLS.rpartition(" ")[2]]
     apart = [it.name for it in description.objects.values() if not (it.kind_of or it.is_in_words or it.heads)]
     yield JSON, [*apart, "rows"]
     yield RUST, ["values", "records", "calls"]

@@ -1,4 +1,4 @@
-"""What is written from the faults: the tables of docs/FAULTS.md, and the tables RULES and EXPLAINED of the sources.
+"""What is written from the faults: the tables of docs/FAULTS.md, and the tables RULES, EXPLAINED and FINDINGS_EXPLAINED of the sources.
 
 These two have no comments in their sources, from `static NAME` to `];`, and the layout of `rt fmt`: a source that changes must be
 proved again, so one that agrees stays the same to the byte.
@@ -46,23 +46,35 @@ def _explained(it: Fault) -> List[str]:
     return [more, _literal(it.rows["met by"])]
 
 
-#: The table of each source: its name, the type of a row, and the words of one after its number.
-TABLES: Dict[str, Tuple[str, str, Callable[[Fault], List[str]]]] = {
-    "crates/pe_text/src/fault_text.rt": ("RULES", "(u16, &str, &str)", _rules),
-    "crates/pe_program/src/explain.rt": ("EXPLAINED", "Explained", _explained),
+#: The numbers of all, of faults, and of findings.
+ALL, FAULTS, FINDINGS = range(1, 1 << 16), range(1, 101), range(101, 1 << 16)
+#: The tables of each source: the name, the type of a row, the words of one after its number, and the numbers in it.
+Table = Tuple[str, str, Callable[[Fault], List[str]], range]
+TABLES: Dict[str, List[Table]] = {
+    "crates/pe_text/src/fault_text.rt": [("RULES", "(u16, &str, &str)", _rules, ALL)],
+    "crates/pe_program/src/explain.rt": [
+        ("EXPLAINED", "Explained", _explained, FAULTS),
+        ("FINDINGS_EXPLAINED", "Explained", _explained, FINDINGS),
+    ],
 }
 
 
-def source(faults: Faults, path: str, text: str) -> str:
-    """A source with a newly written table. NoTable if it does not have it exactly once."""
-    name, kind, texts = TABLES[path]
+def _with_table(faults: Faults, table: Table, text: str) -> str:
+    name, kind, texts, numbers = table
     found = list(re.finditer(rf"^static {name}\b.*?^\];$", text, re.M | re.S))
     if len(found) != 1:
         raise NoTable(f"the table {name} occurs in it {len(found)} times")
-    all_faults = faults.by_number()
-    rows = [line for it in all_faults for line in _row([str(it.number), *texts(it)])]
-    table = "\n".join([f"static {name}: [{kind}; {len(all_faults)}] = [", *rows, "];"])
-    return text[: found[0].start()] + table + text[found[0].end() :]
+    told = [it for it in faults.by_number() if it.number in numbers]
+    rows = [line for it in told for line in _row([str(it.number), *texts(it)])]
+    written = "\n".join([f"static {name}: [{kind}; {len(told)}] = [", *rows, "];"])
+    return text[: found[0].start()] + written + text[found[0].end() :]
+
+
+def source(faults: Faults, path: str, text: str) -> str:
+    """A source with newly written tables. NoTable if it does not have each exactly once."""
+    for table in TABLES[path]:
+        text = _with_table(faults, table, text)
+    return text
 
 
 def _names(faults: Faults) -> List[str]:

@@ -11,8 +11,8 @@ WIDTH = 120
 ITEMS = {"bytes": "*const u8", "state": "*mut c_void", "char": "c_char", "int": "c_int"}
 
 LAYOUT = """\
-//! Each record has the size and the field offsets of the library's, on a 64-bit machine; `layout.c` next to the header
-//! has the same numbers. describe/describe.py writes this file.
+//! Each record has the size and the field offsets of the library's, on a 64-bit machine, as `petool.h` asserts them.
+//! describe/describe.py writes this file.
 
 #![cfg(target_pointer_width = "64")]
 
@@ -41,7 +41,7 @@ VERSION = """\
 #[test]
 fn the_library_has_the_version_of_the_header() {
     // SAFETY: the call has no arguments
-    assert_eq!(unsafe { petool_version() }, PETOOL_VERSION);
+    assert_eq!(unsafe { petool_version_number() }, PETOOL_VERSION_NUMBER);
 }
 """
 

@@ -50,7 +50,7 @@ _petool() {
 @options@
     esac
     # how many arguments are before it
-    local place=0 is_value= has_ended=
+    local place=0 is_value= has_ended= option=
     for part in "${words[@]:1:${#words[@]}-2}"; do
         if [[ $is_value ]]; then
             is_value=
@@ -59,11 +59,20 @@ _petool() {
         else
             case $part in
                 --) has_ended=yes ;;
-                @valued@) is_value=yes ;;
+                @valued@) is_value=yes option=$part ;;
             esac
         fi
     done
-    if [[ $is_value ]]; then return; fi # no value is a file
+    if [[ ! $is_value && ! $has_ended && $last == --*=* ]]; then
+        option=${last%%=*} base=${last%%=*}= is_value=yes
+    fi
+    if [[ $is_value ]]; then # no value is a file
+        case $option in
+@values@
+        esac
+        COMPREPLY=("${COMPREPLY[@]#"$before"}")
+        return
+    fi
     if [[ ! $has_ended && $last == -* ]]; then
         mapfile -t COMPREPLY < <(compgen -W "$options" -- "$last")
         return
@@ -143,6 +152,7 @@ class Option:
     name: str
     does: str
     value: Optional[str] = None  #: what it takes, which is never a file
+    values: str = ""  #: the words that this can be, if they are few
     short: Optional[str] = None
 
 
@@ -175,9 +185,10 @@ class Command:
 def options_of(described: Commands, command: Item) -> Iterator[Option]:
     """The options of a command, in the order of its usage."""
     helps = {it.name(): it.rows["help"] for kind in ("option", "word") for it in described.of(kind)}
+    values = {it.name(): it.rows.get("values", "") for it in described.of("word")}
     for usage in described.usage(command):
         for name, value in re.findall(r"--(\w+)(?: ([A-Z]+))?", usage):
-            yield Option(name, described.all_help if name == "all" else helps[name], value or None)
+            yield Option(name, described.all_help if name == "all" else helps[name], value or None, values.get(name, ""))
     yield HELP
 
 
@@ -198,6 +209,11 @@ def valued(commands: List[Command]) -> List[str]:
     return sorted({f"--{option.name}" for it in commands for option in it.options if option.value})
 
 
+def values_of(commands: List[Command]) -> List[Option]:
+    """The options whose value can be one of a few words, each once."""
+    return list({option.name: option for it in commands for option in it.options if option.values}.values())
+
+
 def filled(text: str, **parts: str) -> str:
     """A script with its parts."""
     return re.sub(r"@(\w+)@", lambda it: parts[it[1]], text)
@@ -211,6 +227,9 @@ def bash(commands: List[Command]) -> str:
         first=f"{names} {words_of([HELP, VERSION])}",
         options="\n".join(f"        {it.name}) options='{words_of(it.options)}' ;;" for it in commands if it.options),
         valued=" | ".join(valued(commands)),
+        values="\n".join(
+            f"""            --{it.name}) mapfile -t COMPREPLY < <(compgen -P "$base" -W '{it.values}' -- "${{last#"$base"}}") ;;""" for it in values_of(commands)
+        ),
         plain=" | ".join(f"'{it.name} '{place}" for it in commands if not it.is_after_base() for place in it.places()),
         based=" | ".join(f"'{it.name} '*" for it in commands if it.is_after_base()),
     )
@@ -226,7 +245,8 @@ def zsh_words(command: Command) -> Iterator[str]:
     for it in command.options:
         does = quoted(it.does).replace("[", "(").replace("]", ")")
         names = f"'(-{it.short} --{it.name})'{{-{it.short},--{it.name}}}'" if it.short else f"'--{it.name}"
-        yield f"{names}[{does}]{f':{it.value}:' if it.value else ''}'"
+        words = f"({it.values})" if it.values else ""
+        yield f"{names}[{does}]{f':{it.value}:{words}' if it.value else ''}'"
     for index, argument in enumerate(command.arguments):
         action = '{compset -P "*=" && _files}' if argument == AFTER_BASE else "_files" if argument in FILES else ""
         yield f"'{command.place(index, 1)}:{argument}:{action}'"
@@ -255,7 +275,7 @@ def fish_lines(commands: List[Command]) -> Iterator[str]:
             yield f"{seen} -a '{' '.join(it.name for it in commands)}'"
         for it in command.options:
             one = f" -s {it.short}" if it.short else ""
-            wants = " -x" if it.value else ""
+            wants = (" -x" if it.value else "") + (f" -a '{it.values}'" if it.values else "")
             yield f"{seen}{one} -l {it.name}{wants} -d '{quoted(it.does)}'"
 
 

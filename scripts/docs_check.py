@@ -67,7 +67,7 @@ VERSIONS = {
 }
 #: Where it is a number: its first part times 65,536, and its second part.
 NUMBERS = {
-    "bindings/c/petool.h": r"^#define PETOOL_VERSION (\w+)$",
+    "bindings/c/petool.h": r"^#define PETOOL_VERSION_NUMBER (\w+)$",
     "crates/petool_c/src/words.rt": r"^    ensures \{ result ≡ (0x\w+) \}$",
 }
 

@@ -25,11 +25,13 @@ sys.dont_write_bytecode = True
 
 from pages_names import (CLASSES, DIRECTORIES, DLL_FLAGS, FIXUPS, IMAGE_FLAGS, MACHINES, RELOCATIONS, SEARCHES,  # noqa: E402
                          SECTION_FLAGS, SELECTIONS, SUBSYSTEMS)
+import pages_tables  # noqa: E402
+import pages_trust  # noqa: E402
 from pages_reader import FIXUP_WIDTHS, Headers, Image, Object, Refused, is_object, uint  # noqa: E402
 
 FAULTS = os.path.join(os.path.dirname(os.path.abspath(__file__)), "..", "docs", "FAULTS.md")
 #: The tables of which a page has a row for each entry, if an option requests them.
-TABLES = ("exports", "imports", "relocations", "symbols")
+TABLES = ("exports", "imports", "relocations", "symbols", *pages_tables.TABLES, *pages_trust.TRUST)
 #: How many columns a page has that is not told the width of its terminal.
 WIDTH = 100
 SECTION_WORDS = {0: "UNDEFINED", 0xFFFF: "ABSOLUTE", 0xFFFE: "DEBUG"}
@@ -225,7 +227,7 @@ def module_list(image, room, wanted):
     return f":\n      {', '.join(modules[:count])} and {len(modules) - count:,} more{end}"
 
 
-def summary(image, index, room, wanted):
+def summary(image, tables, index, room, wanted):
     """What was read from a directory's table."""
     if index == 0 and image.exports is not None:
         forwarders = sum(isinstance(target, tuple) for _, target, _ in image.exports)
@@ -237,10 +239,10 @@ def summary(image, index, room, wanted):
         pages = [field >> 12 for field, _ in image.fixups]
         where = f" in {counted(len(set(pages)), 'page')}" if pages == sorted(pages) else ", not in the order of their pages"
         return counted(len(pages), "fixup") + where
-    return "not read"
+    return pages_tables.summary(tables, index, shown)
 
 
-def directory_rows(image, wanted):
+def directory_rows(image, tables, wanted):
     present = [(i, *it) for i, it in enumerate(image.headers.directories) if any(it)]
     places = ["file offset" if i == 4 else section_words(image, rva) for i, rva, _ in present]
     name, place = max([6, *(len(DIRECTORIES[i]) for i, _, _ in present)]), max([12, *map(len, places)])
@@ -248,7 +250,7 @@ def directory_rows(image, wanted):
     yield f"\nTables ({len(present):,})"
     for (i, rva, size), where in zip(present, places):
         row = f"{i:4}  {DIRECTORIES[i]:<{name}}   0x{rva:0{rva_width}x}   0x{size:0{size_width}x}   {where:<{place}}   "
-        yield row + summary(image, i, WIDTH - len(row), wanted)
+        yield row + summary(image, tables, i, WIDTH - len(row), wanted)
 
 
 def export_rows(image):
@@ -282,16 +284,18 @@ def fixup_rows(fixups):
             yield f"  0x{page << 12:0{width}x}  {FIXUPS[kind]:<7} {fields}"
 
 
-def table_rows(image, wanted):
+def table_rows(image, tables, wanted):
     """What a page shows after the headers."""
+    yield from pages_tables.identity_rows(tables, shown)
     yield from section_rows(image.headers.sections)
-    yield from directory_rows(image, wanted)
+    yield from directory_rows(image, tables, wanted)
     if "exports" in wanted and image.exports is not None:
         yield from export_rows(image)
     if "imports" in wanted and image.imports is not None:
         yield from import_rows(image.imports)
     if "relocations" in wanted and image.fixups is not None:
         yield from fixup_rows(image.fixups)
+    yield from pages_tables.rows(tables, wanted, shown, lambda rva: place_of(image, rva)[0])
 
 
 def image_page(file, wanted):
@@ -305,10 +309,16 @@ def image_page(file, wanted):
         fault = refused
     if headers:
         kind, rows = image_kind(headers), [*header_rows(headers, image)]
+    findings, trust = [], pages_trust.Trust(file, headers) if headers and "trust" in wanted else None
     if image:
-        rows += table_rows(image, wanted)
+        tables = pages_tables.Tables(image, file, trust.findings if trust else [])
+        rows += table_rows(image, tables, wanted)
+        findings = tables.findings
     elif headers:
         rows += section_rows(headers.sections)
+    if trust:
+        rows += pages_trust.trust_rows(trust, shown)
+    rows += pages_tables.finding_rows(findings, trust.findings if trust else [], fault_words)
     return fault, kind, rows
 
 
@@ -582,6 +592,7 @@ def image_place(file, image, options, place):
     words += " " + permissions(piece[2].flags) if piece and piece[2] else ""
     slots = [(module, key) for module, slot, key in image.imports or [] if slot <= rva < slot + (8 if image.wide else 4)]
     words += export_words(image, rva) + (f"  slot of {shown(slots[0][0])} {key_words(slots[0][1])}" if slots else "") + field_words(image, rva)
+    words += pages_tables.function_words(pages_tables.Tables(image, file), rva)
     row = row_words(file, image, rva)
     return f"{where(image.headers, rva, offset, words)}{'  ' + row if row else ''}\n  {image.bytes[rva : rva + 16].hex(' ')}\n"
 

@@ -4,15 +4,19 @@
  * RULES, which hold for every call
  *
  * Bytes.    A file is a pointer and a length: all of its bytes. They are only read, and only while the call runs, or while an
- *           image that petool_image_open made from them is open; nobody may change them meanwhile. No pointer may be NULL, even
- *           if a length or a room is 0: then any pointer of the right type will do, such as that of PETOOL_NONE.
+ *           image that petool_image_open made from them is open; nobody may change them meanwhile. The pointer of bytes, of a text
+ *           or of rows may be NULL if the length or the room after it is 0; with another it is refused: PETOOL_ARGUMENT. No other
+ *           pointer may be NULL, nor that in a petool_text, which PETOOL_NONE sets.
  * Texts.    A petool_text points into the file, or to a string of this library. It does not end in a zero byte, and is valid as
  *           long as the file's bytes are. Unless it is empty, its offset in the file is `text.at - file`; an empty one may point
  *           anywhere.
+ * Numbers.  An index of an image is a uint32_t, an ordinal a uint64_t, an RVA a uint32_t, and an address a uint64_t, in every call
+ *           and record.
  * Results.  Most calls return a status; the comment above a call says which statuses set its results. Everything else is left
  *           unchanged. Only PETOOL_FAULT sets *fault: to the first fault, in the order of docs/FAULTS.md.
  * Rows.     A table is read into the caller's rows. *count is the number of rows that the table has, whether or not they fit. If
- *           they do not, the status is PETOOL_SMALL, and the rows hold the first of them.
+ *           they do not, the status is PETOOL_SMALL, and the rows hold the first of them. So a call with room 0 counts, and a
+ *           second one reads. The rows are in the order that the call names, which is the file's own and always the same.
  *           Records that hold texts must be initialized before a call, by petool_exports_init and the like, or by an earlier call.
  * Pointers. A pointer is aligned as its type requires, and a result shares no byte with another argument.
  * Threads.  Calls keep nothing but open images and spaces, so any number of threads may call at once, even with the same file. Make
@@ -21,7 +25,8 @@
  *           closed. It calls malloc, realloc and free, which must align to 16 bytes, and returns PETOOL_MEMORY if an allocation
  *           fails; petool_object_sections, petool_object_symbols and petool_object_all_relocations then do without.
  *
- * Nothing checks that a caller keeps these rules; what is proved of each call is proved for callers that do.
+ * Nothing checks that a caller keeps these rules, but for NULL; what is proved of each call is proved for callers that do. The
+ * functions that are defined here are only tested.
  */
 #ifndef PETOOL_H
 #define PETOOL_H
@@ -57,7 +62,8 @@ enum {
     PETOOL_ABSENT = 3,   /* bytes outside the image or the file, or no such string, export, section, image or fault */
     PETOOL_SMALL = 4,    /* too little room: the count says how much is needed */
     PETOOL_ARGUMENT = 5, /* an argument has a value that it may not have; nothing was done */
-    PETOOL_CLOSED = 6    /* the image or the space is not open */
+    PETOOL_CLOSED = 6,   /* the image or the space is not open */
+    PETOOL_LARGE = 7     /* the images of the set have more bytes than the caller allows; nothing was mapped */
 };
 /* end of describe/records.txt */
 
@@ -93,16 +99,16 @@ enum {
 /* from describe/records.txt: fault */
 typedef struct petool_fault {
     uint16_t number; /* as in docs/FAULTS.md, from 1 to 85 */
-    uint16_t image;  /* the index of the entry in a set; otherwise 0 */
-    uint32_t place;  /* what `at` counts: a PETOOL_PLACE */
+    uint16_t place;  /* what `at` counts: a PETOOL_PLACE */
+    uint32_t image;  /* the index of the entry in a set; otherwise 0 */
     uint64_t at;
 } petool_fault;
 /* end of describe/records.txt */
 
-/* The version of this header, and of the library: its first part times 65,536, plus its second part. A program that was built
- * with another first part than the library's must not call it. */
-#define PETOOL_VERSION 0x10000
-uint32_t petool_version(void);
+/* The version of this header, and that of the library which runs: its first part times 65,536, plus its second part. A program that
+ * was built with another first part than the library's must not call it. */
+#define PETOOL_VERSION_NUMBER 0x20000
+uint32_t petool_version_number(void);
 
 /* What is at the place of a fault, and which rule is broken: strings of this library. OK; or ABSENT if no fault has the number. */
 PETOOL_WARN_UNUSED uint32_t petool_fault_words(uint16_t number, petool_text *subject, petool_text *rule);
@@ -111,6 +117,56 @@ PETOOL_WARN_UNUSED uint32_t petool_fault_words(uint16_t number, petool_text *sub
  * written as by snprintf: cut to the room, in which it always ends in a zero byte; without room nothing is written. Returns the
  * length of the full line without the zero byte, which is at most 256. */
 int petool_fault_line(const petool_fault *fault, char *line, size_t room);
+
+/* from describe/records.txt: amounts */
+enum {
+    PETOOL_VALUE_NOTHING = 0, /* no number, but words after one */
+    PETOOL_VALUE_COUNT = 1,   /* a size or a count, for people in decimal */
+    PETOOL_VALUE_PLACE = 2    /* a file offset, an RVA, an address or a field, for people in hexadecimal */
+};
+/* end of describe/records.txt */
+
+/* from describe/records.txt: value */
+typedef struct petool_value {
+    petool_text words; /* the words before the number, or the last ones */
+    petool_text name;  /* the number's name, as in docs/FAULTS.md; empty if there is no number */
+    uint64_t number;
+    uint32_t kind;     /* what the number is: a PETOOL_VALUE */
+} petool_value;
+/* end of describe/records.txt */
+
+#define PETOOL_VALUES 3 /* a fault has so many rows, or none */
+
+static inline void petool_values_init(petool_value *rows, size_t room)
+{
+    petool_text none = PETOOL_NONE;
+    for (size_t i = 0; i < room; i++) {
+        petool_value row = {none, none, 0, 0};
+        rows[i] = row;
+    }
+}
+
+/* The numbers of the file that the fault's rule compares, in the order in which people read them, each with its name and the words
+ * before it: "", 16; " bytes at ", 0x200; ", and the file has ", 520. A rule that compares numbers has three rows, of which the
+ * last may have words alone, or nothing; the others have none. `file` is that of the image with the fault. OK; or SMALL. The strings
+ * are this library's. */
+PETOOL_WARN_UNUSED uint32_t petool_fault_detail(const uint8_t *file, size_t len, const petool_fault *fault, petool_value *rows,
+                                                size_t room, size_t *count);
+
+/* from describe/records.txt: names */
+enum {
+    PETOOL_NAME_MACHINE = 0,      /* the machine of a COFF file header */
+    PETOOL_NAME_SUBSYSTEM = 1,    /* the subsystem of an image */
+    PETOOL_NAME_FLAG = 2,         /* a flag of Characteristics in a COFF file header */
+    PETOOL_NAME_DLL_FLAG = 3,     /* a flag of DllCharacteristics */
+    PETOOL_NAME_SECTION_FLAG = 4, /* a flag of a section */
+    PETOOL_NAME_DIRECTORY = 5     /* the table of a data directory, by its index */
+};
+/* end of describe/records.txt */
+
+/* The name that "PE Format" has for a value of this kind, a PETOOL_NAME: "AMD64", "WINDOWS_GUI", "DLL", "NX_COMPAT", "MEM_READ",
+ * "export". A flag is one bit. OK; or ABSENT. The string is this library's. *name must be initialized before. */
+PETOOL_WARN_UNUSED uint32_t petool_name(uint32_t kind, uint32_t value, petool_text *name);
 
 /* ---- an image: its headers and its bytes ---- */
 
@@ -179,20 +235,21 @@ enum {
 /* from describe/records.txt: target, export, import, fixup */
 typedef struct petool_target {
     uint32_t kind;            /* a PETOOL_TARGET: an RVA of the image, or an ordinal or a name of another module */
-    uint32_t value;           /* the RVA, or the ordinal in the other module; 0 for a name */
+    uint32_t rva;             /* the RVA; 0 for a forwarder */
+    uint64_t ordinal;         /* the ordinal of a forwarder to an ordinal; otherwise 0 */
     petool_text module, name; /* of a forwarder; otherwise empty */
 } petool_target;
 
 typedef struct petool_export {
-    uint64_t ordinal; /* the ordinal of an export by ordinal, which may exceed 2^32; otherwise 0 */
+    uint64_t ordinal; /* the ordinal, which may exceed 2^32 */
     petool_text name; /* the name of an export by name; otherwise empty */
     petool_target target;
 } petool_export;
 
 typedef struct petool_import {
     petool_text module, name; /* name is empty for an import by ordinal */
+    uint64_t ordinal;         /* the ordinal of an import by ordinal; otherwise 0 */
     uint32_t slot;            /* the RVA of its slot */
-    uint16_t ordinal;         /* the ordinal of an import by ordinal; otherwise 0 */
     bool by_ordinal;
 } petool_import;
 
@@ -206,7 +263,8 @@ static inline void petool_target_init(petool_target *target)
 {
     petool_text none = PETOOL_NONE;
     target->kind = 0;
-    target->value = 0;
+    target->rva = 0;
+    target->ordinal = 0;
     target->module = none;
     target->name = none;
 }
@@ -259,8 +317,13 @@ PETOOL_WARN_UNUSED uint32_t petool_tables(const uint8_t *file, size_t len, petoo
  * look up many, open the image. *target must be initialized before. */
 PETOOL_WARN_UNUSED uint32_t petool_export_by_name(const uint8_t *file, size_t len, const uint8_t *name, size_t name_len,
                                                   petool_target *target, petool_fault *fault);
-PETOOL_WARN_UNUSED uint32_t petool_export_by_ordinal(const uint8_t *file, size_t len, uint32_t ordinal, petool_target *target,
+PETOOL_WARN_UNUSED uint32_t petool_export_by_ordinal(const uint8_t *file, size_t len, uint64_t ordinal, petool_target *target,
                                                      petool_fault *fault);
+
+/* The import whose slot is at an RVA. At the place of faults 48 to 50, in the file of the fault's image, it has the module and the
+ * name or the ordinal that lead nowhere. As petool_imports, but with ABSENT instead of SMALL. *found must be initialized before. */
+PETOOL_WARN_UNUSED uint32_t petool_import_at(const uint8_t *file, size_t len, uint32_t slot, petool_import *found,
+                                             petool_fault *fault);
 
 /* ---- an image that is kept open between calls ---- */
 
@@ -308,7 +371,11 @@ PETOOL_WARN_UNUSED uint32_t petool_image_locate(petool_image *image, uint32_t rv
  * before. */
 PETOOL_WARN_UNUSED uint32_t petool_image_export_by_name(petool_image *image, const uint8_t *name, size_t len,
                                                         petool_target *target);
-PETOOL_WARN_UNUSED uint32_t petool_image_export_by_ordinal(petool_image *image, uint32_t ordinal, petool_target *target);
+PETOOL_WARN_UNUSED uint32_t petool_image_export_by_ordinal(petool_image *image, uint64_t ordinal, petool_target *target);
+
+/* The import whose slot is at an RVA; the imports are looked at one by one. OK; ABSENT; or CLOSED. *found must be initialized
+ * before. */
+PETOOL_WARN_UNUSED uint32_t petool_image_import_at(petool_image *image, uint32_t slot, petool_import *found);
 
 /* The tables, in the order in which petool_exports and so on have them. OK; SMALL; or CLOSED. */
 PETOOL_WARN_UNUSED uint32_t petool_image_exports(petool_image *image, petool_export *rows, size_t room, size_t *count);
@@ -338,9 +405,9 @@ typedef struct petool_binding {
 } petool_binding;
 /* end of describe/records.txt */
 
-/* Checks a set, and returns what each import is bound to. With `known`, an import from a module that is not in the set is not a
- * fault. OK; SMALL; FAULT, with the first of the set, and for 50 the length of the cycle of forwarders in *cycle; or MEMORY, but
- * not if a name has a fault (41, 42), nor for a set without entries. */
+/* Checks a set, and returns what each import is bound to, by image and then in the order of its import table. With `known`, an
+ * import from a module that is not in the set is not a fault. OK; SMALL; FAULT, with the first of the set, and for 50 the length of
+ * the cycle of forwarders in *cycle; or MEMORY, but not if a name has a fault (41, 42), nor for a set without entries. */
 PETOOL_WARN_UNUSED uint32_t petool_judge(const petool_entry *set, size_t entries, bool known, petool_binding *rows, size_t room,
                                          size_t *count, uint32_t *cycle, petool_fault *fault);
 
@@ -375,6 +442,12 @@ static inline petool_space petool_space_closed(void)
  * bytes. */
 PETOOL_WARN_UNUSED uint32_t petool_space_map(petool_space *space, const petool_entry *set, size_t entries, bool known,
                                              uint32_t *cycle, petool_fault *fault);
+
+/* The same, unless the images have more than `most_bytes` bytes together: then LARGE, whatever faults the set has, and before
+ * memory is allocated, and the space is closed. The size of an image is its SizeOfImage, or 0 if its file has one of faults 1 to
+ * 15, with which the set is refused. */
+PETOOL_WARN_UNUSED uint32_t petool_space_map_within(petool_space *space, const petool_entry *set, size_t entries, bool known,
+                                                    uint64_t most_bytes, uint32_t *cycle, petool_fault *fault);
 void petool_space_close(petool_space *space);
 
 /* The bytes from an address on. OK; FAULT 54 if they do not all lie in one image, which leaves the buffer unchanged, but never for
@@ -390,13 +463,13 @@ typedef struct petool_moved {
 
 /* Moves the image of an entry to another base: relocates its fields, and binds again the slots whose exports are in it. OK; FAULT,
  * with the first of 55 and 44 to 47, which changes nothing; or CLOSED. */
-PETOOL_WARN_UNUSED uint32_t petool_space_move(petool_space *space, uint16_t image, uint64_t base, petool_moved *moved,
+PETOOL_WARN_UNUSED uint32_t petool_space_move(petool_space *space, uint32_t image, uint64_t base, petool_moved *moved,
                                               petool_fault *fault);
 
 /* The base of the image of an entry, and how many bytes it has. OK; ABSENT if there is no such image; or CLOSED. */
-PETOOL_WARN_UNUSED uint32_t petool_space_image(petool_space *space, uint16_t image, uint64_t *base, uint32_t *size);
+PETOOL_WARN_UNUSED uint32_t petool_space_image(petool_space *space, uint32_t image, uint64_t *base, uint32_t *size);
 
-/* What each import is bound to. OK; SMALL; or CLOSED. */
+/* What each import is bound to, in the order of petool_judge. OK; SMALL; or CLOSED. */
 PETOOL_WARN_UNUSED uint32_t petool_space_bindings(petool_space *space, petool_binding *rows, size_t room, size_t *count);
 
 /* ---- objects ---- */
@@ -475,16 +548,16 @@ PETOOL_WARN_UNUSED uint32_t petool_object_check(const uint8_t *file, size_t len,
 PETOOL_WARN_UNUSED uint32_t petool_object_headers(const uint8_t *file, size_t len, petool_object_header *header,
                                                   petool_section_header *sections, size_t room, petool_fault *fault);
 
-/* Its sections, and its symbols. OK; SMALL; or FAULT, with one of 61 to 72. They allocate memory to remember where names end;
- * without it, names are searched again. */
+/* Its sections, and its symbols, in the order of their tables. OK; SMALL; or FAULT, with one of 61 to 72. They allocate memory to
+ * remember where names end; without it, names are searched again. */
 PETOOL_WARN_UNUSED uint32_t petool_object_sections(const uint8_t *file, size_t len, petool_object_section *rows, size_t room,
                                                    size_t *count, petool_fault *fault);
 
 PETOOL_WARN_UNUSED uint32_t petool_object_symbols(const uint8_t *file, size_t len, petool_object_symbol *rows, size_t room,
                                                   size_t *count, petool_fault *fault);
 
-/* The relocations of one section, counted from 0. OK; SMALL; ABSENT if there is no such section; or FAULT, with one of 61 to 72.
- * Allocates nothing. */
+/* The relocations of one section, counted from 0, in the order of their table. OK; SMALL; ABSENT if there is no such section; or
+ * FAULT, with one of 61 to 72. Allocates nothing. */
 PETOOL_WARN_UNUSED uint32_t petool_object_relocations(const uint8_t *file, size_t len, size_t section,
                                                       petool_object_relocation *rows, size_t room, size_t *count,
                                                       petool_fault *fault);
@@ -498,6 +571,557 @@ PETOOL_WARN_UNUSED uint32_t petool_object_relocations(const uint8_t *file, size_
 PETOOL_WARN_UNUSED uint32_t petool_object_all_relocations(const uint8_t *file, size_t len, size_t skipped,
                                                           petool_object_relocation *rows, size_t room, size_t *count,
                                                           petool_fault *fault);
+
+/* ---- NULL with length 0 ---- */
+
+/* The exports of the library take no NULL, not even with length 0: what they are proved for has no such pointer. So these functions
+ * stand in for them, under their names. A program that does not use this header has to pass another pointer. */
+#define PETOOL_IS_LOST(at, len) ((at) == NULL && (len) != 0)
+
+static inline const void *petool_some(const void *at)
+{
+    static const uint64_t none[2] = {0, 0};
+    return at != NULL ? at : none;
+}
+
+static inline void *petool_room(void *at)
+{
+    static uint64_t none[2];
+    return at != NULL ? at : none;
+}
+
+/* from describe/records.txt: calls with NULL */
+PETOOL_WARN_UNUSED static inline uint32_t petool_nullable_check(const uint8_t *file, size_t len, petool_fault *fault)
+{
+    if (PETOOL_IS_LOST(file, len))
+        return PETOOL_ARGUMENT;
+    return petool_check((const uint8_t *)petool_some(file), len, fault);
+}
+#define petool_check petool_nullable_check
+
+PETOOL_WARN_UNUSED static inline uint32_t petool_nullable_read_headers(const uint8_t *file, size_t len, petool_headers *headers,
+                                                                       petool_section *sections, size_t room, petool_fault *fault)
+{
+    if (PETOOL_IS_LOST(file, len))
+        return PETOOL_ARGUMENT;
+    if (PETOOL_IS_LOST(sections, room))
+        return PETOOL_ARGUMENT;
+    return petool_read_headers((const uint8_t *)petool_some(file), len, headers, (petool_section *)petool_room(sections), room,
+                               fault);
+}
+#define petool_read_headers petool_nullable_read_headers
+
+PETOOL_WARN_UNUSED static inline uint32_t petool_nullable_read(const uint8_t *file, size_t len, uint32_t rva, uint8_t *buffer,
+                                                               size_t count, petool_fault *fault)
+{
+    if (PETOOL_IS_LOST(file, len))
+        return PETOOL_ARGUMENT;
+    if (PETOOL_IS_LOST(buffer, count))
+        return PETOOL_ARGUMENT;
+    return petool_read((const uint8_t *)petool_some(file), len, rva, (uint8_t *)petool_room(buffer), count, fault);
+}
+#define petool_read petool_nullable_read
+
+PETOOL_WARN_UNUSED static inline uint32_t petool_nullable_read_text(const uint8_t *file, size_t len, uint32_t rva,
+                                                                    petool_text *text, petool_fault *fault)
+{
+    if (PETOOL_IS_LOST(file, len))
+        return PETOOL_ARGUMENT;
+    return petool_read_text((const uint8_t *)petool_some(file), len, rva, text, fault);
+}
+#define petool_read_text petool_nullable_read_text
+
+PETOOL_WARN_UNUSED static inline uint32_t petool_nullable_locate(const uint8_t *file, size_t len, uint32_t rva, uint64_t *offset,
+                                                                 petool_fault *fault)
+{
+    if (PETOOL_IS_LOST(file, len))
+        return PETOOL_ARGUMENT;
+    return petool_locate((const uint8_t *)petool_some(file), len, rva, offset, fault);
+}
+#define petool_locate petool_nullable_locate
+
+PETOOL_WARN_UNUSED static inline uint32_t petool_nullable_exports(const uint8_t *file, size_t len, petool_export *rows, size_t room,
+                                                                  size_t *count, petool_fault *fault)
+{
+    if (PETOOL_IS_LOST(file, len))
+        return PETOOL_ARGUMENT;
+    if (PETOOL_IS_LOST(rows, room))
+        return PETOOL_ARGUMENT;
+    return petool_exports((const uint8_t *)petool_some(file), len, (petool_export *)petool_room(rows), room, count, fault);
+}
+#define petool_exports petool_nullable_exports
+
+PETOOL_WARN_UNUSED static inline uint32_t petool_nullable_export_names(const uint8_t *file, size_t len, petool_export *rows,
+                                                                       size_t room, size_t *count, petool_fault *fault)
+{
+    if (PETOOL_IS_LOST(file, len))
+        return PETOOL_ARGUMENT;
+    if (PETOOL_IS_LOST(rows, room))
+        return PETOOL_ARGUMENT;
+    return petool_export_names((const uint8_t *)petool_some(file), len, (petool_export *)petool_room(rows), room, count, fault);
+}
+#define petool_export_names petool_nullable_export_names
+
+PETOOL_WARN_UNUSED static inline uint32_t petool_nullable_imports(const uint8_t *file, size_t len, petool_import *rows, size_t room,
+                                                                  size_t *count, petool_fault *fault)
+{
+    if (PETOOL_IS_LOST(file, len))
+        return PETOOL_ARGUMENT;
+    if (PETOOL_IS_LOST(rows, room))
+        return PETOOL_ARGUMENT;
+    return petool_imports((const uint8_t *)petool_some(file), len, (petool_import *)petool_room(rows), room, count, fault);
+}
+#define petool_imports petool_nullable_imports
+
+PETOOL_WARN_UNUSED static inline uint32_t petool_nullable_fixups(const uint8_t *file, size_t len, petool_fixup *rows, size_t room,
+                                                                 size_t *count, petool_fault *fault)
+{
+    if (PETOOL_IS_LOST(file, len))
+        return PETOOL_ARGUMENT;
+    if (PETOOL_IS_LOST(rows, room))
+        return PETOOL_ARGUMENT;
+    return petool_fixups((const uint8_t *)petool_some(file), len, (petool_fixup *)petool_room(rows), room, count, fault);
+}
+#define petool_fixups petool_nullable_fixups
+
+PETOOL_WARN_UNUSED static inline uint32_t petool_nullable_tables(const uint8_t *file, size_t len, petool_export *exports,
+                                                                 size_t export_room, petool_export *names, size_t name_room,
+                                                                 petool_import *imports, size_t import_room, petool_fixup *fixups,
+                                                                 size_t fixup_room, petool_counts *counts, petool_fault *fault)
+{
+    if (PETOOL_IS_LOST(file, len))
+        return PETOOL_ARGUMENT;
+    if (PETOOL_IS_LOST(exports, export_room))
+        return PETOOL_ARGUMENT;
+    if (PETOOL_IS_LOST(names, name_room))
+        return PETOOL_ARGUMENT;
+    if (PETOOL_IS_LOST(imports, import_room))
+        return PETOOL_ARGUMENT;
+    if (PETOOL_IS_LOST(fixups, fixup_room))
+        return PETOOL_ARGUMENT;
+    return petool_tables((const uint8_t *)petool_some(file), len, (petool_export *)petool_room(exports), export_room,
+                         (petool_export *)petool_room(names), name_room, (petool_import *)petool_room(imports), import_room,
+                         (petool_fixup *)petool_room(fixups), fixup_room, counts, fault);
+}
+#define petool_tables petool_nullable_tables
+
+PETOOL_WARN_UNUSED static inline uint32_t petool_nullable_import_at(const uint8_t *file, size_t len, uint32_t slot,
+                                                                    petool_import *found, petool_fault *fault)
+{
+    if (PETOOL_IS_LOST(file, len))
+        return PETOOL_ARGUMENT;
+    return petool_import_at((const uint8_t *)petool_some(file), len, slot, found, fault);
+}
+#define petool_import_at petool_nullable_import_at
+
+PETOOL_WARN_UNUSED static inline uint32_t petool_nullable_export_by_name(const uint8_t *file, size_t len, const uint8_t *name,
+                                                                         size_t name_len, petool_target *target,
+                                                                         petool_fault *fault)
+{
+    if (PETOOL_IS_LOST(file, len))
+        return PETOOL_ARGUMENT;
+    if (PETOOL_IS_LOST(name, name_len))
+        return PETOOL_ARGUMENT;
+    return petool_export_by_name((const uint8_t *)petool_some(file), len, (const uint8_t *)petool_some(name), name_len, target,
+                                 fault);
+}
+#define petool_export_by_name petool_nullable_export_by_name
+
+PETOOL_WARN_UNUSED static inline uint32_t petool_nullable_export_by_ordinal(const uint8_t *file, size_t len, uint64_t ordinal,
+                                                                            petool_target *target, petool_fault *fault)
+{
+    if (PETOOL_IS_LOST(file, len))
+        return PETOOL_ARGUMENT;
+    return petool_export_by_ordinal((const uint8_t *)petool_some(file), len, ordinal, target, fault);
+}
+#define petool_export_by_ordinal petool_nullable_export_by_ordinal
+
+PETOOL_WARN_UNUSED static inline uint32_t petool_nullable_image_open(petool_image *image, const uint8_t *file, size_t len,
+                                                                     petool_fault *fault)
+{
+    if (PETOOL_IS_LOST(file, len))
+        return PETOOL_ARGUMENT;
+    return petool_image_open(image, (const uint8_t *)petool_some(file), len, fault);
+}
+#define petool_image_open petool_nullable_image_open
+
+PETOOL_WARN_UNUSED static inline uint32_t petool_nullable_image_read(petool_image *image, uint32_t rva, uint8_t *buffer,
+                                                                     size_t count)
+{
+    if (PETOOL_IS_LOST(buffer, count))
+        return PETOOL_ARGUMENT;
+    return petool_image_read(image, rva, (uint8_t *)petool_room(buffer), count);
+}
+#define petool_image_read petool_nullable_image_read
+
+PETOOL_WARN_UNUSED static inline uint32_t petool_nullable_image_export_by_name(petool_image *image, const uint8_t *name, size_t len,
+                                                                               petool_target *target)
+{
+    if (PETOOL_IS_LOST(name, len))
+        return PETOOL_ARGUMENT;
+    return petool_image_export_by_name(image, (const uint8_t *)petool_some(name), len, target);
+}
+#define petool_image_export_by_name petool_nullable_image_export_by_name
+
+PETOOL_WARN_UNUSED static inline uint32_t petool_nullable_image_exports(petool_image *image, petool_export *rows, size_t room,
+                                                                        size_t *count)
+{
+    if (PETOOL_IS_LOST(rows, room))
+        return PETOOL_ARGUMENT;
+    return petool_image_exports(image, (petool_export *)petool_room(rows), room, count);
+}
+#define petool_image_exports petool_nullable_image_exports
+
+PETOOL_WARN_UNUSED static inline uint32_t petool_nullable_image_export_names(petool_image *image, petool_export *rows, size_t room,
+                                                                             size_t *count)
+{
+    if (PETOOL_IS_LOST(rows, room))
+        return PETOOL_ARGUMENT;
+    return petool_image_export_names(image, (petool_export *)petool_room(rows), room, count);
+}
+#define petool_image_export_names petool_nullable_image_export_names
+
+PETOOL_WARN_UNUSED static inline uint32_t petool_nullable_image_imports(petool_image *image, petool_import *rows, size_t room,
+                                                                        size_t *count)
+{
+    if (PETOOL_IS_LOST(rows, room))
+        return PETOOL_ARGUMENT;
+    return petool_image_imports(image, (petool_import *)petool_room(rows), room, count);
+}
+#define petool_image_imports petool_nullable_image_imports
+
+PETOOL_WARN_UNUSED static inline uint32_t petool_nullable_image_fixups(petool_image *image, petool_fixup *rows, size_t room,
+                                                                       size_t *count)
+{
+    if (PETOOL_IS_LOST(rows, room))
+        return PETOOL_ARGUMENT;
+    return petool_image_fixups(image, (petool_fixup *)petool_room(rows), room, count);
+}
+#define petool_image_fixups petool_nullable_image_fixups
+
+PETOOL_WARN_UNUSED static inline uint32_t petool_nullable_rebase(const uint8_t *file, size_t len, uint64_t base, uint8_t *buffer,
+                                                                 size_t room, petool_fault *fault)
+{
+    if (PETOOL_IS_LOST(file, len))
+        return PETOOL_ARGUMENT;
+    if (PETOOL_IS_LOST(buffer, room))
+        return PETOOL_ARGUMENT;
+    return petool_rebase((const uint8_t *)petool_some(file), len, base, (uint8_t *)petool_room(buffer), room, fault);
+}
+#define petool_rebase petool_nullable_rebase
+
+PETOOL_WARN_UNUSED static inline uint32_t petool_nullable_judge(const petool_entry *set, size_t entries, bool known,
+                                                                petool_binding *rows, size_t room, size_t *count, uint32_t *cycle,
+                                                                petool_fault *fault)
+{
+    if (PETOOL_IS_LOST(set, entries))
+        return PETOOL_ARGUMENT;
+    if (PETOOL_IS_LOST(rows, room))
+        return PETOOL_ARGUMENT;
+    return petool_judge((const petool_entry *)petool_some(set), entries, known, (petool_binding *)petool_room(rows), room, count,
+                        cycle, fault);
+}
+#define petool_judge petool_nullable_judge
+
+PETOOL_WARN_UNUSED static inline uint32_t petool_nullable_space_map(petool_space *space, const petool_entry *set, size_t entries,
+                                                                    bool known, uint32_t *cycle, petool_fault *fault)
+{
+    if (PETOOL_IS_LOST(set, entries))
+        return PETOOL_ARGUMENT;
+    return petool_space_map(space, (const petool_entry *)petool_some(set), entries, known, cycle, fault);
+}
+#define petool_space_map petool_nullable_space_map
+
+PETOOL_WARN_UNUSED static inline uint32_t petool_nullable_space_map_within(petool_space *space, const petool_entry *set,
+                                                                           size_t entries, bool known, uint64_t most_bytes,
+                                                                           uint32_t *cycle, petool_fault *fault)
+{
+    if (PETOOL_IS_LOST(set, entries))
+        return PETOOL_ARGUMENT;
+    return petool_space_map_within(space, (const petool_entry *)petool_some(set), entries, known, most_bytes, cycle, fault);
+}
+#define petool_space_map_within petool_nullable_space_map_within
+
+PETOOL_WARN_UNUSED static inline uint32_t petool_nullable_space_read(petool_space *space, uint64_t address, uint8_t *buffer,
+                                                                     size_t len, petool_fault *fault)
+{
+    if (PETOOL_IS_LOST(buffer, len))
+        return PETOOL_ARGUMENT;
+    return petool_space_read(space, address, (uint8_t *)petool_room(buffer), len, fault);
+}
+#define petool_space_read petool_nullable_space_read
+
+PETOOL_WARN_UNUSED static inline uint32_t petool_nullable_space_bindings(petool_space *space, petool_binding *rows, size_t room,
+                                                                         size_t *count)
+{
+    if (PETOOL_IS_LOST(rows, room))
+        return PETOOL_ARGUMENT;
+    return petool_space_bindings(space, (petool_binding *)petool_room(rows), room, count);
+}
+#define petool_space_bindings petool_nullable_space_bindings
+
+PETOOL_WARN_UNUSED static inline uint32_t petool_nullable_object_check(const uint8_t *file, size_t len, petool_fault *fault)
+{
+    if (PETOOL_IS_LOST(file, len))
+        return PETOOL_ARGUMENT;
+    return petool_object_check((const uint8_t *)petool_some(file), len, fault);
+}
+#define petool_object_check petool_nullable_object_check
+
+PETOOL_WARN_UNUSED static inline uint32_t petool_nullable_object_headers(const uint8_t *file, size_t len,
+                                                                         petool_object_header *header,
+                                                                         petool_section_header *sections, size_t room,
+                                                                         petool_fault *fault)
+{
+    if (PETOOL_IS_LOST(file, len))
+        return PETOOL_ARGUMENT;
+    if (PETOOL_IS_LOST(sections, room))
+        return PETOOL_ARGUMENT;
+    return petool_object_headers((const uint8_t *)petool_some(file), len, header, (petool_section_header *)petool_room(sections),
+                                 room, fault);
+}
+#define petool_object_headers petool_nullable_object_headers
+
+PETOOL_WARN_UNUSED static inline uint32_t petool_nullable_object_sections(const uint8_t *file, size_t len,
+                                                                          petool_object_section *rows, size_t room, size_t *count,
+                                                                          petool_fault *fault)
+{
+    if (PETOOL_IS_LOST(file, len))
+        return PETOOL_ARGUMENT;
+    if (PETOOL_IS_LOST(rows, room))
+        return PETOOL_ARGUMENT;
+    return petool_object_sections((const uint8_t *)petool_some(file), len, (petool_object_section *)petool_room(rows), room, count,
+                                  fault);
+}
+#define petool_object_sections petool_nullable_object_sections
+
+PETOOL_WARN_UNUSED static inline uint32_t petool_nullable_object_relocations(const uint8_t *file, size_t len, size_t section,
+                                                                             petool_object_relocation *rows, size_t room,
+                                                                             size_t *count, petool_fault *fault)
+{
+    if (PETOOL_IS_LOST(file, len))
+        return PETOOL_ARGUMENT;
+    if (PETOOL_IS_LOST(rows, room))
+        return PETOOL_ARGUMENT;
+    return petool_object_relocations((const uint8_t *)petool_some(file), len, section,
+                                     (petool_object_relocation *)petool_room(rows), room, count, fault);
+}
+#define petool_object_relocations petool_nullable_object_relocations
+
+PETOOL_WARN_UNUSED static inline uint32_t petool_nullable_object_all_relocations(const uint8_t *file, size_t len, size_t skipped,
+                                                                                 petool_object_relocation *rows, size_t room,
+                                                                                 size_t *count, petool_fault *fault)
+{
+    if (PETOOL_IS_LOST(file, len))
+        return PETOOL_ARGUMENT;
+    if (PETOOL_IS_LOST(rows, room))
+        return PETOOL_ARGUMENT;
+    return petool_object_all_relocations((const uint8_t *)petool_some(file), len, skipped,
+                                         (petool_object_relocation *)petool_room(rows), room, count, fault);
+}
+#define petool_object_all_relocations petool_nullable_object_all_relocations
+
+PETOOL_WARN_UNUSED static inline uint32_t petool_nullable_object_symbols(const uint8_t *file, size_t len,
+                                                                         petool_object_symbol *rows, size_t room, size_t *count,
+                                                                         petool_fault *fault)
+{
+    if (PETOOL_IS_LOST(file, len))
+        return PETOOL_ARGUMENT;
+    if (PETOOL_IS_LOST(rows, room))
+        return PETOOL_ARGUMENT;
+    return petool_object_symbols((const uint8_t *)petool_some(file), len, (petool_object_symbol *)petool_room(rows), room, count,
+                                 fault);
+}
+#define petool_object_symbols petool_nullable_object_symbols
+
+static inline int petool_nullable_fault_line(const petool_fault *fault, char *line, size_t room)
+{
+    if (PETOOL_IS_LOST(line, room))
+        room = 0;
+    return petool_fault_line(fault, (char *)petool_room(line), room);
+}
+#define petool_fault_line petool_nullable_fault_line
+
+PETOOL_WARN_UNUSED static inline uint32_t petool_nullable_fault_detail(const uint8_t *file, size_t len, const petool_fault *fault,
+                                                                       petool_value *rows, size_t room, size_t *count)
+{
+    if (PETOOL_IS_LOST(file, len))
+        return PETOOL_ARGUMENT;
+    if (PETOOL_IS_LOST(rows, room))
+        return PETOOL_ARGUMENT;
+    return petool_fault_detail((const uint8_t *)petool_some(file), len, fault, (petool_value *)petool_room(rows), room, count);
+}
+#define petool_fault_detail petool_nullable_fault_detail
+/* end of describe/records.txt */
+
+/* ---- layouts ---- */
+
+/* Compiles only if the records are laid out as in the library. */
+#if defined(__cplusplus)
+#if __cplusplus >= 201103L
+#define PETOOL_ASSERT(holds, said) static_assert(holds, said)
+#endif
+#elif defined(__STDC_VERSION__)
+#if __STDC_VERSION__ >= 201112L
+#define PETOOL_ASSERT(holds, said) _Static_assert(holds, said)
+#endif
+#endif
+#ifdef PETOOL_ASSERT
+#define PETOOL_SIZE(type, size) PETOOL_ASSERT(sizeof(type) == (size), #type " has another size")
+#define PETOOL_AT(type, field, offset) PETOOL_ASSERT(offsetof(type, field) == (offset), #type "." #field " is elsewhere")
+/* from describe/records.txt: layouts */
+PETOOL_SIZE(petool_text, 16);
+PETOOL_AT(petool_text, at, 0);
+PETOOL_AT(petool_text, len, 8);
+PETOOL_SIZE(petool_fault, 16);
+PETOOL_AT(petool_fault, number, 0);
+PETOOL_AT(petool_fault, place, 2);
+PETOOL_AT(petool_fault, image, 4);
+PETOOL_AT(petool_fault, at, 8);
+PETOOL_SIZE(petool_value, 48);
+PETOOL_AT(petool_value, words, 0);
+PETOOL_AT(petool_value, name, 16);
+PETOOL_AT(petool_value, number, 32);
+PETOOL_AT(petool_value, kind, 40);
+PETOOL_SIZE(petool_directory, 8);
+PETOOL_AT(petool_directory, rva, 0);
+PETOOL_AT(petool_directory, size, 4);
+PETOOL_SIZE(petool_headers, 272);
+PETOOL_AT(petool_headers, image_base, 0);
+PETOOL_AT(petool_headers, size_of_stack_reserve, 8);
+PETOOL_AT(petool_headers, size_of_stack_commit, 16);
+PETOOL_AT(petool_headers, size_of_heap_reserve, 24);
+PETOOL_AT(petool_headers, size_of_heap_commit, 32);
+PETOOL_AT(petool_headers, pe_offset, 40);
+PETOOL_AT(petool_headers, time_date_stamp, 44);
+PETOOL_AT(petool_headers, pointer_to_symbol_table, 48);
+PETOOL_AT(petool_headers, number_of_symbols, 52);
+PETOOL_AT(petool_headers, size_of_code, 56);
+PETOOL_AT(petool_headers, size_of_initialized_data, 60);
+PETOOL_AT(petool_headers, size_of_uninitialized_data, 64);
+PETOOL_AT(petool_headers, address_of_entry_point, 68);
+PETOOL_AT(petool_headers, base_of_code, 72);
+PETOOL_AT(petool_headers, base_of_data, 76);
+PETOOL_AT(petool_headers, section_alignment, 80);
+PETOOL_AT(petool_headers, file_alignment, 84);
+PETOOL_AT(petool_headers, win32_version_value, 88);
+PETOOL_AT(petool_headers, size_of_image, 92);
+PETOOL_AT(petool_headers, size_of_headers, 96);
+PETOOL_AT(petool_headers, check_sum, 100);
+PETOOL_AT(petool_headers, loader_flags, 104);
+PETOOL_AT(petool_headers, number_of_rva_and_sizes, 108);
+PETOOL_AT(petool_headers, magic, 112);
+PETOOL_AT(petool_headers, machine, 114);
+PETOOL_AT(petool_headers, number_of_sections, 116);
+PETOOL_AT(petool_headers, size_of_optional_header, 118);
+PETOOL_AT(petool_headers, characteristics, 120);
+PETOOL_AT(petool_headers, subsystem, 122);
+PETOOL_AT(petool_headers, dll_characteristics, 124);
+PETOOL_AT(petool_headers, major_operating_system_version, 126);
+PETOOL_AT(petool_headers, minor_operating_system_version, 128);
+PETOOL_AT(petool_headers, major_image_version, 130);
+PETOOL_AT(petool_headers, minor_image_version, 132);
+PETOOL_AT(petool_headers, major_subsystem_version, 134);
+PETOOL_AT(petool_headers, minor_subsystem_version, 136);
+PETOOL_AT(petool_headers, major_linker_version, 138);
+PETOOL_AT(petool_headers, minor_linker_version, 139);
+PETOOL_AT(petool_headers, directories, 140);
+PETOOL_SIZE(petool_section, 36);
+PETOOL_AT(petool_section, name, 0);
+PETOOL_AT(petool_section, rva, 8);
+PETOOL_AT(petool_section, extent, 12);
+PETOOL_AT(petool_section, file_size, 16);
+PETOOL_AT(petool_section, pointer_to_raw_data, 20);
+PETOOL_AT(petool_section, size_of_raw_data, 24);
+PETOOL_AT(petool_section, virtual_size, 28);
+PETOOL_AT(petool_section, characteristics, 32);
+PETOOL_SIZE(petool_target, 48);
+PETOOL_AT(petool_target, kind, 0);
+PETOOL_AT(petool_target, rva, 4);
+PETOOL_AT(petool_target, ordinal, 8);
+PETOOL_AT(petool_target, module, 16);
+PETOOL_AT(petool_target, name, 32);
+PETOOL_SIZE(petool_export, 72);
+PETOOL_AT(petool_export, ordinal, 0);
+PETOOL_AT(petool_export, name, 8);
+PETOOL_AT(petool_export, target, 24);
+PETOOL_SIZE(petool_import, 48);
+PETOOL_AT(petool_import, module, 0);
+PETOOL_AT(petool_import, name, 16);
+PETOOL_AT(petool_import, ordinal, 32);
+PETOOL_AT(petool_import, slot, 40);
+PETOOL_AT(petool_import, by_ordinal, 44);
+PETOOL_SIZE(petool_fixup, 12);
+PETOOL_AT(petool_fixup, entry, 0);
+PETOOL_AT(petool_fixup, field, 4);
+PETOOL_AT(petool_fixup, kind, 8);
+PETOOL_SIZE(petool_counts, 32);
+PETOOL_AT(petool_counts, exports, 0);
+PETOOL_AT(petool_counts, names, 8);
+PETOOL_AT(petool_counts, imports, 16);
+PETOOL_AT(petool_counts, fixups, 24);
+PETOOL_SIZE(petool_image, 16);
+PETOOL_AT(petool_image, state, 0);
+PETOOL_AT(petool_image, is_open, 8);
+PETOOL_SIZE(petool_entry, 40);
+PETOOL_AT(petool_entry, name, 0);
+PETOOL_AT(petool_entry, file, 16);
+PETOOL_AT(petool_entry, base, 32);
+PETOOL_SIZE(petool_binding, 16);
+PETOOL_AT(petool_binding, image, 0);
+PETOOL_AT(petool_binding, slot, 4);
+PETOOL_AT(petool_binding, exporter, 8);
+PETOOL_AT(petool_binding, rva, 12);
+PETOOL_SIZE(petool_space, 16);
+PETOOL_AT(petool_space, state, 0);
+PETOOL_AT(petool_space, is_open, 8);
+PETOOL_SIZE(petool_moved, 8);
+PETOOL_AT(petool_moved, fields, 0);
+PETOOL_AT(petool_moved, slots, 4);
+PETOOL_SIZE(petool_object_header, 20);
+PETOOL_AT(petool_object_header, machine, 0);
+PETOOL_AT(petool_object_header, number_of_sections, 2);
+PETOOL_AT(petool_object_header, time_date_stamp, 4);
+PETOOL_AT(petool_object_header, pointer_to_symbol_table, 8);
+PETOOL_AT(petool_object_header, number_of_symbols, 12);
+PETOOL_AT(petool_object_header, size_of_optional_header, 16);
+PETOOL_AT(petool_object_header, characteristics, 18);
+PETOOL_SIZE(petool_section_header, 40);
+PETOOL_AT(petool_section_header, name, 0);
+PETOOL_AT(petool_section_header, virtual_size, 8);
+PETOOL_AT(petool_section_header, virtual_address, 12);
+PETOOL_AT(petool_section_header, size_of_raw_data, 16);
+PETOOL_AT(petool_section_header, pointer_to_raw_data, 20);
+PETOOL_AT(petool_section_header, pointer_to_relocations, 24);
+PETOOL_AT(petool_section_header, pointer_to_linenumbers, 28);
+PETOOL_AT(petool_section_header, number_of_relocations, 32);
+PETOOL_AT(petool_section_header, number_of_linenumbers, 34);
+PETOOL_AT(petool_section_header, characteristics, 36);
+PETOOL_SIZE(petool_object_section, 56);
+PETOOL_AT(petool_object_section, name, 0);
+PETOOL_AT(petool_object_section, bytes, 16);
+PETOOL_AT(petool_object_section, absent_size, 32);
+PETOOL_AT(petool_object_section, virtual_size, 36);
+PETOOL_AT(petool_object_section, virtual_address, 40);
+PETOOL_AT(petool_object_section, characteristics, 44);
+PETOOL_AT(petool_object_section, relocation_count, 48);
+PETOOL_SIZE(petool_object_relocation, 12);
+PETOOL_AT(petool_object_relocation, address, 0);
+PETOOL_AT(petool_object_relocation, symbol, 4);
+PETOOL_AT(petool_object_relocation, kind, 8);
+PETOOL_SIZE(petool_object_symbol, 48);
+PETOOL_AT(petool_object_symbol, name, 0);
+PETOOL_AT(petool_object_symbol, aux, 16);
+PETOOL_AT(petool_object_symbol, index, 32);
+PETOOL_AT(petool_object_symbol, value, 36);
+PETOOL_AT(petool_object_symbol, section_number, 40);
+PETOOL_AT(petool_object_symbol, kind, 42);
+PETOOL_AT(petool_object_symbol, class_, 44);
+/* end of describe/records.txt */
+#undef PETOOL_AT
+#undef PETOOL_SIZE
+#undef PETOOL_ASSERT
+#endif
 
 #ifdef __cplusplus
 } /* extern "C" */

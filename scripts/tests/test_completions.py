@@ -85,6 +85,13 @@ class Bash(unittest.TestCase):
         self.assert_offered(["d.dll"], ["json", "--most", "4K", "d"], ["json", "--most=4K", "d"])
         self.assert_offered(["d.dll"], ["show", "a.dll", "--all", "d"], ["show", "--most", "=", "4K", "d"], ["check", "-", "d"])
 
+    def test_the_words_of_a_value_are_offered(self):
+        words = ["always", "auto", "never"]
+        self.assert_offered(words, ["show", "--color", ""], ["show", "--all", "--color", ""], ["show", "--color", "="])
+        self.assert_offered(words[:2], ["show", "--color", "a"], ["show", "a.dll", "--color", "=", "a"])
+        self.assert_offered(["--color=never"], ["show", "--color=n"])
+        self.assert_offered([], ["show", "--color", "d"], ["show", "--", "--color=n"])
+
     def test_what_comes_after_two_dashes_is_a_file(self):
         (self.room / "--help.dll").touch()
         self.assert_offered(["--help.dll"], ["check", "--", "--h"], ["check", "--", "d.dll", "-"])
@@ -104,6 +111,8 @@ class OtherShells(unittest.TestCase):
         self.assertIn("'*:HEX=FILE:{compset -P \"*=\" && _files}' ;;", zsh)
         self.assertIn("'dump 0' 'at 0' 'object 0' 'json *' 'sum *' 'rebase 1' 'rebase 2'\n", fish)
         self.assertIn("__fish_seen_subcommand_from map' -l window -x ", fish)
+        self.assertIn(":WHEN:(auto always never)'", zsh)
+        self.assertIn("__fish_seen_subcommand_from show' -l color -x -a 'auto always never' ", fish)
         self.assertIn("complete -c petool -f\ncomplete -c petool -n __petool_takes_file -F\n", fish)
 
 

@@ -43,7 +43,7 @@ COUNTED = [
     (MAP, "| its crate | `crates.txt`, only beyond | 0 | 1 |", "| its crate | `crates.txt`, only beyond | 1 | 1 |", f"{MAP}: its crate: 1 and 1, and these are 0 and 1"),
     (MAP, "`pe_lines/src/table_lines.rt`\\*, ", "", f"{MAP}: its lines of the dump: 6 and 0, and these are 5 and 0"),
     (MAP, "`pe_show/src/fixups.rt`, ", "`pe_show/src/fixups.rt`\\*, ", "6 and 6, and these are 6 and 5"),
-    (MAP, "| **together** | | **58** |", "| **together** | | **59** |", f"{MAP}: **together**: 59 and 31, and these are 58 and 31"),
+    (MAP, "| **together** | | **57** |", "| **together** | | **58** |", f"{MAP}: **together**: 58 and 33, and these are 57 and 33"),
     (MAP, "| What | Files | Profile | Beyond |", "| What | Files |", "there is no such table"),
 ]
 NAMED = [
@@ -58,20 +58,20 @@ COMMAND = [
     (".ci/run", "rt ci && ", "rt all test && ", f"{GUIDE}: it does not name the test command of .ci/run, which is rt all test && "),
 ]
 VERSIONS = [
-    ("VERSION", "1.0", "1.1", "man/petool.1: the version is 1.0, and that of VERSION 1.1"),
-    ("VERSION", "1.0", "2.0", "bindings/c/petool.h: the version is 0x10000, and that of VERSION 2.0"),
-    ("bindings/c/petool.h", "PETOOL_VERSION 0x10000", "PETOOL_VERSION 0x10001", "bindings/c/petool.h: the version is 0x10001"),
-    ("crates/petool_c/src/words.rt", "result ≡ 0x1_0000", "result ≡ 0x1_0001", "crates/petool_c/src/words.rt: the version is 0x1_0001"),
-    ("crates/pe_words/src/commands.rt", '"1.0"', '"1.1"', "crates/pe_words/src/commands.rt: the version is 1.1"),
-    ("bindings/python/pyproject.toml", 'version = "1.0"', 'version = "1.1"', "bindings/python/pyproject.toml: the version is 1.1"),
-    ("bindings/rust/petool/Cargo.toml", '"1.0.0"', '"1.1.0"', "bindings/rust/petool/Cargo.toml: the version is 1.1"),
-    ("bindings/rust/petool-sys/Cargo.toml", '"1.0.0"', '"1"', "bindings/rust/petool-sys/Cargo.toml: the version is missing"),
-    ("docs/CHANGES.md", "## 1.0\n", "## 1.1\n", "docs/CHANGES.md: the version is 1.1, and that of VERSION 1.0"),
-    ("packaging/debian/changelog", "petool (1.0-1)", "petool (1.1-1)", "packaging/debian/changelog: the version is 1.1"),
+    ("VERSION", "2.0", "2.1", "man/petool.1: the version is 2.0, and that of VERSION 2.1"),
+    ("VERSION", "2.0", "3.0", "bindings/c/petool.h: the version is 0x20000, and that of VERSION 3.0"),
+    ("bindings/c/petool.h", "PETOOL_VERSION_NUMBER 0x20000", "PETOOL_VERSION_NUMBER 0x20001", "bindings/c/petool.h: the version is 0x20001"),
+    ("crates/petool_c/src/words.rt", "result ≡ 0x2_0000", "result ≡ 0x2_0001", "crates/petool_c/src/words.rt: the version is 0x2_0001"),
+    ("crates/pe_words/src/commands.rt", '"2.0"', '"2.1"', "crates/pe_words/src/commands.rt: the version is 2.1"),
+    ("bindings/python/pyproject.toml", 'version = "2.0"', 'version = "2.1"', "bindings/python/pyproject.toml: the version is 2.1"),
+    ("bindings/rust/petool/Cargo.toml", '"2.0.0"', '"2.1.0"', "bindings/rust/petool/Cargo.toml: the version is 2.1"),
+    ("bindings/rust/petool-sys/Cargo.toml", '"2.0.0"', '"1"', "bindings/rust/petool-sys/Cargo.toml: the version is missing"),
+    ("docs/CHANGES.md", "## 2.0\n", "## 2.1\n", "docs/CHANGES.md: the version is 2.1, and that of VERSION 2.0"),
+    ("packaging/debian/changelog", "petool (2.0-1)", "petool (2.1-1)", "packaging/debian/changelog: the version is 2.1"),
     ("packaging/debian/changelog", "25 Nov 2026", "26 Nov 2026", "man/petool.1: the date is 2026-11-25, and that of packaging"),
     ("man/petool.h.3", '.H 3 "2026-11-25"', '.H 3 ""', "man/petool.h.3: the date is missing"),
-    ("man/petool.1", "petool 1.0", "petool 1.1", "man/petool.1: the version is 1.1"),
-    ("man/petool.h.3", "libpetool 1.0", "libpetool 1.1", "man/petool.h.3: the version is 1.1"),
+    ("man/petool.1", "petool 2.0", "petool 2.1", "man/petool.1: the version is 2.1"),
+    ("man/petool.h.3", "libpetool 2.0", "libpetool 2.1", "man/petool.h.3: the version is 2.1"),
 ]
 PORTED = [
     (PROVED, "itoa, thiserror, clap, sha1 and sha2", "itoa, clap, sha1 and sha2", f"{PROVED}: thiserror is not among the ported crates"),
@@ -93,7 +93,7 @@ WORDS = [
     (MAN, "\\fIHEX=FILE\\fP...", "\\fIHEX=FILE\\fP", f"{MAN}: petool map takes HEX=FILE..., and not HEX=FILE"),
     (MAN, "\n.B rebase\n", "\n.B move\n", f"{MAN}: move is no command, or has no paragraph"),
     (MAN, "bad command line", "bad command line, by \\-\\-more", f"{MAN}: there is no option --more"),
-    ("VERSION", "1.0", "1.1", "VERSION: the program is petool 1.0"),
+    ("VERSION", "2.0", "2.1", "VERSION: the program is petool 2.0"),
 ]
 
 

@@ -17,7 +17,7 @@ FILES = {
     "include/petool.h",
     "lib/libpetool.a",
     "lib/libpetool.so",
-    "lib/libpetool.so.0",
+    "lib/libpetool.so.2",
     "lib/pkgconfig/petool.pc",
     "share/bash-completion/completions/petool",
     "share/fish/vendor_completions.d/petool.fish",
@@ -45,6 +45,8 @@ petool_c) ar rc out/libpetool_c.a ;;
 *) mkdir -p "out/rlib/$crate.rlib" && touch out/rlib/stamp ;;
 esac
 """
+#: The bytes of disk that prove.py leaves free, and those of a copy that keeps results on any disk.
+FREE, NO_FREE = "KEPT_BYTES, FREE_BYTES = 6 << 30, 5 << 30", "KEPT_BYTES, FREE_BYTES = 6 << 30, 0"
 NO_KIT = "#!/bin/sh\necho 'no rt is needed' >&2\nexit 1\n"
 
 
@@ -128,6 +130,9 @@ class Proofs(Room):
         self.top.mkdir()
         for name in INSTALLED_FROM:
             (shutil.copytree if (TOP / name).is_dir() else shutil.copy)(TOP / name, self.top / name)
+        prove = self.top / "scripts" / "prove.py"
+        self.assertEqual(prove.read_text().count(FREE), 1)
+        prove.write_text(prove.read_text().replace(FREE, NO_FREE))
         (self.top / "crates.txt").write_text(CRATES)
         for crate in ("low", "petool", "petool_c"):
             for part in ("src", "specs", "proofs"):

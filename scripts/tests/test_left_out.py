@@ -119,7 +119,7 @@ class LeftOut(unittest.TestCase):
     def test_a_compiler_of_cxx_that_is_not_there_is_told(self):
         if not (shutil.which("make") and shutil.which("cc")):
             self.skipTest("left out without make")
-        words = ["make", "-C", BINDINGS / "c", f"O={self.room}", "CXX=nowhere", self.room / "layout.o"]
+        words = ["make", "-C", BINDINGS / "c", f"O={self.room}", "CXX=nowhere", self.room / "header"]
         environment = {name: value for name, value in os.environ.items() if name not in ("MAKEFLAGS", "MAKELEVEL")}
         run = subprocess.run(words, env=environment, capture_output=True, text=True)
         self.assertEqual((run.returncode, "left out without c++" in run.stdout), (0, True), run.stdout + run.stderr)

@@ -6,12 +6,12 @@ static const char usage[] = "usage: exports FILE\n\nLists what a DLL exports by 
 static void print_target(petool_target target)
 {
     if (target.kind == PETOOL_TARGET_RVA) {
-        printf("0x%08" PRIx32 "\n", target.value);
+        printf("0x%08" PRIx32 "\n", target.rva);
         return;
     }
     print_text(target.module);
     if (target.kind == PETOOL_TARGET_ORDINAL) {
-        printf(" #%" PRIu32 "\n", target.value);
+        printf(" #%" PRIu64 "\n", target.ordinal);
         return;
     }
     putchar(' ');
@@ -33,10 +33,10 @@ static void print_rows(const petool_export *rows, size_t count)
 static int list(const char *path, petool_text file)
 {
     petool_fault fault = {0, 0, 0, 0};
-    petool_export none, *rows;
+    petool_export *rows;
     size_t count = 0;
     /* without rows the call only counts them */
-    uint32_t status = petool_export_names(file.at, file.len, &none, 0, &count, &fault);
+    uint32_t status = petool_export_names(file.at, file.len, NULL, 0, &count, &fault);
     if (status != PETOOL_OK && status != PETOOL_SMALL)
         return refused(path, status, &fault);
     rows = (petool_export *)malloc((count + 1) * sizeof *rows);

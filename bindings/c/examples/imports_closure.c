@@ -38,7 +38,7 @@ typedef struct folder {
 /* What is searched for: a name or an ordinal of a module. */
 typedef struct search {
     petool_text module, name;
-    uint32_t ordinal;
+    uint64_t ordinal;
     bool by_ordinal;
 } search;
 
@@ -47,9 +47,8 @@ typedef struct search {
 /* Makes rows for the imports of an open image, and fills them. */
 static uint32_t read_imports(module *module)
 {
-    petool_import none;
     /* without rows the call only counts */
-    uint32_t status = petool_image_imports(&module->image, &none, 0, &module->import_count);
+    uint32_t status = petool_image_imports(&module->image, NULL, 0, &module->import_count);
     if (status != PETOOL_SMALL)
         return status;
     module->imports = (petool_import *)malloc(module->import_count * sizeof *module->imports);
@@ -198,7 +197,7 @@ static void print_import(const char *importer, const search *wanted)
     printf("%s: ", importer);
     print_text(wanted->module);
     if (wanted->by_ordinal) {
-        printf(" #%" PRIu32, wanted->ordinal);
+        printf(" #%" PRIu64, wanted->ordinal);
     } else {
         putchar(' ');
         print_text(wanted->name);
@@ -234,13 +233,13 @@ static module *search_exporter(folder *files, search wanted)
             return image;
         }
         if (target.kind == PETOOL_TARGET_RVA) {
-            snprintf(rva, sizeof rva, "0x%" PRIx32, target.value);
+            snprintf(rva, sizeof rva, "0x%" PRIx32, target.rva);
             print_end(wanted.module, rva);
             return image;
         }
         wanted.module = target.module;
         wanted.name = target.name;
-        wanted.ordinal = target.value;
+        wanted.ordinal = target.ordinal;
         wanted.by_ordinal = target.kind == PETOOL_TARGET_ORDINAL;
     }
     print_end(wanted.module, "too many forwarders");

@@ -173,19 +173,19 @@ static int is_row(const petool_export *row, uint64_t ordinal, const char *name, 
 
 static int is_rva(petool_target target, uint32_t rva)
 {
-    return target.kind == PETOOL_TARGET_RVA && target.value == rva && target.module.len == 0 && target.name.len == 0;
+    return target.kind == PETOOL_TARGET_RVA && target.rva == rva && target.ordinal == 0 && target.module.len == 0 && target.name.len == 0;
 }
 
 /* what vr.dll exports: forwarders to a name, and to an ordinal */
 static int is_name_of_m(petool_target target)
 {
-    return target.kind == PETOOL_TARGET_NAME && target.value == 0 && is_text(target.module, "m\x1f.\xff", 4)
+    return target.kind == PETOOL_TARGET_NAME && target.rva == 0 && target.ordinal == 0 && is_text(target.module, "m\x1f.\xff", 4)
         && is_text(target.name, "n\"m\\", 4);
 }
 
 static int is_407_of_o(petool_target target)
 {
-    return target.kind == PETOOL_TARGET_ORDINAL && target.value == 407 && is_text(target.module, "\\o\x7f", 3)
+    return target.kind == PETOOL_TARGET_ORDINAL && target.rva == 0 && target.ordinal == 407 && is_text(target.module, "\\o\x7f", 3)
         && target.name.len == 0;
 }
 
@@ -206,11 +206,11 @@ static void check_exports(void)
 
     petool_exports_init(rows, 6);
     CHECK(petool_export_names(vr.at, vr.len, rows, 2, &count, &fault) == PETOOL_SMALL);
-    CHECK(count == 3 && is_row(&rows[0], 0, "\"q\\", 3) && is_rva(rows[0].target, 0x30123));
-    CHECK(is_row(&rows[1], 0, "\x7f\x80 ", 3) && is_name_of_m(rows[1].target));
+    CHECK(count == 3 && is_row(&rows[0], 65538, "\"q\\", 3) && is_rva(rows[0].target, 0x30123));
+    CHECK(is_row(&rows[1], 65536, "\x7f\x80 ", 3) && is_name_of_m(rows[1].target));
     CHECK(is_row(&rows[2], 0, "", 0));
     CHECK(petool_export_names(vr.at, vr.len, rows, 3, &count, &fault) == PETOOL_OK);
-    CHECK(is_row(&rows[2], 0, "plain", 5) && is_407_of_o(rows[2].target));
+    CHECK(is_row(&rows[2], 65537, "plain", 5) && is_407_of_o(rows[2].target));
 
     count = 99;
     CHECK(petool_exports(vr.at, 64, rows, 6, &count, &fault) == PETOOL_FAULT);
@@ -229,18 +229,20 @@ static void check_searches(void)
     CHECK(is_rva(target, 0x1010));
     CHECK(petool_export_by_ordinal(vb.at, vb.len, 6, &target, &fault) == PETOOL_ABSENT);
     CHECK(petool_export_by_ordinal(vb.at, vb.len, 8, &target, &fault) == PETOOL_ABSENT);
+    /* no bit of an ordinal is lost */
+    CHECK(petool_export_by_ordinal(vb.at, vb.len, 0x100000007, &target, &fault) == PETOOL_ABSENT);
     CHECK(petool_export_by_name(vb.at, vb.len, (const uint8_t *)"h", 1, &target, &fault) == PETOOL_ABSENT);
     CHECK(is_rva(target, 0x1010) && is_untold(fault));
     CHECK(petool_export_by_name(vr.at, vr.len, (const uint8_t *)"plain", 5, &target, &fault) == PETOOL_OK);
     CHECK(is_407_of_o(target));
     CHECK(petool_export_by_name(va.at, va.len, (const uint8_t *)"f", 1, &target, &fault) == PETOOL_OK);
-    CHECK(target.kind == PETOOL_TARGET_ORDINAL && target.value == 7 && is_text(target.module, "b", 1));
+    CHECK(target.kind == PETOOL_TARGET_ORDINAL && target.ordinal == 7 && is_text(target.module, "b", 1));
     CHECK(petool_export_by_name(va.at, 9, (const uint8_t *)"f", 1, &target, &fault) == PETOOL_FAULT);
     CHECK(petool_export_by_ordinal(va.at, 9, 1, &target, &fault) == PETOOL_FAULT);
     CHECK(is_fault(fault, 2, PETOOL_PLACE_FILE, 9));
 }
 
-static int is_import(const petool_import *row, const char *module, size_t module_len, const char *name, size_t len, uint16_t ordinal, uint32_t slot)
+static int is_import(const petool_import *row, const char *module, size_t module_len, const char *name, size_t len, uint64_t ordinal, uint32_t slot)
 {
     return is_text(row->module, module, module_len) && is_text(row->name, name, len) && row->ordinal == ordinal
         && row->by_ordinal == (len == 0) && row->slot == slot;
@@ -263,6 +265,20 @@ static void check_imports(void)
     count = 99;
     CHECK(petool_imports(vr.at, vr.len, rows, 4, &count, &fault) == PETOOL_SMALL && count == 5);
     CHECK(petool_imports(vr.at, 64, rows, 6, &count, &fault) == PETOOL_FAULT && count == 5);
+}
+
+static void check_slots(void)
+{
+    petool_import row;
+    petool_fault fault = UNTOLD;
+    petool_imports_init(&row, 1);
+    CHECK(petool_import_at(vr.at, vr.len, 0x40018, &row, &fault) == PETOOL_OK);
+    CHECK(is_import(&row, "A\"b.DLL", 7, "", 0, 777, 0x40018));
+    CHECK(petool_import_at(vr.at, vr.len, 0x30078, &row, &fault) == PETOOL_OK);
+    CHECK(is_import(&row, "c\\\x80", 3, "\xff", 1, 0, 0x30078));
+    CHECK(petool_import_at(vr.at, vr.len, 0x40019, &row, &fault) == PETOOL_ABSENT && row.slot == 0x30078);
+    CHECK(petool_import_at(v1.at, v1.len, 0, &row, &fault) == PETOOL_ABSENT && is_untold(fault));
+    CHECK(petool_import_at(vr.at, 64, 0x40018, &row, &fault) == PETOOL_FAULT && fault.number == 4 && row.slot == 0x30078);
 }
 
 static int is_fixup(const petool_fixup *row, uint32_t field, uint32_t kind)
@@ -299,7 +315,7 @@ static void check_tables(void)
     memset(fixups, 0, sizeof fixups);
     CHECK(petool_tables(vr.at, vr.len, exports, 5, names, 3, imports, 5, fixups, 4, &counts, &fault) == PETOOL_OK);
     CHECK(counts.exports == 5 && counts.names == 3 && counts.imports == 5 && counts.fixups == 4);
-    CHECK(is_row(&exports[4], 65539, "", 0) && is_row(&names[2], 0, "plain", 5));
+    CHECK(is_row(&exports[4], 65539, "", 0) && is_row(&names[2], 65537, "plain", 5));
     CHECK(imports[4].slot == 0x30078 && fixups[3].field == 0x41010);
     CHECK(petool_tables(vr.at, vr.len, exports, 5, names, 3, imports, 5, fixups, 3, &counts, &fault) == PETOOL_SMALL);
     CHECK(petool_tables(vr.at, vr.len, exports, 4, names, 3, imports, 5, fixups, 4, &counts, &fault) == PETOOL_SMALL);
@@ -334,7 +350,7 @@ static void check_rebase(void)
     free(out);
 }
 
-static void check_line(uint16_t number, uint32_t place, uint64_t at, const char *line)
+static void check_line(uint16_t number, uint16_t place, uint64_t at, const char *line)
 {
     char room[200];
     petool_fault fault;
@@ -360,7 +376,94 @@ static void check_words(void)
     check_line(44, PETOOL_PLACE_ADDRESS, 0x20000001, "base 0x20000001: the base is not a multiple of 65,536");
     check_line(41, PETOOL_PLACE_ITEM, 256, "file 256: the set has more than 256 files");
     check_line(86, PETOOL_PLACE_FILE, 10, "place at 0xa: no fault has this number");
-    CHECK(petool_version() == (PETOOL_VERSION));
+    CHECK(petool_version_number() == (PETOOL_VERSION_NUMBER) && PETOOL_VERSION_NUMBER >= 0x20000);
+}
+
+static int is_value(const petool_value *row, const char *words, const char *name, uint64_t number, uint32_t kind)
+{
+    return is_text(row->words, words, strlen(words)) && is_text(row->name, name, strlen(name)) && row->number == number
+        && row->kind == kind;
+}
+
+/* The numbers of faults: of a file that is cut, whose section takes 0x10 bytes from 0x200 on, and of one of 9 bytes. */
+static void check_values(void)
+{
+    petool_value rows[PETOOL_VALUES + 1];
+    petool_fault fault = UNTOLD, none = {41, PETOOL_PLACE_ITEM, 0, 256};
+    size_t count = 99;
+    petool_values_init(rows, PETOOL_VALUES + 1);
+    CHECK(petool_check(v1.at, 0x20f, &fault) == PETOOL_FAULT && fault.number == 13);
+    CHECK(petool_fault_detail(v1.at, 0x20f, &fault, rows, PETOOL_VALUES + 1, &count) == PETOOL_OK && count == 3);
+    CHECK(is_value(&rows[0], "", "size", 0x10, PETOOL_VALUE_COUNT));
+    CHECK(is_value(&rows[1], " bytes at ", "offset", 0x200, PETOOL_VALUE_PLACE));
+    CHECK(is_value(&rows[2], ", and the file has ", "file_size", 0x20f, PETOOL_VALUE_COUNT));
+    CHECK(is_value(&rows[3], "", "", 0, PETOOL_VALUE_NOTHING));
+    petool_values_init(rows, PETOOL_VALUES + 1);
+    CHECK(petool_fault_detail(v1.at, 0x20f, &fault, rows, 1, &count) == PETOOL_SMALL && count == 3);
+    CHECK(is_value(&rows[0], "", "size", 0x10, PETOOL_VALUE_COUNT) && rows[1].number == 0);
+    CHECK(petool_check(v1.at, 9, &fault) == PETOOL_FAULT && fault.number == 2);
+    CHECK(petool_fault_detail(v1.at, 9, &fault, rows, PETOOL_VALUES, &count) == PETOOL_OK && count == 3);
+    CHECK(is_value(&rows[0], "it has ", "file_size", 9, PETOOL_VALUE_COUNT));
+    CHECK(is_value(&rows[1], "", "", 0, PETOOL_VALUE_NOTHING) && is_value(&rows[2], "", "", 0, PETOOL_VALUE_NOTHING));
+    CHECK(petool_fault_detail(v1.at, v1.len, &none, rows, 0, &count) == PETOOL_OK && count == 0);
+}
+
+static int is_named(uint32_t kind, uint32_t value, const char *name)
+{
+    petool_text found = PETOOL_NONE;
+    return petool_name(kind, value, &found) == PETOOL_OK && is_text(found, name, strlen(name));
+}
+
+static int has_no_name(uint32_t kind, uint32_t value)
+{
+    petool_text found = PETOOL_NONE;
+    return petool_name(kind, value, &found) == PETOOL_ABSENT && found.len == 0;
+}
+
+/* Names as "PE Format" has them. */
+static void check_names(void)
+{
+    CHECK(is_named(PETOOL_NAME_MACHINE, 0x8664, "AMD64") && is_named(PETOOL_NAME_MACHINE, 0xaa64, "ARM64"));
+    CHECK(has_no_name(PETOOL_NAME_MACHINE, 0x8665) && has_no_name(PETOOL_NAME_MACHINE, 0x18664));
+    CHECK(is_named(PETOOL_NAME_SUBSYSTEM, 2, "WINDOWS_GUI") && is_named(PETOOL_NAME_SUBSYSTEM, 3, "WINDOWS_CUI"));
+    CHECK(has_no_name(PETOOL_NAME_SUBSYSTEM, 4) && has_no_name(PETOOL_NAME_SUBSYSTEM, 0x10002));
+    CHECK(is_named(PETOOL_NAME_FLAG, 0x2000, "DLL") && is_named(PETOOL_NAME_FLAG, 1, "RELOCS_STRIPPED"));
+    CHECK(has_no_name(PETOOL_NAME_FLAG, 0x40) && has_no_name(PETOOL_NAME_FLAG, 0x2001));
+    CHECK(is_named(PETOOL_NAME_DLL_FLAG, 0x100, "NX_COMPAT") && is_named(PETOOL_NAME_DLL_FLAG, 0x40, "DYNAMIC_BASE"));
+    CHECK(is_named(PETOOL_NAME_SECTION_FLAG, 0x40000000, "MEM_READ") && is_named(PETOOL_NAME_SECTION_FLAG, 0x20, "CNT_CODE"));
+    CHECK(has_no_name(PETOOL_NAME_SECTION_FLAG, 0x100000));
+    CHECK(is_named(PETOOL_NAME_DIRECTORY, 0, "export") && is_named(PETOOL_NAME_DIRECTORY, 5, "base relocation"));
+    CHECK(has_no_name(PETOOL_NAME_DIRECTORY, 16) && has_no_name(6, 0) && has_no_name(0xffffffff, 0x8664));
+}
+
+/* NULL with length or room 0 is allowed for bytes, texts and rows; with another it is refused, and nothing is done. */
+static void check_null(void)
+{
+    petool_fault fault = UNTOLD;
+    petool_target target;
+    petool_counts counts = {99, 99, 99, 99};
+    size_t count = 99;
+    petool_target_init(&target);
+    CHECK(petool_check(NULL, 0, &fault) == PETOOL_FAULT && is_fault(fault, 2, PETOOL_PLACE_FILE, 0));
+    fault = UNTOLD;
+    CHECK(petool_check(NULL, 1, &fault) == PETOOL_ARGUMENT && is_untold(fault));
+    CHECK(petool_exports(vr.at, vr.len, NULL, 0, &count, &fault) == PETOOL_SMALL && count == 5);
+    CHECK(petool_imports(vr.at, vr.len, NULL, 0, &count, &fault) == PETOOL_SMALL && count == 5);
+    CHECK(petool_fixups(vr.at, vr.len, NULL, 0, &count, &fault) == PETOOL_SMALL && count == 4);
+    count = 99;
+    CHECK(petool_exports(vr.at, vr.len, NULL, 5, &count, &fault) == PETOOL_ARGUMENT && count == 99);
+    CHECK(petool_exports(NULL, 5, NULL, 0, &count, &fault) == PETOOL_ARGUMENT && count == 99);
+    CHECK(petool_tables(vr.at, vr.len, NULL, 0, NULL, 0, NULL, 0, NULL, 0, &counts, &fault) == PETOOL_SMALL && counts.names == 3);
+    CHECK(petool_read(vr.at, vr.len, 0x1000, NULL, 0, &fault) == PETOOL_OK);
+    CHECK(petool_read(vr.at, vr.len, 0x1000, NULL, 1, &fault) == PETOOL_ARGUMENT && is_untold(fault));
+    CHECK(petool_export_by_name(vr.at, vr.len, NULL, 0, &target, &fault) == PETOOL_ABSENT);
+    CHECK(petool_export_by_name(vr.at, vr.len, NULL, 5, &target, &fault) == PETOOL_ARGUMENT);
+    CHECK(petool_rebase(NULL, 0, 0x20000000, NULL, 0, &fault) == PETOOL_FAULT && fault.number == 2);
+    fault.number = 13;
+    fault.place = PETOOL_PLACE_FILE;
+    fault.at = 0x138;
+    CHECK(petool_fault_line(&fault, NULL, 0) == 80 && petool_fault_line(&fault, NULL, 7) == 80);
+    CHECK(petool_fault_detail(NULL, 0, &fault, NULL, 0, &count) == PETOOL_OK && count == 0);
 }
 
 int main(int argc, char **argv)
@@ -380,10 +483,14 @@ int main(int argc, char **argv)
     check_exports();
     check_searches();
     check_imports();
+    check_slots();
     check_fixups();
     check_tables();
     check_rebase();
     check_words();
+    check_values();
+    check_names();
+    check_null();
     free(v1.at), free(v2.at), free(v3.at), free(va.at), free(vb.at), free(vc.at), free(vr.at);
     return told();
 }

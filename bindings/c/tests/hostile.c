@@ -86,10 +86,10 @@ static void ask_opened(const uint8_t *file, size_t len, uint32_t judged, const p
     if (image.is_open) {
         status = petool_export_by_name(file, len, (const uint8_t *)"f", 1, &target, &fault);
         right = right && petool_image_export_by_name(&image, (const uint8_t *)"f", 1, &same_target) == status;
-        right = right && target.kind == same_target.kind && target.value == same_target.value;
+        right = right && target.kind == same_target.kind && target.rva == same_target.rva && target.ordinal == same_target.ordinal;
         status = petool_export_by_ordinal(file, len, 1, &target, &fault);
         right = right && petool_image_export_by_ordinal(&image, 1, &same_target) == status;
-        right = right && target.kind == same_target.kind && target.value == same_target.value;
+        right = right && target.kind == same_target.kind && target.rva == same_target.rva && target.ordinal == same_target.ordinal;
         right = right && petool_image_read(&image, 0, bytes, sizeof bytes) == PETOOL_OK && memcmp(bytes, file, sizeof bytes) == 0;
     } else {
         right = right && petool_image_export_by_ordinal(&image, 1, &target) == PETOOL_CLOSED;

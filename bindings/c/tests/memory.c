@@ -79,6 +79,13 @@ static uint32_t read_imports(void)
     return petool_imports(vr.at, vr.len, rows, 5, &count, &fault);
 }
 
+static uint32_t find_slot(void)
+{
+    petool_import row;
+    petool_imports_init(&row, 1);
+    return petool_import_at(vr.at, vr.len, 0x40018, &row, &fault);
+}
+
 static uint32_t read_fixups(void)
 {
     petool_fixup rows[4];
@@ -156,6 +163,15 @@ static uint32_t map_set(void)
     return status;
 }
 
+static uint32_t map_within(void)
+{
+    uint32_t cycle = 0;
+    uint32_t status = petool_space_map_within(&space, abc, 3, false, 0x9000, &cycle, &fault);
+    CHECK(space.is_open == (status == PETOOL_OK));
+    petool_space_close(&space);
+    return status;
+}
+
 /* Maps a set over the open space of another, which is closed first. */
 static uint32_t map_over(void)
 {
@@ -197,7 +213,7 @@ static void refuse_each(const char *name, uint32_t (*call)(void), long spare)
     printf("%s: each of %ld growths refused\n", name, all);
 }
 
-/* The calls of an open image allocate nothing, nor does sharing a closed one. */
+/* The calls of an open image allocate nothing, nor does sharing a closed one, nor mapping a set that is too large. */
 static void check_opened(void)
 {
     petool_image other = PETOOL_IMAGE_CLOSED;
@@ -207,6 +223,7 @@ static void check_opened(void)
     petool_target target;
     petool_text text = PETOOL_NONE;
     uint64_t offset = 0;
+    uint32_t cycle = 0;
     uint8_t bytes[4];
     petool_exports_init(exports, 5);
     petool_imports_init(imports, 5);
@@ -223,8 +240,10 @@ static void check_opened(void)
     CHECK(petool_image_read(&image, 0, bytes, 4) == PETOOL_OK);
     CHECK(petool_image_read_text(&image, 0, &text) == PETOOL_OK);
     CHECK(petool_image_locate(&image, 0, &offset) == PETOOL_OK);
+    CHECK(petool_image_import_at(&image, 0x40018, imports) == PETOOL_OK);
     petool_image_close(&image);
     CHECK(petool_image_share(&image, &other) == PETOOL_OK && asked == 0);
+    CHECK(petool_space_map_within(&space, abc, 3, false, 0x8fff, &cycle, &fault) == PETOOL_LARGE && asked == 0);
 }
 
 int main(int argc, char **argv)
@@ -241,6 +260,7 @@ int main(int argc, char **argv)
     refuse_each("petool_exports", read_exports, SORTING);
     refuse_each("petool_export_names", read_names, SORTING);
     refuse_each("petool_imports", read_imports, 0);
+    refuse_each("petool_import_at", find_slot, 0);
     refuse_each("petool_fixups", read_fixups, 0);
     refuse_each("petool_export_by_name", find_name, SORTING);
     refuse_each("petool_export_by_ordinal", find_ordinal, SORTING);
@@ -250,6 +270,7 @@ int main(int argc, char **argv)
     refuse_each("petool_rebase", move_file, 0);
     refuse_each("petool_judge", judge_set, 0);
     refuse_each("petool_space_map", map_set, 0);
+    refuse_each("petool_space_map_within", map_within, 0);
     refuse_each("petool_space_map over an open space", map_over, 0);
     check_opened();
     free(va.at), free(vb.at), free(vc.at), free(vr.at), free(v2.at);

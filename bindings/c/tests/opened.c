@@ -36,7 +36,7 @@ static int is_same_text(petool_text one, petool_text other)
 
 static int is_same_target(const petool_target *one, const petool_target *other)
 {
-    return one->kind == other->kind && one->value == other->value && is_same_text(one->module, other->module)
+    return one->kind == other->kind && one->rva == other->rva && one->ordinal == other->ordinal && is_same_text(one->module, other->module)
         && is_same_text(one->name, other->name);
 }
 
@@ -102,7 +102,7 @@ static uint32_t check_name(petool_image *image, const bytes *file, const uint8_t
 }
 
 /* Checks what an ordinal exports; returns the status. */
-static uint32_t check_ordinal(petool_image *image, const bytes *file, uint32_t ordinal)
+static uint32_t check_ordinal(petool_image *image, const bytes *file, uint64_t ordinal)
 {
     petool_target target, same_target;
     petool_fault fault = UNTOLD;
@@ -135,11 +135,29 @@ static void check_look_ups(petool_image *image, const bytes *file)
     CHECK(check_name(image, file, other, 0) == PETOOL_ABSENT);
     CHECK(petool_image_exports(image, rows, ROWS, &count) == PETOOL_OK);
     for (k = 0; k < count; k++) {
-        CHECK(check_ordinal(image, file, (uint32_t)rows[k].ordinal) == PETOOL_OK);
-        check_ordinal(image, file, (uint32_t)rows[k].ordinal - 1);
-        check_ordinal(image, file, (uint32_t)rows[k].ordinal + 1);
+        CHECK(check_ordinal(image, file, rows[k].ordinal) == PETOOL_OK);
+        check_ordinal(image, file, rows[k].ordinal - 1);
+        check_ordinal(image, file, rows[k].ordinal + 1);
     }
     CHECK(check_ordinal(image, file, 0xffffffff) == PETOOL_ABSENT);
+    CHECK(check_ordinal(image, file, 0x100000007) == PETOOL_ABSENT);
+}
+
+/* The import of each slot of an image, and of the byte after it. */
+static void check_slots(petool_image *image, const bytes *file)
+{
+    petool_import rows[ROWS], row, same_row;
+    petool_fault fault = UNTOLD;
+    size_t count = 0, k;
+    petool_imports_init(rows, ROWS), petool_imports_init(&row, 1), petool_imports_init(&same_row, 1);
+    CHECK(petool_image_imports(image, rows, ROWS, &count) == PETOOL_OK);
+    for (k = 0; k < count; k++) {
+        CHECK(petool_import_at(file->at, file->len, rows[k].slot, &row, &fault) == PETOOL_OK);
+        CHECK(petool_image_import_at(image, rows[k].slot, &same_row) == PETOOL_OK);
+        CHECK(row.slot == rows[k].slot && same_row.slot == row.slot && same_row.ordinal == row.ordinal);
+        CHECK(is_same_text(row.module, rows[k].module) && is_same_text(same_row.name, rows[k].name));
+        CHECK(petool_image_import_at(image, rows[k].slot + 1, &same_row) == PETOOL_ABSENT && same_row.slot == row.slot);
+    }
 }
 
 /* What is at an RVA. */
@@ -168,6 +186,7 @@ static void check_file(const bytes *file)
     for (k = 0; k <= ROWS; k++)
         check_tables(&image, file, k);
     check_look_ups(&image, file);
+    check_slots(&image, file);
     for (k = 0; k < 12; k++)
         check_rva(&image, file, places[k]);
     petool_image_close(&image);
@@ -186,16 +205,16 @@ static void check_values(void)
     petool_imports_init(&row, 1);
     petool_target_init(&target);
     CHECK(petool_image_export_by_ordinal(&image, 7, &target) == PETOOL_OK);
-    CHECK(target.kind == PETOOL_TARGET_RVA && target.value == 0x1010);
-    target.value = 5;
-    CHECK(petool_image_export_by_ordinal(&image, 6, &target) == PETOOL_ABSENT && target.value == 5);
-    CHECK(petool_image_export_by_name(&image, (const uint8_t *)"g", 1, &target) == PETOOL_OK && target.value == 0x1010);
+    CHECK(target.kind == PETOOL_TARGET_RVA && target.rva == 0x1010);
+    target.rva = 5;
+    CHECK(petool_image_export_by_ordinal(&image, 6, &target) == PETOOL_ABSENT && target.rva == 5);
+    CHECK(petool_image_export_by_name(&image, (const uint8_t *)"g", 1, &target) == PETOOL_OK && target.rva == 0x1010);
 
     /* opening it again closes the first image */
     CHECK(petool_image_open(&image, vr->at, vr->len, &fault) == PETOOL_OK && image.is_open);
     CHECK(petool_image_export_by_name(&image, (const uint8_t *)"g", 1, &target) == PETOOL_ABSENT);
     CHECK(petool_image_export_by_name(&image, (const uint8_t *)"plain", 5, &target) == PETOOL_OK);
-    CHECK(target.kind == PETOOL_TARGET_ORDINAL && target.value == 407);
+    CHECK(target.kind == PETOOL_TARGET_ORDINAL && target.ordinal == 407);
     CHECK(target.module.len == 3 && memcmp(target.module.at, "\\o\x7f", 3) == 0);
     CHECK(petool_image_imports(&image, &row, 0, &count) == PETOOL_SMALL && count == 5 && row.slot == 0);
     CHECK(petool_image_read_text(&image, 0xfffffff0, &text) == PETOOL_ABSENT && text.len == 0);
@@ -220,8 +239,10 @@ static void check_closed(petool_image *image)
     CHECK(petool_image_read(image, 0x1000, &byte, 1) == PETOOL_CLOSED && byte == 0x5a);
     CHECK(petool_image_read_text(image, 0x1000, &text) == PETOOL_CLOSED && text.len == 0);
     CHECK(petool_image_locate(image, 0x1000, &offset) == PETOOL_CLOSED && offset == 7);
-    CHECK(petool_image_export_by_name(image, (const uint8_t *)"g", 1, &target) == PETOOL_CLOSED && target.value == 0);
-    CHECK(petool_image_export_by_ordinal(image, 7, &target) == PETOOL_CLOSED && target.value == 0);
+    CHECK(petool_image_export_by_name(image, (const uint8_t *)"g", 1, &target) == PETOOL_CLOSED && target.rva == 0);
+    CHECK(petool_image_export_by_ordinal(image, 7, &target) == PETOOL_CLOSED && target.rva == 0);
+    CHECK(petool_image_import_at(image, 0x1030, &import_row) == PETOOL_CLOSED && import_row.slot == 0);
+    CHECK(petool_image_exports(image, NULL, 0, &count) == PETOOL_CLOSED && count == 99);
     CHECK(petool_image_exports(image, &export_row, 1, &count) == PETOOL_CLOSED && export_row.ordinal == 0);
     CHECK(petool_image_export_names(image, &export_row, 1, &count) == PETOOL_CLOSED && export_row.name.len == 0);
     CHECK(petool_image_imports(image, &import_row, 1, &count) == PETOOL_CLOSED && import_row.slot == 0);

@@ -86,6 +86,8 @@ static void check_reading(petool_space *space)
     CHECK(petool_space_image(space, 1, &base, &size) == PETOOL_OK);
     CHECK(base == 0x20000000 && size == 0x3000);
     CHECK(petool_space_image(space, 3, &base, &size) == PETOOL_ABSENT);
+    /* no bit of an index is lost */
+    CHECK(petool_space_image(space, 0x10001, &base, &size) == PETOOL_ABSENT);
     CHECK(base == 0x20000000 && size == 0x3000);
     CHECK(petool_space_bindings(space, rows, 2, &count) == PETOOL_OK);
     CHECK(count == 1 && is_bound(rows[0]) && rows[1].slot == 0);
@@ -119,6 +121,9 @@ static void check_moves(petool_space *space)
     CHECK(petool_space_move(space, 1, 0x10000000, &moved, &fault) == PETOOL_FAULT);
     CHECK(fault.number == 47 && fault.image == 1 && fault.place == PETOOL_PLACE_ADDRESS && fault.at == 0x10000000);
     CHECK(petool_space_move(space, 3, 0x10000000, &moved, &fault) == PETOOL_FAULT && fault.number == 55);
+    CHECK(fault.image == 3 && fault.place == PETOOL_PLACE_ITEM && fault.at == 3);
+    CHECK(petool_space_move(space, 0x10001, 0x10000000, &moved, &fault) == PETOOL_FAULT);
+    CHECK(fault.number == 55 && fault.image == 0x10001 && fault.place == PETOOL_PLACE_ITEM && fault.at == 0x10001);
     CHECK(moved.fields == 77 && moved.slots == 1);
     CHECK(petool_space_image(space, 1, &base, &size) == PETOOL_OK && base == 0x30000000);
 }
@@ -139,6 +144,33 @@ static void check_closed(petool_space *space)
     CHECK(petool_space_image(space, 0, &base, &size) == PETOOL_CLOSED && base == 7);
     CHECK(petool_space_bindings(space, row, 1, &count) == PETOOL_CLOSED && count == 99);
     CHECK(fault.number == 0);
+}
+
+/* The three images have 0x3000 bytes each. */
+static void check_within(void)
+{
+    petool_space space = PETOOL_SPACE_CLOSED;
+    petool_fault fault = {0, 0, 0, 0};
+    petool_entry wrong[2];
+    uint32_t cycle = 77;
+    CHECK(petool_space_map_within(&space, abc, 3, false, 0x9000, &cycle, &fault) == PETOOL_OK && space.is_open);
+    check_reading(&space);
+    CHECK(petool_space_map_within(&space, abc, 3, false, 0x8fff, &cycle, &fault) == PETOOL_LARGE);
+    check_closed(&space);
+    CHECK(petool_space_map_within(&space, abc, 3, false, UINT64_MAX, &cycle, &fault) == PETOOL_OK && space.is_open);
+    CHECK(petool_space_map_within(&space, abc, 3, false, 0, &cycle, &fault) == PETOOL_LARGE);
+    check_closed(&space);
+    CHECK(petool_space_map_within(&space, NULL, 0, false, 0, &cycle, &fault) == PETOOL_OK && space.is_open);
+
+    /* a file that is no image has no size, and its fault is reported; two of one name count before their fault */
+    wrong[0] = abc[0];
+    wrong[1] = abc[0];
+    CHECK(petool_space_map_within(&space, wrong, 2, false, 0x5fff, &cycle, &fault) == PETOOL_LARGE && fault.number == 0);
+    CHECK(petool_space_map_within(&space, wrong, 2, false, 0x6000, &cycle, &fault) == PETOOL_FAULT && fault.number == 42);
+    wrong[1] = abc[1];
+    wrong[1].file.len = 9;
+    CHECK(petool_space_map_within(&space, wrong, 2, false, 0x3000, &cycle, &fault) == PETOOL_FAULT);
+    CHECK(fault.number == 2 && fault.image == 1 && fault.at == 9 && !space.is_open);
 }
 
 static void check_space(void)
@@ -192,6 +224,7 @@ int main(int argc, char **argv)
     set_abc(abc, va, vb, vc);
     check_judging();
     check_searches();
+    check_within();
     check_space();
     free(v2.at), free(va.at), free(vb.at), free(vc.at);
     return told();

@@ -17,7 +17,7 @@ What is raised:
   or without a section (``Object.relocations``).
 - ``KeyError``: nothing is exported under a key (``Image.exports[key]``). Both are ``LookupError``.
 - ``MemoryError``: out of memory.
-- ``OverflowError``: a base or an address has over 64 bits, or is negative.
+- ``OverflowError``: a base or an address has over 64 bits, or is negative; or the images of a ``Space`` have more than ``most_bytes``.
 - ``ValueError``: an image, an object or a space was closed before the call.
 - ``TypeError`` and ``BufferError``: an object's bytes are not in one piece.
 
@@ -48,6 +48,7 @@ from ._image import (
     rebase,
 )
 from ._library import library as _shared
+from ._names import Named, name_of
 from ._object import (
     SECTION_ABSOLUTE,
     SECTION_DEBUG,
@@ -63,8 +64,8 @@ from ._space import Binding, Moved, Space, Standing, judge
 
 
 def version() -> str:
-    """The version of the library, as "1.0"."""
-    number = _shared.petool_version()
+    """The version of the library, as "2.0"."""
+    number = _shared.petool_version_number()
     return f"{number >> 16}.{number & 0xffff}"
 
 
@@ -84,6 +85,7 @@ __all__ = [
     "Image",
     "Import",
     "Moved",
+    "Named",
     "Object",
     "ObjectHeader",
     "ObjectRelocation",
@@ -100,6 +102,7 @@ __all__ = [
     "Target",
     "check",
     "judge",
+    "name_of",
     "open",
     "rebase",
     "version",

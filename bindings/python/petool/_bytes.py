@@ -3,11 +3,12 @@
 from __future__ import annotations
 
 import ctypes
+import itertools
 import mmap
 import operator
 import struct
 from collections.abc import Sequence as AbstractSequence
-from typing import Any, Callable, Generic, Iterator, List, Sequence, Tuple, TypeVar, Union, overload
+from typing import Any, Callable, Generic, Iterator, List, Optional, Sequence, Tuple, TypeVar, Union, overload
 
 from . import _library, _records
 
@@ -83,7 +84,7 @@ class FileBytes:
         if length == 0:
             return b""
         start = at - self.address
-        return bytes(self._view[start : start + length])
+        return self._view[start : start + length].tobytes()
 
     def close(self) -> None:
         self.is_held = False
@@ -102,10 +103,16 @@ class RowLayout:
     """The layout of a row, in the letters of `struct`: P and N are a string's pointer and length."""
 
     def __init__(self, form: str) -> None:
+        self._form = form
         self.struct = struct.Struct(form)
         self.size = self.struct.size
         # no pointer of a string may be NULL before a call
         self.blank = self.struct.pack(*(_library.NO_BYTES if code == "P" else 0 for code in form if code != "x"))
+
+    def first(self, count: int) -> struct.Struct:
+        """A row of which only the first numbers are unpacked."""
+        head = self._form[:count]
+        return struct.Struct(f"{head}{self.size - struct.calcsize(head)}x")
 
 
 #: The rows of tables by their names.
@@ -134,10 +141,17 @@ def first_rows(layout: RowLayout, room: int, call: Callable[[int, int, Any], int
 class Rows(AbstractSequence, Generic[Row]):  # type: ignore[type-arg]
     """A sequence over rows as the library filled them: an item is made from its row at each access."""
 
-    __slots__ = ("_rows", "_layout", "_make")
+    __slots__ = ("_rows", "_layout", "_make", "_make_all")
 
-    def __init__(self, rows: memoryview, layout: RowLayout, make: Callable[..., Row]) -> None:
-        self._rows, self._layout, self._make = rows, layout, make
+    def __init__(
+        self,
+        rows: memoryview,
+        layout: RowLayout,
+        make: Callable[..., Row],
+        make_all: Optional[Callable[[Iterator[Tuple[int, ...]]], Iterator[Row]]] = None,
+    ) -> None:
+        """`make` makes an item of the numbers of a row, and `make_all`, which is faster, all items of those of all rows."""
+        self._rows, self._layout, self._make, self._make_all = rows, layout, make, make_all
 
     def __len__(self) -> int:
         return len(self._rows) // self._layout.size
@@ -164,8 +178,7 @@ class Rows(AbstractSequence, Generic[Row]):  # type: ignore[type-arg]
         return self._layout.struct.iter_unpack(self._rows)
 
     def __iter__(self) -> Iterator[Row]:
-        for values in self.values():
-            yield self._make(*values)
+        return self._make_all(self.values()) if self._make_all else itertools.starmap(self._make, self.values())
 
     def __reduce__(self) -> Tuple[Any, ...]:
         """A copy, by pickle too, is a tuple, which needs no file."""
@@ -173,19 +186,6 @@ class Rows(AbstractSequence, Generic[Row]):  # type: ignore[type-arg]
 
     def __repr__(self) -> str:
         return f"<{len(self)} rows>"
-
-
-class NumberedRows(Rows[Row]):
-    """Rows whose items are made from their indexes too."""
-
-    __slots__ = ()
-
-    def _at(self, index: int) -> Row:
-        return self._make(index, *self.row(index))
-
-    def __iter__(self) -> Iterator[Row]:
-        for index, values in enumerate(self.values()):
-            yield self._make(index, *values)
 
 
 class FileSet:

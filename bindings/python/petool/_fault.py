@@ -21,6 +21,16 @@ class Place(enum.IntEnum):
     # end of describe/records.txt
 
 
+# from describe/records.txt: amounts
+_VALUE_NOTHING = 0  #: no number, but words after one
+_VALUE_COUNT = 1  #: a size or a count, for people in decimal
+_VALUE_PLACE = 2  #: a file offset, an RVA, an address or a field, for people in hexadecimal
+# end of describe/records.txt
+
+
+#: A fault has so many rows of values, or none.
+_MOST_VALUES = 3
+
 #: How many bytes the longest line has, with the zero byte at its end.
 _LINE = 257
 
@@ -34,9 +44,22 @@ def _words(number: int) -> Tuple[str, str]:
     return tuple(ctypes.string_at(text.at, text.len).decode() for text in (subject, rule))  # type: ignore[return-value]
 
 
+def _record_of(fault: FormatFault) -> _records.Fault:
+    return _records.Fault(fault.number, fault.place, fault.image, fault.at)
+
+
+def values_of(address: int, length: int, fault: FormatFault) -> Dict[str, int]:
+    """The numbers of a file that the rule of its fault compares, by their names."""
+    rows = (_records.Value * _MOST_VALUES)(*(_records.Value(_library.no_text(), _library.no_text(), 0, 0) for _ in range(_MOST_VALUES)))
+    count, record = ctypes.c_size_t(), _record_of(fault)
+    library.petool_fault_detail(address, length, ctypes.byref(record), rows, _MOST_VALUES, ctypes.byref(count))
+    # these strings belong to the library
+    return {ctypes.string_at(it.name.at, it.name.len).decode(): it.number for it in rows[: count.value] if it.kind != _VALUE_NOTHING}
+
+
 def _line(fault: FormatFault) -> str:
     """A fault as one line, without its number."""
-    record = _records.Fault(fault.number, fault.image, fault.place, fault.at)
+    record = _record_of(fault)
     room = ctypes.create_string_buffer(_LINE)
     library.petool_fault_line(ctypes.byref(record), room, _LINE)
     return room.value.decode()
@@ -76,8 +99,10 @@ def raise_for(status: int) -> None:
     """Raises the exception for a status that is neither OK, ABSENT nor SMALL, and not a fault."""
     if status == _library.MEMORY:
         raise MemoryError("libpetool is out of memory")
+    if status == _library.LARGE:
+        raise OverflowError("the images have more bytes than most_bytes")
     if status == _library.CLOSED:
-        raise ValueError("the space is closed")
+        raise ValueError("it is closed")
     if status not in (_library.OK, _library.ABSENT, _library.SMALL):
         raise RuntimeError(f"libpetool returned status {status}")
 

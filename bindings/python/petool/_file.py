@@ -2,11 +2,10 @@
 
 from __future__ import annotations
 
-from typing import Any, Optional, TypeVar
+from typing import Any, Callable, Optional, TypeVar
 
 from ._bytes import Buffer, FileBytes
-from ._fault import FormatFault, ask
-from ._values import values_of
+from ._fault import FormatFault, ask, values_of
 
 Kind = TypeVar("Kind", bound="OfFile")
 
@@ -20,11 +19,16 @@ class OfFile:
 
     def _ask(self, function: Any, *arguments: Any) -> int:
         """The status of a call on the file, or its fault as an exception."""
-        with self._file.hold() as file:
+        file = self._file
+        return self._held(lambda: ask(function, file.address, file.length, *arguments, file=self._name))
+
+    def _held(self, call: Callable[[], int]) -> int:
+        """The status of a call during which the file is held; its fault has the values of the file."""
+        with self._file.hold():
             try:
-                return ask(function, self._file.address, self._file.length, *arguments, file=self._name)
+                return call()
             except FormatFault as fault:
-                fault.values = values_of(file, fault.number, fault.at)
+                fault.values = values_of(self._file.address, self._file.length, fault)
                 raise
 
     def close(self) -> None:

@@ -7,16 +7,17 @@ import errno
 import mmap
 import os
 import stat
+import threading
 from collections.abc import Mapping as AbstractMapping
 from ctypes import byref
-from dataclasses import dataclass, field, fields
-from typing import Any, Callable, Dict, Iterator, List, Optional, Sequence, Tuple, Union
+from dataclasses import dataclass, fields
+from typing import Any, Callable, Dict, Iterator, NamedTuple, Optional, Sequence, Tuple, Union
 
 from . import _library, _records, _section_names
-from ._bytes import LAYOUTS, Buffer, FileBytes, NumberedRows, RowLayout, Rows, address_of, read_rows, unsigned, view_of
-from ._fault import FormatFault, ask
+from ._bytes import LAYOUTS, Buffer, FileBytes, RowLayout, Rows, address_of, read_rows, unsigned, view_of
+from ._fault import FormatFault, ask, raise_for
 from ._file import OfFile
-from ._joined import Joined, Piece
+from ._joined import HEADS, Joined
 from ._library import library
 
 
@@ -114,15 +115,13 @@ class Section:
         return strings[at : strings.index(0, at)] if strings else self._short_name
 
 
-@dataclass(frozen=True)
-class Rva:
+class Rva(NamedTuple):
     """An export in the image itself."""
 
     rva: int
 
 
-@dataclass(frozen=True)
-class Forward:
+class Forward(NamedTuple):
     """An export that is another module's."""
 
     module: bytes
@@ -133,19 +132,28 @@ Target = Union[Rva, Forward]
 Key = Union[bytes, str, int]
 
 
-@dataclass(frozen=True)
-class Export:
-    """A row by name or by ordinal: two are equal if they have one name, ordinal and target."""
-
+class _ExportFields(NamedTuple):
     name: Optional[bytes]  #: the name, as bytes, since names have no encoding in the format; by ordinal the first, or None
     ordinal: int  #: its ordinal, which may exceed 2^32
     target: Target
+
+
+class Export(_ExportFields):
+    """A row by name or by ordinal: two are equal if they have one name, ordinal and target."""
+
     #: all names of the ordinal, in the order of the name pointer table: a tuple, unless names share strings
-    names: Sequence[bytes] = field(default=(), compare=False, repr=False)
+    names: Sequence[bytes]
+
+    def __new__(cls, name: Optional[bytes], ordinal: int, target: Target, names: Sequence[bytes] = ()) -> "Export":
+        self = tuple.__new__(cls, (name, ordinal, target))
+        self.names = names
+        return self
+
+    def __repr__(self) -> str:
+        return f"Export(name={self.name!r}, ordinal={self.ordinal!r}, target={self.target!r})"
 
 
-@dataclass(frozen=True)
-class Import:
+class Import(NamedTuple):
     module: bytes
     key: Union[bytes, int]  #: the name or the ordinal of the export in that module
     slot: int  #: the RVA of its slot
@@ -162,8 +170,7 @@ class Import:
 _WIDTHS = {1: 2, 2: 2, 3: 4, 10: 8}
 
 
-@dataclass(frozen=True)
-class Fixup:
+class Fixup(NamedTuple):
     """A base relocation: a field that changes with the image's base."""
 
     # from describe/records.txt: fixup
@@ -185,6 +192,9 @@ _TARGET_NAME = 2  #: a name of another module
 # end of describe/records.txt
 
 
+#: Room for this many rows, before they are counted.
+_GUESS = 64
+
 #: How many numbers of an export's row come before its target: the ordinal, and the pointer and the length of the name.
 _NAMED = 3
 
@@ -204,15 +214,14 @@ def _section_of(record: _records.Section) -> Section:
     return section
 
 
-def _target_of(file: FileBytes, kind: int, value: int, *texts: int) -> Target:
+def _target_of(file: FileBytes, kind: int, rva: int, ordinal: int, *texts: int) -> Target:
     if kind == _TARGET_RVA:
-        return Rva(value)
-    return Forward(file.text(*texts[:2]), value if kind == _TARGET_ORDINAL else file.text(*texts[2:]))
+        return Rva(rva)
+    return Forward(file.text(*texts[:2]), ordinal if kind == _TARGET_ORDINAL else file.text(*texts[2:]))
 
 
 def _maker_by_name(file: FileBytes, joined: Joined) -> Callable[..., Export]:
-    def make(row: int, _: int, at: int, length: int, *target: int) -> Export:
-        ordinal = joined.ordinals[row]
+    def make(ordinal: int, at: int, length: int, *target: int) -> Export:
         return Export(file.text(at, length), ordinal, _target_of(file, *target), joined.names_of(ordinal))
 
     return make
@@ -226,13 +235,46 @@ def _maker_by_ordinal(file: FileBytes, joined: Joined) -> Callable[..., Export]:
     return make
 
 
+def _maker_of_all(
+    file: FileBytes, joined: Joined, make: Callable[..., Export]
+) -> Callable[[Iterator[Tuple[int, ...]]], Iterator[Export]]:
+    """Makes all rows. Most have one name, and are in the image itself: those are made here, since a call takes longer."""
+
+    def make_all(values: Iterator[Tuple[int, ...]]) -> Iterator[Export]:
+        # no rows of a closed file
+        file.hold().release()
+        names_of, new = joined.by_ordinal.get, tuple.__new__
+        for row in values:
+            names = names_of(row[0], ())
+            if row[_NAMED] == _TARGET_RVA and len(names) == 1:
+                export = new(Export, (names[0], row[0], new(Rva, (row[_NAMED + 1],))))
+                export.names = names
+                yield export
+            else:
+                yield make(*row)
+
+    return make_all
+
+
 def imports_of(file: FileBytes, rows: memoryview) -> Rows[Import]:
     """The imports of an image, whose rows a call has filled."""
 
-    def make(module_at: int, module: int, at: int, length: int, slot: int, ordinal: int, by_ordinal: bool) -> Import:
+    def make(module_at: int, module: int, at: int, length: int, ordinal: int, slot: int, by_ordinal: bool) -> Import:
         return Import(file.text(module_at, module), ordinal if by_ordinal else file.text(at, length), slot)
 
-    return Rows(rows, LAYOUTS["import"], make)
+    def make_all(values: Iterator[Tuple[int, ...]]) -> Iterator[Import]:
+        text, last, name = file.text, (0, 0), b""
+        for module_at, module, at, length, ordinal, slot, by_ordinal in values:
+            # the imports of a module follow one another
+            if (module_at, module) != last:
+                last, name = (module_at, module), text(module_at, module)
+            yield Import(name, ordinal if by_ordinal else text(at, length), slot)
+
+    return Rows(rows, LAYOUTS["import"], make, make_all)
+
+
+def _fixups_of(values: Iterator[Tuple[int, ...]]) -> Iterator[Fixup]:
+    return map(Fixup._make, values)
 
 
 class Exports(AbstractMapping):  # type: ignore[type-arg]
@@ -243,8 +285,7 @@ class Exports(AbstractMapping):  # type: ignore[type-arg]
     more; ``ordinals()`` has each export once, so ``len(exports.ordinals())`` is the number of exports.
 
     The first look-up makes a dict of where each key is, and an RVA that was found is kept. The names of a crafted file may share
-    strings, and be longer together than the file: then no name is copied, and each that is looked up is a call of the library,
-    which reads the table.
+    strings, and be longer together than the file: then no name is copied, and each that is looked up is a call of the library.
     """
 
     def __init__(
@@ -255,9 +296,10 @@ class Exports(AbstractMapping):  # type: ignore[type-arg]
         joined: Joined,
         look_up: Callable[[bytes], Optional[Target]],
     ) -> None:
-        self._file, self._joined, self._look_up = file, joined, look_up
-        self._names = NumberedRows(names, LAYOUTS["export"], _maker_by_name(file, joined))
-        self._ordinals = Rows(ordinals, LAYOUTS["export"], _maker_by_ordinal(file, joined))
+        self._file, self._rows, self._joined, self._look_up = file, names, joined, look_up
+        by_name, by_ordinal = _maker_by_name(file, joined), _maker_by_ordinal(file, joined)
+        self._names = Rows(names, LAYOUTS["export"], by_name, _maker_of_all(file, joined, by_name))
+        self._ordinals = Rows(ordinals, LAYOUTS["export"], by_ordinal, _maker_of_all(file, joined, by_ordinal))
         self._name_rows: Optional[Dict[bytes, int]] = None
         self._ordinal_rows: Optional[Dict[int, int]] = None
         self._found: Dict[Union[bytes, int], Target] = {}
@@ -271,7 +313,7 @@ class Exports(AbstractMapping):  # type: ignore[type-arg]
         return self._ordinals
 
     def _each_name(self) -> Iterator[bytes]:
-        return (self._file.text(at, length) for _, at, length, *_ in self._names.values())
+        return (self._file.text(at, length) for _, at, length in HEADS.iter_unpack(self._rows))
 
     def _each_ordinal(self) -> Iterator[int]:
         return (ordinal for ordinal, *_ in self._ordinals.values())
@@ -327,86 +369,104 @@ class Image(OfFile):
 
     def __init__(self, data: Buffer, *, check: bool = True, file: Optional[str] = None) -> None:
         super().__init__(data, file)
+        self._lock = threading.Lock()
+        self._opened = _records.Image(None, False)
+        self._raw, self._raw_sections = _records.Headers(), (_records.Section * _library.MOST_SECTIONS)()
+        self._headers: Optional[Headers] = None
+        self._sections: Optional[Tuple[Section, ...]] = None
         self._exports: Optional[Exports] = None
         self._imports: Optional[Rows[Import]] = None
         self._fixup_rows: Optional[memoryview] = None
         try:
-            self._counts = self._judge() if check else _records.Counts()
-            self._headers, self._sections = self._read_headers()
+            if check:
+                self._held(self._open)
+            self._ask(library.petool_read_headers, byref(self._raw), self._raw_sections, len(self._raw_sections))
         except BaseException:
             self.close()
             raise
 
-    def _judge(self) -> _records.Counts:
-        """Checks the whole image, and counts the rows of its tables at the same time."""
-        counts = _records.Counts()
-        self._ask(library.petool_tables, *((_library.NO_BYTES, 0) * 4), byref(counts))
-        return counts
+    def _open(self) -> int:
+        """Checks the whole image, and keeps the contents of its tables."""
+        file = self._file
+        return ask(library.petool_image_open, byref(self._opened), file.address, file.length, file=self._name)
 
-    def _read_headers(self) -> Tuple[Headers, Tuple[Section, ...]]:
-        headers, sections = _records.Headers(), (_records.Section * _library.MOST_SECTIONS)()
-        self._ask(library.petool_read_headers, byref(headers), sections, len(sections))
-        return _headers_of(headers), tuple(map(_section_of, sections[: headers.number_of_sections]))
+    def _call(self, name: str, *arguments: Any) -> int:
+        """The status of a call of the open image, or, if it was not checked as a whole, of that over the file."""
+        if not self._opened.is_open:
+            return self._ask(getattr(library, "petool_" + name), *arguments)
+        with self._file.hold(), self._lock:
+            status: int = getattr(library, "petool_image_" + name)(byref(self._opened), *arguments)
+        raise_for(status)
+        return status
 
-    def _rows(self, function: Any, layout: RowLayout, count: int) -> memoryview:
-        return read_rows(layout, count, lambda *rows: self._ask(function, *rows))
+    def _rows(self, name: str, layout: RowLayout) -> memoryview:
+        return read_rows(layout, _GUESS, lambda *rows: self._call(name, *rows))
+
+    def close(self) -> None:
+        """Releases the bytes. Results of earlier calls stay valid, except sequences whose rows have strings."""
+        with self._lock:
+            library.petool_image_close(byref(self._opened))
+        super().close()
+
+    def __del__(self) -> None:
+        # nothing to close if __init__ did not get so far
+        if hasattr(self, "_opened"):
+            library.petool_image_close(byref(self._opened))
 
     @property
     def headers(self) -> Headers:
+        if self._headers is None:
+            self._headers = _headers_of(self._raw)
         return self._headers
 
     @property
     def sections(self) -> Tuple[Section, ...]:
         """In the order of the section table. Their long names are looked for when they are first used."""
+        if self._sections is None:
+            self._sections = tuple(map(_section_of, self._raw_sections[: self._raw.number_of_sections]))
         if self._file.is_held and any(it._place is None for it in self._sections):
-            self._find_long_names()
+            self._find_long_names(self._sections)
         return self._sections
 
-    def _find_long_names(self) -> None:
-        symbols, count = self._headers.pointer_to_symbol_table, self._headers.number_of_symbols
+    def _find_long_names(self, sections: Sequence[Section]) -> None:
+        symbols, count = self._raw.pointer_to_symbol_table, self._raw.number_of_symbols
         with self._file.hold() as file:
-            found = _section_names.places(file, symbols, count, (it._short_name for it in self._sections))
-        for it in self._sections:
+            found = _section_names.places(file, symbols, count, (it._short_name for it in sections))
+        for it in sections:
             object.__setattr__(it, "_place", found.get(it._short_name, _NO_PLACE))
 
     @property
     def exports(self) -> Exports:
         """Read when first needed. Without ``check`` FormatFault of 16 to 22."""
         if self._exports is None:
-            names = self._rows(library.petool_export_names, LAYOUTS["export"], self._counts.names)
-            ordinals = self._rows(library.petool_exports, LAYOUTS["export"], self._counts.exports)
-            joined = Joined(self._file, self._headers.directories[0].rva, self._pieces(), names)
-            self._exports = Exports(self._file, names, ordinals, joined, self._look_up)
+            names = self._rows("export_names", LAYOUTS["export"])
+            ordinals = self._rows("exports", LAYOUTS["export"])
+            self._exports = Exports(self._file, names, ordinals, Joined(self._file, names), self._look_up)
         return self._exports
 
-    def _pieces(self) -> List[Piece]:
-        """The headers, and each section that takes bytes of the laid-out image, in the order of their RVAs."""
-        sections = [(it.rva, it.file_size, it.pointer_to_raw_data) for it in self._sections if it.extent]
-        return [(0, self._headers.size_of_headers, 0), *sections]
-
     def _look_up(self, name: bytes) -> Optional[Target]:
-        """What a name exports, looked up by the library, which reads the table for it."""
-        held, found = FileBytes(name), _records.Target(0, 0, _library.no_text(), _library.no_text())
-        if self._ask(library.petool_export_by_name, held.address, held.length, byref(found)) == _library.ABSENT:
+        """What a name exports, looked up by the library."""
+        held, found = FileBytes(name), _records.Target(0, 0, 0, _library.no_text(), _library.no_text())
+        if self._call("export_by_name", held.address, held.length, byref(found)) == _library.ABSENT:
             return None
         module, text = found.module, found.name
-        return _target_of(self._file, found.kind, found.value, module.at, module.len, text.at, text.len)
+        return _target_of(self._file, found.kind, found.rva, found.ordinal, module.at, module.len, text.at, text.len)
 
     @property
     def imports(self) -> Sequence[Import]:
         """In table order, read when first needed. Without ``check`` FormatFault of 24 to 32."""
         if self._imports is None:
-            self._imports = imports_of(self._file, self._rows(library.petool_imports, LAYOUTS["import"], self._counts.imports))
+            self._imports = imports_of(self._file, self._rows("imports", LAYOUTS["import"]))
         return self._imports
 
     @property
     def fixups(self) -> Sequence[Fixup]:
         """The base relocations in table order, read when first needed. Without ``check`` FormatFault of 24 to 38."""
-        return Rows(self._fixups(), LAYOUTS["fixup"], Fixup)
+        return Rows(self._fixups(), LAYOUTS["fixup"], Fixup, _fixups_of)
 
     def _fixups(self) -> memoryview:
         if self._fixup_rows is None:
-            self._fixup_rows = self._rows(library.petool_fixups, LAYOUTS["fixup"], self._counts.fixups)
+            self._fixup_rows = self._rows("fixups", LAYOUTS["fixup"])
         return self._fixup_rows
 
     def fixup_array(self) -> memoryview:
@@ -420,7 +480,7 @@ class Image(OfFile):
     def read(self, rva: int, count: int) -> bytes:
         """The bytes of the laid-out image from an RVA on. IndexError if they do not all lie in the image."""
         # checked before the buffer is allocated, since a count may be any number
-        if count < 0 or rva < 0 or rva + count > self._headers.size_of_image:
+        if count < 0 or rva < 0 or rva + count > self._raw.size_of_image:
             raise IndexError("the bytes pass the image")
         buffer = bytearray(count)
         self.read_into(rva, buffer)
@@ -431,19 +491,19 @@ class Image(OfFile):
         view = writable(buffer)
         if not 0 <= rva < 1 << 32:
             raise IndexError("the bytes pass the image")
-        if self._ask(library.petool_read, rva, address_of(view), len(view)) == _library.ABSENT:
+        if self._call("read", rva, address_of(view), len(view)) == _library.ABSENT:
             raise IndexError("the bytes pass the image")
 
     def text(self, rva: int) -> Optional[bytes]:
         """The zero-terminated string at an RVA, without its zero byte; None if there is none."""
         text = _library.no_text()
-        found = 0 <= rva < 1 << 32 and self._ask(library.petool_read_text, rva, byref(text)) == _library.OK
+        found = 0 <= rva < 1 << 32 and self._call("read_text", rva, byref(text)) == _library.OK
         return self._file.text(text.at, text.len) if found else None
 
     def locate(self, rva: int) -> Optional[int]:
         """The file offset of the byte at an RVA; None if the file does not hold it."""
         offset = ctypes.c_uint64()
-        found = 0 <= rva < 1 << 32 and self._ask(library.petool_locate, rva, byref(offset)) == _library.OK
+        found = 0 <= rva < 1 << 32 and self._call("locate", rva, byref(offset)) == _library.OK
         return offset.value if found else None
 
     def rebased(self, base: int) -> bytes:

@@ -9,7 +9,7 @@ import os
 from ._records import CALLS, Text
 
 #: The version that this package knows: its first part times 65,536, and its second part.
-KNOWN_VERSION = 0x10000
+KNOWN_VERSION = 0x20000
 
 # from describe/records.txt: statuses
 OK = 0  #: done
@@ -19,6 +19,16 @@ ABSENT = 3  #: bytes outside the image or the file, or no such string, export, s
 SMALL = 4  #: too little room: the count says how much is needed
 ARGUMENT = 5  #: an argument has a value that it may not have; nothing was done
 CLOSED = 6  #: the image or the space is not open
+LARGE = 7  #: the images of the set have more bytes than the caller allows; nothing was mapped
+# end of describe/records.txt
+
+# from describe/records.txt: names
+NAME_MACHINE = 0  #: the machine of a COFF file header
+NAME_SUBSYSTEM = 1  #: the subsystem of an image
+NAME_FLAG = 2  #: a flag of Characteristics in a COFF file header
+NAME_DLL_FLAG = 3  #: a flag of DllCharacteristics
+NAME_SECTION_FLAG = 4  #: a flag of a section
+NAME_DIRECTORY = 5  #: the table of a data directory, by its index
 # end of describe/records.txt
 
 #: No image has more sections.
@@ -39,10 +49,10 @@ def _path() -> str:
     named = os.environ.get("PETOOL_LIBRARY")
     if named:
         return named
-    beside = os.path.join(os.path.dirname(os.path.abspath(__file__)), "libpetool.so.0")
+    beside = os.path.join(os.path.dirname(os.path.abspath(__file__)), "libpetool.so.2")
     if os.path.exists(beside):
         return beside
-    return ctypes.util.find_library("petool") or "libpetool.so.0"
+    return ctypes.util.find_library("petool") or "libpetool.so.2"
 
 
 def is_known(version: int) -> bool:
@@ -54,8 +64,8 @@ def _open(path: str) -> ctypes.CDLL:
     try:
         opened = ctypes.CDLL(path)
         # another version may lack a call, so this one is called first
-        opened.petool_version.restype = ctypes.c_uint32
-        found = opened.petool_version()
+        opened.petool_version_number.restype = ctypes.c_uint32
+        found = opened.petool_version_number()
     except (OSError, AttributeError) as error:
         raise ImportError(f"no libpetool at {path} ({error}); PETOOL_LIBRARY may name its file") from error
     if not is_known(found):

@@ -9,7 +9,11 @@ class Text(Structure):
 
 
 class Fault(Structure):
-    _fields_ = [("number", c_uint16), ("image", c_uint16), ("place", c_uint32), ("at", c_uint64)]
+    _fields_ = [("number", c_uint16), ("place", c_uint16), ("image", c_uint32), ("at", c_uint64)]
+
+
+class Value(Structure):
+    _fields_ = [("words", Text), ("name", Text), ("number", c_uint64), ("kind", c_uint32)]
 
 
 class Directory(Structure):
@@ -74,7 +78,7 @@ class Section(Structure):
 
 
 class Target(Structure):
-    _fields_ = [("kind", c_uint32), ("value", c_uint32), ("module", Text), ("name", Text)]
+    _fields_ = [("kind", c_uint32), ("rva", c_uint32), ("ordinal", c_uint64), ("module", Text), ("name", Text)]
 
 
 class Counts(Structure):
@@ -126,8 +130,8 @@ class SectionHeader(Structure):
 
 #: The layout of each row in the letters of `struct`: P and N are a string's pointer and length.
 FORMS = {
-    "export": "QPNIIPNPN",
-    "import": "PNPNIH?x",
+    "export": "QPNIIQPNPN",
+    "import": "PNPNQI?xxx",
     "fixup": "III",
     "binding": "IIII",
     "object_section": "PNPNIIIIIxxxx",
@@ -166,15 +170,17 @@ CALLS: Dict[str, Tuple[Any, List[Any]]] = {
             POINTER(Fault),
         ],
     ),
+    "petool_import_at": (c_uint32, [c_void_p, c_size_t, c_uint32, c_void_p, POINTER(Fault)]),
     "petool_export_by_name": (c_uint32, [c_void_p, c_size_t, c_void_p, c_size_t, POINTER(Target), POINTER(Fault)]),
-    "petool_export_by_ordinal": (c_uint32, [c_void_p, c_size_t, c_uint32, POINTER(Target), POINTER(Fault)]),
+    "petool_export_by_ordinal": (c_uint32, [c_void_p, c_size_t, c_uint64, POINTER(Target), POINTER(Fault)]),
     "petool_image_open": (c_uint32, [POINTER(Image), c_void_p, c_size_t, POINTER(Fault)]),
     "petool_image_share": (c_uint32, [POINTER(Image), POINTER(Image)]),
     "petool_image_read": (c_uint32, [POINTER(Image), c_uint32, c_void_p, c_size_t]),
     "petool_image_read_text": (c_uint32, [POINTER(Image), c_uint32, POINTER(Text)]),
     "petool_image_locate": (c_uint32, [POINTER(Image), c_uint32, POINTER(c_uint64)]),
     "petool_image_export_by_name": (c_uint32, [POINTER(Image), c_void_p, c_size_t, POINTER(Target)]),
-    "petool_image_export_by_ordinal": (c_uint32, [POINTER(Image), c_uint32, POINTER(Target)]),
+    "petool_image_export_by_ordinal": (c_uint32, [POINTER(Image), c_uint64, POINTER(Target)]),
+    "petool_image_import_at": (c_uint32, [POINTER(Image), c_uint32, c_void_p]),
     "petool_image_exports": (c_uint32, [POINTER(Image), c_void_p, c_size_t, POINTER(c_size_t)]),
     "petool_image_export_names": (c_uint32, [POINTER(Image), c_void_p, c_size_t, POINTER(c_size_t)]),
     "petool_image_imports": (c_uint32, [POINTER(Image), c_void_p, c_size_t, POINTER(c_size_t)]),
@@ -189,9 +195,13 @@ CALLS: Dict[str, Tuple[Any, List[Any]]] = {
         c_uint32,
         [POINTER(Space), POINTER(Entry), c_size_t, c_bool, POINTER(c_uint32), POINTER(Fault)],
     ),
+    "petool_space_map_within": (
+        c_uint32,
+        [POINTER(Space), POINTER(Entry), c_size_t, c_bool, c_uint64, POINTER(c_uint32), POINTER(Fault)],
+    ),
     "petool_space_read": (c_uint32, [POINTER(Space), c_uint64, c_void_p, c_size_t, POINTER(Fault)]),
-    "petool_space_move": (c_uint32, [POINTER(Space), c_uint16, c_uint64, POINTER(Moved), POINTER(Fault)]),
-    "petool_space_image": (c_uint32, [POINTER(Space), c_uint16, POINTER(c_uint64), POINTER(c_uint32)]),
+    "petool_space_move": (c_uint32, [POINTER(Space), c_uint32, c_uint64, POINTER(Moved), POINTER(Fault)]),
+    "petool_space_image": (c_uint32, [POINTER(Space), c_uint32, POINTER(c_uint64), POINTER(c_uint32)]),
     "petool_space_bindings": (c_uint32, [POINTER(Space), c_void_p, c_size_t, POINTER(c_size_t)]),
     "petool_space_close": (None, [POINTER(Space)]),
     "petool_object_check": (c_uint32, [c_void_p, c_size_t, POINTER(Fault)]),
@@ -211,5 +221,10 @@ CALLS: Dict[str, Tuple[Any, List[Any]]] = {
     "petool_object_symbols": (c_uint32, [c_void_p, c_size_t, c_void_p, c_size_t, POINTER(c_size_t), POINTER(Fault)]),
     "petool_fault_words": (c_uint32, [c_uint16, POINTER(Text), POINTER(Text)]),
     "petool_fault_line": (c_int, [POINTER(Fault), c_void_p, c_size_t]),
-    "petool_version": (c_uint32, []),
+    "petool_fault_detail": (
+        c_uint32,
+        [c_void_p, c_size_t, POINTER(Fault), POINTER(Value), c_size_t, POINTER(c_size_t)],
+    ),
+    "petool_name": (c_uint32, [c_uint32, c_uint32, POINTER(Text)]),
+    "petool_version_number": (c_uint32, []),
 }

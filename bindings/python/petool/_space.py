@@ -5,15 +5,13 @@ from __future__ import annotations
 import ctypes
 import threading
 from ctypes import byref
-from dataclasses import dataclass
-from typing import Any, List, NamedTuple, Optional, Sequence, Tuple, Union
+from typing import Any, Iterator, List, NamedTuple, Optional, Sequence, Tuple, Union
 
 from . import _records
 from ._bytes import LAYOUTS, Buffer, FileBytes, FileSet, Rows, address_of, read_rows, unsigned
-from ._fault import FormatFault, ask, raise_for
+from ._fault import FormatFault, ask, raise_for, values_of
 from ._image import Import, imports_of, writable
-from ._library import library
-from ._values import values_of
+from ._library import OK, library
 
 #: The name of a module, all bytes of its file, and its base.
 SetEntry = Tuple[Union[str, bytes], Buffer, int]
@@ -25,8 +23,7 @@ _GUESS = 4096
 _IMPORT_FAULTS = range(48, 51)
 
 
-@dataclass(frozen=True)
-class Binding:
+class Binding(NamedTuple):
     """What an import is bound to."""
 
     # from describe/records.txt: binding
@@ -35,6 +32,10 @@ class Binding:
     exporter: int  #: the index of the entry whose image has the export
     rva: int  #: the export's RVA
     # end of describe/records.txt
+
+
+def _bindings(values: Iterator[Tuple[int, ...]]) -> Iterator[Binding]:
+    return map(Binding._make, values)
 
 
 class Moved(NamedTuple):
@@ -55,15 +56,12 @@ class Standing(NamedTuple):
 
 def _import_at(file: FileBytes, slot: int) -> Optional[Import]:
     """The import of an image whose slot is at an RVA; None if there is none, or no memory to look for it."""
-
-    def call(*rows: Any) -> int:
-        return ask(library.petool_imports, file.address, file.length, *rows)
-
+    row = memoryview(bytearray(LAYOUTS["import"].blank))
     try:
-        found = imports_of(file, read_rows(LAYOUTS["import"], _GUESS, call))
+        status = ask(library.petool_import_at, file.address, file.length, slot, address_of(row))
     except (FormatFault, MemoryError):
         return None
-    return next((found[row] for row, (*_, at, _, _) in enumerate(found.values()) if at == slot), None)
+    return imports_of(file, row)[0] if status == OK else None
 
 
 def _ask_set(function: Any, held: FileSet, *arguments: Any) -> int:
@@ -73,8 +71,8 @@ def _ask_set(function: Any, held: FileSet, *arguments: Any) -> int:
         return ask(function, *arguments, byref(cycle), cycle=cycle)
     except FormatFault as fault:
         if fault.image < len(held.files):
-            with held.files[fault.image].hold() as file:
-                fault.values = values_of(file, fault.number, fault.at)
+            with held.files[fault.image].hold():
+                fault.values = values_of(held.files[fault.image].address, held.files[fault.image].length, fault)
         found = _import_at(held.files[fault.image], fault.at) if fault.number in _IMPORT_FAULTS else None
         if found is not None:
             fault.module, fault.key = found.module, found.key
@@ -91,7 +89,7 @@ def judge(images: Sequence[SetEntry], known: bool = False) -> List[Binding]:
     def call(*rows: Any) -> int:
         return _ask_set(library.petool_judge, held, held.entries, held.count, known, *rows)
 
-    return list(Rows(read_rows(LAYOUTS["binding"], _GUESS, call), LAYOUTS["binding"], Binding))
+    return list(Rows(read_rows(LAYOUTS["binding"], _GUESS, call), LAYOUTS["binding"], Binding, _bindings))
 
 
 class Space:
@@ -99,15 +97,17 @@ class Space:
 
     ``images`` are tuples of a module's name, its file's bytes and its base; the index of a tuple is that of its image. FormatFault
     of an image or set fault. With ``known``, an import from a module that is not in the set is not a fault, and its slot keeps
-    its bytes from the file. A space holds its own bytes: the files may be dropped. Each call takes a lock, so threads may share a
-    space. After ``close()`` each use raises ValueError.
+    its bytes from the file. OverflowError if the images have more than ``most_bytes`` bytes together, before memory is taken for
+    them. A space holds its own bytes: the files may be dropped. Each call takes a lock, so threads may share a space. After
+    ``close()`` each use raises ValueError.
     """
 
-    def __init__(self, images: Sequence[SetEntry], *, known: bool = False) -> None:
+    def __init__(self, images: Sequence[SetEntry], *, known: bool = False, most_bytes: Optional[int] = None) -> None:
         self._lock = threading.Lock()
         self._space = _records.Space(None, False)
         held = FileSet(images)
-        _ask_set(library.petool_space_map, held, byref(self._space), held.entries, held.count, known)
+        most = (1 << 64) - 1 if most_bytes is None else unsigned(most_bytes, 64, "a number of bytes")
+        _ask_set(library.petool_space_map_within, held, byref(self._space), held.entries, held.count, known, most)
         self._count = held.count
         self._largest = max((it.size for it in self.images), default=0)
 
@@ -160,7 +160,7 @@ class Space:
             return status
 
         with self._lock:
-            return Rows(read_rows(LAYOUTS["binding"], _GUESS, call), LAYOUTS["binding"], Binding)
+            return Rows(read_rows(LAYOUTS["binding"], _GUESS, call), LAYOUTS["binding"], Binding, _bindings)
 
     def close(self) -> None:
         """Frees the memory. Closing a closed space does nothing."""

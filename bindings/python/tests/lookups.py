@@ -12,7 +12,7 @@ from petool._library import library
 def look_up(data: bytes, key: Union[bytes, int]) -> Optional[petool.Target]:
     """What a name or an ordinal exports; None if it exports nothing."""
     file, fault = FileBytes(data), _records.Fault()
-    target = _records.Target(0, 0, _library.no_text(), _library.no_text())
+    target = _records.Target(0, 0, 0, _library.no_text(), _library.no_text())
     results = ctypes.byref(target), ctypes.byref(fault)
     if isinstance(key, int):
         status = library.petool_export_by_ordinal(file.address, file.length, key, *results)
@@ -24,6 +24,6 @@ def look_up(data: bytes, key: Union[bytes, int]) -> Optional[petool.Target]:
     if status != _library.OK:
         raise ValueError(f"status {status}, fault {fault.number}")
     if target.kind == 0:
-        return petool.Rva(target.value)
+        return petool.Rva(target.rva)
     text = file.text(target.name.at, target.name.len)
-    return petool.Forward(file.text(target.module.at, target.module.len), target.value if target.kind == 1 else text)
+    return petool.Forward(file.text(target.module.at, target.module.len), target.ordinal if target.kind == 1 else text)

@@ -5,6 +5,7 @@ import re
 import unittest
 from pathlib import Path
 
+import petool
 from petool import FormatFault, Place, _records
 from petool._library import library
 
@@ -23,7 +24,7 @@ def described():
 
 def line_in(room, number, place, at):
     """What the call returns, and what it writes into a buffer of 'Z'."""
-    fault = _records.Fault(number, 0, place, at)
+    fault = _records.Fault(number, place, 0, at)
     buffer = ctypes.create_string_buffer(b"Z" * room, room) if room else ctypes.create_string_buffer(1)
     return library.petool_fault_line(ctypes.byref(fault), buffer, room), buffer.raw[:room]
 
@@ -31,7 +32,7 @@ def line_in(room, number, place, at):
 class Lines(unittest.TestCase):
     def test_each_fault_has_its_line_at_each_kind_of_place(self):
         words = described()
-        self.assertEqual(len(words), 69)
+        self.assertEqual(len(words), 102)
         for number, (subject, rule) in words.items():
             for place, form in FORMS.items():
                 line = f"fault {number}: {form.format(subject, GREATEST[place])}: {rule}"
@@ -54,6 +55,18 @@ class Lines(unittest.TestCase):
             with self.subTest(room=room):
                 kept = line[: max(room - 1, 0)] + b"\0" if room else b""
                 self.assertEqual(line_in(room, 13, Place.FILE, 0x138), (len(line), kept + b"Z" * (room - len(kept))))
+
+    def test_values_have_the_names_of_the_format(self):
+        names = {
+            petool.Named.MACHINE: {0x8664: "AMD64", 0xAA64: "ARM64", 0x8665: None, 0x18664: None},
+            petool.Named.SUBSYSTEM: {2: "WINDOWS_GUI", 3: "WINDOWS_CUI", 4: None},
+            petool.Named.FLAG: {0x2000: "DLL", 0x2002: None},
+            petool.Named.DLL_FLAG: {0x100: "NX_COMPAT", 0: None},
+            petool.Named.SECTION_FLAG: {0x80000000: "MEM_WRITE", 0x100000: None},
+            petool.Named.DIRECTORY: {0: "export", 15: "reserved", 16: None, -1: None, 1 << 32: None},
+        }
+        for kind, rows in names.items():
+            self.assertEqual({value: petool.name_of(kind, value) for value in rows}, rows)
 
 
 if __name__ == "__main__":

@@ -143,14 +143,6 @@ class Joined(unittest.TestCase):
             # a copy of a row has the names themselves
             self.assertEqual(pickle.loads(pickle.dumps(by_ordinal[1].names[:3])), [b"a" * it for it in (65534, 65532, 65530)])
 
-    def test_a_file_that_is_changed_is_noticed(self):
-        file = bytearray(exporting(1, [0x10], [(WHOLE, 0)]))
-        with petool.Image(file) as image:
-            rows = image.exports.names()
-            put(file, (0x200 + 0x2C, numbers(WHOLE + 12)))
-            with self.assertRaises(RuntimeError):
-                rows[0]
-
     def test_rows_are_not_read_from_a_closed_image(self):
         image = petool.Image(data("vb.dll"))
         exports = image.exports
@@ -160,6 +152,8 @@ class Joined(unittest.TestCase):
         for it in rows:
             with self.assertRaises(ValueError):
                 it[0]
+            with self.assertRaises(ValueError):
+                next(iter(it))
 
 
 if __name__ == "__main__":

@@ -45,21 +45,21 @@ def pip(verb, *words):
 
 class Library(unittest.TestCase):
     def test_layout(self):
-        numbers = (TOP / "bindings" / "c" / "layout.c").read_text()
-        sizes = dict(re.findall(r"SIZE\(petool_(\w+), (\d+)\)", numbers))
+        numbers = (TOP / "bindings" / "c" / "petool.h").read_text()
+        sizes = dict(re.findall(r"^PETOOL_SIZE\(petool_(\w+), (\d+)\)", numbers, re.M))
         self.assertEqual(sorted(sizes), sorted([*RECORDS, *_bytes.LAYOUTS]))
         for name, record in RECORDS.items():
             self.assertEqual(ctypes.sizeof(record), int(sizes[name]), name)
-            places = re.findall(rf"AT\(petool_{name}, (\w+), (\d+)\)", numbers)
+            places = re.findall(rf"PETOOL_AT\(petool_{name}, (\w+), (\d+)\)", numbers)
             self.assertEqual([(field, getattr(record, field).offset) for field, _ in record._fields_],
                              [(field, int(place)) for field, place in places])
         for name, row in _bytes.LAYOUTS.items():
             self.assertEqual(row.size, int(sizes[name]), name)
 
     def test_version(self):
-        self.assertEqual(petool.version(), "1.0")
-        known = [0x10000, 0x10001]
-        self.assertEqual([it for it in (0xFFFF, 0x10000, 0x10001, 0x20000) if _library.is_known(it)], known)
+        self.assertEqual(petool.version(), "2.0")
+        known = [0x20000, 0x20001]
+        self.assertEqual([it for it in (0x10000, 0x1FFFF, 0x20000, 0x20001, 0x30000) if _library.is_known(it)], known)
 
     def test_no_library(self):
         found = run("import petool", "/dev/null")
@@ -74,13 +74,13 @@ class Library(unittest.TestCase):
         with tempfile.TemporaryDirectory() as folder:
             source, installed = os.path.join(folder, "source"), os.path.join(folder, "installed")
             shutil.copytree(PACKAGE, source, ignore=shutil.ignore_patterns("tests", "__pycache__"))
-            shutil.copy(_library.library._name, os.path.join(source, "petool", "libpetool.so.0"))
+            shutil.copy(_library.library._name, os.path.join(source, "petool", "libpetool.so.2"))
             pip("wheel", "--no-build-isolation", "-w", folder, source)
             made = [it for it in os.listdir(folder) if it.endswith(".whl")]
-            self.assertEqual(made, ["petool-1.0-py3-none-linux_x86_64.whl"])
+            self.assertEqual(made, ["petool-2.0-py3-none-linux_x86_64.whl"])
             pip("install", "--target", installed, os.path.join(folder, made[0]))
             environment = {it: value for it, value in os.environ.items() if it != "PETOOL_LIBRARY"}
             environment["PYTHONPATH"] = installed
             code = f"import petool; print(petool.open({str(DATA / 'vb.dll')!r}).exports['g'], petool._library.library._name)"
             out = subprocess.run([sys.executable, "-c", code], cwd=folder, env=environment, capture_output=True, text=True)
-            self.assertEqual(out.stdout, f"Rva(rva=4112) {installed}/petool/libpetool.so.0\n", out.stderr)
+            self.assertEqual(out.stdout, f"Rva(rva=4112) {installed}/petool/libpetool.so.2\n", out.stderr)

@@ -12,7 +12,7 @@ from petool import _library
 from . import DATA, PACKAGE, TOP
 
 #: The library that the pages build.
-BUILT = "/tmp/petool-c/libpetool.so.0"
+BUILT = "/tmp/petool-c/libpetool.so.2"
 
 
 def blocks(page, heading):

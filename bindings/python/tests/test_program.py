@@ -372,7 +372,7 @@ REBASE_ENDS = [
 
 #: `-` as a file, the version, and outputs that their readers have closed.
 DASHES = [
-    replace(SILENT, words=["--version"], file=BROKEN, printed="petool 1.0\n"),
+    replace(SILENT, words=["--version"], file=BROKEN, printed="petool 2.0\n"),
     replace(SILENT, words=["check", "-"], printed="accepted PE32 sections 0\n"),
     replace(
         SILENT, words=["map", "10000000=-"], printed='image 0 "-" base 0x0000000010000000 size 0x00001000\nend\n'
@@ -700,6 +700,7 @@ RED_PAGE = (
 #: The rows of a page of HEADERS that are bold if it has colours: what the file is, and the heading of each table.
 BOLD_ROWS = [
     "a.dll: accepted: PE32 library for I386, 184 bytes", "Sections (0)", "Tables (0)", "Exports (0)", "Imports (0)", "Base relocations (0)",
+    "Trust",
 ]  # fmt: skip
 
 

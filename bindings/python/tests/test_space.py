@@ -111,6 +111,13 @@ class Spaces(unittest.TestCase):
                 thread.join()
         self.assertEqual(wrong, [])
 
+    def test_a_limit_of_bytes(self):
+        images = [("a.dll", data("v1.dll"), 0x10000000), ("b.dll", data("v1.dll"), 0x20000000)]
+        with self.assertRaises(OverflowError):
+            petool.Space(images, most_bytes=0x5FFF)
+        with petool.Space(images, most_bytes=0x6000) as space:
+            self.assertEqual(sum(it.size for it in space.images), 0x6000)
+
 
 class Objects(unittest.TestCase):
     def test_headers_have_every_field_of_the_file(self):

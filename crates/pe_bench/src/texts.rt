@@ -12,6 +12,11 @@ const WHOLE_PAGE: ShowOptions = ShowOptions {
     imports: true,
     relocations: true,
     symbols: true,
+    debug: true,
+    functions: true,
+    tls: true,
+    load: true,
+    trust: true,
     is_coloured: false,
 };
 

@@ -1,6 +1,7 @@
 -- What `json` reads and writes, from the contracts of its steps.
 use Rattle.std.proofs.Common.{◌≡◌, ℕ, ◌+◌, ◌^◌, ◌<◌, ◌≤◌, Bool, List, [], ◌++◌, length, Some, None, Result, Ok, Err, ◌∙◌, sym, subst, inl, inr, refl, append-nil}
-use Rattle.std.specs.Prelude.{IsErrOf, IsErrAnd}
+use Rattle.std.specs.Prelude.{IsErrOf, IsErrAnd, Option}
+use Rattle.pe_view.specs.declared.fault.Fault.{Fault}
 use Rattle.pe_view.specs.Faults.{Test, first_standing}
 use Rattle.pe_image.specs.ImageTests.{image_tests}
 use Rattle.pe_text.specs.declared.outcome.Outcome.{Outcome}
@@ -10,10 +11,10 @@ use Rattle.pe_text.specs.declared.outcome.ToolError.TheVariants.{Read, Write, Me
 use Rattle.pe_text.specs.Engine.{IsWhole, FailsAfter, OnJudged, Puts, Written, Ran}
 use Rattle.pe_text.specs.FileKind.{is_object}
 use Rattle.pe_reach.specs.Reach.{SameAnswers}
-use Rattle.pe_reach.specs.Views.{LookAlike, IsSeen}
+use Rattle.pe_reach.specs.Views.{LookAlike, IsSeen, IsViewed, RefuseView}
 use Rattle.pe_reach.specs.Sized.{IsKnown}
 use Rattle.pe_json.specs.FileLine.{accepted_line, file_line}
-use Rattle.pe_json.specs.JsonReport.{file_tests, IsLine, IsLineOf, IsTold, RanSized}
+use Rattle.pe_json.specs.JsonReport.{file_tests, IsLine, IsLineOf, IsViewLine, IsTold, RanSized}
 use Rattle.pe_json.proofs.SameLines.{alike_lines}
 
 -- what was written, by the result
@@ -53,10 +54,56 @@ pub unread : (name : List ℕ) (len : ℕ) (given given' taken : List ℕ) (ende
     → (input : List ℕ) × (given' ≡ given ++ input) × FailsAfter input count count' error × (length input ≤ 2 ^ 32 + 1) → RanSized name len given given' taken taken ended result
 unread name len given given' taken ended count count' error (Ok outcome) is read = absurd is
 unread name len given given' taken ended count count' Read (Err e) is read =
-    rw is (record { input = read.0; told = 0; written = []; reads = read.1; writes = sym (append-nil taken); text = refl; known = tt; seen = tt; limit = read.3; memory = λ is. cc })
+    rw is (record { input = read.0; told = 0; refused = None; written = []; reads = read.1; writes = sym (append-nil taken); text = refl; known = tt; seen = tt; limit = read.3; memory = λ is. cc })
 unread name len given given' taken ended count count' Write (Err e) is read = absurd read.2
 unread name len given given' taken ended count count' Memory (Err e) is read =
-    rw is (record { input = read.0; told = 0; written = []; reads = read.1; writes = sym (append-nil taken); text = refl; known = tt; seen = tt; limit = read.3; memory = λ is. read.2.0 })
+    rw is (record { input = read.0; told = 0; refused = None; written = []; reads = read.1; writes = sym (append-nil taken); text = refl; known = tt; seen = tt; limit = read.3; memory = λ is. read.2.0 })
+
+-- what was read, by the fault of its first bytes
+pub seen_view : (ended : Bool) (len told : ℕ) (input : List ℕ) (refused : Option Fault) → IsViewed ended len input told refused → refused ≡ None → IsSeen ended len input told
+seen_view ended len told input refused viewed is = subst (λ (fault : Option Fault). IsViewed ended len input told fault) is viewed
+
+pub refused_view : (ended : Bool) (len told : ℕ) (input : List ℕ) (refused : Option Fault) (fault : Fault) → IsViewed ended len input told refused → refused ≡ Some fault → RefuseView len input fault × (told ≡ len)
+refused_view ended len told input refused fault viewed is = subst (λ (fault : Option Fault). IsViewed ended len input told fault) is viewed
+
+-- one that refused a file by its first bytes
+refused_by : (name : List ℕ) (len told : ℕ) (given given' taken taken' : List ℕ) (ended : Bool) (count count' : ℕ) (result : Result Outcome ToolError) (input : List ℕ) (fault : Fault)
+    → given' ≡ given ++ input → RefuseView len input fault × (told ≡ len) → length input ≤ 2 ^ 32 + 1 → Puts (IsViewLine name told input (Some fault)) taken taken' count count' result → (IsErrOf result Memory → ⊥)
+    → RanSized name len given given' taken taken' ended result
+refused_by name len told given given' taken taken' ended count count' (Ok outcome) input fault reads seen limit puts never = record {
+  input = input;
+  told = told;
+  refused = Some fault;
+  written = puts.0;
+  reads = reads;
+  writes = puts.1;
+  text = puts.2.0;
+  known = inr (λ file b. rw puts.2.0.0 (seen.0 file b));
+  seen = seen;
+  limit = limit;
+  memory = λ is. absurd (never is);
+}
+refused_by name len told given given' taken taken' ended count count' (Err Read) input fault reads seen limit puts never = absurd puts.2
+refused_by name len told given given' taken taken' ended count count' (Err Write) input fault reads seen limit puts never = record {
+  input = input;
+  told = told;
+  refused = Some fault;
+  written = puts.0;
+  reads = reads;
+  writes = puts.1;
+  text = puts.2.1;
+  known = tt;
+  seen = seen;
+  limit = limit;
+  memory = λ is. absurd (never is);
+}
+refused_by name len told given given' taken taken' ended count count' (Err Memory) input fault reads seen limit puts never = absurd (never refl)
+
+pub ran_refused : (name : List ℕ) (len told : ℕ) (given given' taken taken' : List ℕ) (ended : Bool) (count count' : ℕ) (result : Result Outcome ToolError) (bytes input : List ℕ) (size : ℕ) (fault : Fault)
+    → bytes ≡ input → size ≡ told → given' ≡ given ++ input → RefuseView len input fault × (told ≡ len) → length input ≤ 2 ^ 32 + 1 → Puts (IsViewLine name size bytes (Some fault)) taken taken' count count' result
+    → (IsErrOf result Memory → ⊥) → RanSized name len given given' taken taken' ended result
+ran_refused name len told given given' taken taken' ended count count' result bytes input size fault same is reads seen limit puts never =
+    refused_by name len told given given' taken taken' ended count count' result input fault reads seen limit (rw (same, is) at puts) never
 
 module _ (first : (number : ℕ) (f g : List ℕ) → SameAnswers f g → first_standing (image_tests number f) ≡ first_standing (image_tests number g)) where
   -- a file that begins with `MZ` is tested as an image
@@ -88,6 +135,7 @@ module _ (first : (number : ℕ) (f g : List ℕ) → SameAnswers f g → first_
   ran_seen name len told given given' taken taken' ended count count' (Ok outcome) input reads seen limit puts memory = record {
     input = input;
     told = told;
+    refused = None;
     written = puts.0;
     reads = reads;
     writes = puts.1;
@@ -101,6 +149,7 @@ module _ (first : (number : ℕ) (f g : List ℕ) → SameAnswers f g → first_
   ran_seen name len told given given' taken taken' ended count count' (Err Write) input reads seen limit puts memory = record {
     input = input;
     told = told;
+    refused = None;
     written = puts.0;
     reads = reads;
     writes = puts.1;
@@ -113,6 +162,7 @@ module _ (first : (number : ℕ) (f g : List ℕ) → SameAnswers f g → first_
   ran_seen name len told given given' taken taken' ended count count' (Err Memory) input reads seen limit puts memory = record {
     input = input;
     told = told;
+    refused = None;
     written = puts.0;
     reads = reads;
     writes = puts.1;

@@ -1,18 +1,20 @@
 -- What `json` returns for a file, and what it reads and writes.
-use Rattle.std.specs.Prelude.{ℕ, ◌≡◌, ◌<◌, ◌≤◌, ◌+◌, ◌^◌, Bool, List, ◌++◌, length, None, Some, Result, IfOk, IsErrOf}
+use Rattle.std.specs.Prelude.{ℕ, ◌≡◌, ◌<◌, ◌≤◌, ◌+◌, ◌^◌, Bool, List, [], ◌++◌, length, Option, None, Some, Result, IfOk, IsErrOf}
 use Rattle.pe_text.specs.declared.outcome.Outcome.{Outcome}
 use Rattle.pe_text.specs.declared.outcome.Outcome.TheVariants.{Done, Refused}
 use Rattle.pe_text.specs.declared.outcome.ToolError.{ToolError}
 use Rattle.pe_text.specs.declared.outcome.ToolError.TheVariants.{Memory}
 use Rattle.pe_text.specs.Engine.{OnJudged, Written}
+use Rattle.pe_view.specs.declared.fault.Fault.{Fault}
 use Rattle.pe_view.specs.Faults.{Test, first_standing}
 use Rattle.pe_image.specs.ImageTests.{image_tests}
 use Rattle.coff_read.specs.ObjectFaults.{object_tests}
 use Rattle.pe_text.specs.FileKind.{tests_by_kind}
 use Rattle.pe_text.specs.Outcome.{IsOutcomeOf}
 use Rattle.pe_reach.specs.Sized.{IsKnown}
-use Rattle.pe_reach.specs.Views.{IsSeen}
+use Rattle.pe_reach.specs.Views.{IsViewed}
 use Rattle.pe_json.specs.FileLine.{accepted_line, file_line}
+use Rattle.pe_json.specs.Refused.{refused_line}
 
 -- the tests of a file: those of an object if its first bytes are those of one, otherwise those of an image with the number 0
 abbrev pub file_tests : List ℕ → List Test
@@ -26,21 +28,28 @@ IsLine name size file outcome text = IsOutcomeOf (file_tests file) outcome × (t
 abbrev pub IsLineOf : List ℕ → List ℕ → Outcome → List ℕ → Type 0
 IsLineOf name file = IsLine name (length file) file
 
+-- the same; and if the bytes that were read refuse the file by a fault, the line says nothing else of it
+abbrev pub IsViewLine : List ℕ → ℕ → List ℕ → Option Fault → Outcome → List ℕ → Type 0
+IsViewLine name size file None outcome text = IsLine name size file outcome text
+IsViewLine name size file (Some fault) outcome text = (outcome ≡ Refused fault) × (text ≡ refused_line name file size fault [])
+
 -- an outcome is that of a file, and so is the text if the file has no fault
 abbrev pub IsTold : List ℕ → Outcome → List ℕ → List ℕ → Type 0
 IsTold name Done text file = (first_standing (file_tests file) ≡ None) × (text ≡ accepted_line name file)
 IsTold name (Refused fault) text file = first_standing (file_tests file) ≡ Some fault
 
 -- What the engine read and wrote over a file of a known size. The line is that of what it read of the file, whose size it tells as
--- `told`; and if it has no fault, that of each file of the size that begins so.
+-- `told`; and if it has no fault, that of each file of the size that begins so. `refused` is the fault by which the first bytes
+-- refuse the file, if no more were read because of it.
 pub record RanSized (name : List ℕ) (len : ℕ) (given given' taken taken' : List ℕ) (ended : Bool) (result : Result Outcome ToolError) : Type 0 where
   pub input : List ℕ
   pub told : ℕ
+  pub refused : Option Fault
   pub written : List ℕ
   pub reads : given' ≡ given ++ input
   pub writes : taken' ≡ taken ++ written
-  pub text : Written (IsLine name told input) result written
+  pub text : Written (IsViewLine name told input refused) result written
   pub known : IfOk result (λ outcome. IsKnown ended len input (IsTold name outcome written))
-  pub seen : OnJudged result (IsSeen ended len input told)
+  pub seen : OnJudged result (IsViewed ended len input told refused)
   pub limit : length input ≤ 2 ^ 32 + 1
   pub memory : IsErrOf result Memory → 0 < length input

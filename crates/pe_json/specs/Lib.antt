@@ -21,3 +21,4 @@ pub mod Refused
 pub mod Sections
 pub mod Strings
 pub mod TableRows
+pub mod Value

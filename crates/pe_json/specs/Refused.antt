@@ -78,7 +78,10 @@ fixups_if (Some fixups) = fixups_members fixups
 abbrev pub kind_of_refused : Fault → List ℕ → Option (List ℕ)
 kind_of_refused fault seen = option_map kind_name (other_kind fault.number seen)
 
--- the line of a file of a size that is refused by a fault, with the members of what has none; `seen` are its bytes as views see them
+-- the line of a refused file: what it is instead, its fault with the numbers that the rule compares, and the members of what has none
+abbrev pub refused_by : List ℕ → Option (List ℕ) → Fault → Option Detail → List (List ℕ) → List ℕ
+refused_by file kind fault detail members = line file false ((text_if (codes "kind") kind ++ fault_members fault detail) ++ members)
+
+-- the same of a file of a size; `seen` are its bytes as views see them
 abbrev pub refused_line : List ℕ → List ℕ → ℕ → Fault → List (List ℕ) → List ℕ
-refused_line file seen size fault members = line file false
-    ((text_if (codes "kind") (kind_of_refused fault seen) ++ fault_members fault (fault_detail seen size fault)) ++ members)
+refused_line file seen size fault members = refused_by file (kind_of_refused fault seen) fault (fault_detail seen size fault) members

@@ -1,12 +1,12 @@
 //! `json`: the engine of `petool json`, which checks a file as an image or an object and writes its line.
 
-ghost use Rattle.std.specs.Prelude.{◌≡◌, ◌-◌, ◌^◌, ◌<◌, ◌↔◌, length, None, IfOk, IfSome, OnErr, IsErrOf};
+ghost use Rattle.std.specs.Prelude.{◌≡◌, ◌-◌, ◌^◌, ◌<◌, ◌↔◌, length, None, Some, IfOk, IfSome, OnErr, IsErrOf};
 ghost use Rattle.coff_read.specs.ObjectFaults.{object_tests};
 ghost use Rattle.pe_image.specs.ImageOf.{IsImageOf};
 ghost use Rattle.pe_image.specs.ImageTests.{image_tests};
 ghost use Rattle.pe_json.specs.ExportRows.{AreNamesOf};
 ghost use Rattle.pe_json.specs.FileLine.{image_members, image_file_line, object_file_line, file_line};
-ghost use Rattle.pe_json.specs.JsonReport.{file_tests, IsLine, IsLineOf, RanSized};
+ghost use Rattle.pe_json.specs.JsonReport.{file_tests, IsLine, IsLineOf, IsViewLine, RanSized};
 ghost use Rattle.pe_json.specs.Refused.{refused_line};
 ghost use Rattle.pe_layout.specs.Layout.{IsLayoutOf};
 ghost use Rattle.pe_layout.specs.SectionFaults.{layout_tests};
@@ -212,6 +212,26 @@ fn print_line<A: Allocator + Copy, W: Sink>(
     }
 }
 
+/// Writes the line of a file that its first bytes refuse.
+fn print_refused<W: Sink>(
+    writer: &mut W,
+    name: &[u8],
+    file: ViewFile,
+    fault: Fault,
+) -> Result<Outcome, ToolError>
+    requires { W.failures writer.old < 2 ^ 64 - 1 }
+    ensures puts { Puts (IsViewLine name.now (told_of file.entry) (seen_of file.entry) (Some fault)) (W.taken writer.old) (W.taken writer.new)
+        (W.failures writer.old) (W.failures writer.new) result }
+    ensures memory { IsErrOf result ToolError.Memory → ⊥ }
+{
+    let mut text = TextWriter::new(writer);
+    refuse(&mut text, name, file, &fault);
+    match text.finish() {
+        Ok(()) => Ok(Outcome::Refused(fault)),
+        Err(_) => Err(ToolError::Write),
+    }
+}
+
 /// Writes one JSON object and a line feed for the image or object whose file comes from the reader: its content; or its first
 /// fault, and of an image what has no fault, as [`crate`] says. `name` is that of the file in the line.
 ///
@@ -241,8 +261,9 @@ pub fn json<A: Allocator + Copy, R: Source, W: Sink>(
 
 /// [`json`] for a file of `len` bytes. Of an image no more is read than the bytes before the end that its headers name, and those
 /// before the end of its string table if a name of a section may be in it. The outcome is that of each file of `len` bytes that
-/// begins so, and so is the line of an image without a fault; that of a refused one is what is told of the bytes that were read. A
-/// file that does not begin with `MZ`, and one whose first 4,096 bytes do not say where that end is, is read whole.
+/// begins so, and so is the line of an image without a fault; that of a refused one is what is told of the bytes that were read. Of
+/// a file that its size or its first bytes refuse, as [`pe_reach::view_fault`] says, at most 4,096 bytes are read. An object, and a
+/// file whose first 4,096 bytes do not say where that end is, is read whole.
 ///
 /// The errors and the conditions are those of [`json`].
 pub fn json_sized<A: Allocator + Copy, R: Source, W: Sink>(
@@ -261,5 +282,8 @@ pub fn json_sized<A: Allocator + Copy, R: Source, W: Sink>(
 {
     let seen = read_view(alloc, reader, len)?;
     faults_agree();
-    print_line(alloc, writer, name, seen.file())
+    match seen.refused() {
+        Some(fault) => print_refused(writer, name, seen.file(), fault),
+        None => print_line(alloc, writer, name, seen.file()),
+    }
 }

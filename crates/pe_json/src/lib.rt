@@ -26,6 +26,7 @@ mod fault;
 mod flags;
 mod headers;
 mod image;
+pub mod laws;
 mod object;
 mod object_sections;
 mod optional_header;

@@ -10,8 +10,8 @@
 //!
 //! [`check_sized`] and [`dump_sized`] take the file's size too, and read only as much of the file as decides the output;
 //! [`check_parts`] and [`dump_parts`] read only its headers and the sections with tables, if these decide it.
-//! [`check_text`] and [`dump_text`] write the output for a file that was read. [`sum`] computes its CheckSum. [`write_key`] adds the name or the ordinal of an
-//! import.
+//! [`check_text`] and [`dump_text`] write the output for a file that was read. [`sum`] computes its CheckSum, and [`sum_sized`] does
+//! of a file of a known size. [`write_key`] adds the name or the ordinal of an import.
 #![tactic(auto)]
 
 mod dump_lines;
@@ -26,5 +26,5 @@ mod table_lines;
 pub use engine::{check, check_text, dump, dump_text};
 pub use parts::{check_parts, dump_parts};
 pub use sized::{check_sized, dump_sized};
-pub use sum_line::{sum, sum_text};
+pub use sum_line::{sum, sum_sized, sum_text};
 pub use table_lines::write_key;

@@ -1,15 +1,17 @@
-//! `sum`: the engine that computes the CheckSum of an image's file.
+//! `sum` and `sum_sized`: the engine that computes the CheckSum of an image's file.
 
 ghost use Rattle.std.specs.Prelude.{◌≡◌, ◌-◌, ◌^◌, ◌<◌, ◌↔◌, length, IsErrOf};
 ghost use Rattle.pe_text.specs.Engine.{Puts, Ran};
 ghost use Rattle.pe_text.specs.TextWriter.{IsReady, Adds};
+ghost use Rattle.pe_reach.specs.Sized.{RanSized};
 ghost use Rattle.pe_lines.specs.SumLine.{IsSumText, sum_line};
 
 use pe_head::read_headers;
+use pe_reach::size_fault;
 use pe_text::Part::{Hex8, Text};
 use pe_text::{
     Outcome, Report, Sink, Source, TextWriter, ToolError, refuse, run_report, write_parts,
-    write_report,
+    write_refusal, write_report,
 };
 use pe_trust::check_sum;
 use pe_view::View;
@@ -76,6 +78,28 @@ pub fn sum<A: Allocator + Copy, R: Source, W: Sink>(
     ensures write { IsErrOf result ToolError.Write ↔ (W.failures writer.old < W.failures writer.new) }
 {
     run_report(&SumReport, alloc, reader, writer)
+}
+
+/// [`sum`] for a file of `len` bytes: nothing is read of one that is larger than any image's file may be.
+///
+/// The line, the errors and the conditions are those of [`sum`].
+pub fn sum_sized<A: Allocator + Copy, R: Source, W: Sink>(
+    alloc: A,
+    reader: &mut R,
+    len: u64,
+    writer: &mut W,
+) -> Result<Outcome, ToolError>
+    requires reads { R.failures reader.old < 2 ^ 64 - 1 }
+    requires writes { W.failures writer.old < 2 ^ 64 - 1 }
+    ensures ran { RanSized IsSumText len (R.given reader.old) (R.given reader.new)
+        (W.taken writer.old) (W.taken writer.new) (R.ended reader.new) result }
+    ensures read { IsErrOf result ToolError.Read ↔ (R.failures reader.old < R.failures reader.new) }
+    ensures write { IsErrOf result ToolError.Write ↔ (W.failures writer.old < W.failures writer.new) }
+{
+    match size_fault(len) {
+        Some(fault) => write_refusal(writer, fault),
+        None => sum(alloc, reader, writer),
+    }
 }
 
 /// The output of [`sum`] for a file that was read whole, and that its caller keeps. On the error, which is `Write`, the beginning of

@@ -82,6 +82,13 @@ impl<'a> OpenedImage<'a> {
         self.image.exports.names()
     }
 
+    /// The ordinal of each of [`OpenedImage::names`], in their order.
+    pub fn name_ordinals(&self) -> &[u64]
+        ensures { result.now ≡ (exports_of (image_of_file 0 self.now)).name_ordinals }
+    {
+        self.image.exports.name_ordinals()
+    }
+
     /// The imports, in the order of the import table.
     pub fn imports(&self) -> &[Import<'a>]
         ensures { map import_view result.now ≡ imports_of (image_of_file 0 self.now) }

@@ -319,10 +319,234 @@ static EXPLAINED: [Explained; 69] = [
     ),
 ];
 
+/// All findings, by number.
+static FINDINGS_EXPLAINED: [Explained; 33] = [
+    (
+        101,
+        Some(
+            "A run is the headers or the raw data of one section. The entries that are entirely in it are read.",
+        ),
+        "a damaged directory, or an image that was packed and whose directory was left as it was",
+    ),
+    (
+        102,
+        Some("An entry has 28 bytes."),
+        "a damaged directory, or a linker that gave the size of something else",
+    ),
+    (
+        103,
+        Some("The data has SizeOfData bytes from PointerToRawData on."),
+        "an image whose debug data was stripped from the end of its file",
+    ),
+    (
+        104,
+        Some("Data that is not part of the image has an AddressOfRawData of 0."),
+        "a damaged directory",
+    ),
+    (
+        105,
+        Some("The path is that of the PDB file. It is read up to the end of the data."),
+        "a tool that changed the path of the PDB file and not the size of the data",
+    ),
+    (
+        111,
+        Some(
+            "A run is the headers or the raw data of one section. The functions that are entirely in it are read.",
+        ),
+        "an image that was packed and whose directory was left as it was",
+    ),
+    (
+        112,
+        Some("A function has 12 bytes in an image for AMD64, and 8 in one for ARM64 or ARMNT."),
+        "a damaged directory",
+    ),
+    (113, None, "a damaged table"),
+    (
+        114,
+        Some(
+            "A function of ARM64 or ARMNT has no end in the table: it must begin inside the image.",
+        ),
+        "a damaged table",
+    ),
+    (
+        115,
+        Some("For AMD64 an odd RVA is that of another function in the table, plus 1."),
+        "a damaged table",
+    ),
+    (
+        116,
+        Some("The functions must ascend, since a binary search finds that of an address."),
+        "an image that was linked by a tool that does not sort the table",
+    ),
+    (
+        131,
+        Some(
+            "A run is the headers or the raw data of one section. The fields that are entirely in it are read.",
+        ),
+        "an image that was packed, or a damaged directory",
+    ),
+    (
+        132,
+        Some("The template is the data from StartAddressOfRawData to EndAddressOfRawData."),
+        "a damaged directory",
+    ),
+    (
+        133,
+        Some(
+            "The fields are addresses of the image at its ImageBase. The template may end where the image does.",
+        ),
+        "a dump of a process at another base, or an image that was rebased without its directory",
+    ),
+    (
+        134,
+        Some("The field is an address of the image at its ImageBase, or 0."),
+        "a dump of a process at another base, or an image that was rebased without its directory",
+    ),
+    (
+        135,
+        Some("A run is the headers or the raw data of one section."),
+        "a damaged table, or files made to exhaust a reader",
+    ),
+    (
+        136,
+        Some("A callback is an address of the image at its ImageBase."),
+        "a dump of a process at another base, or an image that sets its callbacks while it runs",
+    ),
+    (
+        141,
+        Some("The first field, Size, says how many bytes the load configuration has."),
+        "a damaged directory",
+    ),
+    (
+        142,
+        Some(
+            "A run is the headers or the raw data of one section. The fields that are entirely in it are read.",
+        ),
+        "a damaged load configuration",
+    ),
+    (
+        143,
+        Some("The field has 4 bytes."),
+        "a load configuration that was left empty",
+    ),
+    (
+        144,
+        Some("A run is the headers or the raw data of one section. An entry has 4 bytes."),
+        "an image that was packed, or a dump of a process at another base",
+    ),
+    (
+        145,
+        Some(
+            "A run is the headers or the raw data of one section. An entry has 4 bytes, and as many more as the top four bits of GuardFlags say.",
+        ),
+        "an image that was packed, or a dump of a process at another base",
+    ),
+    (
+        146,
+        Some(
+            "A run is the headers or the raw data of one section. An entry has 4 bytes, and as many more as the top four bits of GuardFlags say.",
+        ),
+        "an image that was packed, or a dump of a process at another base",
+    ),
+    (
+        147,
+        Some(
+            "A run is the headers or the raw data of one section. An entry has 4 bytes, and as many more as the top four bits of GuardFlags say.",
+        ),
+        "an image that was packed, or a dump of a process at another base",
+    ),
+    (
+        151,
+        Some("A record has 8 bytes. A run is the headers or the raw data of one section."),
+        "a damaged directory, or a tool that wrote over the table, which is often in the headers",
+    ),
+    (
+        152,
+        Some("The name is at OffsetModuleName from the beginning of the table."),
+        "a damaged table",
+    ),
+    (
+        221,
+        Some(
+            "The first field of directory 4 is a file offset. The certificates that are entirely in the file are read.",
+        ),
+        "an image whose signature was cut off, and whose directory was left as it was",
+    ),
+    (
+        222,
+        Some(
+            "A certificate begins with its length, of these eight bytes too. No further one is read.",
+        ),
+        "an image whose signature was cut off, or whose table is padded to more than the next multiple of 8",
+    ),
+    (
+        223,
+        Some(
+            "A signature does not sign its own table, so what is in the table and in the image could be changed.",
+        ),
+        "files made to smuggle bytes past a signature",
+    ),
+    (
+        224,
+        None,
+        "a signature that was appended by a tool that does not pad the file",
+    ),
+    (
+        241,
+        Some(
+            "Linkers of Microsoft write between the MS-DOS program and the signature which tools made the image.",
+        ),
+        "an image whose Rich header was overwritten in part",
+    ),
+    (
+        251,
+        Some(
+            "Its first field, cb, says how many bytes it has. A run is the headers or the raw data of one section.",
+        ),
+        "a damaged directory, or an image whose managed code was encrypted by a packer",
+    ),
+    (
+        252,
+        Some(
+            "The directories are the metadata, the resources, the strong name signature, the code manager table, the vtable fixups, the export address table jumps and the managed native header.",
+        ),
+        "an image whose managed code was encrypted by a packer",
+    ),
+];
+
 /// The rows of all faults. Only this function names the table, since the prover proves the table again for each function that
 /// does.
 fn explained() -> &'static [Explained] {
     &EXPLAINED
+}
+
+/// The rows of all findings, in a table of their own: both in one were too many for the prover.
+fn explained_findings() -> &'static [Explained] {
+    &FINDINGS_EXPLAINED
+}
+
+/// Whether a number is that of a finding, a rule of a table beyond the profile, and not of a fault, by which files are refused.
+fn is_finding(number: u16) -> bool {
+    number > 100
+}
+
+/// What a number is of.
+fn kind_of(number: u16) -> &'static str {
+    if is_finding(number) {
+        "finding"
+    } else {
+        "fault"
+    }
+}
+
+/// The row of a fault or a finding, if there is one.
+fn row_of(number: u16) -> Option<&'static Explained> {
+    let rows = if is_finding(number) {
+        explained_findings()
+    } else {
+        explained()
+    };
+    rows.iter().find(|row| row.0 == number)
 }
 
 /// Prints the meaning of a fault.
@@ -331,7 +555,8 @@ fn print_fault(rt: &impl Print, row: &Explained) -> io::Result<()> {
     let Some(FaultWords { subject, rule }) = fault_words(number) else {
         return Ok(());
     };
-    println!(rt; "fault {number}: {subject}: {rule}")?;
+    let kind = kind_of(number);
+    println!(rt; "{kind} {number}: {subject}: {rule}")?;
     if let Some(more) = more {
         println!(rt; "  {more}")?;
     }
@@ -351,6 +576,9 @@ fn print_list(rt: &impl Print) -> io::Result<()> {
     for (number, _, _) in explained() {
         print_words(rt, *number)?;
     }
+    for (number, _, _) in explained_findings() {
+        print_words(rt, *number)?;
+    }
     Ok(())
 }
 
@@ -358,7 +586,7 @@ fn print_list(rt: &impl Print) -> io::Result<()> {
 pub(crate) fn run_explain(rt: &(impl Print + Eprint), number: Option<u16>) -> u8 {
     let printed = match number {
         None => print_list(rt),
-        Some(number) => match explained().iter().find(|row| row.0 == number) {
+        Some(number) => match row_of(number) {
             Some(row) => print_fault(rt, row),
             None => {
                 let _ = eprintln!(rt; "petool: there is no fault {number}");

@@ -26,6 +26,7 @@ where
                 None => detail_of(rt.alloc(), file, &fault),
                 known => known,
             };
+            file.read_kind();
             tell_fault(rt, name, fault, detail, file.first());
         }
         Err(ToolError::Write) => tell_failure(rt, STANDARD_OUTPUT, ToolError::Write, printed.error),

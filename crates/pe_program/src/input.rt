@@ -14,6 +14,9 @@ use std::rt::Files;
 /// How many of its first bytes an input keeps; headers and section tables that linkers write are among them.
 const FIRST_BYTES: usize = 1 << 12;
 
+/// How many of its first bytes show the kind of a file.
+const KIND_BYTES: usize = 16;
+
 /// The source of the bytes.
 #[derive(Drop)]
 enum Stream<F, S> {
@@ -52,6 +55,14 @@ impl<F: Read, S: Read> InputFile<F, S> {
     pub fn first(&self) -> &[u8] {
         let len = usize::try_from(self.len).unwrap_or(FIRST_BYTES);
         self.first.get(..len).unwrap_or(&self.first)
+    }
+
+    /// Reads the first bytes, by which its kind is known, if none were read.
+    pub fn read_kind(&mut self) {
+        if self.len == 0 {
+            let mut first = [0; KIND_BYTES];
+            let _ = self.read(&mut first);
+        }
     }
 
     /// How many bytes were read.

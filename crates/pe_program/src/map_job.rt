@@ -1,20 +1,30 @@
 //! The command `map`: reads files, maps them and prints the report.
 
 use crate::import_fault::{import_of, tell_import_fault};
-use crate::input::{name_of, open_file};
+use crate::input::{InputFile, name_of, open_file};
 use crate::messages::{STANDARD_OUTPUT, refuse_memory, refuse_path, tell_failure, tell_fault};
 use crate::statuses::OUT_OF_MEMORY;
 use crate::texts::{Printed, Text, print_text};
 use crate::word_bytes::bytes_of;
 use pe_tool::{
-    Counted, MapFile, Outcome, Policy, SetEntry, ToolError, fault_detail, read_enough, read_whole,
-    status,
+    Counted, MapFile, Outcome, Policy, SetEntry, ToolError, fault_detail, map_report, read_enough,
+    read_whole, size_fault, status,
 };
 use pe_view::{Fault, View};
 use std::alloc::{AllocError, Allocator};
 use std::borrow::CowSlice;
 use std::io::{Input, Read};
 use std::rt::Files;
+
+/// The fault of a file that has too few bytes for any image.
+const FEW_BYTES: u16 = 2;
+
+/// The size of the room for the line of a fault, in bytes.
+const LINE_ROOM: usize = 1 << 8;
+
+/// What was read of a file: as many bytes as decide the report, and the fault of one that is too large. Of such a file only the first
+/// bytes were read, which show its kind; they are too few for an image, so that its place in a set has a fault.
+type Content<A> = (Vec<u8, A>, Option<Fault>);
 
 /// Reads a file: as far as it decides the report if its size is known, otherwise to its end.
 fn read_bytes<A: Allocator + Copy>(
@@ -29,8 +39,29 @@ fn read_bytes<A: Allocator + Copy>(
     }
 }
 
+/// Reads the bytes of a file that show its kind.
+fn read_kind<A: Allocator + Copy, F: Read, S: Read>(
+    alloc: A,
+    file: &mut InputFile<F, S>,
+) -> Result<Vec<u8, A>, ToolError> {
+    file.read_kind();
+    let mut bytes = Vec::new(alloc);
+    match bytes.extend_from_slice(file.first()) {
+        Ok(()) => Ok(bytes),
+        Err(_) => Err(ToolError::Memory),
+    }
+}
+
+/// The fault of a file of this size, if that is known and too large.
+fn size_fault_of(size: Option<u64>) -> Option<Fault> {
+    match size {
+        Some(size) => size_fault(size),
+        None => None,
+    }
+}
+
 /// Reads a file, or reports the failure and returns the exit status.
-fn read_file<R: Files + Input + Eprint + Alloc>(rt: &R, path: &str) -> Result<Vec<u8, R::A>, u8>
+fn read_file<R: Files + Input + Eprint + Alloc>(rt: &R, path: &str) -> Result<Content<R::A>, u8>
 where
     R::A: Copy,
 {
@@ -42,11 +73,18 @@ where
         Err(error) => return Err(refuse_path(rt, &name, error)),
     };
     let size = file.size();
-    let answer = read_bytes(rt.alloc(), &mut file, size);
-    answer.map_err(|failure| {
-        tell_failure(rt, &name, failure, file.error());
-        status(&Err(failure))
-    })
+    let large = size_fault_of(size);
+    let answer = match large {
+        Some(_) => read_kind(rt.alloc(), &mut file),
+        None => read_bytes(rt.alloc(), &mut file, size),
+    };
+    match answer {
+        Ok(bytes) => Ok((bytes, large)),
+        Err(failure) => {
+            tell_failure(rt, &name, failure, file.error());
+            Err(status(&Err(failure)))
+        }
+    }
 }
 
 /// Reports on standard error that memory for `map` ran out, and returns the exit status.
@@ -55,18 +93,19 @@ fn refuse_map(rt: &impl Eprint) -> u8 {
     OUT_OF_MEMORY
 }
 
-/// Reads files in order, up to the first that fails.
+/// Reads files in order, up to the first that fails, and adds to `large` the fault of each that is too large.
 fn read_files<R: Files + Input + Eprint + Alloc>(
     rt: &R,
     files: &[MapFile],
+    large: &mut Vec<Option<Fault>, R::A>,
 ) -> Result<Vec<Vec<u8, R::A>, R::A>, u8>
 where
     R::A: Copy,
 {
     let mut contents = Vec::new(rt.alloc());
     for file in files {
-        let bytes = read_file(rt, file.path.as_str())?;
-        if contents.push(bytes).is_err() {
+        let (bytes, fault) = read_file(rt, file.path.as_str())?;
+        if contents.push(bytes).is_err() || large.push(fault).is_err() {
             return Err(refuse_map(rt));
         }
     }
@@ -100,6 +139,55 @@ fn set_of<'a, A: Allocator>(
             base: file.base,
         })
         .collect(alloc)
+}
+
+/// The first fault of a set, of which some files may be too large, where `fault` is that of the set with their first bytes alone.
+fn fault_in(large: &[Option<Fault>], fault: Fault) -> Fault {
+    match large.get(usize::from(fault.image)) {
+        Some(Some(own)) if fault.number == FEW_BYTES => Fault {
+            image: fault.image,
+            ..*own
+        },
+        _ => fault,
+    }
+}
+
+/// The fault by which a set is refused that has a file which is too large; `None` if it has none.
+fn large_fault<A: Allocator + Copy>(
+    alloc: A,
+    policy: Policy,
+    set: &[SetEntry],
+    large: &[Option<Fault>],
+) -> Result<Option<Fault>, ToolError> {
+    if large.iter().all(|fault| fault.is_none()) {
+        return Ok(None);
+    }
+    let mut line = [0; LINE_ROOM];
+    let mut writer = Counted::new(&mut line[..]);
+    match map_report(alloc, set, policy, None, &mut writer) {
+        Ok(Outcome::Refused(fault)) => Ok(Some(fault_in(large, fault))),
+        Ok(Outcome::Done) => Ok(None),
+        Err(failure) => Err(failure),
+    }
+}
+
+/// What to print of a set: the line of a fault, if it is refused because a file is too large, or else its report.
+fn text_of<'a, F>(
+    set: &'a [SetEntry<'a>],
+    policy: Policy,
+    window: Option<(u64, u32)>,
+    is_unbound: bool,
+    large: Option<Fault>,
+) -> Text<'a, F> {
+    match large {
+        Some(fault) => Text::Refusal(fault),
+        None => Text::Map {
+            set,
+            policy,
+            window,
+            is_unbound,
+        },
+    }
 }
 
 /// Reports a fault of an image of a set.
@@ -155,7 +243,8 @@ fn print_map<R: Files + Input + Print + Eprint + Alloc>(
 where
     R::A: Copy,
 {
-    let contents = match read_files(rt, files) {
+    let mut large = Vec::new(rt.alloc());
+    let contents = match read_files(rt, files, &mut large) {
         Ok(contents) => contents,
         Err(status) => return status,
     };
@@ -165,12 +254,10 @@ where
     let Ok(set) = set_of(rt.alloc(), files, &names, &contents) else {
         return refuse_map(rt);
     };
-    let text: Text<'_, R::File> = Text::Map {
-        set: &set,
-        policy,
-        window,
-        is_unbound,
+    let Ok(fault) = large_fault(rt.alloc(), policy, &set, &large) else {
+        return refuse_map(rt);
     };
+    let text: Text<'_, R::File> = text_of(&set, policy, window, is_unbound, fault);
     tell_set(rt, files, &set, print_text(rt, text))
 }
 

@@ -1,5 +1,7 @@
 //! The command `rebase`: writes the file of an image for another base.
 
+ghost use Rattle.std.specs.Prelude.{◌-◌, ◌^◌, ◌<◌};
+
 use crate::file_job::tell;
 use crate::input::{InputFile, name_of, open_file};
 use crate::messages::{STANDARD_OUTPUT, refuse_memory, refuse_path, tell_failure};
@@ -7,7 +9,7 @@ use crate::statuses::{DEVICE_FAILED, DONE, OUT_OF_MEMORY};
 use crate::target::Target;
 use crate::texts::Printed;
 use crate::word_bytes::{bytes_of, is_marked};
-use pe_tool::{Counted, Outcome, ShownName, ToolError, rebase};
+use pe_tool::{Counted, Outcome, ShownName, Sink, Source, ToolError, rebase, rebase_sized};
 use pe_view::View;
 use std::alloc::{AllocError, Allocator};
 use std::borrow::CowSlice;
@@ -19,25 +21,46 @@ use std::{fs, str};
 /// The size of the room for the line, in bytes.
 const LINE_ROOM: usize = 1 << 8;
 
+/// Runs the engine over a source, whose size may be known.
+fn rebase_from<A: Allocator + Copy, R: Source, O: Sink, W: Sink>(
+    alloc: A,
+    base: u64,
+    reader: &mut R,
+    size: Option<u64>,
+    out: &mut O,
+    line: &mut W,
+) -> Result<Outcome, ToolError>
+    requires reads { R.failures reader.old < 2 ^ 64 - 1 }
+    requires outs { O.failures out.old < 2 ^ 64 - 1 }
+    requires writes { W.failures line.old < 2 ^ 64 - 1 }
+{
+    match size {
+        Some(size) => rebase_sized(alloc, reader, size, base, out, line),
+        None => rebase(alloc, reader, base, out, line),
+    }
+}
+
 /// Writes the file of an image for another base to the target, and its line into the room for it. Returns the engine's result, and
-/// how long the line is.
+/// how long the line is. `size` is that of the source, if it is known.
 fn rebase_into<A: Allocator + Copy>(
     alloc: A,
     base: u64,
     source: impl Read + Drop,
+    size: Option<u64>,
     target: impl Write + Drop,
     room: &mut [u8],
 ) -> (Result<Outcome, ToolError>, usize) {
-    let size = room.len();
+    let room_len = room.len();
     let mut rest = room;
-    let answer = rebase(
+    let answer = rebase_from(
         alloc,
-        &mut Counted::new(source),
         base,
+        &mut Counted::new(source),
+        size,
         &mut Counted::new(target),
         &mut Counted::new(&mut rest),
     );
-    (answer, size.saturating_sub(rest.len()))
+    (answer, room_len.saturating_sub(rest.len()))
 }
 
 /// CheckSum of the image with these first bytes, if they contain it ("PE Format", Optional Header Windows-Specific Fields).
@@ -171,7 +194,8 @@ where
 {
     let mut room = [0; LINE_ROOM];
     let mut output = Target::new(rt, target);
-    let (answer, len) = rebase_into(rt.alloc(), base, &mut file, &mut output, &mut room);
+    let size = file.size();
+    let (answer, len) = rebase_into(rt.alloc(), base, &mut file, size, &mut output, &mut room);
     let error = output.error();
     let finished = output.finish(matches!(answer, Ok(Outcome::Done)));
     match error.or(finished.err()) {

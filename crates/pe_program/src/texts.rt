@@ -7,10 +7,11 @@ use crate::output::Output;
 use pe_tool::{
     Counted, Detail, Outcome, Page, PartSource, Placed, Policy, SetEntry, ShowOptions, Sink,
     Source, Spot, ToolError, at_each_sized, at_each_text, check_parts, check_sized, check_text,
-    dump_parts, dump_sized, dump_text, fault_detail, json, json_parts, json_sized, map_report,
-    map_report_unbound, object_text, read_whole, show_page, show_page_sized, sum_text,
+    dump_object_sized, dump_parts, dump_sized, dump_text, fault_detail, json, json_parts,
+    json_sized, map_report, map_report_unbound, object_text, read_whole, show_page,
+    show_page_sized, size_fault, sum_sized, sum_text, write_refusal,
 };
-use pe_view::View;
+use pe_view::{Fault, View};
 use std::alloc::Allocator;
 use std::io;
 use std::io::{BufWriter, Error, Read, Seek, Write};
@@ -61,6 +62,8 @@ pub(crate) enum Text<'a, F> {
         window: Option<(u64, u32)>,
         is_unbound: bool,
     },
+    /// The line of the fault by which `map` refuses a set of files.
+    Refusal(Fault),
 }
 
 /// An engine's result, and the system's error if standard output failed.
@@ -198,6 +201,11 @@ fn write_whole<A: Allocator + Copy, R: Source, W: Sink>(
     }
 }
 
+/// Whether a file of `size` bytes has more than an image or an object may have.
+fn is_too_large(size: u64) -> bool {
+    size_fault(size).is_some()
+}
+
 /// Runs an engine over a file of `size` bytes, of which no more is read than its output needs.
 fn write_sized<A: Allocator + Copy, R: Source, W: Sink>(
     alloc: A,
@@ -213,6 +221,9 @@ fn write_sized<A: Allocator + Copy, R: Source, W: Sink>(
     match engine {
         Engine::Check => (check_sized(alloc, reader, size, writer), None),
         Engine::Dump => (dump_sized(alloc, reader, size, writer), None),
+        Engine::Object if is_too_large(size) => {
+            (dump_object_sized(alloc, reader, size, writer), None)
+        }
         Engine::Object => write_lines(alloc, Lines::Object, reader, writer),
         Engine::Show { options, width } => {
             let page = Page {
@@ -223,6 +234,7 @@ fn write_sized<A: Allocator + Copy, R: Source, W: Sink>(
             (show_page_sized(alloc, &page, reader, size, writer), None)
         }
         Engine::Json => (json_sized(alloc, name, reader, size, writer), None),
+        Engine::Sum if is_too_large(size) => (sum_sized(alloc, reader, size, writer), None),
         Engine::Sum => write_lines(alloc, Lines::Sum, reader, writer),
         Engine::At(spots) => (at_each_sized(alloc, spots, reader, size, writer), None),
     }
@@ -328,6 +340,7 @@ fn write_text<A: Allocator + Copy>(
             };
             (done, None)
         }
+        Text::Refusal(fault) => (write_refusal(&mut Counted::new(writer), fault), None),
     }
 }
 

@@ -1,8 +1,8 @@
 -- Faults that the first bytes of a file and its size decide.
-use Rattle.std.proofs.Common.{◌≡◌, ℕ, ◌^◌, ◌<◌, ◌≤◌, false, List, length, Some, refl, sym, ◌∙◌, ap, arith, get_or}
-use Rattle.std.specs.Prelude.{◌==◌}
+use Rattle.std.proofs.Common.{◌≡◌, ℕ, ◌^◌, ◌<◌, ◌≤◌, Bool, true, false, List, length, Some, refl, sym, ◌∙◌, ap, subst, arith, get_or}
+use Rattle.std.specs.Prelude.{◌==◌, Option, None, IfSome, if◌then◌else◌}
 use Rattle.std.proofs.lemmas.Bool.{le-ltb, lt-ltb}
-use Rattle.std.proofs.lemmas.List.{get_or-take}
+use Rattle.std.proofs.lemmas.List.{get_or-take, length-take}
 use Rattle.pe_view.specs.declared.fault.Fault.{Fault}
 use Rattle.pe_view.specs.declared.fault.Place.TheVariants.{File}
 use Rattle.pe_view.specs.Number.{num, byte_of}
@@ -13,8 +13,12 @@ use Rattle.pe_head.specs.HeaderFaults.{head_tests}
 use Rattle.pe_layout.specs.Image.{image_of_file}
 use Rattle.pe_layout.specs.SectionFaults.{layout_tests, placing_tests}
 use Rattle.pe_image.specs.ImageTests.{image_tests, table_tests}
+use Rattle.coff_read.specs.ObjectFaults.{object_tests}
+use Rattle.pe_text.specs.FileKind.{is_machine, is_object, kind_of}
 use Rattle.pe_reach.specs.Reach.{Begins, Refuse}
+use Rattle.pe_reach.specs.Views.{RefuseView}
 use Rattle.pe_reach.proofs.Headers.{num_agrees}
+use Rattle.pe_reach.proofs.Marks.{object_by_machine}
 
 -- a fault of the headers is the first of all
 in_image : (file : List ℕ) (fault : Fault) → first_standing (head_tests 0 file) ≡ Some fault → first_standing (image_tests 0 file) ≡ Some fault
@@ -23,16 +27,13 @@ in_image file fault is =
     first-in (layout_tests 0 file) (table_tests (image_of_file 0 file)) fault
     (first-in (head_tests 0 file) (placing_tests 0 (head_of file) (length file)) fault is)
 
-too_large : (file : List ℕ) → 2 ^ 32 < length file → first_standing (head_tests 0 file) ≡ Some (record { number = 1; image = 0; place = File (2 ^ 32) })
+pub too_large : (file : List ℕ) → 2 ^ 32 < length file → first_standing (head_tests 0 file) ≡ Some (record { number = 1; image = 0; place = File (2 ^ 32) })
 unfolding head_tests
 too_large file lt = rw (lt-ltb (2 ^ 32) (length file) lt) refl
 
 no_image : (file : List ℕ) → length file ≤ 2 ^ 32 → 64 ≤ length file → (num (byte_of file) 0 2 == 0x5a4d) ≡ false → first_standing (head_tests 0 file) ≡ Some (record { number = 3; image = 0; place = File 0 })
 unfolding head_tests
 no_image file small some other = rw (le-ltb (2 ^ 32) (length file) small, le-ltb (length file) 64 some, other) refl
-
-pub refuse_large : (begin : List ℕ) (len : ℕ) → 2 ^ 32 < len → Refuse len begin (record { number = 1; image = 0; place = File (2 ^ 32) })
-refuse_large begin len lt = λ file b. in_image file _ (too_large file (omega (arith, b.size, lt)))
 
 -- the first two bytes
 mark_agrees : (begin : List ℕ) (len : ℕ) (file : List ℕ) → 2 ≤ length begin → Begins begin len file → num (byte_of file) 0 2 ≡ num (byte_of begin) 0 2
@@ -42,3 +43,34 @@ mark_agrees begin len file two b =
 pub refuse_other : (begin : List ℕ) (len : ℕ) → len ≤ 2 ^ 32 → 64 ≤ len → 2 ≤ length begin → (num (byte_of begin) 0 2 == 0x5a4d) ≡ false → Refuse len begin (record { number = 3; image = 0; place = File 0 })
 refuse_other begin len small some two other = λ file b.
     in_image file _ (no_image file (omega (arith, b.size, small)) (omega (arith, b.size, some)) (ap (λ n. n == 0x5a4d) (mark_agrees begin len file two b) ∙ other))
+
+-- ---- as an object or as an image
+-- files that begin alike are both checked as objects, or neither
+same_kind : (begin : List ℕ) (len : ℕ) (file : List ℕ) → 2 ≤ length begin → Begins begin len file → is_object (kind_of file) ≡ is_object (kind_of begin)
+same_kind begin len file two b =
+    let long : 2 ≤ length file = omega (arith, two, ap (λ (l : List ℕ). length l) b.begins, length-take (length begin) file) in
+    object_by_machine file long ∙ ap is_machine (mark_agrees begin len file two b) ∙ sym (object_by_machine begin two)
+
+pub object_too_large : (file : List ℕ) → 2 ^ 32 < length file → first_standing (object_tests file) ≡ Some (record { number = 61; image = 0; place = File (length file) })
+unfolding object_tests
+object_too_large file lt = rw (le-ltb (length file) 20 (omega (arith, lt)), lt-ltb (2 ^ 32) (length file) lt) refl
+
+pub refuse_large : (begin : List ℕ) (len : ℕ) (fault : Option Fault) → IfSome fault (λ fault. (file : List ℕ) → length file ≡ len → first_standing (head_tests 0 file) ≡ Some fault) → IfSome fault (λ fault. Refuse len begin fault)
+refuse_large begin len None is = tt
+refuse_large begin len (Some fault) is = λ file b. in_image file fault (is file b.size)
+
+-- a fault of each image, or of each object, that begins so
+pub refuse_image : (begin : List ℕ) (len : ℕ) (fault : Option Fault) → 2 ≤ length begin → is_object (kind_of begin) ≡ false → IfSome fault (λ fault. Refuse len begin fault) → IfSome fault (λ fault. RefuseView len begin fault)
+refuse_image begin len None two other refuse = tt
+refuse_image begin len (Some fault) two other refuse = λ file b.
+    subst (λ (object : Bool). first_standing (if object then object_tests file else image_tests 0 file) ≡ Some fault)
+    (sym (same_kind begin len file two b ∙ other))
+    (refuse file b)
+
+pub refuse_object : (begin : List ℕ) (len : ℕ) (fault : Option Fault) → 2 ≤ length begin → is_object (kind_of begin) ≡ true
+    → IfSome fault (λ fault. (file : List ℕ) → length file ≡ len → first_standing (object_tests file) ≡ Some fault) → IfSome fault (λ fault. RefuseView len begin fault)
+refuse_object begin len None two object refuse = tt
+refuse_object begin len (Some fault) two object refuse = λ file b.
+    subst (λ (object : Bool). first_standing (if object then object_tests file else image_tests 0 file) ≡ Some fault)
+    (sym (same_kind begin len file two b ∙ object))
+    (refuse file b.size)

@@ -3,6 +3,7 @@ pub mod Faults
 pub mod Headers
 pub mod Images
 pub mod Looks
+pub mod Marks
 pub mod RawEnds
 pub mod SectionNames
 pub mod Sizes

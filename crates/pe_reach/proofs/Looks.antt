@@ -1,6 +1,6 @@
 -- Files that look alike.
 use Rattle.std.proofs.Common.{◌≡◌, ℕ, ◌+◌, ◌-◌, ◌<◌, ◌≤◌, ◌^◌, Bool, true, false, List, [], ◌∷◌, ◌++◌, length, take, drop, Some, Result, Ok, Err, refl, sym, ◌∙◌, ap, subst, arith, inl, inr, length-append, append_assoc, append-nil}
-use Rattle.std.specs.Prelude.{◌⊎◌, ◌&&◌, ◌==◌, codes, min, replicate}
+use Rattle.std.specs.Prelude.{◌⊎◌, ◌&&◌, ◌==◌, codes, min, replicate, Option, None, MatchResult}
 use Rattle.std.proofs.lemmas.List.{take-append-drop, length-replicate}
 use Rattle.std.proofs.Math.Seq.{take-append_seam}
 use Rattle.std.proofs.lemmas.Bool.{false≢true, cases_lt}
@@ -11,7 +11,11 @@ use Rattle.pe_text.specs.declared.file_beginning.FileKind.TheVariants.{Image}
 use Rattle.pe_head.specs.declared.headers.Headers.{Headers}
 use Rattle.pe_text.specs.FileKind.{begins_with, kind_of}
 use Rattle.pe_reach.specs.Reach.{Begins, Decide}
-use Rattle.pe_reach.specs.Views.{names_under, Show, IsSeen}
+use Rattle.pe_text.specs.declared.outcome.ToolError.{ToolError}
+use Rattle.pe_text.specs.Engine.{FailsAfter}
+use Rattle.pe_reach.specs.declared.view_reading.ViewBytes.{ViewBytes}
+use Rattle.pe_reach.specs.ViewBytes.{bytes_read, size_told, refused_by}
+use Rattle.pe_reach.specs.Views.{names_under, Show, IsSeen, IsViewed}
 use Rattle.pe_reach.specs.Settled.{Settle, IsSettled, IsRead, Name, IsNamed}
 
 -- ---- the first two bytes
@@ -107,3 +111,10 @@ seen ended len first more bytes headers told is head settled few name (inr part)
 pub reads_on : (given given' given'' input more bytes : List ℕ) → given' ≡ given ++ input → given'' ≡ given' ++ more → bytes ≡ input ++ more → given'' ≡ given ++ bytes
 reads_on given given' given'' input more bytes first second is =
     second ∙ ap (λ (l : List ℕ). l ++ more) first ∙ append_assoc given input more ∙ ap (λ (l : List ℕ). given ++ l) (sym is)
+
+-- what was read of a file that no early fault refuses
+pub viewed : {A : Type 0} (ended : Bool) (len : ℕ) (input : List ℕ) (count count' : ℕ) (result : Result (ViewBytes A) ToolError)
+    → MatchResult result (λ seen. (bytes_read seen ≡ input) × IsSeen ended len input (size_told seen) × (count' ≡ count) × (refused_by seen ≡ None)) (FailsAfter input count count')
+    → MatchResult result (λ seen. (bytes_read seen ≡ input) × IsViewed ended len input (size_told seen) (refused_by seen) × (count' ≡ count)) (FailsAfter input count count')
+viewed ended len input count count' (Ok seen) read = (read.0, subst (λ (refused : Option Fault). IsViewed ended len input (size_told seen) refused) (sym read.3) read.1, read.2)
+viewed ended len input count count' (Err error) read = read

@@ -7,10 +7,9 @@ use Rattle.pe_text.specs.declared.outcome.Outcome.TheVariants.{Refused}
 use Rattle.pe_text.specs.declared.outcome.ToolError.{ToolError}
 use Rattle.pe_text.specs.declared.outcome.ToolError.TheVariants.{Read, Write, Memory}
 use Rattle.pe_text.specs.FaultLine.{fault_line}
-use Rattle.pe_text.specs.Engine.{FailsAfter, IsRefusal, Puts, BeginsText}
-use Rattle.pe_text.specs.Engine.{IsWhole}
+use Rattle.pe_text.specs.Engine.{IsWhole, FailsAfter, IsRefusal, OnJudged, Puts, BeginsText, Written, Ran}
 use Rattle.pe_reach.specs.Reach.{Begins, Refuse}
-use Rattle.pe_reach.specs.Sized.{RefusesByFaults, IsKnown, WrittenSized, RanSized}
+use Rattle.pe_reach.specs.Sized.{RefusesByFaults, RefusesBy, IsKnown, WrittenSized, RanSized}
 
 -- the texts of files that are alike are the same
 abbrev pub Carries : (List ℕ → List ℕ → Type 0) → (List ℕ → Outcome → List ℕ → Type 0) → Type 0
@@ -35,14 +34,14 @@ module _ (Alike : List ℕ → List ℕ → Type 0) (ended : Bool) (len : ℕ) (
 
 module _ (IsText : List ℕ → Outcome → List ℕ → Type 0) (ended : Bool) (len : ℕ) (input : List ℕ) where
   -- the line of a fault that the bytes decide
-  put_refusal : RefusesByFaults IsText → (fault : Fault) → Refuse len input fault → (before now : List ℕ) (count count' : ℕ) (result : Result Outcome ToolError) → (puts : Puts (IsRefusal fault) before now count count' result)
-      → WrittenSized IsText ended len input result puts.0
-  put_refusal refuses fault refuse before now count count' (Ok outcome) puts = inr (λ file b. rw (puts.2.0.0, puts.2.0.1) (refuses file fault (refuse file b)))
-  put_refusal refuses fault refuse before now count count' (Err Read) puts = absurd puts.2
-  put_refusal refuses fault refuse before now count count' (Err Write) puts =
+  put_refusal : (fault : Fault) → ((file : List ℕ) → Begins input len file → IsText file (Refused fault) (fault_line fault)) → (before now : List ℕ) (count count' : ℕ) (result : Result Outcome ToolError)
+      → (puts : Puts (IsRefusal fault) before now count count' result) → WrittenSized IsText ended len input result puts.0
+  put_refusal fault refuse before now count count' (Ok outcome) puts = inr (λ file b. rw (puts.2.0.0, puts.2.0.1) (refuse file b))
+  put_refusal fault refuse before now count count' (Err Read) puts = absurd puts.2
+  put_refusal fault refuse before now count count' (Err Write) puts =
       let is = puts.2.1 in
-      inr (λ file b. (Refused fault, (fault_line fault, refuses file fault (refuse file b), rw (sym is.1.1.1) is.1.2)))
-  put_refusal refuses fault refuse before now count count' (Err Memory) puts = puts.2.1
+      inr (λ file b. (Refused fault, (fault_line fault, refuse file b, rw (sym is.1.1.1) is.1.2)))
+  put_refusal fault refuse before now count count' (Err Memory) puts = puts.2.1
 
 -- an engine that read enough
 pub ran : (Alike : List ℕ → List ℕ → Type 0) (IsText : List ℕ → Outcome → List ℕ → Type 0) → Carries Alike IsText → (len : ℕ) (given given' taken taken' : List ℕ) (ended : Bool) (count count' : ℕ) (result : Result Outcome ToolError) (bytes input : List ℕ) → bytes ≡ input
@@ -59,16 +58,67 @@ ran Alike IsText follows len given given' taken taken' ended count count' result
       memory = subst (λ (xs : List ℕ). IsErrOf result Memory → 0 < length xs) same memory;
     }
 
--- an engine that refused a file by its first bytes
-pub ran_early : (IsText : List ℕ → Outcome → List ℕ → Type 0) → RefusesByFaults IsText → (len : ℕ) (given given' taken taken' : List ℕ) (ended : Bool) (count count' : ℕ) (result : Result Outcome ToolError) (input : List ℕ) (fault : Fault)
-    → given' ≡ given ++ input → Refuse len input fault → length input ≤ 2 ^ 32 + 1 → Puts (IsRefusal fault) taken taken' count count' result → (IsErrOf result Memory → ⊥) → RanSized IsText len given given' taken taken' ended result
-ran_early IsText refuses len given given' taken taken' ended count count' result input fault reads refuse limit puts never =
+-- an engine that wrote the line of a fault that the first bytes of a file decide
+pub ran_line : (IsText : List ℕ → Outcome → List ℕ → Type 0) (len : ℕ) (given given' taken taken' : List ℕ) (ended : Bool) (count count' : ℕ) (result : Result Outcome ToolError) (input : List ℕ) (fault : Fault)
+    → given' ≡ given ++ input → ((file : List ℕ) → Begins input len file → IsText file (Refused fault) (fault_line fault)) → length input ≤ 2 ^ 32 + 1 → Puts (IsRefusal fault) taken taken' count count' result → (IsErrOf result Memory → ⊥)
+    → RanSized IsText len given given' taken taken' ended result
+ran_line IsText len given given' taken taken' ended count count' result input fault reads refuse limit puts never =
     record {
       input = input;
       written = puts.0;
       reads = reads;
       writes = puts.1;
-      text = put_refusal IsText ended len input refuses fault refuse taken taken' count count' result puts;
+      text = put_refusal IsText ended len input fault refuse taken taken' count count' result puts;
+      limit = limit;
+      memory = λ is. absurd (never is);
+    }
+
+pub ran_early : (IsText : List ℕ → Outcome → List ℕ → Type 0) → RefusesByFaults IsText → (len : ℕ) (given given' taken taken' : List ℕ) (ended : Bool) (count count' : ℕ) (result : Result Outcome ToolError) (input : List ℕ) (fault : Fault)
+    → given' ≡ given ++ input → Refuse len input fault → length input ≤ 2 ^ 32 + 1 → Puts (IsRefusal fault) taken taken' count count' result → (IsErrOf result Memory → ⊥) → RanSized IsText len given given' taken taken' ended result
+ran_early IsText refuses len given given' taken taken' ended count count' result input fault reads refuse limit puts never =
+    ran_line IsText len given given' taken taken' ended count count' result input fault reads (λ file b. refuses file fault (refuse file b)) limit puts never
+
+-- an engine that read its file whole
+sized_text : (IsText : List ℕ → Outcome → List ℕ → Type 0) (ended : Bool) (len : ℕ) (input written : List ℕ) (result : Result Outcome ToolError) → Written (IsText input) result written → OnJudged result (IsWhole ended input)
+    → WrittenSized IsText ended len input result written
+sized_text IsText ended len input written (Ok outcome) text whole = inl (whole, text)
+sized_text IsText ended len input written (Err Read) text whole = text
+sized_text IsText ended len input written (Err Write) text whole = inl (whole, text)
+sized_text IsText ended len input written (Err Memory) text whole = text
+
+pub ran_whole : (IsText : List ℕ → Outcome → List ℕ → Type 0) (len : ℕ) (given given' taken taken' : List ℕ) (ended : Bool) (result : Result Outcome ToolError) → Ran IsText given given' taken taken' ended result
+    → RanSized IsText len given given' taken taken' ended result
+ran_whole IsText len given given' taken taken' ended result run = record {
+  input = run.input;
+  written = run.written;
+  reads = run.reads;
+  writes = run.writes;
+  text = sized_text IsText ended len run.input run.written result run.text run.whole;
+  limit = run.limit;
+  memory = run.memory;
+}
+
+-- the text of a file that its first bytes refuse, whatever it is
+put_refused : (IsText : List ℕ → Outcome → List ℕ → Type 0) (ended : Bool) (len : ℕ) (input : List ℕ) (fault : Fault) → ((file : List ℕ) → Begins input len file → RefusesBy (IsText file) fault)
+    → (before now : List ℕ) (count count' : ℕ) (result : Result Outcome ToolError) → (puts : Puts (λ outcome text. outcome ≡ Refused fault) before now count count' result) → WrittenSized IsText ended len input result puts.0
+put_refused IsText ended len input fault refuse before now count count' (Ok outcome) puts = inr (λ file b. rw puts.2.0 (refuse file b puts.0))
+put_refused IsText ended len input fault refuse before now count count' (Err Read) puts = absurd puts.2
+put_refused IsText ended len input fault refuse before now count count' (Err Write) puts =
+    let is = puts.2.1 in
+    inr (λ file b. (Refused fault, (is.1.0, refuse file b is.1.0, is.1.2)))
+put_refused IsText ended len input fault refuse before now count count' (Err Memory) puts = puts.2.1
+
+-- an engine that refused a file by its first bytes, with any text
+pub ran_refused : (IsText : List ℕ → Outcome → List ℕ → Type 0) → (len : ℕ) (given given' taken taken' : List ℕ) (ended : Bool) (count count' : ℕ) (result : Result Outcome ToolError) (input : List ℕ) (fault : Fault)
+    → given' ≡ given ++ input → ((file : List ℕ) → Begins input len file → RefusesBy (IsText file) fault) → length input ≤ 2 ^ 32 + 1
+    → Puts (λ outcome text. outcome ≡ Refused fault) taken taken' count count' result → (IsErrOf result Memory → ⊥) → RanSized IsText len given given' taken taken' ended result
+ran_refused IsText len given given' taken taken' ended count count' result input fault reads refuse limit puts never =
+    record {
+      input = input;
+      written = puts.0;
+      reads = reads;
+      writes = puts.1;
+      text = put_refused IsText ended len input fault refuse taken taken' count count' result puts;
       limit = limit;
       memory = λ is. absurd (never is);
     }

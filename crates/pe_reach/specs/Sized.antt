@@ -19,6 +19,10 @@ Follows IsText = (f g : List ℕ) → SameAnswers f g → (outcome : Outcome) (t
 abbrev pub RefusesByFaults : (List ℕ → Outcome → List ℕ → Type 0) → Type 0
 RefusesByFaults IsText = (file : List ℕ) (fault : Fault) → first_standing (image_tests 0 file) ≡ Some fault → IsText file (Refused fault) (fault_line fault)
 
+-- a file is refused by a fault, whatever its text is
+abbrev pub RefusesBy : (Outcome → List ℕ → Type 0) → Fault → Type 0
+RefusesBy IsText fault = (text : List ℕ) → IsText (Refused fault) text
+
 -- what is known of a file of a length, of which some bytes were read: these are the whole file, or it holds of each file of this
 -- length that begins with them
 abbrev pub IsKnown : Bool → ℕ → List ℕ → (List ℕ → Type 0) → Type 0

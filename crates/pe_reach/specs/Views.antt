@@ -1,10 +1,14 @@
 -- What a view sees of an image's file, of which only a beginning is read.
-use Rattle.std.specs.Prelude.{ℕ, ◌≡◌, ◌⊎◌, Bool, List, length, map, Some}
+use Rattle.std.specs.Prelude.{ℕ, ◌≡◌, ◌⊎◌, Bool, List, length, map, Option, None, Some}
+use Rattle.pe_view.specs.declared.fault.Fault.{Fault}
+use Rattle.pe_view.specs.Faults.{Test, first_standing}
 use Rattle.pe_head.specs.declared.headers.Headers.{Headers}
 use Rattle.pe_head.specs.Head.{head_of}
 use Rattle.coff_read.specs.ImageNames.{image_strings, section_name}
+use Rattle.coff_read.specs.ObjectFaults.{object_tests}
+use Rattle.pe_image.specs.ImageTests.{image_tests}
 use Rattle.pe_text.specs.declared.file_beginning.FileKind.TheVariants.{Image}
-use Rattle.pe_text.specs.FileKind.{kind_of}
+use Rattle.pe_text.specs.FileKind.{kind_of, tests_by_kind}
 use Rattle.pe_text.specs.declared.outcome.Outcome.{Outcome}
 use Rattle.pe_text.specs.Engine.{IsWhole}
 use Rattle.pe_reach.specs.Reach.{Begins, SameAnswers}
@@ -29,6 +33,19 @@ Show len bytes = (file : List ℕ) → Begins bytes len file → LookAlike file 
 -- bytes that were read of a file of a length are the whole file, or show it; and the size that is told is that of the file
 abbrev pub IsSeen : Bool → ℕ → List ℕ → ℕ → Type 0
 IsSeen ended len bytes told = (IsWhole ended bytes × (told ≡ length bytes)) ⊎ (Show len bytes × (told ≡ len))
+
+-- the tests of a file as views check it: those of an object if its first bytes are those of one, otherwise those of an image
+abbrev pub view_tests : List ℕ → List Test
+view_tests file = tests_by_kind file (object_tests file) (image_tests 0 file)
+
+-- bytes refuse each file of a length that begins with them, by a fault
+abbrev pub RefuseView : ℕ → List ℕ → Fault → Type 0
+RefuseView len bytes fault = (file : List ℕ) → Begins bytes len file → first_standing (view_tests file) ≡ Some fault
+
+-- the same; and if they refuse none, they are the whole file, or show it
+abbrev pub IsViewed : Bool → ℕ → List ℕ → ℕ → Option Fault → Type 0
+IsViewed ended len bytes told None = IsSeen ended len bytes told
+IsViewed ended len bytes told (Some fault) = RefuseView len bytes fault × (told ≡ len)
 
 -- the texts of files that look alike are the same
 abbrev pub FollowsLooks : (List ℕ → Outcome → List ℕ → Type 0) → Type 0

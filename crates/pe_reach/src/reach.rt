@@ -1,12 +1,18 @@
-//! `needed`: how many first bytes of a file decide its answers; and `early_fault`: a fault that its first bytes decide.
+//! `needed`: how many first bytes of a file decide its answers; and `early_fault` and `view_fault`: a fault that its first bytes
+//! decide.
 
-ghost use Rattle.std.specs.Prelude.{◌≡◌, ◌≤◌, ◌^◌, ℕ, List, length, max, map, ◌++◌, IfSome};
+ghost use Rattle.std.specs.Prelude.{◌≡◌, ◌≤◌, ◌^◌, ℕ, List, length, max, map, ◌++◌, IfSome, Some, is_some, nat_lt};
 ghost use Rattle.std.specs.List.{range_with_len};
 ghost use Rattle.pe_head.specs.Checked.{checked_file};
+ghost use Rattle.coff_read.specs.ObjectFaults.{object_tests};
+ghost use Rattle.pe_view.specs.Faults.{first_standing};
 ghost use Rattle.pe_head.specs.Head.{coff_field, section_at};
+ghost use Rattle.pe_head.specs.HeaderFaults.{head_tests};
 ghost use Rattle.pe_reach.specs.Reach.{headers_end, raw_end, image_end, Decide, Refuse};
+ghost use Rattle.pe_reach.specs.Views.{RefuseView};
 
 use pe_head::{CheckedHeaders, check_headers};
+use pe_text::is_object;
 use pe_view::{Fault, Place, View};
 
 /// The most bytes that a file may have.
@@ -66,6 +72,36 @@ pub fn needed(begin: &[u8], len: u64) -> Option<u64>
     Some(end)
 }
 
+/// The fault of an image's file of `len` bytes, if that is more than a file may have: 1.
+pub fn size_fault(len: u64) -> Option<Fault>
+    ensures exact { is_some result ≡ nat_lt (2 ^ 32) len }
+    ensures fault { IfSome result (λ fault. (file : List ℕ) → length file ≡ len → first_standing (head_tests 0 file) ≡ Some fault) }
+{
+    if len <= MOST {
+        return None;
+    }
+    Some(Fault {
+        number: 1,
+        image: 0,
+        place: Place::File(MOST),
+    })
+}
+
+/// The fault of an object's file of `len` bytes, if that is more than a file may have: 61.
+pub fn object_size_fault(len: u64) -> Option<Fault>
+    ensures exact { is_some result ≡ nat_lt (2 ^ 32) len }
+    ensures fault { IfSome result (λ fault. (file : List ℕ) → length file ≡ len → first_standing (object_tests file) ≡ Some fault) }
+{
+    if len <= MOST {
+        return None;
+    }
+    Some(Fault {
+        number: 61,
+        image: 0,
+        place: Place::File(len),
+    })
+}
+
 /// The number that a file begins with if its first bytes are `MZ`.
 const MZ: u16 = 0x5a4d;
 
@@ -75,11 +111,7 @@ pub fn early_fault(begin: &[u8], len: u64) -> Option<Fault>
     ensures { IfSome result (λ fault. Refuse len begin.now fault) }
 {
     if len > MOST {
-        return Some(Fault {
-            number: 1,
-            image: 0,
-            place: Place::File(MOST),
-        });
+        return size_fault(len);
     }
     match View::new(begin).u16_at(0) {
         Some(number) if number != MZ && len >= 64 => Some(Fault {
@@ -89,4 +121,18 @@ pub fn early_fault(begin: &[u8], len: u64) -> Option<Fault>
         }),
         _ => None,
     }
+}
+
+/// The fault of each file of `len` bytes that begins with these, which is checked as views check it: that of [`object_size_fault`]
+/// if it begins like an object, and otherwise that of [`early_fault`]. `None` does not mean that it has no fault.
+pub fn view_fault(begin: &[u8], len: u64) -> Option<Fault>
+    ensures { IfSome result (λ fault. RefuseView len begin.now fault) }
+{
+    if begin.len() < 2 {
+        return None;
+    }
+    if is_object(begin) {
+        return object_size_fault(len);
+    }
+    early_fault(begin, len)
 }

@@ -1,6 +1,7 @@
 //! `ViewFile`: a file as views see it.
 
 ghost use Rattle.std.specs.Prelude.{◌≡◌, ◌<◌, length, option_map, is_some, IfSome, None, IsErrOf};
+ghost use Rattle.pe_view.specs.View.{bytes_of};
 ghost use Rattle.pe_view.specs.Faults.{Answers, AnswersOrWants, first_standing};
 ghost use Rattle.pe_view.specs.declared.refusal.Refusal.{Refusal};
 ghost use Rattle.pe_detail.specs.FaultDetail.{fault_detail};
@@ -21,7 +22,8 @@ use std::alloc::Allocator;
 ///
 /// Of an image these may be only a beginning, so a view can ask for nothing but its headers, its laid-out image with the tables,
 /// the names of its sections, the numbers of a fault, and what it is instead of an image: these are the same for each file of this
-/// size that begins so. Of an object they are all.
+/// size that begins so. It can also ask for the bytes, and then must not take their end for that of the file. Of an object they are
+/// all.
 #[derive(Clone, Copy)]
 pub struct ViewFile<'a> {
     bytes: &'a [u8],
@@ -61,6 +63,13 @@ impl<'a> ViewFile<'a> {
         ensures { result ≡ told_of self.now }
     {
         self.len
+    }
+
+    /// Its bytes as far as they were read: all, or of an image at least those before the end that its headers name.
+    pub fn beginning(&self) -> View<'a>
+        ensures { bytes_of result ≡ seen_of self.now }
+    {
+        View::new(self.bytes)
     }
 
     /// All its bytes if it is checked as an object, since its first bytes are those of one.

@@ -6,9 +6,12 @@ use Rattle.pe_view.specs.Faults.{Test, first_standing, Refuses}
 use Rattle.pe_view.specs.declared.fault.Fault.{Fault}
 use Rattle.pe_view.specs.declared.refusal.Refusal.{Refusal}
 use Rattle.pe_view.specs.declared.refusal.Refusal.TheVariants as refusals
+use Rattle.pe_tables.specs.Imports.{Import}
 use Rattle.pe_tables.specs.Key.{Target}
 use Rattle.pe_records_c.specs.ExportRows.{TellsTarget}
+use Rattle.pe_records_c.specs.ImportRows.{TellsImport}
 use Rattle.pe_records_c.specs.declared.export.TargetRecord.{TargetRecord}
+use Rattle.pe_records_c.specs.declared.import.ImportRow.{ImportRow}
 use Rattle.pe_records_c.specs.Faults.{fault_record, IsTold, IsAnswered, IsAccepted, IsRefused, IsRefusedBy}
 use Rattle.pe_records_c.specs.Rows.{Fills, ReadsTable, TellsTable}
 use Rattle.pe_records_c.specs.declared.fault.FaultRecord.{FaultRecord}
@@ -65,6 +68,18 @@ table_read wants tests view item row table items old new before count fault stat
       count_kept = λ refused. accepted_or_refused status accepted refused;
     }
 
+-- a table that is told
+pub table_accepted : {T R W : Type 0} (wants : Type 0) (tests : List Test) (view : R → W) (row : T → W) (items : List T) (old new : List R) (before count : ℕ) (fault : FaultRecord) (status : ℕ)
+    → first_standing tests ≡ None → TellsTable view row items old new count status → ReadsTable wants tests view row items old new before count fault fault status
+table_accepted wants tests view row items old new before count fault status none told =
+    let accepted = no_refusal (nat_le (length items) (length old)) status told.status_is in
+    record {
+      faults = none_told wants tests fault status none accepted.0 accepted.1;
+      table_is = λ _. told;
+      rows_kept = λ refused. accepted_or_refused status accepted refused;
+      count_kept = λ refused. accepted_or_refused status accepted refused;
+    }
+
 -- a table that is refused
 pub table_refused : {T R W : Type 0} (wants : Type 0) (tests : List Test) (view : R → W) (row : T → W) (items : List T) (rows : List R) (count : ℕ) (before after : FaultRecord) (status : ℕ) (refusal : Refusal)
     → Refuses tests refusal → (refusal ≡ refusals.Memory → wants) → IsTold refusal before after status
@@ -85,6 +100,16 @@ target_answered wants tests fault (Some target) before after status none told = 
 pub target_kept : (target : Option Target) (before after : TargetRecord) (status : ℕ) → TellsTarget target before after status → IsRefused status → after ≡ before
 target_kept None before after status told refused = told.1
 target_kept (Some target) before after status told refused = elim refused [ inl one ↦ absurd cc (told.0, one) | inr two ↦ absurd cc (told.0, two) ]
+
+-- nor is the status of an import
+pub import_answered : (wants : Type 0) (tests : List Test) (fault : FaultRecord) (found : Option Import) (before after : ImportRow) (status : ℕ) → first_standing tests ≡ None → TellsImport found before after status
+    → IsAnswered wants tests fault fault status
+import_answered wants tests fault None before after status none told = none_told wants tests fault status none (λ one. absurd cc (told.0, one)) (λ two. absurd cc (told.0, two))
+import_answered wants tests fault (Some found) before after status none told = none_told wants tests fault status none (λ one. absurd cc (told.0, one)) (λ two. absurd cc (told.0, two))
+
+pub import_kept : (found : Option Import) (before after : ImportRow) (status : ℕ) → TellsImport found before after status → IsRefused status → after ≡ before
+import_kept None before after status told refused = told.1
+import_kept (Some found) before after status told refused = elim refused [ inl one ↦ absurd cc (told.0, one) | inr two ↦ absurd cc (told.0, two) ]
 
 -- a call that succeeded
 pub done_told : (wants : Type 0) (tests : List Test) (before : FaultRecord) → first_standing tests ≡ None → IsAnswered wants tests before before 0

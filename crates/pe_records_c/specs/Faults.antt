@@ -23,7 +23,7 @@ place_at (Item index) = index
 
 -- a fault as the caller's record holds it
 abbrev pub fault_record : Fault → FaultRecord
-fault_record f = record { number = f.number; image = f.image; place = place_kind f.place; at = place_at f.place }
+fault_record f = record { number = f.number; place = place_kind f.place; image = f.image; at = place_at f.place }
 
 -- a place of this kind
 abbrev pub place_of : ℕ → ℕ → Place
@@ -31,7 +31,7 @@ place_of kind at = if kind == 0 then File at else (if kind == 1 then Rva (at % 2
 
 -- the fault of a record
 abbrev pub fault_of : FaultRecord → Fault
-fault_of r = record { number = r.number; image = r.image; place = place_of (r.place % 4) r.at }
+fault_of r = record { number = r.number; image = r.image % 2 ^ 16; place = place_of (r.place % 4) r.at }
 
 -- how a refusal is reported: status 1 and the fault, or status 2 and the record unchanged
 abbrev pub IsTold : Refusal → FaultRecord → FaultRecord → ℕ → Type 0

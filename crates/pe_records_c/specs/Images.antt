@@ -8,8 +8,10 @@ use Rattle.pe_tables.specs.Key.{Key, Target}
 use Rattle.pe_tables.specs.Imports.{imports_of, Import}
 use Rattle.pe_tables.specs.Fixups.{fixups_of}
 use Rattle.pe_tables.specs.declared.fixups.Fixup.{Fixup}
-use Rattle.pe_records_c.specs.ExportRows.{TellsTarget}
+use Rattle.pe_records_c.specs.ExportRows.{TellsTarget, named}
+use Rattle.pe_records_c.specs.ImportRows.{import_of_slot, TellsImport}
 use Rattle.pe_records_c.specs.declared.export.TargetRecord.{TargetRecord}
+use Rattle.pe_records_c.specs.declared.import.ImportRow.{ImportRow}
 use Rattle.pe_records_c.specs.declared.text.TextRecord.{TextRecord}
 
 -- what a name or an ordinal exports
@@ -17,14 +19,19 @@ abbrev pub TellsTargetOf : Option (List ℕ) → Key → TargetRecord → Target
 TellsTargetOf None key before after status = (status ≡ 6) × (after ≡ before)
 TellsTargetOf (Some file) key before after status = TellsTarget (target_at (exports_of (image_of_file 0 file)) key) before after status
 
+-- the import whose slot is at an RVA
+abbrev pub TellsImportOf : Option (List ℕ) → ℕ → ImportRow → ImportRow → ℕ → Type 0
+TellsImportOf None slot before after status = (status ≡ 6) × (after ≡ before)
+TellsImportOf (Some file) slot before after status = TellsImport (import_of_slot (imports_of (image_of_file 0 file)) slot) before after status
+
 -- the tables of an open image
 abbrev pub opened_ordinals : Option (List ℕ) → List (ℕ × Target)
 opened_ordinals None = []
 opened_ordinals (Some file) = (exports_of (image_of_file 0 file)).ordinals
 
-abbrev pub opened_names : Option (List ℕ) → List (List ℕ × Target)
+abbrev pub opened_names : Option (List ℕ) → List ((List ℕ × Target) × ℕ)
 opened_names None = []
-opened_names (Some file) = (exports_of (image_of_file 0 file)).names
+opened_names (Some file) = named (exports_of (image_of_file 0 file))
 
 abbrev pub opened_imports : Option (List ℕ) → List Import
 opened_imports None = []

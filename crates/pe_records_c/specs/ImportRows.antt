@@ -1,5 +1,6 @@
 -- Imports as C has them, with strings as their bytes.
-use Rattle.std.specs.Prelude.{ℕ, Bool, true, false, List, []}
+use Rattle.std.specs.Prelude.{◌≡◌, ◌==◌, ℕ, Bool, true, false, List, [], Option, None, Some}
+use Rattle.std.specs.List.{find}
 use Rattle.pe_tables.specs.Imports.{Import}
 use Rattle.pe_tables.specs.Key.{Key, Ordinal, Name}
 use Rattle.pe_records_c.specs.declared.import.ImportRow.{ImportRow}
@@ -21,3 +22,12 @@ import_row m = import_by m.module_name m.slot m.key
 
 abbrev pub import_text : ImportRow → ImportText
 import_text row = record { module_name = row.«module».now; name = row.name.now; slot = row.slot; ordinal = row.ordinal; by_ordinal = row.by_ordinal }
+
+-- the import whose slot is at an RVA
+abbrev pub import_of_slot : List Import → ℕ → Option Import
+import_of_slot imports slot = find (λ x. x.slot == slot) imports
+
+-- how an import is reported: status 0 and the import, or 3 if there is none
+abbrev pub TellsImport : Option Import → ImportRow → ImportRow → ℕ → Type 0
+TellsImport None before after status = (status ≡ 3) × (after ≡ before)
+TellsImport (Some found) before after status = (status ≡ 0) × (import_text after ≡ import_row found)

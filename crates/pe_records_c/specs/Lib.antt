@@ -15,6 +15,8 @@ pub mod SetRows
 pub mod Spaces
 pub mod SymbolRows
 pub mod TableTests
+pub mod ValueNames
+pub mod ValueRows
 pub mod Wants
 
 -- end of describe/records.txt

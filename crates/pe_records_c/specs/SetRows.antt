@@ -1,5 +1,9 @@
 -- Sets of images as C has them, and how they are checked.
-use Rattle.std.specs.Prelude.{◌≡◌, ◌≢◌, ℕ, Bool, true, false, List, take, Option, None, Some}
+use Rattle.std.specs.Prelude.{◌≡◌, ◌≢◌, ◌+◌, ℕ, Bool, true, false, List, [], ◌∷◌, take, Option, None, Some}
+use Rattle.pe_view.specs.Faults.{first_standing}
+use Rattle.pe_view.specs.declared.fault.Fault.{Fault}
+use Rattle.pe_layout.specs.Image.{image_of_file}
+use Rattle.pe_layout.specs.SectionFaults.{layout_tests}
 use Rattle.pe_set.specs.Set.{Entry}
 use Rattle.pe_set.specs.declared.binding.Binding.{Binding}
 use Rattle.pe_set.specs.declared.entry.Policy.{Policy}
@@ -17,6 +21,19 @@ entry_text e = record { name = e.name.now; file = e.file.now; base = e.base }
 -- the entries of a set that are read: the 257th has fault 41
 abbrev pub counted : List Entry → List Entry
 counted es = take 257 es
+
+-- the size of a file's image, or 0 if its headers or sections have a fault
+abbrev pub size_unless : List ℕ → Option Fault → ℕ
+size_unless file None = (image_of_file 0 file).size
+size_unless file (Some fault) = 0
+
+abbrev pub claimed_size : List ℕ → ℕ
+claimed_size file = size_unless file (first_standing (layout_tests 0 file))
+
+-- the bytes that the images of a set take
+abbrev pub claimed_sizes : List Entry → ℕ
+claimed_sizes [] = 0
+claimed_sizes (e ∷ es) = claimed_size e.file + claimed_sizes es
 
 abbrev pub binding_row : Binding → BindingRow
 binding_row b = record { image = b.image; slot = b.slot; exporter = b.exporter; rva = b.rva }

@@ -12,10 +12,10 @@ use pe_view::{Fault, Place, Refusal};
 pub struct FaultRecord {
     /// The fault's number in docs/FAULTS.md, from 1 to 85.
     pub number: u16,
-    /// The index of the entry in a set; otherwise 0.
-    pub image: u16,
     /// What `at` counts: 0 bytes of the file, 1 bytes of the image, 2 bytes of the address space, 3 items of a list.
-    pub place: u32,
+    pub place: u16,
+    /// The index of the entry in a set; otherwise 0.
+    pub image: u32,
     /// Where the rule is broken.
     pub at: u64,
 }
@@ -32,14 +32,14 @@ pub fn fault_record(fault: Fault) -> FaultRecord
     };
     FaultRecord {
         number: fault.number,
-        image: fault.image,
         place,
+        image: fault.image as u32,
         at,
     }
 }
 
-/// The fault of a record. A record that no call has filled is a fault too: by the lowest two bits of `place`, and by the lowest 32
-/// bits of `at` if the place is an RVA or an item.
+/// The fault of a record. A record that no call has filled is a fault too: by the lowest two bits of `place`, the lowest 16 of
+/// `image`, and the lowest 32 of `at` if the place is an RVA or an item.
 pub fn fault_of(told: &FaultRecord) -> Fault
     ensures { result ≡ fault_of told.now }
 {
@@ -51,7 +51,7 @@ pub fn fault_of(told: &FaultRecord) -> Fault
     };
     Fault {
         number: told.number,
-        image: told.image,
+        image: (told.image % (1 << 16)) as u16,
         place,
     }
 }

@@ -18,6 +18,7 @@ pub mod import;
 pub mod laws;
 pub mod mapping;
 pub mod moved;
+pub mod name;
 pub mod object;
 pub mod object_headers;
 pub mod opened;
@@ -30,4 +31,5 @@ pub mod status;
 pub mod symbol;
 pub mod tables;
 pub mod text;
+pub mod value;
 // end of describe/records.txt

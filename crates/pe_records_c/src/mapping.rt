@@ -1,16 +1,45 @@
 //! `map_entries`: maps the images of a set that C describes into a boxed space.
 
-ghost use Rattle.std.specs.Prelude.{◌≡◌, IsErrOf, None, map};
+ghost use Rattle.std.specs.Prelude.{◌≡◌, ◌<◌, ◌≤◌, IsErrOf, None, map};
+ghost use Rattle.std.specs.Bool.{OnTrue, OnFalse};
 ghost use Rattle.pe_view.specs.Faults.{first_standing};
 ghost use Rattle.pe_set.specs.SetErrors.{SetAnswers, set_error};
 ghost use Rattle.pe_set.specs.SetFaults.{names_tests};
 ghost use Rattle.pe_space.specs.SpaceOf.{IsSpaceOf};
-ghost use Rattle.pe_records_c.specs.SetRows.{entry_text, counted};
+ghost use Rattle.pe_records_c.specs.SetRows.{entry_text, counted, claimed_size, claimed_sizes};
 
 use crate::set::{COUNTED, EntryRecord, NO_ENTRY, put_entries};
+use pe_image::lay_out;
 use pe_set::{MapError, Policy};
 use pe_space::{MappedSpace, map};
 use std::alloc::Global;
+
+/// The size of a file's image: SizeOfImage if its headers and sections have no fault, and otherwise 0, since it is refused.
+fn claimed_size(file: &[u8]) -> u32
+    ensures { result ≡ claimed_size file.now }
+{
+    match lay_out(file, 0) {
+        Ok(layout) => layout.size(),
+        Err(_) => 0,
+    }
+}
+
+/// Whether the images of a set have more than this many bytes together. Allocates nothing.
+#[tactic(auto, using(crate::proofs::Claimed::claimed_step, crate::proofs::Claimed::none_claimed))]
+pub fn are_larger(set: &[EntryRecord], most_bytes: u64) -> bool
+    ensures larger { OnTrue result (most_bytes < claimed_sizes (map entry_text set.now)) }
+    ensures fits { OnFalse result (claimed_sizes (map entry_text set.now) ≤ most_bytes) }
+{
+    let mut left = most_bytes;
+    for entry in set {
+        let size = claimed_size(entry.file) as u64;
+        if size > left {
+            return true;
+        }
+        left -= size;
+    }
+    false
+}
 
 /// Maps the images of the first 257 entries, which decide the result.
 fn map_counted(

@@ -1,27 +1,28 @@
 //! What the calls of an opened image report: exports, imports, base relocations, and what is at an RVA.
 
-ghost use Rattle.std.specs.Prelude.{◌≡◌, ◌≢◌, length};
+ghost use Rattle.std.specs.Prelude.{◌≡◌, ◌≢◌, length, option_map};
 ghost use Rattle.pe_head.specs.Head.{head_of};
 ghost use Rattle.pe_layout.specs.Image.{image_of_file};
 ghost use Rattle.pe_layout.specs.Locating.{located, file_offset};
 ghost use Rattle.pe_tables.specs.Exports.{exports_of, target_at};
 ghost use Rattle.pe_tables.specs.Fixups.{fixups_of};
 ghost use Rattle.pe_tables.specs.Imports.{imports_of};
-ghost use Rattle.pe_tables.specs.Key.{Name, Ordinal};
-ghost use Rattle.pe_records_c.specs.ExportRows.{TellsTarget, export_text, export_by_ordinal, export_by_name};
+ghost use Rattle.pe_tables.specs.Key.{Name, Ordinal, target_view};
+ghost use Rattle.pe_records_c.specs.ExportRows.{TellsTarget, export_text, export_by_ordinal, export_by_name, named};
 ghost use Rattle.pe_records_c.specs.FixupRows.{fixup_row};
 ghost use Rattle.pe_records_c.specs.Images.{IsRead, IsText, IsOffset};
-ghost use Rattle.pe_records_c.specs.ImportRows.{import_text, import_row};
+ghost use Rattle.pe_records_c.specs.ImportRows.{import_text, import_row, import_of_slot, TellsImport};
 ghost use Rattle.pe_records_c.specs.Rows.{TellsTable};
 
-use crate::export::{ExportRow, TargetRecord, put_target};
+use crate::export::{ExportRow, TargetRecord, put_names, put_target, target_of_ordinal};
 use crate::fixup::FixupRow;
-use crate::import::ImportRow;
+use crate::import::{ImportRow, put_import};
 use crate::row::put_table;
 use crate::status;
 use crate::text::TextRecord;
 use pe_layout::Located;
 use pe_opened::OpenedImage;
+use pe_tables::Target;
 
 /// Reports what a name exports, and returns the status, 0 or 3.
 pub fn tell_name<'a>(image: &OpenedImage<'a>, name: &[u8], target: &mut TargetRecord<'a>) -> u32
@@ -31,12 +32,23 @@ pub fn tell_name<'a>(image: &OpenedImage<'a>, name: &[u8], target: &mut TargetRe
     put_target(image.by_name(name), target)
 }
 
+/// What an ordinal exports, as [`crate::export::export_at`].
+fn opened_at<'a>(image: &OpenedImage<'a>, ordinal: u64) -> Option<Target<'a>>
+    ensures { option_map target_view result ≡ target_at (exports_of (image_of_file 0 image.now)) (Ordinal ordinal) }
+{
+    if ordinal < 1 << 32 {
+        image.by_ordinal(ordinal as u32)
+    } else {
+        target_of_ordinal(image.ordinals(), ordinal)
+    }
+}
+
 /// Reports what an ordinal exports, and returns the status, 0 or 3.
-pub fn tell_ordinal<'a>(image: &OpenedImage<'a>, ordinal: u32, target: &mut TargetRecord<'a>) -> u32
+pub fn tell_ordinal<'a>(image: &OpenedImage<'a>, ordinal: u64, target: &mut TargetRecord<'a>) -> u32
     ensures target { TellsTarget (target_at (exports_of (image_of_file 0 image.now)) (Ordinal ordinal)) target.old target.new result }
     ensures open { result ≢ 6 }
 {
-    put_target(image.by_ordinal(ordinal), target)
+    put_target(opened_at(image, ordinal), target)
 }
 
 /// Reports the exports by ordinal: fills the rows, counts the exports, and returns the status, 0 or 4.
@@ -53,10 +65,10 @@ pub fn tell_exports<'a>(
 
 /// Reports the exports by name: fills the rows, counts the names, and returns the status, 0 or 4.
 pub fn tell_names<'a>(image: &OpenedImage<'a>, rows: &mut [ExportRow<'a>], count: &mut usize) -> u32
-    ensures table { TellsTable export_text export_by_name (exports_of (image_of_file 0 image.now)).names rows.old rows.new count.new result }
+    ensures table { TellsTable export_text export_by_name (named (exports_of (image_of_file 0 image.now))) rows.old rows.new count.new result }
     ensures open { result ≢ 6 }
 {
-    put_table(rows, image.names(), count)
+    put_names(rows, image.names(), image.name_ordinals(), count)
 }
 
 /// Reports the imports: fills the rows, counts the imports, and returns the status, 0 or 4.
@@ -69,6 +81,14 @@ pub fn tell_imports<'a>(
     ensures open { result ≢ 6 }
 {
     put_table(rows, image.imports(), count)
+}
+
+/// Reports the import whose slot is at an RVA, and returns the status, 0 or 3.
+pub fn tell_import<'a>(image: &OpenedImage<'a>, slot: u32, found: &mut ImportRow<'a>) -> u32
+    ensures found { TellsImport (import_of_slot (imports_of (image_of_file 0 image.now)) slot) found.old found.new result }
+    ensures open { result ≢ 6 }
+{
+    put_import(image.imports(), slot, found)
 }
 
 /// Reports the base relocations: fills the rows, counts them, and returns the status, 0 or 4.

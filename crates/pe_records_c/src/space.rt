@@ -2,11 +2,13 @@
 
 ghost use Rattle.std.specs.Prelude.{◌≡◌, ◌≢◌, ◌⊎◌, IsErrOf, IsSomeAnd, None, Some, false, is_ok, length, map};
 ghost use Rattle.pe_view.specs.Faults.{first_standing};
+ghost use Rattle.pe_view.specs.declared.fault.Place.TheVariants.{Item};
 ghost use Rattle.pe_set.specs.SetErrors.{SetAnswers, set_error};
 ghost use Rattle.pe_set.specs.SetFaults.{names_tests};
 ghost use Rattle.pe_space.specs.Content.{window_at, base_at, size_at};
 ghost use Rattle.pe_space.specs.Moves.{move_fault};
 ghost use Rattle.pe_space.specs.SpaceOf.{IsSpaceOf};
+ghost use Rattle.pe_records_c.specs.Faults.{fault_record};
 ghost use Rattle.pe_records_c.specs.Rows.{TellsTable};
 ghost use Rattle.pe_records_c.specs.SetRows.{entry_text, binding_row, policy_of};
 ghost use Rattle.pe_records_c.specs.Spaces.{IsMoveBy, IsWindow};
@@ -66,11 +68,23 @@ pub fn read_window(
     }
 }
 
+/// Fault 55: there is no image with this index.
+fn no_image(image: u32) -> FaultRecord
+    ensures { result ≡ fault_record (record { number = 55; image = image; place = Item image }) }
+{
+    FaultRecord {
+        number: 55,
+        place: 3,
+        image,
+        at: image as u64,
+    }
+}
+
 /// Moves an image to another base, counts what that rewrote, and returns the status: 0, or 1 with the first of faults 55 and 44 to
-/// 47, which changes nothing.
+/// 47, which changes nothing. An index of more than 16 bits is that of no image, as any from the number of images on.
 pub fn move_image(
     space: &mut MappedSpace<Global>,
-    image: u16,
+    image: u32,
     base: u64,
     moved: &mut MovedRecord,
     fault: &mut FaultRecord,
@@ -78,7 +92,11 @@ pub fn move_image(
     ensures exact { IsMoveBy (move_fault space.old image base) space.old image base (Some space.new) moved.old moved.new fault.old fault.new result }
     ensures open { result ≢ 6 }
 {
-    match space.move_image(image, base) {
+    if image >= space.image_count() as u32 {
+        *fault = no_image(image);
+        return status::FAULT;
+    }
+    match space.move_image(image as u16, base) {
         Ok(counts) => {
             *moved = moved_record(&counts);
             status::DONE
@@ -89,7 +107,7 @@ pub fn move_image(
 
 /// Reports the base and the size in bytes of an image, and returns the status: 0, or 3 if there is no such image, which leaves both
 /// unchanged.
-pub fn tell_place(space: &MappedSpace<Global>, image: u16, base: &mut u64, size: &mut u32) -> u32
+pub fn tell_place(space: &MappedSpace<Global>, image: u32, base: &mut u64, size: &mut u32) -> u32
     ensures status { (result ≡ 0) ⊎ (result ≡ 3) }
     ensures base { result ≡ 0 → base_at space.now image ≡ Some base.new }
     ensures size { result ≡ 0 → size_at space.now image ≡ Some size.new }
@@ -97,7 +115,10 @@ pub fn tell_place(space: &MappedSpace<Global>, image: u16, base: &mut u64, size:
     ensures base_kept { result ≢ 0 → base.new ≡ base.old }
     ensures size_kept { result ≢ 0 → size.new ≡ size.old }
 {
-    match (space.base_of(image), space.size_of(image)) {
+    if image >= space.image_count() as u32 {
+        return status::ABSENT;
+    }
+    match (space.base_of(image as u16), space.size_of(image as u16)) {
         (Some(first), Some(length)) => {
             *base = first;
             *size = length;

@@ -14,3 +14,5 @@ pub const SMALL: u32 = 4;
 pub const ARGUMENT: u32 = 5;
 /// The space, or the image, is not open.
 pub const CLOSED: u32 = 6;
+/// The images of a set have more bytes than the caller allows.
+pub const LARGE: u32 = 7;

@@ -4,12 +4,12 @@ ghost use Rattle.std.specs.Prelude.{◌≡◌, length, map, if◌then◌else◌}
 ghost use Rattle.pe_tables.specs.ExportsView.{exports_view};
 ghost use Rattle.pe_tables.specs.ImportView.{import_view};
 ghost use Rattle.pe_records_c.specs.Counts.{have_room};
-ghost use Rattle.pe_records_c.specs.ExportRows.{export_text, export_by_ordinal, export_by_name};
+ghost use Rattle.pe_records_c.specs.ExportRows.{export_text, export_by_ordinal, export_by_name, named};
 ghost use Rattle.pe_records_c.specs.FixupRows.{fixup_row};
 ghost use Rattle.pe_records_c.specs.ImportRows.{import_text, import_row};
 ghost use Rattle.pe_records_c.specs.Rows.{filled};
 
-use crate::export::ExportRow;
+use crate::export::{ExportRow, fill_names};
 use crate::fixup::FixupRow;
 use crate::import::ImportRow;
 use crate::row::fill_rows;
@@ -41,9 +41,9 @@ fn put_ordinals<'a>(rows: &mut [ExportRow<'a>], exports: &Exports<'a, Global>)
 
 /// Fills the first rows with the exports by name.
 fn put_names<'a>(rows: &mut [ExportRow<'a>], exports: &Exports<'a, Global>)
-    ensures { map export_text rows.new ≡ filled export_by_name (exports_view exports.now).names (map export_text rows.old) }
+    ensures { map export_text rows.new ≡ filled export_by_name (named (exports_view exports.now)) (map export_text rows.old) }
 {
-    fill_rows(rows, exports.names());
+    fill_names(rows, exports.names(), exports.name_ordinals());
 }
 
 /// Fills the first rows with imports.
@@ -103,7 +103,7 @@ pub fn put_image<'a>(
     counts: &mut CountsRecord,
 ) -> u32
     ensures exports { map export_text exports.new ≡ filled export_by_ordinal (exports_view image.now.exports).ordinals (map export_text exports.old) }
-    ensures names { map export_text names.new ≡ filled export_by_name (exports_view image.now.exports).names (map export_text names.old) }
+    ensures names { map export_text names.new ≡ filled export_by_name (named (exports_view image.now.exports)) (map export_text names.old) }
     ensures imports { map import_text imports.new ≡ filled import_row (map import_view image.now.imports.items) (map import_text imports.old) }
     ensures fixups { fixups.new ≡ filled fixup_row image.now.fixups.items fixups.old }
     ensures exports_count { counts.new.exports ≡ length (exports_view image.now.exports).ordinals }

@@ -9,9 +9,9 @@ use crate::at_object::write_object_spots;
 use crate::at_place::write_image_spots;
 use crate::laws::outcomes_agree;
 use crate::spot::Spot;
-use pe_reach::{ViewFile, ViewReport, WholeView, run_view};
-use pe_text::{Outcome, Sink, Source, TextWriter, ToolError, run_report, write_report};
-use pe_view::Place;
+use pe_reach::{ViewFile, ViewReport, WholeView, early_fault, run_view, view_fault};
+use pe_text::{Outcome, Sink, Source, TextWriter, ToolError, refuse, run_report, write_report};
+use pe_view::{Fault, Place};
 use std::alloc::{AllocError, Allocator};
 
 /// The report of [`at`].
@@ -30,6 +30,18 @@ impl ViewReport for AtReport {
         file: ViewFile,
     ) -> Result<Outcome, AllocError> {
         write_image_spots(alloc, text, file, &[Spot::At(self.place)])
+    }
+
+    fn early_fault(&self, begin: &[u8], len: u64) -> Option<Fault> {
+        early_fault(begin, len)
+    }
+
+    fn needs_all(&self) -> bool {
+        false
+    }
+
+    fn refuse<W: Sink>(&self, text: &mut TextWriter<W>, _file: ViewFile, fault: Fault) {
+        refuse(text, fault);
     }
 }
 
@@ -52,6 +64,18 @@ impl<'s> ViewReport for SpotsReport<'s> {
             Some(object) => write_object_spots(alloc, text, object, self.spots),
             None => write_image_spots(alloc, text, file, self.spots),
         }
+    }
+
+    fn early_fault(&self, begin: &[u8], len: u64) -> Option<Fault> {
+        view_fault(begin, len)
+    }
+
+    fn needs_all(&self) -> bool {
+        false
+    }
+
+    fn refuse<W: Sink>(&self, text: &mut TextWriter<W>, _file: ViewFile, fault: Fault) {
+        refuse(text, fault);
     }
 }
 

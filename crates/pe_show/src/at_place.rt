@@ -10,6 +10,7 @@ ghost use Rattle.pe_show.specs.Page.{AddsSome};
 use crate::at_headers::write_by_headers;
 use crate::cell::Cell::{self, Plain};
 use crate::cell::{NOTHING, write_cells};
+use crate::functions::function_cells;
 use crate::header_places::header_row;
 use crate::image::outcome_of;
 use crate::place::{SectionNames, SectionPlace};
@@ -280,6 +281,7 @@ fn write_at<A: Allocator + Copy, W: Sink>(
     write_cells(text, &exported);
     write_cells(text, &slot);
     write_cells(text, &field);
+    write_cells(text, &function_cells(layout, rva));
     write_cells(text, &row_cells(row_at(layout, tables, rva)));
     write_bytes(text, layout, rva);
 }

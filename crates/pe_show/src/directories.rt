@@ -10,6 +10,8 @@ use crate::heading::{Page, write_heading};
 use crate::imports::{module_len, module_name, same_module};
 use crate::name::{module_width, section_width};
 use crate::place::SectionNames;
+use crate::shown_image::ShownImage;
+use crate::summaries::write_table_summary;
 use pe_head::{Directory, directory_index, directory_name};
 use pe_image::Tables;
 use pe_layout::Layout;
@@ -315,6 +317,7 @@ fn write_fixup_count<W: Sink>(text: &mut TextWriter<W>, fixups: &[Fixup])
 fn write_summary<A: Allocator + Copy, W: Sink>(
     text: &mut TextWriter<W>,
     page: &Page,
+    image: &ShownImage,
     index: usize,
     tables: &Tables<A>,
     room: usize,
@@ -328,7 +331,7 @@ fn write_summary<A: Allocator + Copy, W: Sink>(
             write_import_count(text, page, imports, room);
         }
         (directory_index::BASE_RELOCATION, _, _, Some(fixups)) => write_fixup_count(text, fixups),
-        _ => text.text(b"not read\n"),
+        _ => write_table_summary(text, image, index),
     }
 }
 
@@ -344,6 +347,7 @@ fn room_of(page: &Page, widths: &Widths) -> usize {
 fn write_directory<A: Allocator + Copy, W: Sink>(
     text: &mut TextWriter<W>,
     page: &Page,
+    image: &ShownImage,
     widths: &Widths,
     index: usize,
     directory: &Directory,
@@ -371,25 +375,27 @@ fn write_directory<A: Allocator + Copy, W: Sink>(
             Plain(Text(b"   ")),
         ],
     );
-    write_summary(text, page, index, tables, room_of(page, widths));
+    write_summary(text, page, image, index, tables, room_of(page, widths));
 }
 
 /// Adds the table of the data directories that are present.
 pub(crate) fn write_directories<A: Allocator + Copy, W: Sink>(
     text: &mut TextWriter<W>,
     page: &Page,
-    layout: &Layout,
+    image: &ShownImage,
     names: &SectionNames,
     tables: &Tables<A>,
 )
     requires { IsReady W.failures text.old }
     ensures { AddsSome W.taken W.failures text.old text.new }
 {
-    let directories = layout.headers().directories.as_slice();
-    let widths = widths_of(layout, names);
+    let directories = image.layout.headers().directories.as_slice();
+    let widths = widths_of(image.layout, names);
     write_heading(text, page.options, b"Tables", widths.count);
     for (index, directory) in directories.iter().enumerate() {
-        let section = section_of(layout, names, index, directory);
-        write_directory(text, page, &widths, index, directory, section, tables);
+        let section = section_of(image.layout, names, index, directory);
+        write_directory(
+            text, page, image, &widths, index, directory, section, tables,
+        );
     }
 }

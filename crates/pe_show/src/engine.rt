@@ -6,11 +6,12 @@ ghost use Rattle.pe_text.specs.Engine.{Ran};
 ghost use Rattle.pe_show.specs.Judged.{IsJudged};
 
 use crate::heading::Page;
-use crate::image::show_image;
+use crate::image::{show_image, write_unread};
 use crate::laws::outcomes_agree;
-use crate::object::show_object;
-use pe_reach::{ViewFile, ViewReport, WholeView, run_view};
+use crate::object::{show_object, write_refused};
+use pe_reach::{ViewFile, ViewReport, WholeView, run_view, view_fault};
 use pe_text::{Outcome, ShowOptions, Sink, Source, TextWriter, ToolError, run_report};
+use pe_view::Fault;
 use std::alloc::{AllocError, Allocator};
 
 impl<'p> ViewReport for Page<'p> {
@@ -25,6 +26,22 @@ impl<'p> ViewReport for Page<'p> {
         match file.object() {
             Some(object) => show_object(alloc, self, text, object),
             None => show_image(alloc, self, text, file),
+        }
+    }
+
+    fn early_fault(&self, begin: &[u8], len: u64) -> Option<Fault> {
+        view_fault(begin, len)
+    }
+
+    fn needs_all(&self) -> bool {
+        self.options.trust
+    }
+
+    fn refuse<W: Sink>(&self, text: &mut TextWriter<W>, file: ViewFile, fault: Fault) {
+        let outcome = Outcome::Refused(fault);
+        match file.object() {
+            Some(_) => write_refused(text, self, outcome, file),
+            None => write_unread(text, self, file, outcome),
         }
     }
 }
@@ -87,7 +104,9 @@ pub fn show_page<A: Allocator + Copy, R: Source, W: Sink>(
 
 /// [`show`] for a file of `len` bytes. Of an image no more is read than the bytes before the end that its headers name, and those
 /// before the end of its string table if a name of a section may be in it; the outcome is that of each file of `len` bytes that
-/// begins so. A file that does not begin with `MZ`, and one whose first 4,096 bytes do not say where that end is, is read whole.
+/// begins so. Of a file that its size or its first bytes refuse, as [`pe_reach::view_fault`] says, at most 4,096 bytes are read. An
+/// object, a file whose first 4,096 bytes do not say where that end is, and one of which the options select what it says of itself, is
+/// read whole.
 ///
 /// The page, the errors and the conditions are those of [`show`].
 pub fn show_sized<A: Allocator + Copy, R: Source, W: Sink>(

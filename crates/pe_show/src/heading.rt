@@ -57,6 +57,27 @@ pub(crate) fn write_title<W: Sink>(
     );
 }
 
+/// Adds the heading of a part that is no list, after an empty row: `Identity`.
+pub(crate) fn write_plain_heading<W: Sink>(
+    text: &mut TextWriter<W>,
+    options: &ShowOptions,
+    words: &[u8],
+)
+    requires { IsReady W.failures text.old }
+    ensures { AddsSome W.taken W.failures text.old text.new }
+{
+    write_parts(
+        text,
+        &[
+            Text(b"\n"),
+            heading_style(options),
+            Text(words),
+            end_style(options),
+            Text(b"\n"),
+        ],
+    );
+}
+
 /// Adds the heading of a table, after an empty row: `Sections (12)`.
 pub(crate) fn write_heading<W: Sink>(
     text: &mut TextWriter<W>,

@@ -8,23 +8,31 @@ ghost use Rattle.pe_text.specs.TextWriter.{IsReady};
 ghost use Rattle.pe_show.specs.Page.{AddsSome};
 ghost use Rattle.pe_text.specs.Outcome.{IsOutcomeOf};
 
-use crate::debug::is_reproducible;
+use crate::debug::{image_pdb, is_reproducible, write_debug};
 use crate::directories::write_directories;
 use crate::exports::write_exports;
 use crate::fault::write_refusal;
 use crate::file_rows::write_others;
+use crate::findings::{drop_unread, write_findings};
 use crate::fixups::write_fixups;
+use crate::functions::write_functions;
 use crate::header_rows::{image_kind, write_headers};
 use crate::heading::{Page, write_title};
 use crate::imports::write_imports;
+use crate::load_configuration::write_load_configuration;
+use crate::pdb::write_identity;
 use crate::place::SectionNames;
 use crate::sections::write_sections;
+use crate::shown_image::ShownImage;
+use crate::tls::write_tls;
+use crate::trust::{trust_findings, write_trust};
 use pe_image::Tables;
 use pe_layout::Layout;
 use pe_reach::{ViewFile, read_whole_tables};
+use pe_records::findings;
 use pe_tables::NamesByOrdinal;
 use pe_text::Part::Text;
-use pe_text::{Outcome, Sink, TextWriter};
+use pe_text::{Outcome, ShowOptions, Sink, TextWriter};
 use pe_view::Fault;
 use std::alloc::{AllocError, Allocator};
 
@@ -50,6 +58,20 @@ fn order_names<A: Allocator + Copy>(
     }
 }
 
+/// Adds the page of an image of which nothing but its fault is shown.
+pub(crate) fn write_unread<W: Sink>(
+    text: &mut TextWriter<W>,
+    page: &Page,
+    file: ViewFile,
+    outcome: Outcome,
+)
+    requires { IsReady W.failures text.old }
+    ensures { AddsSome W.taken W.failures text.old text.new }
+{
+    write_title(text, page, outcome, [Text(b""); 4], file.len());
+    write_refusal(text, page.options, outcome, file);
+}
+
 /// Adds the page of an image with one of faults 1 to 15, with its headers and sections if the headers have no fault.
 fn write_refused<W: Sink>(text: &mut TextWriter<W>, page: &Page, file: ViewFile, outcome: Outcome)
     requires { IsReady W.failures text.old }
@@ -61,21 +83,36 @@ fn write_refused<W: Sink>(text: &mut TextWriter<W>, page: &Page, file: ViewFile,
             write_headers(text, page, &headers, None, false);
             let names = SectionNames::new(file, &headers);
             write_sections(text, page, &headers, &names);
+            write_trust(text, page.options, file, &headers);
+            let trust = trust_findings(page.options, file, &headers);
+            write_findings(text, page.options, &[], &trust);
             write_refusal(text, page.options, outcome, file);
         }
-        Err(_) => {
-            write_title(text, page, outcome, [Text(b""); 4], file.len());
-            write_refusal(text, page.options, outcome, file);
-        }
+        Err(_) => write_unread(text, page, file, outcome),
     }
+}
+
+/// Adds the rows of the tables beyond the profile that the options select.
+fn write_beyond<W: Sink>(
+    text: &mut TextWriter<W>,
+    options: &ShowOptions,
+    image: &ShownImage,
+    names: &SectionNames,
+)
+    requires { IsReady W.failures text.old }
+    ensures { AddsSome W.taken W.failures text.old text.new }
+{
+    write_debug(text, options, image);
+    write_functions(text, options, image, names);
+    write_tls(text, options, image, names);
+    write_load_configuration(text, options, image);
 }
 
 /// Adds the page of an image that is laid out.
 fn write_image<A: Allocator + Copy, W: Sink>(
     text: &mut TextWriter<W>,
     page: &Page,
-    file: ViewFile,
-    layout: &Layout,
+    image: &ShownImage,
     tables: &Tables<A>,
     names_by_ordinal: &NamesByOrdinal<A>,
 )
@@ -83,17 +120,27 @@ fn write_image<A: Allocator + Copy, W: Sink>(
     ensures { AddsSome W.taken W.failures text.old text.new }
 {
     let outcome = outcome_of(tables.fault);
+    let ShownImage {
+        layout,
+        file,
+        findings,
+        trust,
+    } = *image;
     let headers = layout.headers();
     let names = SectionNames::new(file, headers);
     let entry = names.place(layout, headers.address_of_entry_point);
     write_title(text, page, outcome, image_kind(headers), file.len());
     write_headers(text, page, headers, Some(entry), is_reproducible(layout));
     write_others(text, headers, file.len());
+    write_identity(text, page.options, image_pdb(layout, file));
     write_sections(text, page, headers, &names);
-    write_directories(text, page, layout, &names, tables);
+    write_directories(text, page, image, &names, tables);
     write_exports(text, page.options, layout, &names, tables, names_by_ordinal);
     write_imports(text, page.options, tables);
     write_fixups(text, page.options, tables);
+    write_beyond(text, page.options, image, &names);
+    write_trust(text, page.options, file, headers);
+    write_findings(text, page.options, findings, trust);
     write_refusal(text, page.options, outcome, file);
 }
 
@@ -115,7 +162,16 @@ pub(crate) fn show_image<A: Allocator + Copy, W: Sink>(
         Ok(layout) => {
             let tables = read_whole_tables(alloc, &layout)?;
             let names = order_names(alloc, &tables, page.options.exports)?;
-            write_image(text, page, file, &layout, &tables, &names);
+            let mut findings = findings(alloc, &layout, file.beginning())?;
+            drop_unread(&mut findings, &layout, file);
+            let trust = trust_findings(page.options, file, layout.headers());
+            let image = ShownImage {
+                layout: &layout,
+                file,
+                findings: findings.as_slice(),
+                trust: &trust,
+            };
+            write_image(text, page, &image, &tables, &names);
             Ok(outcome_of(tables.fault))
         }
         Err(fault) => {

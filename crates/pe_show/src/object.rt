@@ -67,7 +67,12 @@ fn write_object<A: Allocator + Copy, W: Sink>(
 }
 
 /// Adds the page of a refused object.
-fn write_refused<W: Sink>(text: &mut TextWriter<W>, page: &Page, outcome: Outcome, file: ViewFile)
+pub(crate) fn write_refused<W: Sink>(
+    text: &mut TextWriter<W>,
+    page: &Page,
+    outcome: Outcome,
+    file: ViewFile,
+)
     requires { IsReady W.failures text.old }
     ensures { AddsSome W.taken W.failures text.old text.new }
 {

@@ -19,7 +19,7 @@ pub struct FaultWords {
 }
 
 /// The words of each fault: its number, what is at its place, and the rule that it breaks.
-static RULES: [(u16, &str, &str); 69] = [
+static RULES: [(u16, &str, &str); 102] = [
     (1, "byte", "the file is larger than 2^32 bytes"),
     (
         2,
@@ -301,6 +301,159 @@ static RULES: [(u16, &str, &str); 69] = [
     ),
     (84, "object", "its file would have more than 2^32 - 1 bytes"),
     (85, "object", "a part of it does not fit the format"),
+    (
+        101,
+        "debug directory",
+        "its Size is more than the bytes that the file holds of it in one run",
+    ),
+    (
+        102,
+        "debug directory",
+        "its Size is not a multiple of the length of an entry",
+    ),
+    (
+        103,
+        "debug directory entry",
+        "its data extends past the end of the file",
+    ),
+    (
+        104,
+        "debug directory entry",
+        "its data extends past the end of the image",
+    ),
+    (
+        105,
+        "debug directory entry",
+        "the path in its CodeView data does not end with a zero byte",
+    ),
+    (
+        111,
+        "exception table",
+        "its Size is more than the bytes that the file holds of it in one run",
+    ),
+    (
+        112,
+        "exception table",
+        "its Size is not a multiple of the length of a record",
+    ),
+    (
+        113,
+        "function in the exception table",
+        "it ends before it begins",
+    ),
+    (
+        114,
+        "function in the exception table",
+        "it extends past the end of the image",
+    ),
+    (
+        115,
+        "function in the exception table",
+        "its unwind information is not entirely inside the image",
+    ),
+    (
+        116,
+        "function in the exception table",
+        "it begins before the function that is before it in the table",
+    ),
+    (
+        131,
+        "TLS directory",
+        "the file does not hold all of it in one run",
+    ),
+    (132, "TLS directory", "its template ends before it starts"),
+    (
+        133,
+        "TLS directory",
+        "its template or its index is not in the image",
+    ),
+    (
+        134,
+        "TLS directory",
+        "AddressOfCallBacks is not an address in the image",
+    ),
+    (
+        135,
+        "TLS callbacks",
+        "no zero ends their table in the bytes that the file holds of it in one run",
+    ),
+    (136, "TLS callback", "its address is not in the image"),
+    (
+        141,
+        "load configuration",
+        "the file does not hold its first field",
+    ),
+    (
+        142,
+        "load configuration",
+        "its Size is more than the bytes that the file holds of it in one run",
+    ),
+    (
+        143,
+        "load configuration",
+        "its Size is less than the length of this field",
+    ),
+    (
+        144,
+        "load configuration",
+        "its table of exception handlers is not in one run",
+    ),
+    (
+        145,
+        "load configuration",
+        "its table of guarded functions is not in one run",
+    ),
+    (
+        146,
+        "load configuration",
+        "its table of exception handling continuations is not in one run",
+    ),
+    (
+        147,
+        "load configuration",
+        "its table of guarded imports or of long jump targets is not in one run",
+    ),
+    (
+        151,
+        "bound import table",
+        "no record of zeros ends it in the bytes that the file holds of it in one run",
+    ),
+    (
+        152,
+        "bound import",
+        "the name of its module is not in the image",
+    ),
+    (
+        221,
+        "directory 4",
+        "the certificate table extends past the end of the file",
+    ),
+    (
+        222,
+        "certificate",
+        "it is not entirely inside the certificate table and the file",
+    ),
+    (
+        223,
+        "directory 4",
+        "the certificate table shares a byte with the headers or with the raw data of a section",
+    ),
+    (
+        224,
+        "directory 4",
+        "the certificate table does not begin at a multiple of 8",
+    ),
+    (241, "Rich", "no DanS begins the Rich header before it"),
+    (
+        251,
+        "CLR header",
+        "the file does not hold all of it in one run",
+    ),
+    (
+        252,
+        "CLR header",
+        "one of its directories extends past the end of the image",
+    ),
 ];
 
 /// The words of a number in this table.

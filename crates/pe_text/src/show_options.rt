@@ -11,6 +11,16 @@ pub struct ShowOptions {
     pub relocations: bool,
     /// The symbols of an object, a row each.
     pub symbols: bool,
+    /// The entries of the debug directory, a row each.
+    pub debug: bool,
+    /// The functions of the exception table, a row each.
+    pub functions: bool,
+    /// The fields of the TLS directory, and its callbacks, a row each.
+    pub tls: bool,
+    /// The fields of the load configuration, a row each.
+    pub load: bool,
+    /// CheckSum as it is to be, the certificates, whether the digest that they sign is the file's, and the Rich header.
+    pub trust: bool,
     /// Headings are bold, and a refusal is red.
     pub is_coloured: bool,
 }
@@ -22,6 +32,11 @@ impl ShowOptions {
         imports: true,
         relocations: true,
         symbols: true,
+        debug: true,
+        functions: true,
+        tls: true,
+        load: true,
+        trust: true,
         is_coloured: false,
     };
 }

@@ -4,10 +4,15 @@ use Rattle.std.proofs.lemmas.List.{take-append-drop}
 use Rattle.pe_view.specs.declared.fault.Fault.{Fault}
 use Rattle.pe_view.specs.declared.fault.Place.TheVariants.{File}
 use Rattle.pe_view.specs.Faults.{first_standing}
+use Rattle.pe_view.specs.FirstStanding.{first-in}
+use Rattle.pe_head.specs.Head.{head_of}
 use Rattle.pe_head.specs.HeaderFaults.{head_tests}
-use Rattle.pe_layout.specs.SectionFaults.{layout_tests}
+use Rattle.pe_layout.specs.Image.{image_of_file}
+use Rattle.pe_layout.specs.SectionFaults.{layout_tests, placing_tests}
+use Rattle.pe_image.specs.ImageTests.{relocation_tests}
+use Rattle.pe_tables.specs.Fixups.{fixups_of}
 use Rattle.pe_write.specs.Rebase.{rebased}
-use Rattle.pe_write.specs.RebaseFaults.{rebase_tests}
+use Rattle.pe_write.specs.RebaseFaults.{rebase_tests, own_base_tests, data_tests}
 use Rattle.pe_view.specs.declared.refusal.Refusal.{Refusal}
 use Rattle.pe_text.specs.declared.outcome.Outcome.{Outcome}
 use Rattle.pe_text.specs.declared.outcome.ToolError.{ToolError}
@@ -69,6 +74,15 @@ module _ (base : ℕ) (given given' : List ℕ) (ended : Bool) where
         where
           is_all : take wrote.0.0 bytes ++ drop wrote.0.0 bytes ≡ rebased input base
           is_all = subst (λ (xs : List ℕ). take wrote.0.0 bytes ++ drop wrote.0.0 bytes ≡ xs) is (take-append-drop wrote.0.0 bytes)
+
+-- a fault of the headers is the first of all
+pub size_refused : (file : List ℕ) (base : ℕ) (fault : Fault) → first_standing (head_tests 0 file) ≡ Some fault → first_standing (rebase_tests file base) ≡ Some fault
+unfolding rebase_tests
+size_refused file base fault is =
+    let h = head_of file in
+    let i = image_of_file 0 file in
+    first-in (layout_tests 0 file) (relocation_tests i ++ (own_base_tests h.magic i base ++ data_tests h (fixups_of i))) fault
+    (first-in (head_tests 0 file) (placing_tests 0 h (length file)) fault is)
 
 -- memory runs out only for a file that is not empty
 pub some_bytes : (file : List ℕ) {V : Type 0} (result : Result V Refusal) → ((fault : Fault) → first_standing (layout_tests 0 file) ≡ Some fault → result ≡ Err (Refusal.Fault fault)) → result ≡ Err Refusal.Memory → 0 < length file

@@ -1,5 +1,6 @@
 -- What `rebase` reads and writes: the file for another base goes to one output, and then a line to another.
 use Rattle.std.specs.Prelude.{◌≡◌, ◌+◌, ◌<◌, ◌≤◌, ◌^◌, ◌⊎◌, ℕ, Bool, List, [], ◌∷◌, ◌++◌, codes, length, None, Some, Result, Ok, Err, IsErrOf}
+use Rattle.pe_view.specs.declared.fault.Fault.{Fault}
 use Rattle.pe_view.specs.Faults.{first_standing}
 use Rattle.pe_write.specs.Rebase.{rebased}
 use Rattle.pe_write.specs.RebaseFaults.{rebase_tests}
@@ -74,3 +75,11 @@ PutsLine base outcome writer (Ok told) = (told ≡ outcome) × Gets writer (outc
 PutsLine base outcome writer (Err Read) = ⊥
 PutsLine base outcome writer (Err Write) = GetsPart writer (outcome_line base outcome)
 PutsLine base outcome writer (Err Memory) = ⊥
+
+-- a file of a length is refused by its first fault, without a byte of it; its line is written, and nothing to `out`
+pub record RefusesSize (base len : ℕ) (given given' : List ℕ) (out writer : Output) (result : Result Outcome ToolError) : Type 0 where
+  pub fault : Fault
+  pub refused : (file : List ℕ) → length file ≡ len → first_standing (rebase_tests file base) ≡ Some fault
+  pub reads : given' ≡ given
+  pub unwritten : Gets out []
+  pub line : PutsLine base (Refused fault) writer result

@@ -15,6 +15,7 @@
 
 pub mod laws;
 mod map_lines;
+mod object_sized;
 mod rebasing;
 mod set_report;
 mod unbound_imports;
@@ -22,13 +23,14 @@ mod window;
 mod words;
 
 pub use coff_lines::{dump_object, object_text};
+pub use object_sized::dump_object_sized;
 pub use pe_detail::{Detail, DetailText, fault_detail};
 pub use pe_json::{json, json_parts, json_sized};
 pub use pe_lines::{
     check, check_parts, check_sized, check_text, dump, dump_parts, dump_sized, dump_text, sum,
-    sum_text,
+    sum_sized, sum_text,
 };
-pub use pe_reach::{PartSource, Placed, needed, read_enough, read_view};
+pub use pe_reach::{PartSource, Placed, needed, read_enough, read_view, size_fault};
 pub use pe_show::{
     Page, ShowOptions, ShownName, Spot, at, at_each, at_each_sized, at_each_text, at_sized,
     is_safe_text, show, show_page, show_page_sized, show_sized,
@@ -36,9 +38,9 @@ pub use pe_show::{
 pub use pe_space::{Policy, SetEntry};
 pub use pe_text::{
     Counted, Failed, FaultText, FaultWords, FileKind, Outcome, Sink, Source, ToolError,
-    fault_words, file_kind, other_kind, read_whole, status,
+    fault_words, file_kind, other_kind, read_whole, status, write_refusal,
 };
 pub use pe_words::{AtPlace, Colours, MapFile, WordsError};
-pub use rebasing::rebase;
+pub use rebasing::{rebase, rebase_sized};
 pub use set_report::{map_report, map_report_unbound};
 pub use words::{Job, parse_words};

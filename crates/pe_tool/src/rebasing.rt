@@ -1,9 +1,10 @@
-//! `rebase`: writes the file of an image for another base to one output, and a line about it to another.
+//! `rebase` and `rebase_sized`: write the file of an image for another base to one output, and a line about it to another.
 
 ghost use Rattle.std.specs.Prelude.{◌-◌, ◌^◌, ◌<◌, ◌⊎◌, ◌↔◌, IsErrOf};
 ghost use Rattle.pe_text.specs.TextWriter.{IsReady, Adds};
-ghost use Rattle.pe_tool.specs.RebaseRun.{PutsLine, RebaseRan, outcome_line, rebased_line};
+ghost use Rattle.pe_tool.specs.RebaseRun.{PutsLine, RebaseRan, RefusesSize, outcome_line, rebased_line};
 
+use pe_reach::size_fault;
 use pe_text::Part::{Hex16, Text};
 use pe_text::{
     Outcome, Sink, Source, TextWriter, ToolError, read_whole, write_all, write_fault_line,
@@ -80,5 +81,37 @@ pub fn rebase<A: Allocator + Copy, R: Source, O: Sink, W: Sink>(
     match write_all(out, &bytes) {
         Ok(()) => tell(writer, base, Outcome::Done),
         Err(_) => Err(ToolError::Write),
+    }
+}
+
+/// [`rebase`] for a file of `len` bytes: nothing is read of one that is larger than any image's file may be, and nothing is written
+/// to `out`.
+///
+/// The outputs, the errors and the conditions are those of [`rebase`].
+pub fn rebase_sized<A: Allocator + Copy, R: Source, O: Sink, W: Sink>(
+    alloc: A,
+    reader: &mut R,
+    len: u64,
+    base: u64,
+    out: &mut O,
+    writer: &mut W,
+) -> Result<Outcome, ToolError>
+    requires reads { R.failures reader.old < 2 ^ 64 - 1 }
+    requires outs { O.failures out.old < 2 ^ 64 - 1 }
+    requires writes { W.failures writer.old < 2 ^ 64 - 1 }
+    ensures ran { RebaseRan base (R.given reader.old) (R.given reader.new)
+        (record { taken = O.taken out.old; taken' = O.taken out.new; count = O.failures out.old; count' = O.failures out.new })
+        (record { taken = W.taken writer.old; taken' = W.taken writer.new; count = W.failures writer.old; count' = W.failures writer.new })
+        (R.ended reader.new) result
+        ⊎ RefusesSize base len (R.given reader.old) (R.given reader.new)
+        (record { taken = O.taken out.old; taken' = O.taken out.new; count = O.failures out.old; count' = O.failures out.new })
+        (record { taken = W.taken writer.old; taken' = W.taken writer.new; count = W.failures writer.old; count' = W.failures writer.new })
+        result }
+    ensures read { IsErrOf result ToolError.Read ↔ (R.failures reader.old < R.failures reader.new) }
+    ensures write { IsErrOf result ToolError.Write ↔ ((O.failures out.old < O.failures out.new) ⊎ (W.failures writer.old < W.failures writer.new)) }
+{
+    match size_fault(len) {
+        Some(fault) => tell(writer, base, Outcome::Refused(fault)),
+        None => rebase(alloc, reader, base, out, writer),
     }
 }

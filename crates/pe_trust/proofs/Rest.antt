@@ -5,7 +5,7 @@ use Rattle.std.proofs.lemmas.Bool.{cases_Bool}
 use Rattle.std.proofs.lemmas.List.{length-drop}
 use Rattle.byteorder.specs.Endian.{big_number}
 use Rattle.pe_trust.specs.Der.{Element, element_of, long_element, sized_element}
-use Rattle.pe_trust.specs.Signature.{SEQUENCE}
+use Rattle.pe_trust.specs.Signature.{SEQUENCE, behind}
 use Rattle.pe_trust.specs.Signers.{Signer, and_then_rest, behind_first, signer_of, signers_from, signers_in}
 
 -- an element, if there is one, has at most so many bytes behind it
@@ -43,15 +43,16 @@ first (tag ∷ size ∷ bytes) =
     (chosen (length bytes) (tag % 32 == 31) None (cond (nat_lt size 128) (sized_element tag size bytes) (long_element tag (size - 128) bytes)) tt
     (chosen (length bytes) (nat_lt size 128) (sized_element tag size bytes) (long_element tag (size - 128) bytes) (sized tag size bytes) (long tag (size - 128) bytes)))
 
-tagged : (most : ℕ) (o : Option Element) → LeavesAtMost most o → length (unwrap_or (option_and_then (λ (e : Element). cond (e.tag == SEQUENCE) (Some e.rest) None) o) []) ≤ most
-tagged most None few = omega arith
-tagged most (Some e) few = elim (cases_Bool (e.tag == SEQUENCE)) [
+tagged : (tag most : ℕ) (o : Option Element) → LeavesAtMost most o → length (unwrap_or (option_and_then (λ (e : Element). cond (e.tag == tag) (Some e.rest) None) o) []) ≤ most
+tagged tag most None few = omega arith
+tagged tag most (Some e) few = elim (cases_Bool (e.tag == tag)) [
   | inl is ↦ rw is few
   | inr other ↦ rw other (omega arith)
 ]
 
-shorter : (bytes : List ℕ) → length (behind_first bytes) ≤ length bytes - 1
-shorter bytes = tagged (length bytes - 1) (element_of bytes) (first bytes)
+-- what is behind an element of a tag
+pub shorter : (tag : ℕ) (bytes : List ℕ) → length (unwrap_or (behind tag bytes) []) ≤ length bytes - 1
+shorter tag bytes = tagged tag (length bytes - 1) (element_of bytes) (first bytes)
 
 none_in_none : (most : ℕ) → signers_from most [] ≡ []
 none_in_none zero = refl
@@ -65,14 +66,14 @@ enough : (m n : ℕ) (bytes : List ℕ) → length bytes ≤ m → length bytes 
 enough zero n bytes first second = sym (no_bytes n bytes first)
 enough (suc m) zero bytes first second = no_bytes (suc m) bytes second
 enough (suc m) (suc n) bytes first second =
-    let less = shorter bytes in
+    let less = shorter SEQUENCE bytes in
     ap (and_then_rest (signer_of bytes)) (enough m n (behind_first bytes) (omega (arith, less, first)) (omega (arith, less, second)))
 
 -- the first certificate, and those behind it
 pub signers_step : (bytes : List ℕ) → signers_in bytes ≡ and_then_rest (signer_of bytes) (signers_in (behind_first bytes))
 signers_step [] = refl
 signers_step (x ∷ xs) =
-    let less = shorter (x ∷ xs) in
+    let less = shorter SEQUENCE (x ∷ xs) in
     ap (and_then_rest (signer_of (x ∷ xs))) (enough (length xs) (length (behind_first (x ∷ xs))) (behind_first (x ∷ xs)) (omega (arith, less)) (omega arith))
 
 pub signers_more : (bytes : List ℕ) (s : Signer) → Some s ≡ signer_of bytes → signers_in bytes ≡ s ∷ signers_in (behind_first bytes)

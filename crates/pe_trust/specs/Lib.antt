@@ -8,6 +8,7 @@ pub mod CheckSum
 pub mod Der
 pub mod DerView
 pub mod Digests
+pub mod Names
 pub mod Overlay
 pub mod Rich
 pub mod RichTests

@@ -97,6 +97,22 @@ pub fn authenticode_sha256(file: View, headers: &Headers) -> Option<[u8; 32]>
     Some(sha2_of::<Sha256>(&parts))
 }
 
+/// The SHA-384 digest of the same bytes.
+pub fn authenticode_sha384(file: View, headers: &Headers) -> Option<[u8; 48]>
+    ensures { result ≡ option_map sha384 (authenticode_bytes (bytes_of file.entry) headers.now) }
+{
+    let parts = signed_parts(file, headers)?;
+    Some(sha2_of::<Sha384>(&parts))
+}
+
+/// The SHA-512 digest of the same bytes.
+pub fn authenticode_sha512(file: View, headers: &Headers) -> Option<[u8; 64]>
+    ensures { result ≡ option_map sha512 (authenticode_bytes (bytes_of file.entry) headers.now) }
+{
+    let parts = signed_parts(file, headers)?;
+    Some(sha2_of::<Sha512>(&parts))
+}
+
 impl<'a> SignedDigest<'a> {
     ghost use Rattle.std.specs.Prelude.{option_and_then};
 

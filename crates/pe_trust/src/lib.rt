@@ -20,6 +20,7 @@ mod certified;
 mod der;
 mod digests;
 mod entries;
+mod name;
 mod overlay;
 mod rich;
 mod rich_pairs;
@@ -32,7 +33,11 @@ mod sum;
 
 pub use certificate::{Certificate, Certificates};
 pub use certificate_finding::certificate_findings;
-pub use digests::{DigestAlgorithm, authenticode_sha1, authenticode_sha256};
+pub use digests::{
+    DigestAlgorithm, authenticode_sha1, authenticode_sha256, authenticode_sha384,
+    authenticode_sha512,
+};
+pub use name::common_name;
 pub use overlay::file_end;
 pub use rich::rich_header;
 pub use rich_rule::rich_finding;

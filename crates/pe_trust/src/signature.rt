@@ -59,7 +59,7 @@ pub(crate) fn behind(tag: u8, bytes: &[u8]) -> Option<&[u8]>
 }
 
 /// What is behind the first element, if it is this object identifier.
-fn behind_identifier<'a>(identifier: &[u8], bytes: &'a [u8]) -> Option<&'a [u8]>
+pub(crate) fn behind_identifier<'a>(identifier: &[u8], bytes: &'a [u8]) -> Option<&'a [u8]>
     ensures { option_map (λ rest. rest.now) result ≡ behind_identifier identifier.now bytes.now }
 {
     let first = first_element(bytes)?;

@@ -9,7 +9,7 @@ use clap::Command;
 use std::alloc::{AllocError, Global};
 
 /// The program's version, which `--version` prints after its name: that of the file VERSION.
-const VERSION: &str = "1.0";
+const VERSION: &str = "2.0";
 
 /// The purpose of the program, for help.
 const ABOUT: &str =

@@ -81,7 +81,7 @@ const COLOR: &str =
     "When pages have colours: auto, on a terminal unless NO_COLOR is set or TERM is dumb; always; or never";
 
 /// The options of `show` that add rows, each with its help.
-const SHOW_OPTIONS: [(&str, &str); 5] = [
+const SHOW_OPTIONS: [(&str, &str); 10] = [
     ("exports", "Prints each export"),
     ("imports", "Prints each import"),
     (
@@ -89,6 +89,14 @@ const SHOW_OPTIONS: [(&str, &str); 5] = [
         "Prints each base relocation, or each relocation of an object",
     ),
     ("symbols", "Prints each symbol of an object"),
+    ("debug", "Prints each entry of the debug directory"),
+    ("functions", "Prints each function of the exception table"),
+    ("tls", "Prints the TLS directory and its callbacks"),
+    ("load", "Prints the load configuration"),
+    (
+        "trust",
+        "Prints CheckSum, certificates, whether the digest that they sign is the file's, and the Rich header",
+    ),
     ("all", "Prints all of these"),
 ];
 
@@ -173,6 +181,11 @@ fn options_of(found: &ArgMatches<'_>) -> ShowOptions {
         imports: is_all || found.get_flag("imports"),
         relocations: is_all || found.get_flag("relocations"),
         symbols: is_all || found.get_flag("symbols"),
+        debug: is_all || found.get_flag("debug"),
+        functions: is_all || found.get_flag("functions"),
+        tls: is_all || found.get_flag("tls"),
+        load: is_all || found.get_flag("load"),
+        trust: is_all || found.get_flag("trust"),
         is_coloured: false,
     }
 }

@@ -4,14 +4,14 @@ ghost use Rattle.std.specs.Prelude.{◌≡◌};
 ghost use Rattle.pe_layout.specs.Image.{image_of_file};
 ghost use Rattle.pe_tables.specs.Exports.{exports_of, target_at};
 ghost use Rattle.pe_tables.specs.Key.{Name, Ordinal};
-ghost use Rattle.pe_records_c.specs.ExportRows.{export_text, export_by_ordinal, export_by_name, TellsTarget};
+ghost use Rattle.pe_records_c.specs.ExportRows.{export_text, export_by_ordinal, export_by_name, named, TellsTarget};
 ghost use Rattle.pe_records_c.specs.Faults.{IsAccepted, IsAnswered, IsRefused};
 ghost use Rattle.pe_records_c.specs.Rows.{ReadsTable};
 ghost use Rattle.pe_records_c.specs.TableTests.{file_export_tests};
 ghost use Rattle.pe_image.specs.Wants.{ExportsTakeMemory};
 ghost use Rattle.pe_records_c.specs.Wants.{IsLaidOutAnd};
 
-use pe_records_c::export::{ExportRow, TargetRecord, put_target};
+use pe_records_c::export::{ExportRow, TargetRecord, export_at, put_names, put_target};
 use pe_records_c::fault::{FaultRecord, refuse_for};
 use pe_records_c::reading::exports_in;
 use pe_records_c::row::put_table;
@@ -40,7 +40,7 @@ pub extern "C" fn petool_exports<'a>(
     }
 }
 
-/// Reads the exports of an image by name, in the order of the name pointer table and each name once, into the caller's rows.
+/// Reads the exports of an image by name, in the order of the name pointer table and each name once, with its ordinal, into the caller's rows.
 ///
 /// The statuses are those of [`petool_exports`].
 #[unsafe(no_mangle)]
@@ -51,11 +51,11 @@ pub extern "C" fn petool_export_names<'a>(
     count: &mut usize,
     fault: &mut FaultRecord,
 ) -> u32
-    ensures { ReadsTable (IsLaidOutAnd ExportsTakeMemory file.now) (file_export_tests file.now) export_text export_by_name (exports_of (image_of_file 0 file.now)).names
+    ensures { ReadsTable (IsLaidOutAnd ExportsTakeMemory file.now) (file_export_tests file.now) export_text export_by_name (named (exports_of (image_of_file 0 file.now)))
         rows.old rows.new count.old count.new fault.old fault.new result }
 {
     match exports_in(alloc, file) {
-        Ok(exports) => put_table(rows, exports.names(), count),
+        Ok(exports) => put_names(rows, exports.names(), exports.name_ordinals(), count),
         Err(refusal) => refuse_for(refusal, fault),
     }
 }
@@ -88,7 +88,7 @@ pub extern "C" fn petool_export_by_name<'a>(
 pub extern "C" fn petool_export_by_ordinal<'a>(
     alloc: Global,
     file: &'a [u8],
-    ordinal: u32,
+    ordinal: u64,
     target: &mut TargetRecord<'a>,
     fault: &mut FaultRecord,
 ) -> u32
@@ -97,7 +97,7 @@ pub extern "C" fn petool_export_by_ordinal<'a>(
     ensures kept { IsRefused result → target.new ≡ target.old }
 {
     match exports_in(alloc, file) {
-        Ok(exports) => put_target(exports.by_ordinal(ordinal), target),
+        Ok(exports) => put_target(export_at(&exports, ordinal), target),
         Err(refusal) => refuse_for(refusal, fault),
     }
 }

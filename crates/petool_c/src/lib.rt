@@ -16,6 +16,7 @@ mod fixup;
 mod headers;
 mod image;
 mod import;
+mod import_at;
 mod lending;
 mod object;
 mod opened;

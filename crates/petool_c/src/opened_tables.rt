@@ -1,12 +1,12 @@
-//! Tables of an open image: `petool_image_export_by_name`, `_export_by_ordinal`, `_exports`, `_export_names`, `_imports` and
-//! `_fixups`.
+//! Tables of an open image: `petool_image_export_by_name`, `_export_by_ordinal`, `_import_at`, `_exports`, `_export_names`,
+//! `_imports` and `_fixups`.
 
 ghost use Rattle.std.specs.Prelude.{◌≡◌, ◌≢◌, ◌↔◌, false};
 ghost use Rattle.pe_tables.specs.Key.{Name, Ordinal};
 ghost use Rattle.pe_opened.specs.Held.{file_in};
 ghost use Rattle.pe_records_c.specs.ExportRows.{export_text, export_by_ordinal, export_by_name};
 ghost use Rattle.pe_records_c.specs.FixupRows.{fixup_row};
-ghost use Rattle.pe_records_c.specs.Images.{TellsTargetOf, opened_ordinals, opened_names, opened_imports, opened_fixups};
+ghost use Rattle.pe_records_c.specs.Images.{TellsTargetOf, TellsImportOf, opened_ordinals, opened_names, opened_imports, opened_fixups};
 ghost use Rattle.pe_records_c.specs.ImportRows.{import_text, import_row};
 ghost use Rattle.pe_records_c.specs.Rows.{TellsTable};
 
@@ -16,7 +16,7 @@ use pe_records_c::export::{ExportRow, TargetRecord};
 use pe_records_c::fixup::FixupRow;
 use pe_records_c::import::ImportRow;
 use pe_records_c::opened::{
-    tell_exports, tell_fixups, tell_imports, tell_name, tell_names, tell_ordinal,
+    tell_exports, tell_fixups, tell_import, tell_imports, tell_name, tell_names, tell_ordinal,
 };
 use std::alloc::Global;
 
@@ -44,7 +44,7 @@ pub extern "C" fn petool_image_export_by_name(
 pub extern "C" fn petool_image_export_by_ordinal(
     alloc: Global,
     image: &mut ImageHandle,
-    ordinal: u32,
+    ordinal: u64,
     target: &mut TargetRecord<'static>,
 ) -> u32
     ensures exact { TellsTargetOf (file_in image.old.image) (Ordinal ordinal) target.old target.new result }
@@ -53,6 +53,25 @@ pub extern "C" fn petool_image_export_by_ordinal(
     ensures open_kept { image.new.is_open ≡ image.old.is_open }
 {
     with_image!(alloc, image, |opened| tell_ordinal(opened, ordinal, target))
+}
+
+/// The import of an open image whose slot is at an RVA.
+///
+/// The status is 0; 3 if there is none; or 6 if the image is closed. All but 0 leave the record unchanged. Allocates nothing, and
+/// looks at the imports one by one.
+#[unsafe(no_mangle)]
+pub extern "C" fn petool_image_import_at(
+    alloc: Global,
+    image: &mut ImageHandle,
+    slot: u32,
+    found: &mut ImportRow<'static>,
+) -> u32
+    ensures exact { TellsImportOf (file_in image.old.image) slot found.old found.new result }
+    ensures closed { (result ≡ 6) ↔ (image.old.is_open ≡ false) }
+    ensures image_kept { file_in image.new.image ≡ file_in image.old.image }
+    ensures open_kept { image.new.is_open ≡ image.old.is_open }
+{
+    with_image!(alloc, image, |opened| tell_import(opened, slot, found))
 }
 
 /// Copies the exports by ordinal of an open image, in the order of the export address table, into the caller's rows.

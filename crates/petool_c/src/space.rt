@@ -1,17 +1,18 @@
-//! Spaces: `petool_space_map`, `_close`, `_read`, `_move`, `_image` and `_bindings`.
+//! Spaces: `petool_space_map`, `_map_within`, `_close`, `_read`, `_move`, `_image` and `_bindings`.
 
-ghost use Rattle.std.specs.Prelude.{◌≡◌, map, ◌≢◌, ◌⊎◌, ◌↔◌, true, false, None, Some, IsSomeAnd, length};
+ghost use Rattle.std.specs.Prelude.{◌≡◌, ◌<◌, ◌≤◌, map, ◌≢◌, ◌⊎◌, ◌↔◌, true, false, None, Some, IsSomeAnd, length};
 ghost use Rattle.pe_view.specs.Faults.{first_standing};
 ghost use Rattle.pe_set.specs.SetErrors.{set_error};
 ghost use Rattle.pe_set.specs.SetFaults.{names_tests};
 ghost use Rattle.pe_space.specs.SpaceOf.{IsSpaceOf};
 ghost use Rattle.pe_records_c.specs.Rows.{TellsTable};
-ghost use Rattle.pe_records_c.specs.SetRows.{entry_text, binding_row, policy_of, IsJudged};
+ghost use Rattle.pe_records_c.specs.SetRows.{entry_text, binding_row, claimed_sizes, policy_of, IsJudged};
 ghost use Rattle.pe_records_c.specs.Spaces.{IsReadOf, IsMoveOf, base_of, size_of, bindings_of};
 
 use crate::lending::with_space;
 use pe_handle::Handle;
 use pe_records_c::fault::FaultRecord;
+use pe_records_c::mapping::are_larger;
 use pe_records_c::moved::MovedRecord;
 use pe_records_c::set::{BindingRow, EntryRecord, refuse_set};
 use pe_records_c::space::{close, map_into, move_image, read_window, tell_bindings, tell_place};
@@ -46,6 +47,40 @@ pub extern "C" fn petool_space_map(
         Ok(()) => status::DONE,
         Err(error) => refuse_set(error, fault, cycle),
     }
+}
+
+/// Maps a set of images as [`petool_space_map`] does, unless they have more than `most_bytes` bytes together. The size of an image is
+/// SizeOfImage, and 0 if its file has one of faults 1 to 15, with which the set is refused.
+///
+/// The status is 7 if they have more, whatever faults the set has, and before any memory is allocated; then the space is closed.
+/// Otherwise it is that of [`petool_space_map`].
+#[unsafe(no_mangle)]
+pub extern "C" fn petool_space_map_within(
+    alloc: Global,
+    space: &mut Handle,
+    set: &[EntryRecord],
+    known: bool,
+    most_bytes: u64,
+    cycle: &mut u32,
+    fault: &mut FaultRecord,
+) -> u32
+    ensures large { result ≡ 7 → most_bytes < claimed_sizes (map entry_text set.now) }
+    ensures fits { result ≢ 7 → claimed_sizes (map entry_text set.now) ≤ most_bytes }
+    ensures status { (result ≡ 0) ⊎ (result ≡ 1) ⊎ (result ≡ 2) ⊎ (result ≡ 7) }
+    ensures faults { result ≢ 7 → IsJudged (set_error (policy_of known) (map entry_text set.now)) fault.old fault.new cycle.old cycle.new result }
+    ensures done { result ≡ 0 → IsSomeAnd space.new.space (IsSpaceOf (policy_of known) (map entry_text set.now)) }
+    ensures open { result ≡ 0 → space.new.is_open ≡ true }
+    ensures none { result ≢ 0 → space.new.space ≡ None }
+    ensures closed { result ≢ 0 → space.new.is_open ≡ false }
+    ensures memory { result ≡ 2 → first_standing (names_tests (map entry_text set.now)) ≡ None }
+    ensures fault_kept { result ≡ 7 → fault.new ≡ fault.old }
+    ensures cycle_kept { result ≡ 7 → cycle.new ≡ cycle.old }
+{
+    if are_larger(set, most_bytes) {
+        close(alloc, space);
+        return status::LARGE;
+    }
+    petool_space_map(alloc, space, set, known, cycle, fault)
 }
 
 /// Closes a space, and frees its memory. A closed one stays closed.
@@ -90,7 +125,7 @@ pub extern "C" fn petool_space_read(
 pub extern "C" fn petool_space_move(
     alloc: Global,
     space: &mut Handle,
-    image: u16,
+    image: u32,
     base: u64,
     moved: &mut MovedRecord,
     fault: &mut FaultRecord,
@@ -113,7 +148,7 @@ pub extern "C" fn petool_space_move(
 pub extern "C" fn petool_space_image(
     alloc: Global,
     space: &mut Handle,
-    image: u16,
+    image: u32,
     base: &mut u64,
     size: &mut u32,
 ) -> u32

@@ -7,7 +7,7 @@ ghost use Rattle.pe_tables.specs.Fixups.{fixups_of};
 ghost use Rattle.pe_tables.specs.Imports.{imports_of};
 ghost use Rattle.pe_image.specs.ImageTests.{image_tests};
 ghost use Rattle.pe_records_c.specs.Counts.{AreCounts, have_room};
-ghost use Rattle.pe_records_c.specs.ExportRows.{export_text, export_by_ordinal, export_by_name};
+ghost use Rattle.pe_records_c.specs.ExportRows.{export_text, export_by_ordinal, export_by_name, named};
 ghost use Rattle.pe_records_c.specs.Faults.{IsAccepted, IsAnswered, IsRefused};
 ghost use Rattle.pe_records_c.specs.FixupRows.{fixup_row};
 ghost use Rattle.pe_records_c.specs.ImportRows.{import_text, import_row};
@@ -40,7 +40,7 @@ pub extern "C" fn petool_tables<'a>(
 ) -> u32
     ensures faults { IsAnswered (IsLaidOut file.now) (image_tests 0 file.now) fault.old fault.new result }
     ensures exports { IsAccepted result → map export_text exports.new ≡ filled export_by_ordinal (exports_of (image_of_file 0 file.now)).ordinals (map export_text exports.old) }
-    ensures names { IsAccepted result → map export_text names.new ≡ filled export_by_name (exports_of (image_of_file 0 file.now)).names (map export_text names.old) }
+    ensures names { IsAccepted result → map export_text names.new ≡ filled export_by_name (named (exports_of (image_of_file 0 file.now))) (map export_text names.old) }
     ensures imports { IsAccepted result → map import_text imports.new ≡ filled import_row (imports_of (image_of_file 0 file.now)) (map import_text imports.old) }
     ensures fixups { IsAccepted result → fixups.new ≡ filled fixup_row (fixups_of (image_of_file 0 file.now)) fixups.old }
     ensures counts { IsAccepted result → AreCounts (image_of_file 0 file.now) counts.new }

@@ -13,13 +13,13 @@ use std::process::Abort;
 /// A fault that no call reports.
 const UNTOLD: FaultRecord = FaultRecord {
     number: 0x7777,
-    image: 0x8888,
     place: 9,
+    image: 0x8888,
     at: 0xaaaa,
 };
 
 /// The fields of a fault's record.
-fn told(fault: &FaultRecord) -> (u16, u16, u32, u64) {
+fn told(fault: &FaultRecord) -> (u16, u32, u16, u64) {
     (fault.number, fault.image, fault.place, fault.at)
 }
 

@@ -31,15 +31,37 @@ pub const PETOOL_SMALL: u32 = 4;
 pub const PETOOL_ARGUMENT: u32 = 5;
 /// The image or the space is not open.
 pub const PETOOL_CLOSED: u32 = 6;
+/// The images of the set have more bytes than the caller allows; nothing was mapped.
+pub const PETOOL_LARGE: u32 = 7;
 
 /// A fault's place counts bytes of the file.
-pub const PETOOL_PLACE_FILE: u32 = 0;
+pub const PETOOL_PLACE_FILE: u16 = 0;
 /// A fault's place counts bytes of the laid-out image.
-pub const PETOOL_PLACE_RVA: u32 = 1;
+pub const PETOOL_PLACE_RVA: u16 = 1;
 /// A fault's place counts bytes of the address space.
-pub const PETOOL_PLACE_ADDRESS: u32 = 2;
+pub const PETOOL_PLACE_ADDRESS: u16 = 2;
 /// A fault's place counts items of a list.
-pub const PETOOL_PLACE_ITEM: u32 = 3;
+pub const PETOOL_PLACE_ITEM: u16 = 3;
+
+/// A value is no number, but words after one.
+pub const PETOOL_VALUE_NOTHING: u32 = 0;
+/// A value is a size or a count, for people in decimal.
+pub const PETOOL_VALUE_COUNT: u32 = 1;
+/// A value is a file offset, an RVA, an address or a field, for people in hexadecimal.
+pub const PETOOL_VALUE_PLACE: u32 = 2;
+
+/// What has a name is the machine of a COFF file header.
+pub const PETOOL_NAME_MACHINE: u32 = 0;
+/// What has a name is the subsystem of an image.
+pub const PETOOL_NAME_SUBSYSTEM: u32 = 1;
+/// What has a name is a flag of Characteristics in a COFF file header.
+pub const PETOOL_NAME_FLAG: u32 = 2;
+/// What has a name is a flag of DllCharacteristics.
+pub const PETOOL_NAME_DLL_FLAG: u32 = 3;
+/// What has a name is a flag of a section.
+pub const PETOOL_NAME_SECTION_FLAG: u32 = 4;
+/// What has a name is the table of a data directory, by its index.
+pub const PETOOL_NAME_DIRECTORY: u32 = 5;
 
 /// An export's target is an RVA of the image.
 pub const PETOOL_TARGET_RVA: u32 = 0;
@@ -57,11 +79,13 @@ pub const PETOOL_SECTION_DEBUG: u16 = 0xfffe;
 
 // end of describe/records.txt
 
-/// The version of the header, as [`petool_version`] returns that of the library: the first part times 65,536, plus the
+/// The version of the header, as [`petool_version_number`] returns that of the library: the first part times 65,536, plus the
 /// second.
-pub const PETOOL_VERSION: u32 = 0x10000;
+pub const PETOOL_VERSION_NUMBER: u32 = 0x20000;
 /// No image has more sections.
 pub const PETOOL_SECTIONS: usize = 96;
+/// A fault has so many values, or none.
+pub const PETOOL_VALUES: usize = 3;
 
 const NO_BYTES: &[u8; 1] = &[0];
 
@@ -83,12 +107,36 @@ pub struct Text {
 pub struct Fault {
     /// As in docs/FAULTS.md, from 1 to 85.
     pub number: u16,
-    /// The index of the entry in a set; otherwise 0.
-    pub image: u16,
     /// What `at` counts: a `PETOOL_PLACE`.
-    pub place: u32,
+    pub place: u16,
+    /// The index of the entry in a set; otherwise 0.
+    pub image: u32,
     /// Where the rule is broken.
     pub at: u64,
+}
+
+/// A number that the rule of a fault compares.
+#[repr(C)]
+#[derive(Clone, Copy, Debug)]
+pub struct Value {
+    /// The words before the number, or the last ones.
+    pub words: Text,
+    /// The number's name, as in docs/FAULTS.md; empty if there is no number.
+    pub name: Text,
+    /// The number; 0 if there is none.
+    pub number: u64,
+    /// What the number is: a `PETOOL_VALUE`.
+    pub kind: u32,
+}
+
+impl Value {
+    /// Its value before a call sets it.
+    pub const NONE: Value = Value {
+        words: Text::NONE,
+        name: Text::NONE,
+        number: 0,
+        kind: 0,
+    };
 }
 
 /// One of the 16 data directories.
@@ -213,8 +261,10 @@ pub struct Section {
 pub struct Target {
     /// A `PETOOL_TARGET`: an RVA of the image, or an ordinal or a name of another module.
     pub kind: u32,
-    /// The RVA, or the ordinal in the other module; 0 for a name.
-    pub value: u32,
+    /// The RVA; 0 for a forwarder.
+    pub rva: u32,
+    /// The ordinal of a forwarder to an ordinal; otherwise 0.
+    pub ordinal: u64,
     /// The other module of a forwarder; otherwise empty.
     pub module: Text,
     /// The name of a forwarder to a name; otherwise empty.
@@ -225,7 +275,8 @@ impl Target {
     /// Its value before a call sets it.
     pub const NONE: Target = Target {
         kind: 0,
-        value: 0,
+        rva: 0,
+        ordinal: 0,
         module: Text::NONE,
         name: Text::NONE,
     };
@@ -235,7 +286,7 @@ impl Target {
 #[repr(C)]
 #[derive(Clone, Copy, Debug)]
 pub struct Export {
-    /// The ordinal of an export by ordinal, which may exceed 2^32; otherwise 0.
+    /// The ordinal, which may exceed 2^32.
     pub ordinal: u64,
     /// The name of an export by name; otherwise empty.
     pub name: Text,
@@ -260,10 +311,10 @@ pub struct Import {
     pub module: Text,
     /// The name; empty for an import by ordinal.
     pub name: Text,
+    /// The ordinal of an import by ordinal; otherwise 0.
+    pub ordinal: u64,
     /// The RVA of its slot.
     pub slot: u32,
-    /// The ordinal of an import by ordinal; otherwise 0.
-    pub ordinal: u16,
     /// Whether it is imported by ordinal.
     pub by_ordinal: bool,
 }
@@ -273,8 +324,8 @@ impl Import {
     pub const NONE: Import = Import {
         module: Text::NONE,
         name: Text::NONE,
-        slot: 0,
         ordinal: 0,
+        slot: 0,
         by_ordinal: false,
     };
 }
@@ -582,6 +633,7 @@ extern "C" {
         counts: *mut Counts,
         fault: *mut Fault,
     ) -> u32;
+    pub fn petool_import_at(file: *const u8, len: usize, slot: u32, found: *mut Import, fault: *mut Fault) -> u32;
     pub fn petool_export_by_name(
         file: *const u8,
         len: usize,
@@ -593,7 +645,7 @@ extern "C" {
     pub fn petool_export_by_ordinal(
         file: *const u8,
         len: usize,
-        ordinal: u32,
+        ordinal: u64,
         target: *mut Target,
         fault: *mut Fault,
     ) -> u32;
@@ -604,7 +656,8 @@ extern "C" {
     pub fn petool_image_read_text(image: *mut Image, rva: u32, text: *mut Text) -> u32;
     pub fn petool_image_locate(image: *mut Image, rva: u32, offset: *mut u64) -> u32;
     pub fn petool_image_export_by_name(image: *mut Image, name: *const u8, len: usize, target: *mut Target) -> u32;
-    pub fn petool_image_export_by_ordinal(image: *mut Image, ordinal: u32, target: *mut Target) -> u32;
+    pub fn petool_image_export_by_ordinal(image: *mut Image, ordinal: u64, target: *mut Target) -> u32;
+    pub fn petool_image_import_at(image: *mut Image, slot: u32, found: *mut Import) -> u32;
     pub fn petool_image_exports(image: *mut Image, rows: *mut Export, room: usize, count: *mut usize) -> u32;
     pub fn petool_image_export_names(image: *mut Image, rows: *mut Export, room: usize, count: *mut usize) -> u32;
     pub fn petool_image_imports(image: *mut Image, rows: *mut Import, room: usize, count: *mut usize) -> u32;
@@ -638,9 +691,18 @@ extern "C" {
         cycle: *mut u32,
         fault: *mut Fault,
     ) -> u32;
+    pub fn petool_space_map_within(
+        space: *mut Space,
+        set: *const Entry,
+        entries: usize,
+        known: bool,
+        most_bytes: u64,
+        cycle: *mut u32,
+        fault: *mut Fault,
+    ) -> u32;
     pub fn petool_space_read(space: *mut Space, address: u64, buffer: *mut u8, len: usize, fault: *mut Fault) -> u32;
-    pub fn petool_space_move(space: *mut Space, image: u16, base: u64, moved: *mut Moved, fault: *mut Fault) -> u32;
-    pub fn petool_space_image(space: *mut Space, image: u16, base: *mut u64, size: *mut u32) -> u32;
+    pub fn petool_space_move(space: *mut Space, image: u32, base: u64, moved: *mut Moved, fault: *mut Fault) -> u32;
+    pub fn petool_space_image(space: *mut Space, image: u32, base: *mut u64, size: *mut u32) -> u32;
     pub fn petool_space_bindings(space: *mut Space, rows: *mut Binding, room: usize, count: *mut usize) -> u32;
     pub fn petool_space_close(space: *mut Space);
 
@@ -690,7 +752,16 @@ extern "C" {
 
     pub fn petool_fault_words(number: u16, subject: *mut Text, rule: *mut Text) -> u32;
     pub fn petool_fault_line(fault: *const Fault, line: *mut c_char, room: usize) -> c_int;
-    pub fn petool_version() -> u32;
+    pub fn petool_fault_detail(
+        file: *const u8,
+        len: usize,
+        fault: *const Fault,
+        rows: *mut Value,
+        room: usize,
+        count: *mut usize,
+    ) -> u32;
+    pub fn petool_name(kind: u32, value: u32, name: *mut Text) -> u32;
+    pub fn petool_version_number() -> u32;
 
     // end of describe/records.txt
 }

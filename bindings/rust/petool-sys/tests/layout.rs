@@ -1,5 +1,5 @@
-//! Each record has the size and the field offsets of the library's, on a 64-bit machine; `layout.c` next to the header
-//! has the same numbers. describe/describe.py writes this file.
+//! Each record has the size and the field offsets of the library's, on a 64-bit machine, as `petool.h` asserts them.
+//! describe/describe.py writes this file.
 
 #![cfg(target_pointer_width = "64")]
 
@@ -25,7 +25,8 @@ macro_rules! layout {
 #[test]
 fn the_records_of_faults_and_headers_are_laid_out_as_in_c() {
     layout!(Text, 16, 8, at 0, len 8);
-    layout!(Fault, 16, 8, number 0, image 2, place 4, at 8);
+    layout!(Fault, 16, 8, number 0, place 2, image 4, at 8);
+    layout!(Value, 48, 8, words 0, name 16, number 32, kind 40);
     layout!(Directory, 8, 4, rva 0, size 4);
     layout!(Headers, 272, 8, image_base 0, size_of_stack_reserve 8, size_of_stack_commit 16,
         size_of_heap_reserve 24, size_of_heap_commit 32, pe_offset 40, time_date_stamp 44,
@@ -45,9 +46,9 @@ fn the_records_of_faults_and_headers_are_laid_out_as_in_c() {
 
 #[test]
 fn the_records_of_tables_are_laid_out_as_in_c() {
-    layout!(Target, 40, 8, kind 0, value 4, module 8, name 24);
-    layout!(Export, 64, 8, ordinal 0, name 8, target 24);
-    layout!(Import, 40, 8, module 0, name 16, slot 32, ordinal 36, by_ordinal 38);
+    layout!(Target, 48, 8, kind 0, rva 4, ordinal 8, module 16, name 32);
+    layout!(Export, 72, 8, ordinal 0, name 8, target 24);
+    layout!(Import, 48, 8, module 0, name 16, ordinal 32, slot 40, by_ordinal 44);
     layout!(Fixup, 12, 4, entry 0, field 4, kind 8);
     layout!(Counts, 32, 8, exports 0, names 8, imports 16, fixups 24);
 }
@@ -83,5 +84,5 @@ fn the_records_of_objects_are_laid_out_as_in_c() {
 #[test]
 fn the_library_has_the_version_of_the_header() {
     // SAFETY: the call has no arguments
-    assert_eq!(unsafe { petool_version() }, PETOOL_VERSION);
+    assert_eq!(unsafe { petool_version_number() }, PETOOL_VERSION_NUMBER);
 }

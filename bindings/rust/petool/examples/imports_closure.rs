@@ -53,10 +53,10 @@ struct Folder<'a> {
 
 impl<'a> Folder<'a> {
     /// The image of a module, with its key; `None` if the folder has no such file, or its file is refused.
-    fn image(&mut self, module: &str) -> Option<(&'a str, Image<'a>)> {
+    fn image(&mut self, module: &str) -> Option<(&'a str, &Image<'a>)> {
         let (module, file) = self.files.get_key_value(module)?;
         let image = self.images.entry(module).or_insert_with(|| file.image());
-        Some((module, image.clone().ok()?))
+        Some((module, image.as_ref().ok()?))
     }
 
     /// The module at which a search ends, and what it finds there.
@@ -67,7 +67,7 @@ impl<'a> Folder<'a> {
                 Some((_, image)) => image,
                 None => return Ok((module, "no such file".into())),
             };
-            match export_of(&image, key)? {
+            match export_of(image, key) {
                 None => return Ok((module, "no such export".into())),
                 Some(Target::Rva(rva)) => return Ok((module, format!("{rva:#x}"))),
                 Some(Target::Forward {
@@ -98,7 +98,7 @@ impl<'a> Folder<'a> {
     }
 }
 
-fn export_of<'a>(image: &Image<'a>, key: Key<'a>) -> Result<Option<Target<'a>>, OutOfMemory> {
+fn export_of<'a>(image: &Image<'a>, key: Key<'a>) -> Option<Target<'a>> {
     match key {
         Key::Name(name) => image.export_by_name(name),
         Key::Ordinal(ordinal) => image.export_by_ordinal(ordinal.into()),
@@ -147,8 +147,10 @@ fn run(program: &Path, folder: &Path) -> Result<i32, Box<dyn Error>> {
     let (mut waiting, mut met) = (vec![(program.name(), image)], BTreeSet::new());
     while let Some((name, image)) = waiting.pop() {
         for module in folder.follow(&name, &image.tables()?)? {
-            let image = folder.image(&module).filter(|(module, _)| met.insert(*module));
-            waiting.extend(image.map(|(module, image)| (files[module].name(), image)));
+            let found = folder.image(&module).filter(|(module, _)| met.insert(*module));
+            if let Some((module, image)) = found {
+                waiting.push((files[module].name(), image.shared()?));
+            }
         }
     }
     Ok(folder.status())

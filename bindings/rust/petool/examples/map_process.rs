@@ -62,7 +62,7 @@ fn write(space: &mut Space, modules: &[Module], out: &Path) -> Result<(), Box<dy
     let lowest = modules.iter().map(|module| module.base).min().unwrap_or(0);
     let mut file = fs::File::create(out)?;
     for (index, module) in modules.iter().enumerate() {
-        let placed = space.image(u16::try_from(index)?).ok_or("there is no such image")?;
+        let placed = space.image(u32::try_from(index)?).ok_or("there is no such image")?;
         let (mut bytes, offset) = (vec![0; usize::try_from(placed.size)?], placed.base - lowest);
         space.read(placed.base, &mut bytes)?;
         file.seek(SeekFrom::Start(offset))?;
@@ -82,12 +82,12 @@ fn refused(modules: &[Module], error: SetError) -> i32 {
     match error {
         SetError::Fault(fault) | SetError::Cycle { fault, .. } => {
             let name = modules
-                .get(usize::from(fault.image))
+                .get(fault.image as usize)
                 .map_or("the set", |module| &module.name);
             eprintln!("{name}: fault {}: {fault}", fault.number);
             1
         }
-        SetError::Memory => tell(4, &error),
+        SetError::Large | SetError::Memory => tell(4, &error),
     }
 }
 

@@ -35,7 +35,7 @@ pub struct Fault {
     /// Which rule, from 1 to 85.
     pub number: u16,
     /// The index of the entry in a set; otherwise 0.
-    pub image: u16,
+    pub image: u32,
     /// Where it is broken.
     pub place: Place,
 }
@@ -60,6 +60,39 @@ impl Fault {
         }
         // SAFETY: with this status both are strings of the library, which live for ever
         unsafe { (library_text(subject), library_text(rule)) }
+    }
+
+    /// The numbers of the file that the rule compares, by the names of docs/FAULTS.md: none for most rules. The file is
+    /// that of the image with the fault.
+    ///
+    /// ```
+    /// let file: &[u8] = include_bytes!("../../../../crates/test_cases/data/v1.dll");
+    /// let fault = match petool::Image::new(&file[..9]) {
+    ///     Err(petool::Error::Fault(fault)) => fault,
+    ///     _ => unreachable!(),
+    /// };
+    /// assert_eq!(fault.values(&file[..9]).collect::<Vec<_>>(), [("file_size", 9)]);
+    /// ```
+    pub fn values(&self, file: &[u8]) -> impl Iterator<Item = (&'static str, u64)> {
+        let (mut rows, mut count) = ([sys::Value::NONE; sys::PETOOL_VALUES], 0);
+        // SAFETY: the file is a complete slice, which nobody writes to; the rows are initialized, and not shared
+        let status = unsafe {
+            sys::petool_fault_detail(
+                file.as_ptr(),
+                file.len(),
+                &self.raw(),
+                rows.as_mut_ptr(),
+                rows.len(),
+                &mut count,
+            )
+        };
+        let found = if status == sys::PETOOL_OK { count } else { 0 };
+        let numbers = rows
+            .into_iter()
+            .take(found)
+            .filter(|row| row.kind != sys::PETOOL_VALUE_NOTHING);
+        // SAFETY: with this status each name is a string of the library, which lives for ever
+        numbers.map(|row| (unsafe { library_text(row.name) }, row.number))
     }
 
     /// The fault as the record that calls take.
@@ -94,6 +127,48 @@ impl Fault {
             place,
         }
     }
+}
+
+/// What [`name_of`] has names of.
+#[derive(Clone, Copy, Debug, PartialEq, Eq, Hash)]
+pub enum Named {
+    /// The machine of a COFF file header, such as `AMD64`.
+    Machine,
+    /// The subsystem of an image, such as `WINDOWS_GUI`.
+    Subsystem,
+    /// A flag of Characteristics in a COFF file header, such as `DLL`.
+    Flag,
+    /// A flag of DllCharacteristics, such as `NX_COMPAT`.
+    DllFlag,
+    /// A flag of a section, such as `MEM_READ`.
+    SectionFlag,
+    /// The table of a data directory, by its index, such as `export`.
+    Directory,
+}
+
+/// The name that "PE Format" has for a value; a flag is one bit.
+///
+/// ```
+/// use petool::{name_of, Named};
+///
+/// assert_eq!(name_of(Named::Machine, 0x8664), Some("AMD64"));
+/// assert_eq!(name_of(Named::SectionFlag, 0x4000_0000), Some("MEM_READ"));
+/// assert_eq!(name_of(Named::Directory, 16), None);
+/// ```
+pub fn name_of(kind: Named, value: u32) -> Option<&'static str> {
+    let kind = match kind {
+        Named::Machine => sys::PETOOL_NAME_MACHINE,
+        Named::Subsystem => sys::PETOOL_NAME_SUBSYSTEM,
+        Named::Flag => sys::PETOOL_NAME_FLAG,
+        Named::DllFlag => sys::PETOOL_NAME_DLL_FLAG,
+        Named::SectionFlag => sys::PETOOL_NAME_SECTION_FLAG,
+        Named::Directory => sys::PETOOL_NAME_DIRECTORY,
+    };
+    let mut name = sys::Text::NONE;
+    // SAFETY: the text is initialized
+    let status = unsafe { sys::petool_name(kind, value, &mut name) };
+    // SAFETY: with this status it is a string of the library, which lives for ever
+    (status == sys::PETOOL_OK).then(|| unsafe { library_text(name) })
 }
 
 /// How many bytes the longest line of a fault has, with the zero byte at its end.
@@ -186,6 +261,8 @@ pub enum SetError {
         /// How many forwarders the cycle has.
         length: u32,
     },
+    /// The images have more bytes than the caller allows: nothing else was checked.
+    Large,
     /// Out of memory: this says nothing about the set.
     Memory,
 }
@@ -198,12 +275,15 @@ impl SetError {
     pub fn fault(&self) -> Option<Fault> {
         match self {
             SetError::Fault(fault) | SetError::Cycle { fault, .. } => Some(*fault),
-            SetError::Memory => None,
+            SetError::Large | SetError::Memory => None,
         }
     }
 
     /// What a status other than that of success means.
     pub(crate) fn of(status: u32, fault: sys::Fault, length: u32) -> SetError {
+        if status == sys::PETOOL_LARGE {
+            return SetError::Large;
+        }
         match Error::of(status, fault) {
             Error::Fault(fault) if fault.number == CYCLE => SetError::Cycle { fault, length },
             Error::Fault(fault) => SetError::Fault(fault),
@@ -217,6 +297,7 @@ impl fmt::Display for SetError {
         match self {
             SetError::Fault(fault) => write!(out, "image {}: {fault}", fault.image),
             SetError::Cycle { fault, length } => write!(out, "image {}: {fault} of length {length}", fault.image),
+            SetError::Large => out.write_str("the images have more bytes than are allowed"),
             SetError::Memory => OutOfMemory.fmt(out),
         }
     }

@@ -38,6 +38,16 @@ pub struct Headers {
     sections: [Section; sys::PETOOL_SECTIONS],
 }
 
+impl Default for Headers {
+    /// All fields 0, and no sections.
+    fn default() -> Headers {
+        Headers {
+            fields: sys::Headers::default(),
+            sections: [Section::default(); sys::PETOOL_SECTIONS],
+        }
+    }
+}
+
 impl Headers {
     /// Reads headers and sections, and no tables: the error is the first of faults 1 to 15.
     ///
@@ -51,10 +61,7 @@ impl Headers {
     ///
     /// It allocates nothing, so a library that does what its header says never causes [`Error::Memory`].
     pub fn read(file: &[u8]) -> Result<Headers, Error> {
-        let mut headers = Headers {
-            fields: sys::Headers::default(),
-            sections: [Section::default(); sys::PETOOL_SECTIONS],
-        };
+        let mut headers = Headers::default();
         let mut fault = sys::Fault::default();
         // SAFETY: the file is a complete slice, which nobody writes to; Section has the layout of the row in it
         let status = unsafe {

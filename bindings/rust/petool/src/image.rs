@@ -1,35 +1,54 @@
 //! One image: its bytes, its exports, and its file at another base.
 
-use crate::rows::{room_of, text_of};
-use crate::{Error, Headers, OutOfMemory, Section, Tables, Target};
+use crate::opened::{open, Asked};
+use crate::rows::room_of;
+use crate::{Error, Headers, Import, OutOfMemory, Section, Tables, Target};
 use petool_sys as sys;
+use std::sync::{Mutex, PoisonError};
 
 /// A file with none of the image faults of docs/FAULTS.md.
 ///
-/// It is checked once, when it is made. After that only [`Image::rebased`] returns a fault, and only calls that read
-/// tables or rebase may be out of memory.
-#[derive(Clone, Debug)]
+/// It is read and checked once, when it is made, and the contents of its tables are kept. After that only
+/// [`Image::rebased`] returns a fault, and only that, [`Image::tables`] and [`Image::shared`] may be out of memory. Any
+/// number of threads may use one image: each call takes a lock, which an [`OpenImage`](crate::OpenImage) does without.
+#[derive(Debug)]
 pub struct Image<'a> {
     file: &'a [u8],
     headers: Headers,
-    counts: sys::Counts,
+    raw: Mutex<sys::Image>,
 }
 
+// SAFETY: an open image may be used by one thread after another
+unsafe impl Send for Image<'_> {}
+// SAFETY: each call that uses the open image holds its lock
+unsafe impl Sync for Image<'_> {}
+
 impl<'a> Image<'a> {
-    /// Checks a file: headers, sections, exports, imports and base relocations. The rows of its tables are counted at
-    /// the same time.
+    /// Checks a file: headers, sections, exports, imports and base relocations.
     pub fn new(file: &'a [u8]) -> Result<Image<'a>, Error> {
-        let mut tables = Tables::empty(file);
-        let (mut counts, mut fault) = (sys::Counts::default(), sys::Fault::default());
-        match tables.fill(&mut counts, &mut fault) {
-            // there is no room for rows, so the status is OK only for an image without tables
-            sys::PETOOL_OK | sys::PETOOL_SMALL => Ok(Image {
-                file,
-                headers: Headers::read(file)?,
-                counts,
-            }),
-            status => Err(Error::of(status, fault)),
-        }
+        let raw = Mutex::new(open(file)?);
+        let headers = Headers::default();
+        let mut image = Image { file, headers, raw };
+        image.headers = Headers::read(file)?;
+        Ok(image)
+    }
+
+    /// What the call gives that asks the open image. No call leaves it half changed, even if it panics.
+    fn ask<T>(&self, call: impl FnOnce(Asked<'_, 'a>) -> T) -> T {
+        let mut raw = self.raw.lock().unwrap_or_else(PoisonError::into_inner);
+        call(Asked {
+            raw: &mut raw,
+            file: self.file,
+        })
+    }
+
+    /// The same image once more, with a lock of its own. The memory is freed when the last of them is dropped.
+    pub fn shared(&self) -> Result<Image<'a>, OutOfMemory> {
+        Ok(Image {
+            raw: Mutex::new(self.ask(|image| image.shared())?),
+            file: self.file,
+            headers: self.headers.clone(),
+        })
     }
 
     /// All bytes of the file.
@@ -60,76 +79,37 @@ impl<'a> Image<'a> {
     /// # Ok::<(), petool::Error>(())
     /// ```
     pub fn read(&self, rva: u32, buffer: &mut [u8]) -> Option<()> {
-        let mut fault = sys::Fault::default();
-        // SAFETY: the file and the buffer are complete slices; the buffer is not shared
-        let status = unsafe {
-            sys::petool_read(
-                self.file.as_ptr(),
-                self.file.len(),
-                rva,
-                buffer.as_mut_ptr(),
-                buffer.len(),
-                &mut fault,
-            )
-        };
-        (status == sys::PETOOL_OK).then_some(())
+        self.ask(|image| image.read(rva, buffer))
     }
 
     /// The zero-terminated string at an RVA, without its zero byte; `None` if there is none.
     pub fn text(&self, rva: u32) -> Option<&'a [u8]> {
-        let (mut text, mut fault) = (sys::Text::NONE, sys::Fault::default());
-        // SAFETY: the file is a complete slice, which nobody writes to; the text is initialized
-        let status = unsafe { sys::petool_read_text(self.file.as_ptr(), self.file.len(), rva, &mut text, &mut fault) };
-        (status == sys::PETOOL_OK).then(|| text_of(self.file, text))
+        self.ask(|image| image.text(rva))
     }
 
     /// The file offset of the byte at an RVA; `None` if the file does not hold it.
     pub fn locate(&self, rva: u32) -> Option<u64> {
-        let (mut offset, mut fault) = (0, sys::Fault::default());
-        // SAFETY: the file is a complete slice, which nobody writes to
-        let status = unsafe { sys::petool_locate(self.file.as_ptr(), self.file.len(), rva, &mut offset, &mut fault) };
-        (status == sys::PETOOL_OK).then_some(offset)
+        self.ask(|image| image.locate(rva))
     }
 
-    /// All rows of its tables, read in one pass over the file.
+    /// All rows of its tables.
     pub fn tables(&self) -> Result<Tables<'a>, OutOfMemory> {
-        Tables::of(self.file, self.counts)
+        self.ask(|image| image.tables())
     }
 
-    /// What a name exports. Each call reads the export table: to look up many names, use an
-    /// [`OpenImage`](crate::OpenImage).
-    pub fn export_by_name(&self, name: &[u8]) -> Result<Option<Target<'a>>, OutOfMemory> {
-        let (mut target, mut fault) = (sys::Target::NONE, sys::Fault::default());
-        // SAFETY: the file and the name are complete slices, which nobody writes to; the target's texts are initialized
-        let status = unsafe {
-            sys::petool_export_by_name(
-                self.file.as_ptr(),
-                self.file.len(),
-                name.as_ptr(),
-                name.len(),
-                &mut target,
-                &mut fault,
-            )
-        };
-        self.found(status, target)
+    /// What a name exports.
+    pub fn export_by_name(&self, name: &[u8]) -> Option<Target<'a>> {
+        self.ask(|image| image.export_by_name(name))
     }
 
-    /// What an ordinal exports, as [`Image::export_by_name`].
-    pub fn export_by_ordinal(&self, ordinal: u32) -> Result<Option<Target<'a>>, OutOfMemory> {
-        let (mut target, mut fault) = (sys::Target::NONE, sys::Fault::default());
-        // SAFETY: the file is a complete slice, which nobody writes to; the target's texts are initialized
-        let status = unsafe {
-            sys::petool_export_by_ordinal(self.file.as_ptr(), self.file.len(), ordinal, &mut target, &mut fault)
-        };
-        self.found(status, target)
+    /// What an ordinal exports.
+    pub fn export_by_ordinal(&self, ordinal: u64) -> Option<Target<'a>> {
+        self.ask(|image| image.export_by_ordinal(ordinal))
     }
 
-    fn found(&self, status: u32, target: sys::Target) -> Result<Option<Target<'a>>, OutOfMemory> {
-        match status {
-            sys::PETOOL_OK => Ok(Some(Target::of(self.file, target))),
-            sys::PETOOL_ABSENT => Ok(None),
-            _ => Err(OutOfMemory),
-        }
+    /// The import whose slot is at an RVA.
+    pub fn import_at(&self, slot: u32) -> Option<Import<'a>> {
+        self.ask(|image| image.import_at(slot))
     }
 
     /// The image's file for another base: with its fields relocated, and without a checksum. The error is the first of
@@ -159,5 +139,13 @@ impl<'a> Image<'a> {
             sys::PETOOL_OK => Ok(out),
             _ => Err(Error::of(status, fault)),
         }
+    }
+}
+
+impl Drop for Image<'_> {
+    fn drop(&mut self) {
+        let raw = self.raw.get_mut().unwrap_or_else(PoisonError::into_inner);
+        // SAFETY: the image is open, was never copied, and is not used again; its file is still borrowed
+        unsafe { sys::petool_image_close(raw) }
     }
 }

@@ -1,8 +1,8 @@
 //! Reads, checks and moves PE images, and reads COFF objects, from files that may be hostile, with the proved calls of
 //! libpetool.
 //!
-//! An [`Image`] is a file without a fault: it is checked once, and then read. An [`OpenImage`] keeps the contents of
-//! its tables, for many look-ups. [`Headers`] reads headers and sections only. [`judge`] returns what the imports of a
+//! An [`Image`] is a file without a fault: it is read and checked once, and the contents of its tables are kept. An
+//! [`OpenImage`] is the same without a lock, for one thread. [`Headers`] reads headers and sections only. [`judge`] returns what the imports of a
 //! set of images are bound to, a [`Space`] maps a set and moves its images, and an [`Object`] is a COFF object.
 //!
 //! ```
@@ -36,7 +36,7 @@ mod set;
 mod space;
 mod tables;
 
-pub use fault::{Error, Fault, OutOfMemory, Place, SetError};
+pub use fault::{name_of, Error, Fault, Named, OutOfMemory, Place, SetError};
 pub use headers::{Headers, Section};
 pub use image::Image;
 pub use object::{Object, ObjectSection, Symbol};

@@ -1,7 +1,7 @@
 //! Images that are kept open for many look-ups.
 
 use crate::rows::text_of;
-use crate::{Error, OutOfMemory, Target};
+use crate::{Error, Import, OutOfMemory, Tables, Target};
 use petool_sys as sys;
 
 /// An image that is kept open, with the contents of its tables, so that no look-up reads them again.
@@ -43,19 +43,90 @@ pub struct OpenImage<'a> {
 // with others is only read, and counted by the library
 unsafe impl Send for OpenImage<'_> {}
 
+/// Opens the image of a file, which nobody may write to while the record is open.
+pub(crate) fn open(file: &[u8]) -> Result<sys::Image, Error> {
+    let (mut image, mut fault) = (sys::Image::CLOSED, sys::Fault::default());
+    // SAFETY: the image is closed; the file is a complete slice
+    let status = unsafe { sys::petool_image_open(&mut image, file.as_ptr(), file.len(), &mut fault) };
+    match status {
+        sys::PETOOL_OK => Ok(image),
+        _ => Err(Error::of(status, fault)),
+    }
+}
+
+/// An open image of this file, which one call at a time uses.
+pub(crate) struct Asked<'r, 'a> {
+    pub(crate) raw: &'r mut sys::Image,
+    pub(crate) file: &'a [u8],
+}
+
+impl<'a> Asked<'_, 'a> {
+    pub(crate) fn shared(self) -> Result<sys::Image, OutOfMemory> {
+        let mut other = sys::Image::CLOSED;
+        // SAFETY: the image is open and the other one closed
+        let status = unsafe { sys::petool_image_share(self.raw, &mut other) };
+        match status {
+            sys::PETOOL_OK => Ok(other),
+            _ => Err(OutOfMemory),
+        }
+    }
+
+    pub(crate) fn tables(self) -> Result<Tables<'a>, OutOfMemory> {
+        Tables::of(self.file, self.raw)
+    }
+
+    pub(crate) fn export_by_name(self, name: &[u8]) -> Option<Target<'a>> {
+        let mut target = sys::Target::NONE;
+        // SAFETY: the image is open; the name is a complete slice; the target's texts are initialized
+        let status = unsafe { sys::petool_image_export_by_name(self.raw, name.as_ptr(), name.len(), &mut target) };
+        (status == sys::PETOOL_OK).then(|| Target::of(self.file, target))
+    }
+
+    pub(crate) fn export_by_ordinal(self, ordinal: u64) -> Option<Target<'a>> {
+        let mut target = sys::Target::NONE;
+        // SAFETY: the image is open; the target's texts are initialized
+        let status = unsafe { sys::petool_image_export_by_ordinal(self.raw, ordinal, &mut target) };
+        (status == sys::PETOOL_OK).then(|| Target::of(self.file, target))
+    }
+
+    pub(crate) fn import_at(self, slot: u32) -> Option<Import<'a>> {
+        let mut import = sys::Import::NONE;
+        // SAFETY: the image is open; the import's texts are initialized
+        let status = unsafe { sys::petool_image_import_at(self.raw, slot, &mut import) };
+        (status == sys::PETOOL_OK).then(|| Import::of(self.file, &import))
+    }
+
+    pub(crate) fn read(self, rva: u32, buffer: &mut [u8]) -> Option<()> {
+        // SAFETY: the image is open; the buffer is a complete slice, and not shared
+        let status = unsafe { sys::petool_image_read(self.raw, rva, buffer.as_mut_ptr(), buffer.len()) };
+        (status == sys::PETOOL_OK).then_some(())
+    }
+
+    pub(crate) fn text(self, rva: u32) -> Option<&'a [u8]> {
+        let mut text = sys::Text::NONE;
+        // SAFETY: the image is open; the text is initialized
+        let status = unsafe { sys::petool_image_read_text(self.raw, rva, &mut text) };
+        (status == sys::PETOOL_OK).then(|| text_of(self.file, text))
+    }
+
+    pub(crate) fn locate(self, rva: u32) -> Option<u64> {
+        let mut offset = 0;
+        // SAFETY: the image is open
+        let status = unsafe { sys::petool_image_locate(self.raw, rva, &mut offset) };
+        (status == sys::PETOOL_OK).then_some(offset)
+    }
+}
+
 impl<'a> OpenImage<'a> {
     /// Checks a file as [`Image::new`](crate::Image::new) does, and keeps the contents of its tables.
     pub fn new(file: &'a [u8]) -> Result<OpenImage<'a>, Error> {
-        let mut image = OpenImage {
-            raw: sys::Image::CLOSED,
-            file,
-        };
-        let mut fault = sys::Fault::default();
-        // SAFETY: the image is closed; the file is a complete slice, which nobody writes to while the image borrows it
-        let status = unsafe { sys::petool_image_open(&mut image.raw, file.as_ptr(), file.len(), &mut fault) };
-        match status {
-            sys::PETOOL_OK => Ok(image),
-            _ => Err(Error::of(status, fault)),
+        Ok(OpenImage { raw: open(file)?, file })
+    }
+
+    fn asked(&mut self) -> Asked<'_, 'a> {
+        Asked {
+            raw: &mut self.raw,
+            file: self.file,
         }
     }
 
@@ -66,55 +137,43 @@ impl<'a> OpenImage<'a> {
 
     /// The same image for another thread. The memory is freed when the last of them is dropped.
     pub fn shared(&mut self) -> Result<OpenImage<'a>, OutOfMemory> {
-        let mut other = OpenImage {
-            raw: sys::Image::CLOSED,
-            file: self.file,
-        };
-        // SAFETY: the image is open and the other one closed, and both borrow the file
-        let status = unsafe { sys::petool_image_share(&mut self.raw, &mut other.raw) };
-        match status {
-            sys::PETOOL_OK => Ok(other),
-            _ => Err(OutOfMemory),
-        }
+        let raw = self.asked().shared()?;
+        Ok(OpenImage { raw, file: self.file })
+    }
+
+    /// All rows of its tables.
+    pub fn tables(&mut self) -> Result<Tables<'a>, OutOfMemory> {
+        self.asked().tables()
     }
 
     /// What a name exports.
     pub fn export_by_name(&mut self, name: &[u8]) -> Option<Target<'a>> {
-        let mut target = sys::Target::NONE;
-        // SAFETY: the image is open; the name is a complete slice; the target's texts are initialized
-        let status = unsafe { sys::petool_image_export_by_name(&mut self.raw, name.as_ptr(), name.len(), &mut target) };
-        (status == sys::PETOOL_OK).then(|| Target::of(self.file, target))
+        self.asked().export_by_name(name)
     }
 
     /// What an ordinal exports.
-    pub fn export_by_ordinal(&mut self, ordinal: u32) -> Option<Target<'a>> {
-        let mut target = sys::Target::NONE;
-        // SAFETY: the image is open; the target's texts are initialized
-        let status = unsafe { sys::petool_image_export_by_ordinal(&mut self.raw, ordinal, &mut target) };
-        (status == sys::PETOOL_OK).then(|| Target::of(self.file, target))
+    pub fn export_by_ordinal(&mut self, ordinal: u64) -> Option<Target<'a>> {
+        self.asked().export_by_ordinal(ordinal)
+    }
+
+    /// The import whose slot is at an RVA.
+    pub fn import_at(&mut self, slot: u32) -> Option<Import<'a>> {
+        self.asked().import_at(slot)
     }
 
     /// Fills the buffer with the bytes from an RVA on, as [`Image::read`](crate::Image::read) does.
     pub fn read(&mut self, rva: u32, buffer: &mut [u8]) -> Option<()> {
-        // SAFETY: the image is open; the buffer is a complete slice, and not shared
-        let status = unsafe { sys::petool_image_read(&mut self.raw, rva, buffer.as_mut_ptr(), buffer.len()) };
-        (status == sys::PETOOL_OK).then_some(())
+        self.asked().read(rva, buffer)
     }
 
     /// The zero-terminated string at an RVA, without its zero byte; `None` if there is none.
     pub fn text(&mut self, rva: u32) -> Option<&'a [u8]> {
-        let mut text = sys::Text::NONE;
-        // SAFETY: the image is open; the text is initialized
-        let status = unsafe { sys::petool_image_read_text(&mut self.raw, rva, &mut text) };
-        (status == sys::PETOOL_OK).then(|| text_of(self.file, text))
+        self.asked().text(rva)
     }
 
     /// The file offset of the byte at an RVA; `None` if the file does not hold it.
     pub fn locate(&mut self, rva: u32) -> Option<u64> {
-        let mut offset = 0;
-        // SAFETY: the image is open
-        let status = unsafe { sys::petool_image_locate(&mut self.raw, rva, &mut offset) };
-        (status == sys::PETOOL_OK).then_some(offset)
+        self.asked().locate(rva)
     }
 }
 

@@ -75,12 +75,47 @@ impl Space {
         }
     }
 
+    /// Maps a set as [`Space::map`] does, unless its images have more than `most_bytes` bytes together: then
+    /// [`SetError::Large`], whatever faults the set has, and before the library allocates memory.
+    ///
+    /// ```
+    /// use petool::{Entry, Policy, SetError, Space};
+    ///
+    /// let file: &[u8] = include_bytes!("../../../../crates/test_cases/data/v2.dll");
+    /// let set = [Entry { name: b"v2.dll", file, base: 0x2000_0000 }];
+    /// assert!(Space::map_within(&set, Policy::Strict, 0x3000).is_ok());
+    /// assert_eq!(Space::map_within(&set, Policy::Strict, 0x2fff).err(), Some(SetError::Large));
+    /// ```
+    pub fn map_within(set: &[Entry<'_>], policy: Policy, most_bytes: u64) -> Result<Space, SetError> {
+        let raw_set = raw_entries(set)?;
+        let mut space = Space {
+            raw: sys::Space::CLOSED,
+        };
+        let (mut cycle, mut fault) = (0, sys::Fault::default());
+        // SAFETY: the space is closed; the entries and their texts are complete slices, which nobody writes to
+        let status = unsafe {
+            sys::petool_space_map_within(
+                &mut space.raw,
+                raw_set.as_ptr(),
+                raw_set.len(),
+                policy.is_known(),
+                most_bytes,
+                &mut cycle,
+                &mut fault,
+            )
+        };
+        match status {
+            sys::PETOOL_OK => Ok(space),
+            _ => Err(SetError::of(status, fault, cycle)),
+        }
+    }
+
     /// Fills the buffer with the bytes from an address on. If they do not all lie in one image, the error is fault 54,
     /// and the buffer is unchanged.
     pub fn read(&mut self, address: u64, buffer: &mut [u8]) -> Result<(), Fault> {
         let mut fault = sys::Fault {
             number: NO_WINDOW,
-            image: u16::MAX,
+            image: u16::MAX.into(),
             place: sys::PETOOL_PLACE_ADDRESS,
             at: address,
         };
@@ -95,7 +130,7 @@ impl Space {
 
     /// Moves an image to another base: relocates its fields, and binds again the slots whose exports are in it. The
     /// error is the first of faults 55 and 44 to 47, and then nothing is changed.
-    pub fn move_image(&mut self, image: u16, base: u64) -> Result<Moved, Fault> {
+    pub fn move_image(&mut self, image: u32, base: u64) -> Result<Moved, Fault> {
         let mut moved = Moved::default();
         let mut fault = sys::Fault {
             number: NO_IMAGE,
@@ -112,7 +147,7 @@ impl Space {
     }
 
     /// Where the image of an entry is; `None` if there is no such image.
-    pub fn image(&mut self, image: u16) -> Option<Placed> {
+    pub fn image(&mut self, image: u32) -> Option<Placed> {
         let mut placed = Placed { base: 0, size: 0 };
         // SAFETY: the space is open
         let status = unsafe { sys::petool_space_image(&mut self.raw, image, &mut placed.base, &mut placed.size) };

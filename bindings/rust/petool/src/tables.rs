@@ -1,6 +1,6 @@
 //! The rows of an image's tables.
 
-use crate::rows::{room_of, text_of};
+use crate::rows::{read_rows, text_of};
 use crate::{Fixup, OutOfMemory};
 use petool_sys as sys;
 
@@ -31,11 +31,11 @@ impl<'a> Target<'a> {
     pub(crate) fn of(file: &'a [u8], raw: sys::Target) -> Target<'a> {
         let module = text_of(file, raw.module);
         match raw.kind {
-            sys::PETOOL_TARGET_RVA => Target::Rva(raw.value),
+            sys::PETOOL_TARGET_RVA => Target::Rva(raw.rva),
             // an ordinal that a forwarder names fits 16 bits
             sys::PETOOL_TARGET_ORDINAL => Target::Forward {
                 module,
-                key: Key::Ordinal(raw.value as u16),
+                key: Key::Ordinal(raw.ordinal as u16),
             },
             _ => Target::Forward {
                 module,
@@ -57,9 +57,10 @@ pub struct Import<'a> {
 }
 
 impl<'a> Import<'a> {
-    fn of(file: &'a [u8], raw: &sys::Import) -> Import<'a> {
+    pub(crate) fn of(file: &'a [u8], raw: &sys::Import) -> Import<'a> {
+        // an ordinal by which an import is bound fits 16 bits
         let key = if raw.by_ordinal {
-            Key::Ordinal(raw.ordinal)
+            Key::Ordinal(raw.ordinal as u16)
         } else {
             Key::Name(text_of(file, raw.name))
         };
@@ -97,51 +98,31 @@ unsafe impl Send for Tables<'_> {}
 unsafe impl Sync for Tables<'_> {}
 
 impl<'a> Tables<'a> {
-    /// Tables without room for rows.
-    pub(crate) fn empty(file: &'a [u8]) -> Tables<'a> {
-        Tables {
+    /// The tables of an open image of this file: each is counted, and then copied.
+    pub(crate) fn of(file: &'a [u8], image: &mut sys::Image) -> Result<Tables<'a>, OutOfMemory> {
+        // SAFETY: the image is open; the rows are initialized, and not shared
+        let exports = read_rows(0, sys::Export::NONE, |rows, count| unsafe {
+            sys::petool_image_exports(image, rows.as_mut_ptr(), rows.len(), count)
+        });
+        // SAFETY: as above
+        let names = read_rows(0, sys::Export::NONE, |rows, count| unsafe {
+            sys::petool_image_export_names(image, rows.as_mut_ptr(), rows.len(), count)
+        });
+        // SAFETY: as above
+        let imports = read_rows(0, sys::Import::NONE, |rows, count| unsafe {
+            sys::petool_image_imports(image, rows.as_mut_ptr(), rows.len(), count)
+        });
+        // SAFETY: as above
+        let fixups = read_rows(0, Fixup::default(), |rows, count| unsafe {
+            sys::petool_image_fixups(image, rows.as_mut_ptr(), rows.len(), count)
+        });
+        Ok(Tables {
             file,
-            exports: Vec::new(),
-            names: Vec::new(),
-            imports: Vec::new(),
-            fixups: Vec::new(),
-        }
-    }
-
-    /// The tables of a file that was checked, and has this many rows.
-    pub(crate) fn of(file: &'a [u8], mut counts: sys::Counts) -> Result<Tables<'a>, OutOfMemory> {
-        let mut tables = Tables {
-            file,
-            exports: room_of(sys::Export::NONE, counts.exports)?,
-            names: room_of(sys::Export::NONE, counts.names)?,
-            imports: room_of(sys::Import::NONE, counts.imports)?,
-            fixups: room_of(Fixup::default(), counts.fixups)?,
-        };
-        match tables.fill(&mut counts, &mut sys::Fault::default()) {
-            sys::PETOOL_OK => Ok(tables),
-            _ => Err(OutOfMemory),
-        }
-    }
-
-    /// Reads all tables into the rows: a status of `petool_tables`, with the faults of `petool_check`.
-    pub(crate) fn fill(&mut self, counts: &mut sys::Counts, fault: &mut sys::Fault) -> u32 {
-        // SAFETY: the file is a complete slice, which nobody writes to; the rows are initialized, and not shared
-        unsafe {
-            sys::petool_tables(
-                self.file.as_ptr(),
-                self.file.len(),
-                self.exports.as_mut_ptr(),
-                self.exports.len(),
-                self.names.as_mut_ptr(),
-                self.names.len(),
-                self.imports.as_mut_ptr(),
-                self.imports.len(),
-                self.fixups.as_mut_ptr(),
-                self.fixups.len(),
-                counts,
-                fault,
-            )
-        }
+            exports: exports.map_err(|_| OutOfMemory)?,
+            names: names.map_err(|_| OutOfMemory)?,
+            imports: imports.map_err(|_| OutOfMemory)?,
+            fixups: fixups.map_err(|_| OutOfMemory)?,
+        })
     }
 
     /// The exports by ordinal, in the order of the export address table. An ordinal may exceed 2^32.
@@ -158,6 +139,11 @@ impl<'a> Tables<'a> {
         self.names
             .iter()
             .map(move |row| (text_of(file, row.name), Target::of(file, row.target)))
+    }
+
+    /// The ordinals of [`Tables::names`], in the same order.
+    pub fn name_ordinals(&self) -> impl ExactSizeIterator<Item = u64> + '_ {
+        self.names.iter().map(|row| row.ordinal)
     }
 
     /// The imports, in the order of their tables.

@@ -61,12 +61,10 @@ fn files() -> Vec<Vec<u8>> {
 fn ask_image(image: &Image<'_>) {
     let tables = image.tables().unwrap();
     for (ordinal, target) in tables.exports() {
-        if let Ok(ordinal) = u32::try_from(ordinal) {
-            assert_eq!(image.export_by_ordinal(ordinal), Ok(Some(target)));
-        }
+        assert_eq!(image.export_by_ordinal(ordinal), Some(target));
     }
     for (name, target) in tables.names() {
-        assert_eq!(image.export_by_name(name), Ok(Some(target)));
+        assert_eq!(image.export_by_name(name), Some(target));
     }
     let size = image.headers().size_of_image;
     let mut bytes = [0; 16];

@@ -10,7 +10,7 @@ use crate::image::{petool_check, petool_locate, petool_read, petool_read_text};
 use crate::import::petool_imports;
 use crate::rebase::petool_rebase;
 use crate::tables::petool_tables;
-use crate::words::{petool_fault_words, petool_version};
+use crate::words::{petool_fault_words, petool_version_number};
 use pe_layout::Layout;
 use pe_records_c::export::{ExportRow, TargetRecord};
 use pe_records_c::fixup::FixupRow;
@@ -26,7 +26,8 @@ use std::process::Abort;
 /// A target that no call reports.
 const NO_TARGET: TargetRecord<'static> = TargetRecord {
     kind: 9,
-    value: 9,
+    rva: 9,
+    ordinal: 9,
     module: b"?",
     name: b"?",
 };
@@ -40,8 +41,8 @@ const NO_EXPORT: ExportRow<'static> = ExportRow {
 const NO_IMPORT: ImportRow<'static> = ImportRow {
     module: b"?",
     name: b"?",
-    slot: 9,
     ordinal: 9,
+    slot: 9,
     by_ordinal: false,
 };
 
@@ -187,7 +188,7 @@ fn texts_and_offsets_are_those_of_the_file(rt: HostRuntime) {
 
 /// Whether a target is ordinal 407 of `\o`.
 fn is_forwarder(target: &TargetRecord) -> bool {
-    (target.kind, target.value) == (1, 407)
+    (target.kind, target.rva, target.ordinal) == (1, 0, 407)
         && is(target.module, b"\\o\x7f")
         && target.name.is_empty()
 }
@@ -208,7 +209,7 @@ fn exports_fill_the_rows(rt: HostRuntime) {
     assert_holds(
         &rt,
         1,
-        rows[0].target.kind == 0 && rows[0].target.value == 0x43210,
+        rows[0].target.kind == 0 && rows[0].target.rva == 0x43210,
     );
     assert_holds(
         &rt,
@@ -238,7 +239,7 @@ fn names_fill_the_rows_that_there_are(rt: HostRuntime) {
     assert_holds(
         &rt,
         0,
-        count == 3 && is(few[0].name, b"\"q\\") && few[0].ordinal == 0,
+        count == 3 && is(few[0].name, b"\"q\\") && few[0].ordinal == 65538,
     );
     assert_holds(&rt, 1, is(rows[3].name, b"?"));
     let status = petool_export_names(rt.alloc(), &file, &mut rows, &mut count, &mut fault);
@@ -265,7 +266,7 @@ fn one_export_is_found(rt: HostRuntime) {
     assert_holds(&rt, 1, is_forwarder(&target));
     let status = petool_export_by_ordinal(rt.alloc(), &file, 65538, &mut target, &mut fault);
     assert_status(&rt, 2, status, 0, &fault);
-    assert_holds(&rt, 2, target.kind == 0 && target.value == 0x30123);
+    assert_holds(&rt, 2, target.kind == 0 && target.rva == 0x30123);
     let status = petool_export_by_name(rt.alloc(), &file, b"plai", &mut target, &mut fault);
     assert_status(&rt, 3, status, 3, &fault);
     let status = petool_export_by_name(rt.alloc(), cut(&file), b"f", &mut target, &mut fault);
@@ -410,5 +411,5 @@ fn faults_have_words(rt: HostRuntime) {
         1,
         is(rule.bytes, b"the image has more than 96 sections"),
     );
-    assert_holds(&rt, 2, petool_version() == 0x1_0000);
+    assert_holds(&rt, 2, petool_version_number() == 0x2_0000);
 }

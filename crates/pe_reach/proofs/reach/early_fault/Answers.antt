@@ -6,7 +6,7 @@ use Rattle.pe_reach.proofs.Early.{refuse_large, refuse_other}
 use Rattle.pe_reach.proofs.reach.early_fault.Goals as goal
 
 pub returns-then-len-gt-MOST : goal.returns-then-len-gt-MOST
-returns-then-len-gt-MOST c = refuse_large c.args.begin.now c.args.len c.if-len-gt-MOST.true
+returns-then-len-gt-MOST c = refuse_large c.args.begin.now c.args.len c.size_fault.result c.size_fault.ensures.fault
 
 pub returns-in-Some : goal.returns-in-Some
 returns-in-Some c =

@@ -27,6 +27,7 @@ returns-then-limit-len g c =
               | else-is_whole w ↦ inr (λ all. omega (arith, all, w.if-is_whole.false, c.len-is_whole.ensures, size), w.len-is)
             ]),
         kept.count,
+        refl,
       ),
     )
 
@@ -54,5 +55,6 @@ returns-then-read g c =
         c.whole.ensures.bytes ∙ all,
         inl (inl (read_whole read.has_ended (g.R.Source.ended c.args.reader.now) c.args.len bytes c.requires.read c.if-read.true), c.whole.ensures.size ∙ ap (λ (l : List ℕ). length l) all),
         refl,
+        c.whole.ensures.refused,
       ),
     )

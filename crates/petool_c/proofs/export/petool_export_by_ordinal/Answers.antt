@@ -11,7 +11,7 @@ returns-in-Ok-clause-faults c = target_answered _ _ _ _ _ _ _ c.in-Ok.ensures.ex
 
 pub returns-in-Ok-clause-target : goal.returns-in-Ok-clause-target
 returns-in-Ok-clause-target c = λ _.
-    let said = c.by_ordinal.ensures ∙ ap (λ e. target_at e (Ordinal c.args.ordinal)) c.in-Ok.ensures.exact.1 in
+    let said = c.export_at.ensures ∙ ap (λ e. target_at e (Ordinal c.args.ordinal)) c.in-Ok.ensures.exact.1 in
     subst (λ (t : Option Target). TellsTarget t c.args.target.now c.put_target.new.told c.put_target.result) said c.put_target.ensures
 
 pub returns-in-Ok-clause-kept : goal.returns-in-Ok-clause-kept

@@ -1,7 +1,7 @@
 -- The rows are those of the tables of the file's image, or a refusal is reported.
 use Rattle.std.proofs.Common.{◌∙◌, Err, length, ap}
 use Rattle.std.specs.Prelude.{map}
-use Rattle.pe_records_c.specs.ExportRows.{export_text, export_by_ordinal, export_by_name}
+use Rattle.pe_records_c.specs.ExportRows.{export_text, export_by_ordinal, export_by_name, named}
 use Rattle.pe_records_c.specs.FixupRows.{fixup_row}
 use Rattle.pe_records_c.specs.ImportRows.{import_text, import_row}
 use Rattle.pe_records_c.specs.Rows.{filled}
@@ -17,7 +17,7 @@ pub returns-in-Ok-clause-exports : goal.returns-in-Ok-clause-exports
 returns-in-Ok-clause-exports c = λ _. c.put_image.ensures.exports ∙ ap (λ e. filled export_by_ordinal e.ordinals (map export_text c.args.exports.now)) c.in-Ok.ensures.exact.1.exports
 
 pub returns-in-Ok-clause-names : goal.returns-in-Ok-clause-names
-returns-in-Ok-clause-names c = λ _. c.put_image.ensures.names ∙ ap (λ e. filled export_by_name e.names (map export_text c.args.names.now)) c.in-Ok.ensures.exact.1.exports
+returns-in-Ok-clause-names c = λ _. c.put_image.ensures.names ∙ ap (λ e. filled export_by_name (named e) (map export_text c.args.names.now)) c.in-Ok.ensures.exact.1.exports
 
 pub returns-in-Ok-clause-imports : goal.returns-in-Ok-clause-imports
 returns-in-Ok-clause-imports c = λ _. c.put_image.ensures.imports ∙ ap (λ m. filled import_row m (map import_text c.args.imports.now)) c.in-Ok.ensures.exact.1.imports

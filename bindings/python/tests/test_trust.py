@@ -1,0 +1,255 @@
+"""What a file says of itself on pages: CheckSum, certificates, the digest that a signature signs, and the Rich header; and each finding
+on these by a file of its own. The signatures are put together here, element by element, and their digests are Python's."""
+
+import hashlib
+import os
+import pathlib
+import re
+import struct
+import tempfile
+import time
+import unittest
+
+from .cases import run
+from .files import numbers, put
+from .test_findings import words_of
+from .test_program import image_of
+from .test_sum import sum_of
+
+PROGRAM = os.environ.get("PETOOL_PROGRAM")
+
+#: The fields CheckSum, directory 4 and the end of the headers of the images here, all of PE32 with 5 directories.
+FIELD, ENTRY, END = 0x98, 0xD8, 0xE0
+SHA1, SHA256 = bytes.fromhex("2b0e03021a"), bytes.fromhex("608648016503040201")
+SHA384, SHA512 = bytes.fromhex("608648016503040202"), bytes.fromhex("608648016503040203")
+SHA224 = bytes.fromhex("608648016503040204")
+HASHES = {SHA1: "sha1", SHA224: "sha224", SHA256: "sha256", SHA384: "sha384", SHA512: "sha512"}
+NAMES = {SHA1: "SHA-1", SHA256: "SHA-256", SHA384: "SHA-384", SHA512: "SHA-512"}
+SIGNED_DATA, INDIRECT_DATA = bytes.fromhex("2a864886f70d010702"), bytes.fromhex("2b060104018237020104")
+
+
+def element(tag, *parts):
+    """An element in DER."""
+    content = b"".join(parts)
+    size = len(content)
+    return bytes([tag]) + (bytes([size]) if size < 128 else b"\x82" + size.to_bytes(2, "big")) + content
+
+
+def named(*attributes):
+    """A name: each attribute, an object identifier and a text, in a set of its own."""
+    return element(0x30, *(element(0x31, element(0x30, element(6, bytes.fromhex(kind)), element(0x0C, text))) for kind, text in attributes))
+
+
+def certificate(serial, issuer, subject):
+    empty = element(0x30)
+    return element(0x30, element(0x30, element(0xA0, element(2, b"\2")), element(2, serial), empty, issuer, empty, subject, empty))
+
+
+def signature(algorithm, digest, *certificates):
+    """An Authenticode signature of a digest, without the signature's own value."""
+    info = element(0x30, element(0x30, element(6, algorithm)), element(4, digest))
+    indirect = element(0x30, element(6, INDIRECT_DATA), element(0xA0, element(0x30, element(0x30), info)))
+    data = element(0x30, element(2, b"\1"), element(0x31), indirect, element(0xA0, *certificates))
+    return element(0x30, element(6, SIGNED_DATA), element(0xA0, data))
+
+
+def entry(data, kind=2, revision=0x200):
+    """An entry of the certificate table, with zeros up to a multiple of 8 after it."""
+    head = struct.pack("<IHH", 8 + len(data), revision, kind)
+    return (head + data).ljust(8 + len(data) + -len(data) % 8, b"\0")
+
+
+def image(table=b"", at=END, size=None, after=b"", field=0):
+    """An image that has only headers, with a certificate table at a file offset, of which directory 4 has this or another size."""
+    size = len(table) if size is None else size
+    file = bytearray(image_of(0x88, END, (0xB4, b"\5")))
+    put(file, (FIELD, numbers(field)), (ENTRY, numbers(at if size else 0, size)))
+    return bytes(file).ljust(at, b"\0") + table + after
+
+
+def digest_of(file, algorithm):
+    """The digest of what a signature of an image signs."""
+    start, size = struct.unpack_from("<II", file, ENTRY)
+    end = start + size if size else len(file)
+    start = start if size else len(file)
+    return hashlib.new(HASHES[algorithm], file[:FIELD] + file[FIELD + 4 : ENTRY] + file[ENTRY + 8 : start] + file[end:]).digest()
+
+
+def signed(algorithm, *certificates, change=b"", after=b""):
+    """An image whose signature fits, but for a change of its digest."""
+    size = len(entry(signature(algorithm, bytes(hashlib.new(HASHES[algorithm]).digest_size), *certificates)))
+    digest = digest_of(image(bytes(size), after=after), algorithm)
+    return image(entry(signature(algorithm, change or digest, *certificates)), after=after)
+
+
+ISSUER = named(("550406", b"DE"), ("550403", b"A Root"))
+SUBJECT = named(("550403", b"An Author"), ("550406", b"DE"))
+
+#: The words of a Rich header: the key, and pairs of a product and build, and a count.
+PAIRS = [(0x01056B14, 13), (0x00AB9D1B, 1)]
+
+
+def turned(number, count):
+    return (number << count % 32 | number >> (32 - count % 32)) & 0xFFFFFFFF
+
+
+def rich(pairs, key=None, start=b"DanS"):
+    """An image of 0x100 bytes with a Rich header at 0x40, before its signature at 0x80; without a key with the right one."""
+    file = bytearray(0x80) + image_of(0x60, 0xB8)[0x40:]
+    file += bytes(-len(file) % 8)
+    put(file, (0, b"MZ"), (0x3C, numbers(0x80)), (0xD4, numbers(len(file))))
+    total = 0x40 + sum(turned(byte, k) for k, byte in enumerate(file[:0x40]) if not 0x3C <= k < 0x40)
+    right = (total + sum(turned(tool, count) for tool, count in pairs)) & 0xFFFFFFFF
+    key = right if key is None else key
+    words = [int.from_bytes(start, "little"), 0, 0, 0, *(word for pair in pairs for word in pair)]
+    put(file, (0x40, numbers(*(word ^ key for word in words)) + b"Rich" + numbers(key)))
+    return bytes(file), key
+
+
+#: Each finding with files that meet it and no other, and its place.
+FOUND = [
+    (221, image(entry(b""), size=9), ENTRY),
+    (221, image(entry(b""), size=0xFFFFFFFF), ENTRY),
+    (222, image(numbers(7, 0x20200)), END),
+    (222, image(numbers(0, 0)), END),
+    (222, image(numbers(0xFFFFFFFF, 0x20200)), END),
+    (222, image(entry(b"") + numbers(9, 0x20200)), END + 8),
+    (222, image(entry(b"") + numbers(8, 0)[:7]), END + 8),
+    # SizeOfHeaders reaches over the table
+    (223, bytes(put(bytearray(image(entry(b""))), (0x94, numbers(END + 8)))), ENTRY),
+    (224, image(entry(b""), at=END + 4), ENTRY),
+    (241, rich(PAIRS, start=b"DanT")[0], 0x60),
+]
+
+#: Files without a finding.
+SOUND = [image(), image(entry(b"")), image(entry(b"1234567") + entry(b"", 1)), image(entry(b""), after=b"more"), rich(PAIRS)[0],
+         rich(PAIRS, key=0x12345678)[0], rich([])[0]]
+
+
+@unittest.skipUnless(PROGRAM, "left out without program: PETOOL_PROGRAM names none")
+class Trust(unittest.TestCase):
+    maxDiff = None
+
+    def setUp(self):
+        folder = tempfile.TemporaryDirectory()
+        self.addCleanup(folder.cleanup)
+        self.folder = pathlib.Path(folder.name)
+
+    def parts(self, file, *options, status=0):
+        """The parts of the page of a file by their headings."""
+        (self.folder / "a").write_bytes(file)
+        done = run([PROGRAM, "show", *options, "a"], cwd=self.folder)
+        self.assertEqual(status, done.returncode)
+        blocks = [block.split("\n") for block in done.stdout.decode().strip("\n").split("\n\n")]
+        return {block[0]: block[1:] for block in blocks}
+
+    def trust(self, file, status=0):
+        """The rows after that of CheckSum."""
+        return self.parts(file, "--trust", status=status)["Trust"][1:]
+
+    def test_each_finding_has_a_file(self):
+        words = words_of()
+        self.assertEqual({it[0] for it in FOUND}, {number for number in words if number in range(221, 251)})
+        for number, file, place in FOUND:
+            with self.subTest((number, place)):
+                subject, rule = words[number]
+                self.assertEqual([f"  {number}  {subject} at 0x{place:x}: {rule}"], self.parts(file, "--trust").get("Findings (1)"))
+                self.assertNotIn("Findings (1)", self.parts(file))
+
+    def test_files_without_a_finding(self):
+        for number, file in enumerate(SOUND):
+            with self.subTest(number):
+                self.assertEqual([], [heading for heading in self.parts(file, "--all") if heading.startswith("Findings")])
+
+    def test_a_finding_is_marked_at_its_directory(self):
+        (row,) = self.parts(image(numbers(7, 0x20200)), "--trust")["Tables (1)"]
+        self.assertRegex(row, r"^ +4  .*  not read, 1 finding$")
+
+    def test_check_sum(self):
+        for field, words in [(0, "not set, and 0x{:08x} would be right"), (1, "wrong, and 0x{:08x} would be right"), (None, "right")]:
+            computed = sum_of(image(field=1), FIELD)
+            field = computed if field is None else field
+            with self.subTest(words):
+                self.assertEqual([f"  CheckSum     0x{field:08x}, " + words.format(computed)], self.parts(image(field=field), "--trust")["Trust"])
+
+    def test_the_part_is_asked_for(self):
+        self.assertNotIn("Trust", self.parts(image()))
+        self.assertIn("Trust", self.parts(image(), "--all"))
+
+    def test_signed_digests(self):
+        for algorithm in (SHA1, SHA256, SHA384, SHA512):
+            for change, words in [(b"", "fits"), (b"\1\2", "does not fit"), (bytes(hashlib.new(HASHES[algorithm]).digest_size), "does not fit")]:
+                with self.subTest((NAMES[algorithm], change)):
+                    file = signed(algorithm, change=change, after=b"behind the table counts")
+                    length = struct.unpack_from("<I", file, END)[0]
+                    self.assertEqual([f"  Certificate  PKCS #7, revision 0x0200, {length} bytes at file 0xe0", f"    signed digest {NAMES[algorithm]}, {words}"],
+                                     self.trust(file))
+
+    def test_each_byte_that_is_signed_counts(self):
+        file = signed(SHA256, after=b"more")
+        table, size = struct.unpack_from("<II", file, ENTRY)
+        for at in (2, FIELD - 5, FIELD, FIELD + 3, FIELD + 4, ENTRY - 1, table + size, len(file) - 1):
+            with self.subTest(at):
+                other = bytearray(file)
+                other[at] ^= 1
+                is_left_out = FIELD <= at < FIELD + 4
+                self.assertEqual(f"    signed digest SHA-256, {'fits' if is_left_out else 'does not fit'}", self.trust(bytes(other))[1])
+
+    def test_other_signatures(self):
+        self.assertEqual("    signed digest of an algorithm that is not computed", self.trust(signed(SHA224))[1])
+        for data in (b"", b"\x30", b"\x30\x80\0\0", b"\x30\x85\0\0\0\0\1\0", signature(SHA1, bytes(20))[:-1], element(0x31)):
+            with self.subTest(data):
+                self.assertEqual("    no signed digest", self.trust(image(entry(data)))[1])
+
+    def test_certificates(self):
+        own = certificate(b"\x12\x34", ISSUER, SUBJECT)
+        other = certificate(b"\0\xff", named(("550406", b"DE")), named(("550403", b"\x1b[31m")))
+        self.assertEqual(["    of An Author, issued by A Root, serial number 0x1234",
+                          '    of "\\x1b[31m", issued by no common name, serial number 0x00ff'], self.trust(signed(SHA1, own, other))[2:])
+        self.assertEqual(["    of An Author, issued by A Root, serial number 0x1234"], self.trust(signed(SHA1, own, b"\x30\x03\x02\x01", own))[2:])
+
+    def test_types(self):
+        kinds = {1: "X.509", 3: "type 0x0003", 4: "terminal server stack", 0xEF1: "type 0x0ef1"}
+        table = b"".join(entry(b"", kind, 0x100) for kind in kinds)
+        self.assertEqual([f"  Certificate  {name}, revision 0x0100, 8 bytes at file 0x{END + 8 * k:x}" for k, name in enumerate(kinds.values())],
+                         self.trust(image(table)))
+
+    def test_a_table_before_the_end_of_its_directory_signs_nothing(self):
+        file = signed(SHA256)
+        size = struct.unpack_from("<I", file, ENTRY + 4)[0]
+        moved = bytearray(put(bytearray(file), (ENTRY, numbers(0))))
+        self.assertEqual([], [row for row in self.trust(bytes(moved)) if "digest" in row])
+        past = bytes(put(bytearray(file), (ENTRY + 4, numbers(size + 1))))
+        self.assertEqual("    signed digest SHA-256", self.trust(past)[1])
+
+    def test_rich_header(self):
+        file, key = rich(PAIRS)
+        pairs = ["    product 0x0105 build 27412, 13 objects", "    product 0x00ab build 40219, 1 object"]
+        self.assertEqual([f"  Rich header  2 tools at file 0x40, key 0x{key:08x}, right", *pairs], self.trust(file))
+        other = rich(PAIRS, key=0x89ABCDEF)[0]
+        self.assertEqual(["  Rich header  2 tools at file 0x40, key 0x89abcdef, wrong", *pairs], self.trust(other))
+
+    def test_an_image_that_is_refused_after_its_headers(self):
+        """Its section passes the file."""
+        file = bytearray(signed(SHA1, certificate(b"\1", ISSUER, SUBJECT)))
+        size = struct.unpack_from("<I", file, ENTRY + 4)[0]
+        put(file, (ENTRY, numbers(0, 0)))
+        parts = self.parts(bytes(put(bytearray(file), (0x46, b"\1"), (0x94, numbers(0x108)), (0xE8, numbers(0x1000, 0, 0x1000, 0x100000)))), "--trust", status=1)
+        self.assertTrue(parts["Trust"][0].startswith("  CheckSum     0x00000000, not set"), size)
+
+    def test_a_hundred_thousand_entries_cost_no_more_than_their_bytes(self):
+        """Each is a signature of a file of 4 MB, which is read once."""
+        table = entry(signature(SHA256, bytes(32))) * 20000
+        file = image(table, after=bytes(1 << 22))
+        start = time.process_time()
+        rows = self.trust(file)
+        self.assertEqual((40000, 20000), (len(rows), sum("SHA-256, does not fit" in row for row in rows)))
+        self.assertLess(time.process_time() - start, 30)
+
+    def test_words_of_the_help(self):
+        done = run([PROGRAM, "show", "--help"])
+        self.assertRegex(re.sub(r"\s+", " ", done.stdout.decode()), "--trust Prints CheckSum, certificates, whether the digest that they sign")
+
+
+if __name__ == "__main__":
+    unittest.main()

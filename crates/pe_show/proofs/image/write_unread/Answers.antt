@@ -1,0 +1,5 @@
+use Rattle.pe_show.proofs.Adding.{◌and◌}
+use Rattle.pe_show.proofs.image.write_unread.Goals as goal
+
+pub returns : goal.returns
+returns g c = c.write_title.ensures and c.write_refusal.ensures

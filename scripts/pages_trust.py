@@ -1,0 +1,220 @@
+"""Reads what an image's file says of itself independently of petool, by docs/FORMAT.md, and makes its part of pages; for pages.py.
+
+A file is bytes, and headers are those of pages_reader.py. The digests are Python's; the tags and object identifiers come from X.690,
+RFC 2315, RFC 5280 and Microsoft's "Windows Authenticode Portable Executable Signature Format".
+"""
+
+import hashlib
+import struct
+
+from pages_reader import uint
+
+CERTIFICATE = 4
+#: The option of `show` that adds this part.
+TRUST = ("trust",)
+TYPES = {1: "X.509", 2: "PKCS #7", 4: "terminal server stack"}
+#: Object identifiers: what a signature holds, and algorithms.
+SIGNED_DATA, INDIRECT_DATA = bytes.fromhex("2a864886f70d010702"), bytes.fromhex("2b060104018237020104")
+COMMON_NAME = bytes.fromhex("550403")
+ALGORITHMS = {bytes.fromhex("2b0e03021a"): ("SHA-1", "sha1"), bytes.fromhex("608648016503040201"): ("SHA-256", "sha256"),
+              bytes.fromhex("608648016503040202"): ("SHA-384", "sha384"), bytes.fromhex("608648016503040203"): ("SHA-512", "sha512")}
+
+
+class Unread(Exception):
+    """Bytes that are not those of the element that is wanted."""
+
+
+def element(data):
+    """The tag and the content of the first element in DER, and what is after it."""
+    if len(data) < 2 or data[0] % 32 == 31 or data[1] == 0x80 or data[1] > 0x84:
+        raise Unread
+    more = data[1] - 0x80 if data[1] >= 0x80 else 0
+    size = int.from_bytes(data[2 : 2 + more], "big") if more else data[1]
+    if len(data) < 2 + more + size:
+        raise Unread
+    return data[0], data[2 + more : 2 + more + size], data[2 + more + size :]
+
+
+def content(data, tag):
+    found, inner, _ = element(data)
+    if found != tag:
+        raise Unread
+    return inner
+
+
+def after(data, *tags):
+    """What is after elements with these tags."""
+    for tag in tags:
+        found, _, rest = element(data)
+        if found != tag:
+            raise Unread
+        data = rest
+    return data
+
+
+def info(data, identifier):
+    """What a ContentInfo of a type holds."""
+    inner = content(data, 0x30)
+    if content(inner, 6) != identifier:
+        raise Unread
+    return content(after(inner, 6), 0xA0)
+
+
+def signed_digest(data):
+    """The object identifier of the algorithm, and the digest that a signature signs, or None."""
+    try:
+        indirect = content(info(after(content(info(data, SIGNED_DATA), 0x30), 2, 0x31), INDIRECT_DATA), 0x30)
+        digest = content(after(indirect, 0x30), 0x30)
+        return content(content(digest, 0x30), 6), content(after(digest, 0x30), 4)
+    except Unread:
+        return None
+
+
+def signers(data):
+    """The subject, the issuer and the serial number of each certificate of a signature."""
+    found = []
+    try:
+        rest = content(after(content(info(data, SIGNED_DATA), 0x30), 2, 0x31, 0x30), 0xA0)
+        while rest:
+            parts = content(content(rest, 0x30), 0x30)
+            parts = after(parts, 0xA0) if parts[:1] == b"\xa0" else parts
+            subject = after(parts, 2, 0x30, 0x30, 0x30)
+            found.append((content(subject, 0x30), content(after(parts, 2, 0x30), 0x30), content(parts, 2)))
+            rest = after(rest, 0x30)
+    except Unread:
+        pass
+    return found
+
+
+def common_name(name):
+    """The bytes of the first common name that is the first attribute of its set, or None."""
+    try:
+        while name:
+            try:
+                attribute = content(content(name, 0x31), 0x30)
+                if content(attribute, 6) == COMMON_NAME:
+                    return element(after(attribute, 6))[1]
+            except Unread:
+                pass
+            name = after(name, 0x31)
+    except Unread:
+        pass
+    return None
+
+
+class Trust:
+    """The CheckSum of an image's file, its certificates and its Rich header, and what is wrong with these."""
+
+    def __init__(self, file, headers):
+        self.file, self.headers = file, headers
+        self.pe = uint(file, 60, 4)
+        self.entry = self.pe + 24 + (96 if headers.magic == 0x10B else 112) + 8 * CERTIFICATE
+        self.table = headers.directories[CERTIFICATE] if len(headers.directories) > CERTIFICATE else None
+        self.certificates, self.stop = self.read_certificates()
+        self.rich, self.mark = self.read_rich()
+        self.findings = [*self.certificate_findings()] + ([(241, self.mark)] if self.mark is not None and self.rich is None else [])
+
+    def check_sum(self):
+        """Sixteen bits at a time, with each carry into the lowest bit; the field counts as 0. And the file's length."""
+        data = bytearray(self.file) + bytes(len(self.file) % 2)
+        data[self.pe + 88 : self.pe + 92] = bytes(4)
+        total = sum(struct.unpack(f"<{len(data) // 2}H", data))
+        while total > 0xFFFF:
+            total = (total & 0xFFFF) + (total >> 16)
+        return (total + len(self.file)) % 2**32
+
+    def read_certificates(self):
+        """The place, the length, the revision, the type and the bytes of each whole entry, and where the first is that is not whole."""
+        if self.table is None:
+            return [], 0
+        at, end, found = self.table[0], min(len(self.file), sum(self.table)), []
+        while at + 8 <= end and uint(self.file, at, 4) >= 8 and at + uint(self.file, at, 4) <= end:
+            length, revision, kind = struct.unpack_from("<IHH", self.file, at)
+            found.append((at, length, revision, kind, self.file[at + 8 : at + length]))
+            at += length + -length % 8
+        return found, at
+
+    def shares(self, section):
+        return section.pointer and self.table[0] < section.pointer + section.raw_size and section.pointer < sum(self.table)
+
+    def certificate_findings(self):
+        if self.table is None or not self.table[1]:
+            return
+        if sum(self.table) > len(self.file):
+            yield 221, self.entry
+        if self.stop < min(len(self.file), sum(self.table)):
+            yield 222, self.stop
+        if self.table[0] < self.headers.headers or any(self.shares(it) for it in self.headers.sections):
+            yield 223, self.entry
+        if self.table[0] % 8:
+            yield 224, self.entry
+
+    def message(self):
+        """What a signature signs: all but CheckSum, the entry of directory 4 and the certificate table; None if these are not apart."""
+        if self.table is None:
+            return self.file[: self.pe + 88] + self.file[self.pe + 92 :]
+        start, end = (self.table[0], sum(self.table)) if self.table[1] else (len(self.file),) * 2
+        if start < self.entry + 8 or end > len(self.file):
+            return None
+        file = self.file
+        return file[: self.pe + 88] + file[self.pe + 92 : self.entry] + file[self.entry + 8 : start] + file[end:]
+
+    def words(self, bound):
+        return [uint(self.file, at, 4) for at in range(0x40, min(bound, len(self.file)) - 3, 4)]
+
+    def read_rich(self):
+        """The offset, the key and the pairs of the Rich header, or None; and where the last `Rich` is that has a key."""
+        words = self.words(self.pe)
+        marks = [k for k in range(len(words) - 1) if words[k] == 0x68636952]
+        if not marks:
+            return None, None
+        mark, key = marks[-1], words[marks[-1] + 1]
+        starts = [k for k in range(mark) if words[k] ^ key == 0x536E6144]
+        if not starts:
+            return None, 0x40 + 4 * mark
+        inner = [word ^ key for word in words[starts[-1] + 4 : mark]]
+        return (0x40 + 4 * starts[-1], key, list(zip(inner[::2], inner[1::2]))), 0x40 + 4 * mark
+
+    def rich_sum(self):
+        """What the key of the Rich header is to be."""
+        start, _, pairs = self.rich
+        turned = lambda number, count: (number << count % 32 | number >> (32 - count % 32)) & 0xFFFFFFFF  # noqa: E731
+        total = start + sum(turned(byte, k) for k, byte in enumerate(self.file[:start]) if not 0x3C <= k < 0x40)
+        return (total + sum(turned(tool, count) for tool, count in pairs)) & 0xFFFFFFFF
+
+
+def counted(count, one):
+    return f"{count:,} {one}" + ("" if count == 1 else "s")
+
+
+def signature_rows(trust, data, shown):
+    found = signed_digest(data)
+    if found is None:
+        yield "    no signed digest"
+    elif found[0] not in ALGORITHMS:
+        yield "    signed digest of an algorithm that is not computed"
+    else:
+        name, algorithm = ALGORITHMS[found[0]]
+        message = trust.message()
+        fits = "" if message is None else f", {'fits' if hashlib.new(algorithm, message).digest() == found[1] else 'does not fit'}"
+        yield f"    signed digest {name}{fits}"
+    for subject, issuer, serial in signers(data):
+        names = ["no common name" if it is None else shown(it) for it in (common_name(subject), common_name(issuer))]
+        yield f"    of {names[0]}, issued by {names[1]}, serial number 0x{serial[:64].hex()}"
+
+
+def trust_rows(trust, shown):
+    """The rows of the part."""
+    computed, field = trust.check_sum(), trust.headers.checksum
+    words = "right" if computed == field else f"{'wrong' if field else 'not set'}, and 0x{computed:08x} would be right"
+    yield from ("\nTrust", f"  CheckSum     0x{field:08x}, {words}")
+    for at, length, revision, kind, data in trust.certificates:
+        yield f"  Certificate  {TYPES.get(kind, f'type 0x{kind:04x}')}, revision 0x{revision:04x}, {counted(length, 'byte')} at file 0x{at:x}"
+        if kind == 2:
+            yield from signature_rows(trust, data, shown)
+    if trust.rich:
+        at, key, pairs = trust.rich
+        words = "right" if key == trust.rich_sum() else "wrong"
+        yield f"  Rich header  {counted(len(pairs), 'tool')} at file 0x{at:x}, key 0x{key:08x}, {words}"
+        for tool, count in pairs:
+            yield f"    product 0x{tool >> 16:04x} build {tool & 0xFFFF}, {counted(count, 'object')}"
