@@ -83,7 +83,7 @@ FIELDS = {
     "crates/pe_json/src/headers.rt": (header_texts.json_part, ["coff"]),
     "crates/pe_json/src/optional_header.rt": (header_texts.json_part, ["standard", "versions", "sizes", "last"]),
     "crates/pe_json/specs/Headers.antt": (header_texts.json_definition_part, ["coff", "standard", "versions", "sizes", "last"]),
-    "crates/pe_show/src/header_places.rt": (header_texts.places_part, ["coff fields", "narrow fields", "wide fields"]),
+    "crates/pe_at/src/header_places.rt": (header_texts.places_part, ["coff fields", "narrow fields", "wide fields"]),
     "crates/pe_write/proofs/PlanHead.antt": (plan_part, ["values", "reading"]),
     "crates/pe_reach/proofs/Headers.antt": (reach_texts.part, ["agreeing"]),
     "docs/FORMAT.md": (header_texts.page_part, ["coff", "same", "other"]),

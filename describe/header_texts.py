@@ -230,7 +230,7 @@ def page_part(description: Description, what: str) -> List[str]:
 
 
 def places_part(description: Description, what: str) -> List[str]:
-    """A list of fields with their places in pe_show: `coff fields of headers`, and `narrow fields of headers` and `wide fields of
+    """A list of fields with their places in pe_at: `coff fields of headers`, and `narrow fields of headers` and `wide fields of
     headers` of the optional header."""
     form = what.removesuffix(" fields of headers")
     if form not in ("coff", "narrow", "wide"):

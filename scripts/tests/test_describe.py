@@ -25,7 +25,7 @@ FAULT_CRATES = (
     "coff_object",
 )
 #: The crates that have words of commands, or only modules that are written.
-WORD_CRATES = ("pe_words", "pe_show", "pe_bench")
+WORD_CRATES = ("pe_words", "pe_show", "pe_at", "pe_bench")
 COPIED = [
     "bindings/rust/petool/src/lib.rs",
     "README.md",

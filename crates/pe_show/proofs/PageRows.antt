@@ -1,28 +1,14 @@
 -- Examples of rows of a page.
-use Rattle.std.proofs.Common.{◌≡◌, [], ◌∷◌, None, Some, false, refl}
+use Rattle.std.proofs.Common.{◌≡◌, [], ◌∷◌, None, Some, refl}
 use lib.Utf8.{encode}
 use Rattle.std.specs.Fmt.{digits}
 use Rattle.std.specs.Prelude.{codes}
 use Rattle.std.specs.Str.{chars, is_utf8}
-use Rattle.pe_text.specs.Text.{hex, width_from, escaped, quoted}
+use Rattle.pe_text.specs.Text.{hex, width_from}
 use Rattle.pe_tables.specs.declared.fixups.FixupKind.TheVariants.{Bits64}
-use Rattle.pe_show.specs.Name.{is_plain, whole_text, whole_columns, name_text, section_text, section_columns}
+use Rattle.pe_page.specs.Name.{whole_text, whole_columns, name_text, section_text, section_columns}
 use Rattle.pe_show.specs.Places.{field_offset}
 use Rattle.pe_show.specs.Rows.{fields_row, relocation_row, symbol_row}
-
--- "é" in UTF-8 is one character, and its first byte alone is not UTF-8
-e_acute : section_columns (0xc3 ∷ 0xa9 ∷ []) ≡ 1
-unfolding section_columns whole_columns chars is_utf8 encode
-e_acute = refl
-
-half : name_text (0xc3 ∷ []) ≡ codes "\"\\xc3\""
-unfolding name_text whole_text chars is_utf8 encode quoted escaped hex
-half = refl
-
--- U+202E, which changes the direction of the text after it, is not shown as it is
-turned : is_plain (0x61 ∷ 0xe2 ∷ 0x80 ∷ 0xae ∷ []) ≡ false
-unfolding chars is_utf8 encode
-turned = refl
 
 -- fields at 0x3010 and 0x3018
 fields : fields_row 6 (record { entry = 0; field = 0x3010; kind = Bits64 }) (record { entry = 0; field = 0x3010; kind = Bits64 } ∷ record { entry = 0; field = 0x3018; kind = Bits64 } ∷ []) ≡ codes "  0x003000  DIR64    010 018\n"

@@ -1,11 +1,11 @@
 //! The auxiliary records of symbols.
 
 ghost use Rattle.pe_text.specs.TextWriter.{IsReady};
-ghost use Rattle.pe_show.specs.Page.{AddsSome};
+ghost use Rattle.pe_page.specs.Page.{AddsSome};
 
-use crate::cell::Cell::{self, Plain};
-use crate::cell::write_cells;
 use coff_read::{Aux, Symbol};
+use pe_page::Cell::{self, Plain};
+use pe_page::write_cells;
 use pe_text::Part::{Hex, Text};
 use pe_text::{Sink, TextWriter};
 

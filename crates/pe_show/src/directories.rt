@@ -1,20 +1,19 @@
 //! The table of an image's data directories, with a summary of each table that was read.
 
 ghost use Rattle.pe_text.specs.TextWriter.{IsReady};
-ghost use Rattle.pe_show.specs.Page.{AddsSome};
+ghost use Rattle.pe_page.specs.Page.{AddsSome};
 
-use crate::cell::Cell::{self, Plain};
-use crate::cell::{NOTHING, count_width, plural, write_cells};
 use crate::fixups::same_page;
-use crate::heading::{Page, write_heading};
 use crate::imports::{module_len, module_name, same_module};
-use crate::name::{module_width, section_width};
-use crate::place::SectionNames;
-use crate::shown_image::ShownImage;
-use crate::summaries::write_table_summary;
 use pe_head::{Directory, directory_index, directory_name};
 use pe_image::Tables;
 use pe_layout::Layout;
+use pe_page::Cell::{self, Plain};
+use pe_page::{
+    NOTHING, Page, SectionNames, count_width, module_width, plural, section_width, write_cells,
+    write_heading,
+};
+use pe_record_pages::{ShownImage, write_table_summary};
 use pe_tables::{Exports, Fixup, Import, Target};
 use pe_text::Part::{Hex, Text};
 use pe_text::{Sink, TextWriter, hex_width};

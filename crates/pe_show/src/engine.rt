@@ -3,18 +3,21 @@
 ghost use Rattle.std.specs.Prelude.{◌-◌, ◌^◌, ◌<◌, ◌↔◌, IsErrOf};
 ghost use Rattle.pe_reach.specs.Sized.{RanSized};
 ghost use Rattle.pe_text.specs.Engine.{Ran};
-ghost use Rattle.pe_show.specs.Judged.{IsJudged};
+ghost use Rattle.pe_page.specs.Judged.{IsJudged};
 
-use crate::heading::Page;
 use crate::image::{show_image, write_unread};
-use crate::laws::outcomes_agree;
 use crate::object::{show_object, write_refused};
+use pe_page::{Page, outcomes_agree};
 use pe_reach::{ViewFile, ViewReport, WholeView, run_view, view_fault};
 use pe_text::{Outcome, ShowOptions, Sink, Source, TextWriter, ToolError, run_report};
 use pe_view::Fault;
 use std::alloc::{AllocError, Allocator};
 
-impl<'p> ViewReport for Page<'p> {
+/// The report that a page is.
+#[derive(Drop)]
+struct PageReport<'p>(Page<'p>);
+
+impl<'p> ViewReport for PageReport<'p> {
     ghost is_text = { IsJudged };
 
     fn write<A: Allocator + Copy, W: Sink>(
@@ -24,8 +27,8 @@ impl<'p> ViewReport for Page<'p> {
         file: ViewFile,
     ) -> Result<Outcome, AllocError> {
         match file.object() {
-            Some(object) => show_object(alloc, self, text, object),
-            None => show_image(alloc, self, text, file),
+            Some(object) => show_object(alloc, &self.0, text, object),
+            None => show_image(alloc, &self.0, text, file),
         }
     }
 
@@ -34,14 +37,14 @@ impl<'p> ViewReport for Page<'p> {
     }
 
     fn needs_all(&self) -> bool {
-        self.options.trust
+        self.0.options.trust
     }
 
     fn refuse<W: Sink>(&self, text: &mut TextWriter<W>, file: ViewFile, fault: Fault) {
         let outcome = Outcome::Refused(fault);
         match file.object() {
-            Some(_) => write_refused(text, self, outcome, file),
-            None => write_unread(text, self, file, outcome),
+            Some(_) => write_refused(text, &self.0, outcome, file),
+            None => write_unread(text, &self.0, file, outcome),
         }
     }
 }
@@ -99,7 +102,7 @@ pub fn show_page<A: Allocator + Copy, R: Source, W: Sink>(
     ensures read { IsErrOf result ToolError.Read ↔ (R.failures reader.old < R.failures reader.new) }
     ensures write { IsErrOf result ToolError.Write ↔ (W.failures writer.old < W.failures writer.new) }
 {
-    run_report(&WholeView(page), alloc, reader, writer)
+    run_report(&WholeView(&PageReport(*page)), alloc, reader, writer)
 }
 
 /// [`show`] for a file of `len` bytes. Of an image no more is read than the bytes before the end that its headers name, and those
@@ -145,5 +148,5 @@ pub fn show_page_sized<A: Allocator + Copy, R: Source, W: Sink>(
     ensures write { IsErrOf result ToolError.Write ↔ (W.failures writer.old < W.failures writer.new) }
 {
     outcomes_agree();
-    run_view(page, alloc, reader, len, writer)
+    run_view(&PageReport(*page), alloc, reader, len, writer)
 }

@@ -3,16 +3,17 @@
 ghost use Rattle.std.specs.Prelude.{◌≡◌};
 ghost use Rattle.pe_layout.specs.Layout.{headers_of};
 ghost use Rattle.pe_text.specs.TextWriter.{IsReady, Adds};
-ghost use Rattle.pe_show.specs.Page.{AddsSome};
+ghost use Rattle.pe_page.specs.Page.{AddsSome};
 ghost use Rattle.pe_show.specs.Places.{Shows, gap_columns};
-ghost use Rattle.pe_show.specs.Rows.{key_text, here_text, forward_text, target_text, behind_gap};
+ghost use Rattle.pe_page.specs.Rows.{key_text};
+ghost use Rattle.pe_show.specs.Rows.{here_text, forward_text, target_text, behind_gap};
 
-use crate::cell::{blanks, decimal_width, write_right};
-use crate::heading::write_heading;
-use crate::name::write_name;
-use crate::place::{SectionNames, SectionPlace};
 use pe_image::Tables;
 use pe_layout::Layout;
+use pe_page::{
+    SectionNames, SectionPlace, blanks, decimal_width, write_heading, write_key, write_name,
+    write_right,
+};
 use pe_tables::{ExportName, Exports, Key, NamesByOrdinal, Target};
 use pe_text::{ShowOptions, Sink, TextWriter, hex_width};
 use std::alloc::Allocator;
@@ -48,20 +49,6 @@ fn shown_of<'s, 't>(
             place: sections.place(layout, *rva),
         },
         Target::Forward { module, key } => ShownTarget::Forward { module, key: *key },
-    }
-}
-
-/// Adds a name, or `#` and an ordinal.
-pub(crate) fn write_key<W: Sink>(text: &mut TextWriter<W>, key: Key)
-    requires { IsReady W.failures text.old }
-    ensures { Adds W.taken W.failures text.old text.new (key_text key.entry) }
-{
-    match key {
-        Key::Ordinal(ordinal) => {
-            text.text(b"#");
-            text.decimal(ordinal as u64);
-        }
-        Key::Name(name) => write_name(text, name),
     }
 }
 

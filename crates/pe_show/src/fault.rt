@@ -1,10 +1,10 @@
 //! The row of a page that states a fault.
 
 ghost use Rattle.pe_text.specs.TextWriter.{IsReady};
-ghost use Rattle.pe_show.specs.Page.{AddsSome};
+ghost use Rattle.pe_page.specs.Page.{AddsSome};
 
-use crate::style::{end_style, refusal_style};
 use pe_detail::{Amount, DetailPart, DetailText};
+use pe_page::{end_style, refusal_style};
 use pe_reach::ViewFile;
 use pe_text::Part::{self, Decimal, Hex, Text};
 use pe_text::{Outcome, ShowOptions, Sink, TextWriter, fault_sentence, write_parts};

@@ -2,12 +2,12 @@
 
 ghost use Rattle.std.specs.Prelude.{◌≡◌, max};
 ghost use Rattle.pe_text.specs.TextWriter.{IsReady};
-ghost use Rattle.pe_show.specs.Page.{AddsSome};
+ghost use Rattle.pe_page.specs.Page.{AddsSome};
 ghost use Rattle.pe_show.specs.Places.{sections_end};
 
-use crate::cell::Cell::{self, Plain};
-use crate::cell::{plural, write_cells};
 use pe_head::{Headers, SectionHeader};
+use pe_page::Cell::{self, Plain};
+use pe_page::{plural, write_cells};
 use pe_text::Part::{Hex, Text};
 use pe_text::{Sink, TextWriter};
 

@@ -2,11 +2,11 @@
 
 ghost use Rattle.std.specs.Prelude.{◌≡◌, ◌<◌, ◌≤◌, length, flat_map};
 ghost use Rattle.pe_text.specs.TextWriter.{IsReady, Adds};
-ghost use Rattle.pe_show.specs.Page.{AddsSome};
+ghost use Rattle.pe_page.specs.Page.{AddsSome};
 ghost use Rattle.pe_show.specs.Rows.{field_text, fields_row, kind_text};
 
-use crate::heading::write_heading;
 use pe_image::Tables;
+use pe_page::write_heading;
 use pe_tables::{Fixup, FixupKind};
 use pe_text::{ShowOptions, Sink, TextWriter, hex_width};
 use std::alloc::Allocator;

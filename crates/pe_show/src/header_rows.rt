@@ -1,14 +1,11 @@
 //! The rows of a page for an image's headers.
 
 ghost use Rattle.pe_text.specs.TextWriter.{IsReady};
-ghost use Rattle.pe_show.specs.Page.{AddsSome};
+ghost use Rattle.pe_page.specs.Page.{AddsSome};
 
-use crate::cell::Cell::{self, Plain};
-use crate::cell::{NOTHING, write_cells};
-use crate::flags::FlagRow;
-use crate::heading::{Kind, Page};
-use crate::place::SectionPlace;
 use pe_head::{FlagKind, Headers, Magic, characteristic, machine_name, subsystem_name};
+use pe_page::Cell::{self, Plain};
+use pe_page::{FlagRow, Kind, NOTHING, Page, SectionPlace, write_cells};
 use pe_text::Part::{self, Decimal, Hex, Hex4, Hex8, Text};
 use pe_text::{Sink, TextWriter, write_parts};
 

@@ -5,46 +5,32 @@ ghost use Rattle.pe_view.specs.Faults.{Test, first_standing};
 ghost use Rattle.pe_image.specs.ImageTests.{image_tests};
 ghost use Rattle.pe_reach.specs.Views.{seen_of};
 ghost use Rattle.pe_text.specs.TextWriter.{IsReady};
-ghost use Rattle.pe_show.specs.Page.{AddsSome};
+ghost use Rattle.pe_page.specs.Page.{AddsSome};
 ghost use Rattle.pe_text.specs.Outcome.{IsOutcomeOf};
 
-use crate::debug::{image_pdb, is_reproducible, write_debug};
 use crate::directories::write_directories;
 use crate::exports::write_exports;
 use crate::fault::write_refusal;
 use crate::file_rows::write_others;
-use crate::findings::{drop_unread, write_findings};
 use crate::fixups::write_fixups;
-use crate::functions::write_functions;
 use crate::header_rows::{image_kind, write_headers};
-use crate::heading::{Page, write_title};
 use crate::imports::write_imports;
-use crate::load_configuration::write_load_configuration;
-use crate::pdb::write_identity;
-use crate::place::SectionNames;
 use crate::sections::write_sections;
-use crate::shown_image::ShownImage;
-use crate::tls::write_tls;
-use crate::trust::{trust_findings, write_trust};
 use pe_image::Tables;
 use pe_layout::Layout;
+use pe_page::{Page, SectionNames, outcome_of, write_title};
 use pe_reach::{ViewFile, read_whole_tables};
+use pe_record_pages::{
+    ShownImage, drop_unread, image_pdb, is_reproducible, trust_findings, write_debug,
+    write_findings, write_functions, write_identity, write_load_configuration, write_tls,
+    write_trust,
+};
 use pe_records::findings;
 use pe_tables::NamesByOrdinal;
 use pe_text::Part::Text;
 use pe_text::{Outcome, ShowOptions, Sink, TextWriter};
 use pe_view::Fault;
 use std::alloc::{AllocError, Allocator};
-
-/// The outcome of an image whose headers and sections have no fault, from the first fault of its tables.
-pub(crate) fn outcome_of(fault: Option<Fault>) -> Outcome
-    ensures { (tests : List Test) → fault ≡ first_standing tests → IsOutcomeOf tests result }
-{
-    match fault {
-        Some(fault) => Outcome::Refused(fault),
-        None => Outcome::Done,
-    }
-}
 
 /// The names of the exports ordered by ordinal, if they are selected and were read.
 fn order_names<A: Allocator + Copy>(

@@ -2,15 +2,12 @@
 
 ghost use Rattle.std.specs.Prelude.{◌<◌, ◌≤◌, length};
 ghost use Rattle.pe_text.specs.TextWriter.{IsReady, Adds};
-ghost use Rattle.pe_show.specs.Page.{AddsSome};
+ghost use Rattle.pe_page.specs.Page.{AddsSome};
 ghost use Rattle.pe_show.specs.Rows.{import_row};
 
-use crate::cell::Cell::{self, Plain};
-use crate::cell::write_cells;
-use crate::exports::write_key;
-use crate::heading::write_heading;
-use crate::name::module_beginning;
 use pe_image::Tables;
+use pe_page::Cell::{self, Plain};
+use pe_page::{module_beginning, write_cells, write_heading, write_key};
 use pe_tables::Import;
 use pe_text::Part::Text;
 use pe_text::{ShowOptions, Sink, TextWriter, hex_width};

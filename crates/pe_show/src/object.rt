@@ -3,18 +3,17 @@
 ghost use Rattle.std.specs.Prelude.{◌≡◌, ◌<◌, length, IfOk, OnErr};
 ghost use Rattle.coff_read.specs.ObjectFaults.{object_tests};
 ghost use Rattle.pe_text.specs.TextWriter.{IsReady};
-ghost use Rattle.pe_show.specs.Page.{AddsSome};
+ghost use Rattle.pe_page.specs.Page.{AddsSome};
 ghost use Rattle.pe_text.specs.Outcome.{IsOutcomeOf};
 
-use crate::cell::Cell::{self, Plain};
-use crate::cell::write_cells;
 use crate::fault::write_refusal;
 use crate::header_rows::{named, write_flag_row, write_stamp};
-use crate::heading::{Page, write_title};
-use crate::object_sections::{read_sections, write_relocations, write_sections};
-use crate::symbols::{SymbolNames, write_symbols};
+use crate::object_sections::{write_relocations, write_sections};
+use crate::symbols::write_symbols;
 use coff_read::{FileSection, ObjectFile};
 use pe_head::{FlagKind, machine_name};
+use pe_page::Cell::{self, Plain};
+use pe_page::{Page, SymbolNames, read_sections, write_cells, write_title};
 use pe_reach::ViewFile;
 use pe_text::Part::Text;
 use pe_text::{Outcome, Sink, TextWriter};

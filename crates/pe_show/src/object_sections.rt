@@ -2,19 +2,18 @@
 
 ghost use Rattle.std.specs.Prelude.{◌≡◌, option_map};
 ghost use Rattle.pe_text.specs.TextWriter.{IsReady, Adds};
-ghost use Rattle.pe_show.specs.Page.{AddsSome};
+ghost use Rattle.pe_page.specs.Page.{AddsSome};
 ghost use Rattle.pe_show.specs.Places.{field_offset};
 ghost use Rattle.pe_show.specs.Rows.{file_text, type_text, symbol_text, relocation_row};
 
-use crate::cell::Cell::{self, Plain};
-use crate::cell::{decimal_width, write_cells};
-use crate::flags::FlagRow;
-use crate::heading::{Page, write_heading};
-use crate::name::{section_width, write_name};
-use crate::sections::{content, permissions};
-use crate::symbols::SymbolNames;
+use crate::sections::content;
 use coff_read::{FileSection, ObjectFile, RawData, Relocation, relocation_type_name};
 use pe_head::FlagKind;
+use pe_page::Cell::{self, Plain};
+use pe_page::{
+    FlagRow, Page, SymbolNames, decimal_width, permissions, read_sections, section_width, sizes_of,
+    write_cells, write_heading, write_name,
+};
 use pe_text::Part::{Hex, Text};
 use pe_text::{ShowOptions, Sink, TextWriter, hex_width};
 use std::alloc::{AllocError, Allocator};
@@ -25,26 +24,6 @@ struct Widths {
     number: usize,
     name: usize,
     bytes: u8,
-}
-
-/// The sections of an object.
-pub(crate) fn read_sections<'a, A: Allocator + Copy>(
-    alloc: A,
-    object: &ObjectFile<'a>,
-) -> Result<Vec<FileSection<'a>, A>, AllocError> {
-    let mut sections = Vec::with_capacity(alloc, object.section_count())?;
-    for section in object.each_section(alloc) {
-        sections.push(section)?;
-    }
-    Ok(sections)
-}
-
-/// The size of a section, and how many of its bytes are in the file.
-pub(crate) fn sizes_of(raw: &RawData) -> (u64, u64) {
-    match raw {
-        RawData::Bytes(bytes) => (bytes.len() as u64, bytes.len() as u64),
-        RawData::Absent(size) => (u64::from(*size), 0),
-    }
 }
 
 /// The widths of an object's sections.

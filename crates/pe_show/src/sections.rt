@@ -1,15 +1,13 @@
 //! The table of an image's sections.
 
 ghost use Rattle.pe_text.specs.TextWriter.{IsReady};
-ghost use Rattle.pe_show.specs.Page.{AddsSome};
+ghost use Rattle.pe_page.specs.Page.{AddsSome};
 
-use crate::cell::Cell::{self, Plain};
-use crate::cell::write_cells;
-use crate::flags::FlagRow;
-use crate::heading::{Page, write_heading};
-use crate::name::section_width;
-use crate::place::SectionNames;
 use pe_head::{FlagKind, Headers, SectionHeader, section_flag};
+use pe_page::Cell::{self, Plain};
+use pe_page::{
+    FlagRow, Page, SectionNames, permissions, section_width, write_cells, write_heading,
+};
 use pe_text::Part::{Hex, Text};
 use pe_text::{Sink, TextWriter, hex_width};
 
@@ -20,23 +18,6 @@ struct Widths {
     rva: u8,
     bytes: u8,
     file: u8,
-}
-
-/// The permissions of a section, like `r-x`.
-pub(crate) fn permissions(flags: u32) -> &'static [u8] {
-    let read = flags & section_flag::READ != 0;
-    let write = flags & section_flag::WRITE != 0;
-    let execute = flags & section_flag::EXECUTE != 0;
-    match (read, write, execute) {
-        (false, false, false) => b"---",
-        (false, false, true) => b"--x",
-        (false, true, false) => b"-w-",
-        (false, true, true) => b"-wx",
-        (true, false, false) => b"r--",
-        (true, false, true) => b"r-x",
-        (true, true, false) => b"rw-",
-        (true, true, true) => b"rwx",
-    }
 }
 
 /// The contents of a section: code, initialized data, or uninitialized data.

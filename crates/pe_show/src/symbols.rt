@@ -4,74 +4,16 @@ ghost use Rattle.std.specs.Prelude.{◌≡◌, ◌==◌, ◌<◌, ◌≤◌, All
 ghost use Rattle.std.specs.List.{find};
 ghost use Rattle.std.specs.List.Sorted.{IsPartitionPoint};
 ghost use Rattle.pe_text.specs.TextWriter.{IsReady, Adds};
-ghost use Rattle.pe_show.specs.Page.{AddsSome};
+ghost use Rattle.pe_page.specs.Page.{AddsSome};
 ghost use Rattle.pe_show.specs.Rows.{class_text, function_text, number_text, symbol_row};
 
 use crate::auxiliary::write_records;
-use crate::cell::{blanks, decimal_width, write_column, write_right};
-use crate::heading::write_heading;
-use crate::name::write_name;
 use coff_read::{FileSection, ObjectFile, Symbol, SymbolSection, storage_class_name};
+use pe_page::{
+    SymbolNames, blanks, decimal_width, write_column, write_heading, write_name, write_right,
+};
 use pe_text::{ShowOptions, Sink, TextWriter};
 use std::alloc::{AllocError, Allocator};
-
-/// The names of an object's symbols, by the index of the symbol's record.
-#[derive(Drop)]
-pub(crate) struct SymbolNames<'a, A: Allocator> {
-    names: Vec<(u32, &'a [u8]), A>,
-    ghost ascend: { AllPairs (λ name later. name.0 < later.0) names.items },
-}
-
-/// The position of the first name whose index is at least `index`, among names ordered by index.
-fn first_from(names: &[(u32, &[u8])], index: u32) -> usize
-    requires { AllPairs (λ name later. name.0 < later.0) names.now }
-    ensures bound { result ≤ length names.now }
-    ensures point { IsPartitionPoint (λ name. name.0 < index) (λ name. index ≤ name.0) names.now result }
-{
-    names.partition_point(|name| name.0 < index)
-}
-
-/// The name with an index, among names ordered by index.
-fn name_under<'a>(names: &[(u32, &'a [u8])], index: u32) -> Option<&'a [u8]>
-    requires { AllPairs (λ name later. name.0 < later.0) names.now }
-    ensures { result ≡ option_map (λ name. name.1) (find (λ name. name.0 == index) names.now) }
-{
-    let place = first_from(names, index);
-    if place == names.len() {
-        return None;
-    }
-    let (found, name) = names[place];
-    if found != index {
-        return None;
-    }
-    Some(name)
-}
-
-impl<'a, A: Allocator + Copy> SymbolNames<'a, A> {
-    /// The names of an object's symbols, or none if they are not needed; then it allocates nothing.
-    pub fn new(
-        alloc: A,
-        object: &ObjectFile<'a>,
-        is_wanted: bool,
-    ) -> Result<SymbolNames<'a, A>, AllocError> {
-        let mut names = Vec::new(alloc);
-        if !is_wanted {
-            return Ok(SymbolNames { names });
-        }
-        names.reserve(object.symbol_count())?;
-        for (index, symbol) in object.each_symbol(alloc) {
-            names.push((index, symbol.name))?;
-        }
-        Ok(SymbolNames { names })
-    }
-
-    /// The name of the symbol whose first record has this index; `None` for an auxiliary record.
-    pub fn get(&self, index: u32) -> Option<&'a [u8]>
-        ensures { result ≡ option_map (λ name. name.1) (find (λ name. name.0 == index) self.now.names.items) }
-    {
-        name_under(self.names.as_slice(), index)
-    }
-}
 
 /// The name of a symbol's section, or a word for symbols outside sections.
 fn section_words<'a>(sections: &[FileSection<'a>], section: SymbolSection) -> &'a [u8] {

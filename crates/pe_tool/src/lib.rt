@@ -24,17 +24,16 @@ mod words;
 
 pub use coff_lines::{dump_object, object_text};
 pub use object_sized::dump_object_sized;
+pub use pe_at::{Spot, at, at_each, at_each_sized, at_each_text, at_sized};
 pub use pe_detail::{Detail, DetailText, fault_detail};
 pub use pe_json::{json, json_parts, json_sized};
 pub use pe_lines::{
     check, check_parts, check_sized, check_text, dump, dump_parts, dump_sized, dump_text, sum,
     sum_sized, sum_text,
 };
+pub use pe_page::{ShownName, is_safe_text};
 pub use pe_reach::{PartSource, Placed, needed, read_enough, read_view, size_fault};
-pub use pe_show::{
-    Page, ShowOptions, ShownName, Spot, at, at_each, at_each_sized, at_each_text, at_sized,
-    is_safe_text, show, show_page, show_page_sized, show_sized,
-};
+pub use pe_show::{Page, ShowOptions, show, show_page, show_page_sized, show_sized};
 pub use pe_space::{Policy, SetEntry};
 pub use pe_text::{
     Counted, Failed, FaultText, FaultWords, FileKind, Outcome, Sink, Source, ToolError,

@@ -1,4 +1,4 @@
-use Rattle.pe_show.proofs.Adding.{◌and◌}
+use Rattle.pe_page.proofs.Adding.{◌and◌}
 use Rattle.pe_show.proofs.auxiliary.write_raw.Goals as goal
 
 pub loop-byte-preserved : goal.loop-byte-preserved

@@ -1,4 +1,4 @@
-use Rattle.pe_show.proofs.Adding.{◌and◌}
+use Rattle.pe_page.proofs.Adding.{◌and◌}
 use Rattle.pe_show.proofs.auxiliary.write_records.Goals as goal
 
 pub loop-k-preserved : goal.loop-k-preserved

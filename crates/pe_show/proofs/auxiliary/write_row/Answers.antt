@@ -1,4 +1,4 @@
-use Rattle.pe_show.proofs.Adding.{◌and◌}
+use Rattle.pe_page.proofs.Adding.{◌and◌}
 use Rattle.pe_show.proofs.auxiliary.write_row.Goals as goal
 
 pub returns : goal.returns

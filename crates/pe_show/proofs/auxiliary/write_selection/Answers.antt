@@ -1,4 +1,4 @@
-use Rattle.pe_show.proofs.Adding.{◌and◌}
+use Rattle.pe_page.proofs.Adding.{◌and◌}
 use Rattle.pe_show.proofs.auxiliary.write_selection.Goals as goal
 
 pub returns-then-selection-eq5 : goal.returns-then-selection-eq5

@@ -1,4 +1,4 @@
-use Rattle.pe_show.proofs.Adding.{◌and◌}
+use Rattle.pe_page.proofs.Adding.{◌and◌}
 use Rattle.pe_show.proofs.directories.write_directories.Goals as goal
 
 pub loop-index-preserved : goal.loop-index-preserved

@@ -1,4 +1,4 @@
-use Rattle.pe_show.proofs.Adding.{◌and◌}
+use Rattle.pe_page.proofs.Adding.{◌and◌}
 use Rattle.pe_show.proofs.exports.write_exports.Goals as goal
 
 pub loop-ordinal-preserved : goal.loop-ordinal-preserved

@@ -1,4 +1,4 @@
-use Rattle.pe_show.proofs.Adding.{none, ◌and◌}
+use Rattle.pe_page.proofs.Adding.{none, ◌and◌}
 use Rattle.pe_show.proofs.fault.write_detail.Goals as goal
 
 pub returns : goal.returns

@@ -1,6 +1,6 @@
 use Rattle.std.proofs.Common.{length, ◌≤◌, ◌-◌}
 use Rattle.pe_text.specs.TextWriter.{IsReady}
-use Rattle.pe_show.specs.Page.{AddsSome}
+use Rattle.pe_page.specs.Page.{AddsSome}
 use Rattle.pe_show.proofs.fixups.write_fixups.Given as goal
 
 abbrev pub invariant-loop-at : goal.invariant-loop-at

@@ -1,4 +1,4 @@
-use Rattle.pe_show.proofs.Adding.{◌and◌}
+use Rattle.pe_page.proofs.Adding.{◌and◌}
 use Rattle.pe_show.proofs.fixups.write_page.Goals as goal
 
 pub loop-row-preserved : goal.loop-row-preserved

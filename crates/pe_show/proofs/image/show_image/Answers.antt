@@ -9,7 +9,7 @@ use Rattle.pe_image.specs.ImageTests.{image_tests, table_tests}
 use Rattle.pe_image.specs.HasBytes.{has_bytes}
 use Rattle.pe_reach.specs.Views.{seen_of}
 use Rattle.pe_text.specs.Outcome.{IsOutcomeOf}
-use Rattle.pe_show.proofs.Behind.{behind}
+use Rattle.pe_page.proofs.Behind.{behind}
 use Rattle.pe_show.proofs.image.show_image.Goals as goal
 
 pub returns-in_err-tables-in-Ok-clause-reads : goal.returns-in_err-tables-in-Ok-clause-reads

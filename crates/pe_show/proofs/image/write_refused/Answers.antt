@@ -1,4 +1,4 @@
-use Rattle.pe_show.proofs.Adding.{◌and◌}
+use Rattle.pe_page.proofs.Adding.{◌and◌}
 use Rattle.pe_show.proofs.image.write_refused.Goals as goal
 
 pub returns-in-Ok : goal.returns-in-Ok

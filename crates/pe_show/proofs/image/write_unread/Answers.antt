@@ -1,4 +1,4 @@
-use Rattle.pe_show.proofs.Adding.{◌and◌}
+use Rattle.pe_page.proofs.Adding.{◌and◌}
 use Rattle.pe_show.proofs.image.write_unread.Goals as goal
 
 pub returns : goal.returns

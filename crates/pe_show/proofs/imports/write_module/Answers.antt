@@ -1,4 +1,4 @@
-use Rattle.pe_show.proofs.Adding.{◌and◌}
+use Rattle.pe_page.proofs.Adding.{◌and◌}
 use Rattle.pe_show.proofs.imports.write_module.Goals as goal
 
 pub loop-import-preserved : goal.loop-import-preserved

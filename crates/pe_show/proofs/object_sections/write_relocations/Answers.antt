@@ -1,4 +1,4 @@
-use Rattle.pe_show.proofs.Adding.{◌and◌}
+use Rattle.pe_page.proofs.Adding.{◌and◌}
 use Rattle.pe_show.proofs.object_sections.write_relocations.Goals as goal
 
 pub loop-index-preserved : goal.loop-index-preserved

@@ -1,5 +1,5 @@
 use Rattle.pe_text.specs.TextWriter.{IsReady}
-use Rattle.pe_show.specs.Page.{AddsSome}
+use Rattle.pe_page.specs.Page.{AddsSome}
 use Rattle.pe_show.proofs.object_sections.write_sections.Given as goal
 
 abbrev pub invariant-loop-index : goal.invariant-loop-index

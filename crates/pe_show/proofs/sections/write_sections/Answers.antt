@@ -1,4 +1,4 @@
-use Rattle.pe_show.proofs.Adding.{◌and◌}
+use Rattle.pe_page.proofs.Adding.{◌and◌}
 use Rattle.pe_show.proofs.sections.write_sections.Goals as goal
 
 pub loop-index-init : goal.loop-index-init

@@ -1,0 +1,12 @@
+pub use Rattle.pe_view.specs.Faults
+pub use Rattle.pe_image.specs.ImageTests
+pub use Rattle.pe_layout.specs.Locating
+pub use Rattle.coff_read.specs.ObjectFaults
+pub use Rattle.pe_text.specs.FileKind
+pub use Rattle.pe_text.specs.Outcome
+pub use Rattle.pe_text.specs.TextWriter
+pub mod Judged
+pub mod Name
+pub mod Page
+pub mod Places
+pub mod Rows

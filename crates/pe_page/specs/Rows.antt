@@ -1,0 +1,32 @@
+-- The parts of the rows of a page.
+use Rattle.std.specs.Prelude.{ℕ, ◌-◌, min, List, [], ◌++◌, length, replicate, Option, None, Some, codes, decimal}
+use Rattle.pe_tables.specs.declared.key.Key.{Key}
+use Rattle.pe_tables.specs.declared.key.Key.TheVariants.{Ordinal, Name}
+use Rattle.pe_text.specs.Text.{hex_at_least}
+use Rattle.pe_page.specs.Name.{name_text, section_text, section_columns}
+use Rattle.pe_page.specs.declared.place.SectionPlace.{SectionPlace}
+
+-- a number of blanks, at most 256
+abbrev pub blanks : ℕ → List ℕ
+blanks count = replicate (min count 256) 0x20
+
+-- a number in decimal, padded with blanks on the left to a width
+abbrev pub right_text : ℕ → ℕ → List ℕ
+right_text number width = blanks (width - length (decimal number)) ++ decimal number
+
+-- the name of a section or a short word, padded with blanks to a width
+abbrev pub column_text : List ℕ → ℕ → List ℕ
+column_text name width = section_text name ++ blanks (width - section_columns name)
+
+-- a name, or `#` and an ordinal
+unfoldable pub key_text : Key → List ℕ
+key_text (Ordinal ordinal) = codes "#" ++ decimal ordinal
+key_text (Name name) = name_text name.now
+
+abbrev offset_text : Option ℕ → List ℕ
+offset_text None = []
+offset_text (Some offset) = codes "+0x" ++ hex_at_least 1 offset
+
+-- the place of an RVA: a section's name or another word, and the offset in it
+unfoldable pub place_text : SectionPlace → List ℕ
+place_text place = section_text place.name.now ++ offset_text place.offset

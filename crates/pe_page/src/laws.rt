@@ -1,0 +1,14 @@
+//! A law of the outcomes.
+
+ghost use Rattle.pe_reach.specs.Views.{FollowsLooks};
+ghost use Rattle.pe_page.specs.Judged.{IsJudged, IsImageJudged};
+
+use pe_reach::laws::faults_agree;
+
+/// Files that look alike have the same outcome, of [`crate::show`] and of [`crate::at`].
+pub fn outcomes_agree()
+    ensures page { FollowsLooks IsJudged }
+    ensures place { FollowsLooks IsImageJudged }
+{
+    faults_agree();
+}

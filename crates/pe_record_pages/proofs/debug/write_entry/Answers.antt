@@ -1,0 +1,5 @@
+use Rattle.pe_page.proofs.Adding.{◌and◌}
+use Rattle.pe_record_pages.proofs.debug.write_entry.Goals as goal
+
+pub returns : goal.returns
+returns g c = c.write_cells.ensures and c.write_data.ensures and (_, c.text.ensures)

@@ -1,0 +1,2 @@
+pub use Rattle.pe_text.specs.TextWriter
+pub use Rattle.pe_page.specs.Page

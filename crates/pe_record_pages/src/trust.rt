@@ -1,0 +1,110 @@
+//! The part of a page on what an image's file says of itself: its CheckSum, its certificates and its Rich header.
+
+ghost use Rattle.pe_text.specs.TextWriter.{IsReady};
+ghost use Rattle.pe_page.specs.Page.{AddsSome};
+
+use crate::certificates::write_certificates;
+use crate::rich_header::write_rich_header;
+use pe_head::Headers;
+use pe_page::write_plain_heading;
+use pe_reach::ViewFile;
+use pe_text::Part::{Hex8, Text};
+use pe_text::{ShowOptions, Sink, TextWriter, write_parts};
+use pe_trust::{certificate_findings, check_sum, rich_finding};
+use pe_view::Fault;
+
+/// The findings on an image's certificates and its Rich header, each in its place if its rule is broken.
+pub type TrustFindings = [Option<Fault>; 5];
+
+/// The most bytes that a file may have.
+const LARGEST: u64 = 1 << 32;
+
+/// Whether the options select this part, and all of the file was read, without which nothing of it is known.
+fn is_shown(options: &ShowOptions, file: ViewFile) -> bool {
+    options.trust && file.beginning().len() == file.len()
+}
+
+/// Adds the row of a CheckSum field that holds what it is to hold.
+fn write_right_sum<W: Sink>(text: &mut TextWriter<W>, field: u32)
+    requires { IsReady W.failures text.old }
+    ensures { AddsSome W.taken W.failures text.old text.new }
+{
+    write_parts(
+        text,
+        &[
+            Text(b"  CheckSum     0x"),
+            Hex8(u64::from(field)),
+            Text(b", right\n"),
+        ],
+    );
+}
+
+/// Adds the row of a CheckSum field that is to hold another number.
+fn write_other_sum<W: Sink>(text: &mut TextWriter<W>, field: u32, words: &[u8], computed: u32)
+    requires { IsReady W.failures text.old }
+    ensures { AddsSome W.taken W.failures text.old text.new }
+{
+    write_parts(
+        text,
+        &[
+            Text(b"  CheckSum     0x"),
+            Hex8(u64::from(field)),
+            Text(words),
+            Hex8(u64::from(computed)),
+            Text(b" would be right\n"),
+        ],
+    );
+}
+
+/// Adds the row of CheckSum, whose field most linkers leave 0.
+fn write_check_sum<W: Sink>(text: &mut TextWriter<W>, field: u32, computed: u32)
+    requires { IsReady W.failures text.old }
+    ensures { AddsSome W.taken W.failures text.old text.new }
+{
+    if field == computed {
+        write_right_sum(text, field);
+    } else if field == 0 {
+        write_other_sum(text, field, b", not set, and 0x", computed);
+    } else {
+        write_other_sum(text, field, b", wrong, and 0x", computed);
+    }
+}
+
+/// The findings on an image's certificates and its Rich header, if the options select this part.
+pub fn trust_findings(options: &ShowOptions, file: ViewFile, headers: &Headers) -> TrustFindings {
+    if !is_shown(options, file) {
+        return [None; 5];
+    }
+    let bytes = file.beginning();
+    let [first, second, third, fourth] = certificate_findings(0, bytes, headers);
+    [
+        first,
+        second,
+        third,
+        fourth,
+        rich_finding(0, bytes, headers),
+    ]
+}
+
+/// Adds what an image's file says of itself, if the options select it.
+pub fn write_trust<W: Sink>(
+    text: &mut TextWriter<W>,
+    options: &ShowOptions,
+    file: ViewFile,
+    headers: &Headers,
+)
+    requires { IsReady W.failures text.old }
+    ensures { AddsSome W.taken W.failures text.old text.new }
+{
+    if !is_shown(options, file) {
+        return;
+    }
+    let bytes = file.beginning();
+    if bytes.len() > LARGEST {
+        return;
+    }
+    write_plain_heading(text, options, b"Trust");
+    write_check_sum(text, headers.check_sum, check_sum(bytes, headers));
+    write_certificates(text, bytes, headers);
+    write_rich_header(text, bytes, headers);
+}

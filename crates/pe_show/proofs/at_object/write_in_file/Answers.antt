@@ -1,5 +1,0 @@
-use Rattle.pe_show.proofs.Adding.{◌and◌}
-use Rattle.pe_show.proofs.at_object.write_in_file.Goals as goal
-
-pub returns : goal.returns
-returns g c = c.write_cells.ensures and c.write_cells-2.ensures and c.write_bytes_from.ensures

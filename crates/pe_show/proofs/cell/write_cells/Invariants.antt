@@ -1,9 +1,0 @@
-use Rattle.pe_text.specs.TextWriter.{IsReady}
-use Rattle.pe_show.specs.Page.{AddsSome}
-use Rattle.pe_show.proofs.cell.write_cells.Given as goal
-
-abbrev pub invariant-loop-cell : goal.invariant-loop-cell
-invariant-loop-cell g l = record {
-  ready : IsReady g.W.Sink.failures l.text;
-  adds : AddsSome g.W.Sink.taken g.W.Sink.failures l.fn.text l.text;
-}

@@ -1,5 +1,0 @@
-use Rattle.pe_show.proofs.Adding.{◌and◌}
-use Rattle.pe_show.proofs.certificates.write_certificate.Goals as goal
-
-pub returns : goal.returns
-returns g c = c.write_entry.ensures and c.write_signed.ensures and c.write_signers.ensures

@@ -1,5 +1,0 @@
-use Rattle.pe_show.proofs.Adding.{◌and◌}
-use Rattle.pe_show.proofs.certificates.write_certificates.Goals as goal
-
-pub loop-certificate-preserved : goal.loop-certificate-preserved
-loop-certificate-preserved g c = record { ready = c.write_certificate.ensures.1.ready; adds = c.loop-certificate.invariant.adds and c.write_certificate.ensures }

@@ -1,5 +1,0 @@
-use Rattle.pe_show.proofs.Adding.{◌and◌}
-use Rattle.pe_show.proofs.certificates.write_entry.Goals as goal
-
-pub returns : goal.returns
-returns g c = (_, c.text.ensures) and c.write_type.ensures and c.write_cells.ensures

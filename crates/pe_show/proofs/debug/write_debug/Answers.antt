@@ -1,8 +1,0 @@
-use Rattle.pe_show.proofs.Adding.{◌and◌}
-use Rattle.pe_show.proofs.debug.write_debug.Goals as goal
-
-pub loop-index-init : goal.loop-index-init
-loop-index-init g c = record { ready = c.text.ensures.ready; adds = c.write_heading.ensures and (_, c.text.ensures) }
-
-pub loop-index-preserved : goal.loop-index-preserved
-loop-index-preserved g c = record { ready = c.write_row.ensures.1.ready; adds = c.loop-index.invariant.adds and c.write_row.ensures }

@@ -1,5 +1,0 @@
-use Rattle.pe_show.proofs.Adding.{◌and◌}
-use Rattle.pe_show.proofs.debug_data.write_checksum.Goals as goal
-
-pub returns-in-Some : goal.returns-in-Some
-returns-in-Some g c = c.write_cells.ensures and c.write_bytes.ensures

@@ -1,5 +1,0 @@
-use Rattle.pe_show.proofs.Adding.{◌and◌}
-use Rattle.pe_show.proofs.findings.write_each_trust.Goals as goal
-
-pub loop-finding-preserved : goal.loop-finding-preserved
-loop-finding-preserved g c = record { ready = c.write_found.ensures.1.ready; adds = c.loop-finding.invariant.adds and c.write_found.ensures }

@@ -1,5 +1,0 @@
-use Rattle.pe_show.proofs.Adding.{◌and◌}
-use Rattle.pe_show.proofs.findings.write_findings.Goals as goal
-
-pub returns : goal.returns
-returns g c = c.write_heading.ensures and c.write_each.ensures and c.write_each_trust.ensures

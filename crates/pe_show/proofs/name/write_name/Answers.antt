@@ -1,6 +1,0 @@
-use Rattle.pe_show.specs.Name.{name_text}
-use Rattle.pe_show.proofs.name.write_name.Goals as goal
-
-pub returns : goal.returns
-unfolding name_text
-returns g c = c.write_cut.ensures

@@ -1,6 +1,0 @@
-use Rattle.pe_show.specs.Name.{section_text}
-use Rattle.pe_show.proofs.name.write_section_name.Goals as goal
-
-pub returns : goal.returns
-unfolding section_text
-returns g c = c.write_cut.ensures

@@ -1,5 +1,0 @@
-use Rattle.pe_show.proofs.Adding.{◌and◌}
-use Rattle.pe_show.proofs.pdb.write_identity.Goals as goal
-
-pub returns : goal.returns
-returns g c = c.write_plain_heading.ensures and c.write_cells.ensures and c.write_signature.ensures and c.write_cells-2.ensures and (_, c.write_parts.ensures)

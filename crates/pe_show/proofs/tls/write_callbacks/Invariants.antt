@@ -1,9 +1,0 @@
-use Rattle.pe_text.specs.TextWriter.{IsReady}
-use Rattle.pe_show.specs.Page.{AddsSome}
-use Rattle.pe_show.proofs.tls.write_callbacks.Given as goal
-
-abbrev pub invariant-loop-index : goal.invariant-loop-index
-invariant-loop-index g l = record {
-  ready : IsReady g.W.Sink.failures l.text;
-  adds : AddsSome g.W.Sink.taken g.W.Sink.failures l.fn.text l.text;
-}

@@ -1,5 +1,0 @@
-use Rattle.pe_show.proofs.Adding.{◌and◌}
-use Rattle.pe_show.proofs.tls.write_fields.Goals as goal
-
-pub returns : goal.returns
-returns g c = c.write_field.ensures and c.write_field-2.ensures and c.write_field-3.ensures and c.write_field-4.ensures and c.write_field-5.ensures and c.write_field-6.ensures

@@ -1,5 +1,0 @@
-use Rattle.pe_show.proofs.Adding.{◌and◌}
-use Rattle.pe_show.proofs.tls.write_tls.Goals as goal
-
-pub returns : goal.returns
-returns g c = c.write_plain_heading.ensures and c.write_fields.ensures and c.write_callbacks.ensures

@@ -1,5 +1,0 @@
-use Rattle.pe_show.proofs.Adding.{◌and◌}
-use Rattle.pe_show.proofs.trust.write_trust.Goals as goal
-
-pub returns : goal.returns
-returns g c = c.write_plain_heading.ensures and c.write_check_sum.ensures and c.write_certificates.ensures and c.write_rich_header.ensures
