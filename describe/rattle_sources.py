@@ -19,6 +19,8 @@ TEXT = [("at", "bytes"), ("len", "usize")]
 FUNCTION = re.compile(r"^\s*(?:pub(?:\(crate\))? )?fn (\w+)(.*?)(?=^\s*(?:pub(?:\(crate\))? )?fn |\Z)", re.M | re.S)
 #: A key of JSON in Rattle: strings of bytes begin with it, or with what comes before it.
 KEY = re.compile(r'\\"([a-z]\w*)\\":')
+#: A table of keys of JSON in Rattle.
+KEYS = re.compile(r"^static (\w+): \[Named; \d+\] = \[(.*?)^\];", re.M | re.S)
 #: The types of Rattle for types of C without a width in their names.
 NUMBERS = {"char": "u8", "int": "i32"}
 
@@ -140,10 +142,11 @@ def call_faults(description: Description, sources: Dict[str, str]) -> List[str]:
 
 
 def keys_in(sources: Dict[str, str]) -> Dict[str, Set[str]]:
-    """The keys that each function writes, by its place: FILE.FUNCTION."""
+    """The keys that each function writes, by its place, FILE.FUNCTION, and those of each table, by FILE.TABLE."""
     found: Dict[str, Set[str]] = {}
     for file, text in sources.items():
         name = pathlib.PurePath(file).stem
+        found.update({f"{name}.{table}": set(re.findall(r'"(\w+)"', rows)) for table, rows in KEYS.findall(text)})
         for function in FUNCTION.finditer(_without_comments(text)):
             keys = KEY.findall(function[2])
             if keys:

@@ -19,6 +19,7 @@ sys.dont_write_bytecode = True
 from pages import changed, fault_words, read  # noqa: E402
 from pages_names import DIRECTORIES, DLL_FLAGS, IMAGE_FLAGS, MACHINES, SECTION_FLAGS, SUBSYSTEMS  # noqa: E402
 from pages_reader import Headers, Image, Refused, is_object, uint  # noqa: E402
+from pages_tables import BOUND, CLR, DEBUG, EXCEPTION, LOAD, LOAD_FIELDS, TLS, TYPES, Tables  # noqa: E402
 
 COFF = "machine number_of_sections time_date_stamp pointer_to_symbol_table number_of_symbols size_of_optional_header characteristics"
 OPTIONAL = """magic major_linker_version minor_linker_version size_of_code size_of_initialized_data size_of_uninitialized_data
@@ -30,8 +31,18 @@ OPTIONAL = """magic major_linker_version minor_linker_version size_of_code size_
 WIDE = re.compile("image_base|size_of_(stack|heap)_")
 SECTION = """virtual_size virtual_address size_of_raw_data pointer_to_raw_data pointer_to_relocations pointer_to_linenumbers
     number_of_relocations number_of_linenumbers characteristics"""
+DEBUG_ENTRY = """characteristics time_date_stamp major_version minor_version type size_of_data address_of_raw_data
+    pointer_to_raw_data"""
+BOUND_IMPORT = "time_date_stamp offset_module_name number_of_module_forwarder_refs"
+#: The fields of the CLR header, of two bytes or of four, and then its directories, each of an RVA and a size.
+CLR_FIELDS = "cb major_runtime_version minor_runtime_version meta_data flags entry_point_token"
+CLR_DIRECTORIES = "resources strong_name_signature code_manager_table vtable_fixups export_address_table_jumps managed_native_header"
+#: The fields of structures that are strings, since they are addresses or of their size.
+ADDRESSES = {name for kind, name in (field.split(":") for field in LOAD_FIELDS) if kind == "a"}
+#: The findings of debug data at a file offset, which no line tells.
+BY_OFFSET = (103, 105)
 FLAGS = {"characteristics": IMAGE_FLAGS, "dll_characteristics": DLL_FLAGS}
-NAMES = {"machine": MACHINES, "subsystem": SUBSYSTEMS}
+NAMES = {"machine": MACHINES, "subsystem": SUBSYSTEMS, "type": TYPES}
 
 
 def flags_in(names, number):
@@ -50,14 +61,14 @@ def keyed(key):
     return {"ordinal": key} if isinstance(key, int) else named("name", key)
 
 
-def members(names, values):
+def members(names, values, flags=True):
     """Fields with what belongs to them."""
     row = {}
     for name, value in zip(names, values):
         row[name] = hex(value) if WIDE.match(name) else value
         if value in NAMES.get(name, {}):
             row[f"{name}_name"] = NAMES[name][value]
-        if name in FLAGS:
+        if flags and name in FLAGS:
             row[f"{name}_flags"] = flags_in(FLAGS[name], value)
     return row
 
@@ -114,6 +125,86 @@ def table_members(image):
     return tables
 
 
+def pdb_member(tables, entries):
+    """The PDB file that the first CodeView entry names, whose data is read where it is laid out."""
+    record = next((record for _, record in entries if record[4] == 2), None)
+    size, rva = record[5:7] if record else (0, 0)
+    data = tables.held(rva)[:size] if rva else b""
+    if len(data) < max(size, 16) or data[:4] not in (b"RSDS", b"NB10"):
+        return {}
+    if data[:4] == b"NB10":
+        row, path = {"time_date_stamp": uint(data, 8, 4), "age": uint(data, 12, 4)}, data[16:]
+    elif size >= 24:
+        row, path = {"guid_hex": data[4:20].hex(), "age": uint(data, 20, 4)}, data[24:]
+    else:
+        return {}
+    return {"pdb": row | (named("path", path.split(b"\0")[0]) if b"\0" in path else {})}
+
+
+def snake(name):
+    """A name of "PE Format" in snake case."""
+    return re.sub(r"(?<=[a-z\d])(?=[A-Z])|(?<=[A-Z])(?=[A-Z][a-z])|\.", "_", name).lower().replace("call_backs", "callbacks")
+
+
+def tls_member(tables):
+    fields, callbacks = tables.tls(), tables.callbacks()
+    if fields is None:
+        return {}
+    row = {"rva": tables.extent(TLS)[0]}
+    row |= {snake(name): hex(value) if "Address" in name else value for name, value in fields.items()}
+    return {"tls": row | ({"callbacks": [hex(address) for _, address in callbacks[1]]} if callbacks else {})}
+
+
+def load_member(tables):
+    rva = tables.extent(LOAD)[0]
+    fields = {snake(name): hex(value) if name in ADDRESSES else value for name, value in tables.load().items()}
+    return {"load_configuration": {"rva": rva} | fields} if rva else {}
+
+
+def bound_member(tables):
+    rows = [dict(zip(BOUND_IMPORT.split(), record)) for _, record in tables.bound()[0]]
+    return {"bound_imports": rows} if tables.extent(BOUND)[0] else {}
+
+
+def clr_names():
+    """The names of the fields of the CLR header, each with its size."""
+    for name in CLR_FIELDS.split() + CLR_DIRECTORIES.split():
+        if name in CLR_DIRECTORIES.split() or name == "meta_data":
+            yield from ((f"{name}_rva", 4), (f"{name}_size", 4))
+        else:
+            yield name, 2 if name.endswith("version") else 4
+
+
+def clr_member(tables):
+    rva, found = tables.extent(CLR)[0], tables.structure(CLR)
+    row, at = {"rva": rva}, 0
+    for name, width in clr_names():
+        if found and at + width <= len(found[0]):
+            row[name] = uint(found[0], at, width)
+        at += width
+    return {"clr": row} if rva else {}
+
+
+def findings_member(tables):
+    rows = [fault_member(Refused(number, "rva", at)) for number, at in tables.findings if number not in BY_OFFSET]
+    return {"findings": rows} if rows else {}
+
+
+def record_members(tables):
+    """The tables that the profile leaves out."""
+    rows = {}
+    entries = tables.records(DEBUG, "<IIHHIIII")
+    if tables.extent(DEBUG)[0]:
+        rows["debug"] = [members(DEBUG_ENTRY.split(), record, flags=False) for _, record in entries]
+    rows |= pdb_member(tables, entries)
+    functions = tables.functions()
+    if tables.extent(EXCEPTION)[0] and functions is not None:
+        rows["function_count"] = len(functions)
+    for member in (tls_member, load_member, bound_member, clr_member, findings_member):
+        rows |= member(tables)
+    return rows
+
+
 def fault_member(fault):
     subject, rule = fault_words(fault.number)
     return {"number": fault.number, "image": 0, "place": {fault.kind: fault.place}, "subject": subject, "rule": rule}
@@ -131,6 +222,8 @@ def line_of(name, file):
         fault = refused
     if image:
         row |= table_members(image)
+    if fault is None:
+        row |= record_members(Tables(image, file))
     begin = {"schema": 1, **named("file", os.fsencode(name)), "accepted": fault is None}
     begin |= {"fault": fault_member(fault)} if fault else {}
     return json.dumps(begin | row, ensure_ascii=False, separators=(",", ":"))

@@ -223,7 +223,7 @@ DESCRIBED = [
     ("  petool_check(file, fault)\n", "  petool_check(file, fault\n", "line "),
     ("pe_offset, headers.., directories", "headers.., directories", "the order of headers"),
     ("row fixup = FixupRow\n", "rows fixup = FixupRow\n", "line "),
-    ("  written by tables.write_fixup, tables.kind_member\n", "  written by tables.write_fixup\n", "crates/pe_json/src/tables.rt"),
+    ("  written by tables.write_fixup, tables.write_next_fixup, tables.kind_end\n", "  written by tables.write_fixup, tables.write_next_fixup\n", "crates/pe_json/src/tables.rt"),
     ("    SMALL     4  too", "    SMALL     9  too", STATUSES),
     ("    SMALL     4  too", "    SMALL     9  too", "bindings/rust/petool-sys/src/lib.rs"),
     ("    SMALL     4  too", "    SMALL     3  too", "SMALL or 3 is there twice"),

@@ -12,7 +12,7 @@ use Rattle.pe_json.specs.Flags.{quoted_if, flag_at, flag_items}
 numbers_more : (n : ℕ) → range_with_len 0 (n + 1) ≡ range_with_len 0 n ++ n ∷ []
 numbers_more n = sym (map-id (range_with_len 0 (n + 1))) ∙ map-range_with_len_more (λ j. j) 0 n n (omega arith) ∙ ap (λ (xs : List ℕ). xs ++ n ∷ []) (map-id (range_with_len 0 n))
 
-items_next : (item : ℕ → List (List ℕ)) (k : ℕ) → flat_map item (range_with_len 0 (k + 1)) ≡ flat_map item (range_with_len 0 k) ++ item k
+pub items_next : (item : ℕ → List (List ℕ)) (k : ℕ) → flat_map item (range_with_len 0 (k + 1)) ≡ flat_map item (range_with_len 0 k) ++ item k
 items_next item k = ap (flat_map item) (numbers_more k) ∙ flat_map-append item (range_with_len 0 k) (k ∷ []) ∙ ap (λ (xs : List (List ℕ)). flat_map item (range_with_len 0 k) ++ xs) (append-nil (item k))
 
 -- one more place

@@ -7,7 +7,7 @@ use Rattle.std.proofs.lemmas.Grind.{flat_map-append, common_steps}
 use Rattle.json.specs.Print.{quoted, escape, escape_byte}
 use Rattle.json.proofs.Printed.Utf8.{are_ascii}
 use Rattle.pe_text.specs.Text.{glyph, hex, hex_at_least}
-use Rattle.pe_json.specs.JsonText.{hex_string, member, number, name_as, name, wide, text_if, address_string, numbered_rows}
+use Rattle.pe_json.specs.JsonText.{hex_string, member, number, name_as, name, wide, wide_string, text_if, address_string, numbered_rows}
 use Rattle.pe_json.proofs.Escapes.{itself}
 use Rattle.pe_json.proofs.Printed.{IsValue, IsMember, AreValues, AreMembers, ascii, is_string, is_number}
 
@@ -77,9 +77,11 @@ name_by limit false key t key_ascii hex_ascii utf8 = is_member limit (key ++ cod
 pub name_member : (limit : ℕ) (key t : List ℕ) → IsAsciiText key → IsAsciiText (key ++ codes "_hex") → IsMember limit (name key t)
 name_member limit key t key_ascii hex_ascii = name_by limit (is_utf8 t) key t key_ascii hex_ascii (λ e. IsUtf8-from_is_utf8 t e)
 
+pub wide_value : (limit n : ℕ) → IsValue limit (wide_string n)
+wide_value limit n = plain_string limit (codes "0x" ++ hex_at_least 1 n) (prefixed (hex_at_least 1 n) (digits _ n))
+
 pub wide_member : (limit : ℕ) (key : List ℕ) (n : ℕ) → IsAsciiText key → IsMember limit (wide key n)
-wide_member limit key n key_ascii =
-    is_member limit key (codes "\"0x" ++ (hex_at_least 1 n ++ codes "\"")) key_ascii (plain_string limit (codes "0x" ++ hex_at_least 1 n) (prefixed (hex_at_least 1 n) (digits _ n)))
+wide_member limit key n key_ascii = is_member limit key (wide_string n) key_ascii (wide_value limit n)
 
 pub address_value : (limit n : ℕ) → IsValue limit (address_string n)
 unfolding address_string

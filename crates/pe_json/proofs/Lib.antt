@@ -1,6 +1,9 @@
 pub mod ByParts
 pub mod Escapes
+pub mod FaultValues
+pub mod FirstItem
 pub mod FlagItems
+pub mod FoundItems
 pub mod HeadBytes
 pub mod ImageValues
 pub mod JsonMembers
@@ -13,6 +16,7 @@ pub mod ObjectValues
 pub mod Objects
 pub mod OrderedNames
 pub mod Printed
+pub mod RecordValues
 pub mod RefusedAlike
 pub mod RowByRow
 pub mod SameLines

@@ -1,17 +1,17 @@
 -- Objects and lists as code adds them, one part after the other.
-use Rattle.std.proofs.Common.{◌≡◌, ◌∙◌, ℕ, ◌+◌, ◌<◌, ◌≤◌, Bool, true, false, List, [], ◌∷◌, ◌++◌, codes, refl, sym, ap, append_assoc, append-nil, ◌&&◌, length, take, drop, get_or, add-one, drop-cons, subst, Option, None, Some, arith}
+use Rattle.std.proofs.Common.{◌≡◌, ◌∙◌, ℕ, ◌+◌, ◌<◌, ◌≤◌, Bool, true, false, List, [], ◌∷◌, ◌++◌, codes, decimal, refl, sym, ap, append_assoc, append-nil, ◌&&◌, length, take, drop, get_or, add-one, drop-cons, subst, Option, None, Some, arith}
 use Rattle.std.specs.Prelude.{flat_map, map}
 use Rattle.std.proofs.lemmas.Grind.{flat_map-append}
 use Rattle.std.proofs.lemmas.List.{take-append-drop}
 use Rattle.std.proofs.Math.ListN.{drop_of_length-le}
 use Rattle.json.specs.Print.{quoted, escape}
-use Rattle.pe_text.specs.Text.{hex, numbered}
-use Rattle.pe_json.specs.JsonText.{with_commas, hex_string, member, object, name_as, text_if, numbered_rows}
+use Rattle.pe_text.specs.Text.{hex, hex_at_least, numbered}
+use Rattle.pe_json.specs.JsonText.{with_commas, hex_string, member, object, name_as, text_if, number_if, wide_if, numbered_rows}
 use Rattle.pe_text.specs.declared.text_writer.TextWriter.{TextWriter}
 use Rattle.pe_text.specs.TextWriter.{IsReady, Adds, TakesNoMore}
 use Rattle.pe_text.proofs.Adding.{◌then◌}
 use Rattle.pe_json.specs.Listed.{is_nil, items_text, more}
-use Rattle.pe_json.specs.Strings.{name_value, value_if}
+use Rattle.pe_json.specs.Strings.{name_value, value_if, number_value_if, wide_value_if}
 
 -- The member of a name, where a constant stands for its key, colon and quote, and for what stands before the key.
 pub named : (b : Bool) (front key text constant constant_hex : List ℕ) → constant ≡ front ++ quoted key ++ codes ":\"" → constant_hex ≡ front ++ quoted (key ++ codes "_hex") ++ codes ":\""
@@ -76,6 +76,22 @@ pub texted : (constant key : List ℕ) (text : Option (List ℕ)) → constant �
 unfolding member text_if more
 texted constant key None is = refl
 texted constant key (Some text) is = ap (λ (xs : List ℕ). xs ++ quoted text) is ∙ sym (append-nil (44 ∷ ((quoted key ++ codes ":") ++ quoted text)))
+
+-- the same of a number
+pub number_given : (constant key : List ℕ) (n : Option ℕ) → constant ≡ codes "," ++ (quoted key ++ codes ":") → number_value_if constant n ≡ more (number_if key n)
+unfolding member number_if more
+number_given constant key None is = refl
+number_given constant key (Some n) is = ap (λ (xs : List ℕ). xs ++ decimal n) is ∙ sym (append-nil (44 ∷ ((quoted key ++ codes ":") ++ decimal n)))
+
+-- and of one of 64 bits, where the constant has the beginning of its string too
+pub wide_given : (constant key : List ℕ) (n : Option ℕ) → constant ≡ codes "," ++ (quoted key ++ codes ":\"0x") → wide_value_if constant n ≡ more (wide_if key n)
+unfolding member wide_if more
+wide_given constant key None is = refl
+wide_given constant key (Some n) is =
+    let digits = hex_at_least 1 n ++ codes "\"" in
+    ap (λ (xs : List ℕ). xs ++ digits) is
+    ∙ ap (λ (xs : List ℕ). 44 ∷ xs) (append_assoc (quoted key) (codes ":\"0x") digits ∙ sym (append_assoc (quoted key) (codes ":") (codes "\"0x" ++ digits)))
+    ∙ sym (append-nil (44 ∷ ((quoted key ++ codes ":") ++ (codes "\"0x" ++ digits))))
 
 -- rows by their numbers, after commas
 pub next_numbered : {Row : Type 0} (row : ℕ → Row → List ℕ) (n : ℕ) (r : Row) (rows : List Row)

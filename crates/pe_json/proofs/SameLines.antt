@@ -16,6 +16,7 @@ use Rattle.pe_reach.specs.Views.{LookAlike}
 use Rattle.pe_json.specs.FileLine.{accepted_image, accepted_line}
 use Rattle.pe_json.specs.Headers.{headers_object, directories_list}
 use Rattle.pe_json.specs.ImageLine.{format_name, head_members, exports_members, imports_members, fixups_members, image_line}
+use Rattle.pe_json.specs.ImageRecords.{record_members}
 use Rattle.pe_json.specs.JsonText.{member, object, list, number, numbered_rows}
 use Rattle.pe_json.specs.Line.{line}
 use Rattle.pe_json.specs.ObjectLine.{object_line}
@@ -51,16 +52,17 @@ same_head strings others h names = λ i.
     ∷ member (codes "sections") (list (same_rows strings others h.sections.items 0 names i)) ∷ []
 
 -- the lines of images whose sections have the same names
-pub same_line : (name : List ℕ) (strings others : Option (List ℕ)) (h : Headers) (exports : Exports) (imports : List Import) (fixups : List Fixup)
-    → names_by strings h.sections.items ≡ names_by others h.sections.items → image_line name strings h exports imports fixups ≡ image_line name others h exports imports fixups
-same_line name strings others h exports imports fixups names =
-    ap (λ (members : List (List ℕ)). line name true (members ++ (exports_members exports ++ (imports_members imports ++ fixups_members fixups)))) (same_head strings others h names)
+pub same_line : (name : List ℕ) (strings others : Option (List ℕ)) (h : Headers) (exports : Exports) (imports : List Import) (fixups : List Fixup) (records : List (List ℕ))
+    → names_by strings h.sections.items ≡ names_by others h.sections.items → image_line name strings h exports imports fixups records ≡ image_line name others h exports imports fixups records
+same_line name strings others h exports imports fixups records names =
+    ap (λ (members : List (List ℕ)). line name true ((members ++ (exports_members exports ++ (imports_members imports ++ fixups_members fixups))) ++ records)) (same_head strings others h names)
 
 same_by : (name : List ℕ) (strings others : Option (List ℕ)) (h k : Headers) (i j : LaidOut) → h ≡ k → i ≡ j → names_by strings h.sections.items ≡ names_by others k.sections.items
-    → image_line name strings h (exports_of i) (imports_of i) (fixups_of i) ≡ image_line name others k (exports_of j) (imports_of j) (fixups_of j)
+    → image_line name strings h (exports_of i) (imports_of i) (fixups_of i) (record_members h.machine i)
+    ≡ image_line name others k (exports_of j) (imports_of j) (fixups_of j) (record_members k.machine j)
 same_by name strings others h k i j heads images names =
-    same_line name strings others h (exports_of i) (imports_of i) (fixups_of i) (names ∙ ap (λ (x : Headers). names_by others x.sections.items) (sym heads))
-    ∙ (λ n. image_line name others (heads n) (exports_of (images n)) (imports_of (images n)) (fixups_of (images n)))
+    same_line name strings others h (exports_of i) (imports_of i) (fixups_of i) (record_members h.machine i) (names ∙ ap (λ (x : Headers). names_by others x.sections.items) (sym heads))
+    ∙ (λ n. image_line name others (heads n) (exports_of (images n)) (imports_of (images n)) (fixups_of (images n)) (record_members (heads n).machine (images n)))
 
 -- files that look alike have the same line if they have no fault
 pub alike_lines : (name f g : List ℕ) → LookAlike f g → accepted_line name f ≡ accepted_line name g

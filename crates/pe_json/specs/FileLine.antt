@@ -17,6 +17,7 @@ use Rattle.coff_read.specs.ImageNames.{image_strings}
 use Rattle.pe_text.specs.FileKind.{kind_of, is_object}
 use Rattle.pe_text.specs.declared.outcome.Outcome.{Outcome}
 use Rattle.pe_text.specs.declared.outcome.Outcome.TheVariants.{Done, Refused}
+use Rattle.pe_json.specs.ImageRecords.{record_members}
 use Rattle.pe_json.specs.ImageLine.{image_line, head_members}
 use Rattle.pe_json.specs.ObjectLine.{object_line}
 use Rattle.pe_json.specs.Refused.{refused_line, exports_if, imports_if, fixups_if}
@@ -24,7 +25,8 @@ use Rattle.pe_json.specs.Refused.{refused_line, exports_if, imports_if, fixups_i
 -- ---- a file without a fault
 -- that of an image, from its headers and what they lay out
 abbrev pub accepted_image : List ℕ → List ℕ → LaidOut → List ℕ
-accepted_image name file i = image_line name (image_strings file (head_of file)) (head_of file) (exports_of i) (imports_of i) (fixups_of i)
+accepted_image name file i =
+    image_line name (image_strings file (head_of file)) (head_of file) (exports_of i) (imports_of i) (fixups_of i) (record_members (head_of file).machine i)
 
 -- the same for a file
 abbrev pub accepted_line : List ℕ → List ℕ → List ℕ

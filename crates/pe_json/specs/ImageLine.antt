@@ -36,7 +36,10 @@ imports_members imports = member (codes "imports") (imports_list imports) ∷ []
 unfoldable pub fixups_members : List Fixup → List (List ℕ)
 fixups_members fixups = member (codes "fixups") (fixups_list fixups) ∷ []
 
--- the line of an image without a fault, from its headers and tables
-abbrev pub image_line : List ℕ → Option (List ℕ) → Headers → Exports → List Import → List Fixup → List ℕ
-image_line file strings h exports imports fixups = line file true
-    (head_members strings h ++ (exports_members exports ++ (imports_members imports ++ fixups_members fixups)))
+-- the members of an image without a fault, from its headers and the tables of its profile
+abbrev pub profile_members : Option (List ℕ) → Headers → Exports → List Import → List Fixup → List (List ℕ)
+profile_members strings h exports imports fixups = head_members strings h ++ (exports_members exports ++ (imports_members imports ++ fixups_members fixups))
+
+-- its line, with the members of the tables that its profile leaves out
+abbrev pub image_line : List ℕ → Option (List ℕ) → Headers → Exports → List Import → List Fixup → List (List ℕ) → List ℕ
+image_line file strings h exports imports fixups records = line file true (profile_members strings h exports imports fixups ++ records)

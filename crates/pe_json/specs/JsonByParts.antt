@@ -1,5 +1,5 @@
 -- What `json` returns for an image of whose file parts are read, and what it writes.
-use Rattle.std.specs.Prelude.{ℕ, ◌≡◌, List, Option, None, Some, Result, Ok, Err, map}
+use Rattle.std.specs.Prelude.{ℕ, ◌≡◌, List, [], Option, None, Some, Result, Ok, Err, map}
 use Rattle.pe_head.specs.Head.{head_of}
 use Rattle.pe_head.specs.declared.headers.Headers.{Headers}
 use Rattle.pe_tables.specs.Exports.{Exports}
@@ -15,9 +15,9 @@ use Rattle.pe_reach.specs.Views.{names_under}
 use Rattle.pe_json.specs.ImageLine.{image_line}
 use Rattle.pe_json.specs.JsonReport.{IsLineOf}
 
--- the outcome and the line of an image without a fault
+-- the outcome and the line of an image without a fault, and without tables that its profile leaves out
 abbrev pub IsImageLine : List ℕ → Option (List ℕ) → Headers → Exports → List Import → List Fixup → Outcome → List ℕ → Type 0
-IsImageLine name strings h exports imports fixups outcome text = (outcome ≡ Done) × (text ≡ image_line name strings h exports imports fixups)
+IsImageLine name strings h exports imports fixups outcome text = (outcome ≡ Done) × (text ≡ image_line name strings h exports imports fixups [])
 
 -- the outcome and the line of each file with these parts, in which its sections have their names
 abbrev pub IsLineOfParts : {A : Type 0} → List ℕ → Parts A → Outcome → List ℕ → Type 0

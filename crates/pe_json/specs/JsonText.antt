@@ -40,10 +40,24 @@ name key text = name_as (is_utf8 text) key text
 abbrev pub wide : List ℕ → ℕ → List ℕ
 wide key n = member key (codes "\"0x" ++ (hex_at_least 1 n ++ codes "\""))
 
+-- the same without a key
+abbrev pub wide_string : ℕ → List ℕ
+wide_string n = codes "\"0x" ++ (hex_at_least 1 n ++ codes "\"")
+
 -- a string that may be left out, with its key
 unfoldable pub text_if : List ℕ → Option (List ℕ) → List (List ℕ)
 text_if key None = []
 text_if key (Some text) = member key (quoted text) ∷ []
+
+-- a number that may be left out, with its key
+unfoldable pub number_if : List ℕ → Option ℕ → List (List ℕ)
+number_if key None = []
+number_if key (Some n) = number key n ∷ []
+
+-- one of 64 bits that may be left out, with its key
+unfoldable pub wide_if : List ℕ → Option ℕ → List (List ℕ)
+wide_if key None = []
+wide_if key (Some n) = wide key n ∷ []
 
 abbrev pub boolean : Bool → List ℕ
 boolean true = codes "true"

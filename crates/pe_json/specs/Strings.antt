@@ -1,7 +1,7 @@
 -- What the strings of JSON are made of.
-use Rattle.std.specs.Prelude.{ℕ, Bool, true, false, List, [], ◌++◌, codes, flat_map, Option, None, Some, not, nat_le, ◌==◌, ◌&&◌}
+use Rattle.std.specs.Prelude.{ℕ, Bool, true, false, List, [], ◌++◌, codes, decimal, flat_map, Option, None, Some, not, nat_le, ◌==◌, ◌&&◌}
 use Rattle.json.specs.Print.{escape, quoted}
-use Rattle.pe_text.specs.Text.{hex}
+use Rattle.pe_text.specs.Text.{hex, hex_at_least}
 
 -- the byte stands for itself
 abbrev pub is_plain : ℕ → Bool
@@ -16,3 +16,13 @@ name_value false key key_hex text = key_hex ++ flat_map (hex 2) text ++ codes "\
 abbrev pub value_if : List ℕ → Option (List ℕ) → List ℕ
 value_if key None = []
 value_if key (Some text) = key ++ quoted text
+
+-- a number after a key, if there is one
+abbrev pub number_value_if : List ℕ → Option ℕ → List ℕ
+number_value_if key None = []
+number_value_if key (Some n) = key ++ decimal n
+
+-- hexadecimal digits after a key, with a quote at their end, if there is a number
+abbrev pub wide_value_if : List ℕ → Option ℕ → List ℕ
+wide_value_if key None = []
+wide_value_if key (Some n) = key ++ (hex_at_least 1 n ++ codes "\"")

@@ -25,9 +25,10 @@ use pe_image::Image;
 use pe_layout::Layout;
 use pe_reach::laws::faults_agree;
 use pe_reach::{ViewFile, read_view, read_whole_tables};
+use pe_records::findings;
 use pe_tables::{Exports, NamesByOrdinal, TableError};
 use pe_text::{Outcome, Sink, Source, TextWriter, ToolError, read_whole};
-use pe_view::Fault;
+use pe_view::{Fault, View};
 use std::alloc::{AllocError, Allocator};
 
 /// Checks an object, and adds its line.
@@ -112,7 +113,8 @@ fn write_refused<A: Allocator + Copy, W: Sink>(
     }
 }
 
-/// Adds the line of an image without a fault. All memory is taken before its first byte.
+/// Adds the line of an image without a fault. All memory is taken before its first byte. Of the findings those are told that the
+/// laid-out image decides: the data that an entry of the debug directory names by a file offset may not have been read.
 fn write_accepted<A: Allocator + Copy, W: Sink>(
     alloc: A,
     text: &mut TextWriter<W>,
@@ -128,6 +130,7 @@ fn write_accepted<A: Allocator + Copy, W: Sink>(
     ensures unwritten { OnErr result (text.new.writer.now ≡ text.old.writer.now) }
 {
     let names = NamesByOrdinal::new(alloc, &image.exports)?;
+    let found = findings(alloc, &image.layout, View::new(&[]))?;
     let headers = image.layout.headers();
     let content = Content {
         headers,
@@ -137,7 +140,7 @@ fn write_accepted<A: Allocator + Copy, W: Sink>(
         imports: &image.imports,
         fixups: &image.fixups,
     };
-    write_image(text, name, content);
+    write_image(text, name, content, &image.layout, &found);
     Ok(())
 }
 

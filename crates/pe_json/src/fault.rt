@@ -167,14 +167,23 @@ fn write_values<W: Sink>(text: &mut TextWriter<W>, detail: Option<Detail>)
     text.text(b"}");
 }
 
-/// Adds a fault, with the numbers that its rule compares.
-pub(crate) fn write_fault<W: Sink>(text: &mut TextWriter<W>, fault: &Fault, detail: Option<Detail>)
+/// Adds the object of a fault, with the numbers that its rule compares.
+pub(crate) fn write_object<W: Sink>(text: &mut TextWriter<W>, fault: &Fault, detail: Option<Detail>)
     requires { IsReady W.failures text.old }
-    ensures { Adds W.taken W.failures text.old text.new (more (fault_members fault.now detail)) }
+    ensures { Adds W.taken W.failures text.old text.new (fault_object fault.now detail) }
 {
-    write_number(text, b",\"fault\":{\"number\":", fault.number as u64);
+    write_number(text, b"{\"number\":", fault.number as u64);
     write_places(text, fault);
     write_words(text, fault.number);
     write_values(text, detail);
     text.text(b"}");
+}
+
+/// Adds the member of a refused file's fault.
+pub(crate) fn write_fault<W: Sink>(text: &mut TextWriter<W>, fault: &Fault, detail: Option<Detail>)
+    requires { IsReady W.failures text.old }
+    ensures { Adds W.taken W.failures text.old text.new (more (fault_members fault.now detail)) }
+{
+    text.text(b",\"fault\":");
+    write_object(text, fault, detail);
 }

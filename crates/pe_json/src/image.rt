@@ -1,14 +1,17 @@
 //! The line of an image without a fault, and the members that it has in common with a refused one.
 
-ghost use Rattle.std.specs.Prelude.{◌≡◌, ◌++◌, codes, map, option_map};
+ghost use Rattle.std.specs.Prelude.{◌≡◌, ◌++◌, [], codes, map, option_map};
 ghost use Rattle.json.specs.Print.{quoted};
 ghost use Rattle.coff_read.specs.ImageNames.{table_of};
 ghost use Rattle.pe_tables.specs.ExportsView.{exports_view, by_ordinal_view};
 ghost use Rattle.pe_tables.specs.ImportView.{import_view};
 ghost use Rattle.pe_text.specs.TextWriter.{IsReady, Adds};
 ghost use Rattle.pe_json.specs.ExportRows.{AreNamesOf};
+ghost use Rattle.pe_json.specs.FindingRows.{image_findings};
 ghost use Rattle.pe_json.specs.Headers.{headers_object};
-ghost use Rattle.pe_json.specs.ImageLine.{format_name, head_members, exports_members, imports_members, fixups_members, image_line};
+ghost use Rattle.pe_json.specs.ImageLine.{format_name, head_members, exports_members, imports_members, fixups_members, profile_members, image_line};
+ghost use Rattle.pe_json.specs.ImageRecords.{record_members};
+ghost use Rattle.pe_layout.specs.Layout.{headers_of, image_of};
 ghost use Rattle.pe_json.specs.JsonText.{member};
 ghost use Rattle.pe_json.specs.Listed.{more};
 
@@ -17,13 +20,16 @@ use crate::directories::write_directories;
 use crate::exports::write_exports;
 use crate::headers::write_coff;
 use crate::optional_header::write_optional;
+use crate::records::write_records;
 use crate::sections::write_sections;
 use crate::string::write_number;
 use crate::tables::{write_fixups, write_imports};
 use coff_read::{FileHeader, ImageStrings};
 use pe_head::{Headers, Magic};
+use pe_layout::Layout;
 use pe_tables::{Exports, Fixup, Import, NamesByOrdinal};
 use pe_text::{Sink, TextWriter};
+use pe_view::Fault;
 use std::alloc::Allocator;
 
 /// What the line of an image without a fault shows.
@@ -120,8 +126,22 @@ pub(crate) fn write_relocation_table<W: Sink>(text: &mut TextWriter<W>, fixups: 
     write_fixups(text, fixups);
 }
 
-/// Adds the line of an image without a fault, whose file has this name.
-pub(crate) fn write_image<A: Allocator + Copy, W: Sink>(
+/// Adds what the headers and the tables of the profile say.
+fn write_profile<A: Allocator + Copy, W: Sink>(text: &mut TextWriter<W>, image: Content<A>)
+    requires ready { IsReady W.failures text.old }
+    requires own { AreNamesOf (exports_view image.exports.now) (by_ordinal_view image.names.now) }
+    ensures { Adds W.taken W.failures text.old text.new
+        (more (profile_members (option_map table_of image.entry.strings) image.entry.headers.now (exports_view image.entry.exports.now)
+        (map import_view image.entry.imports.now) image.entry.fixups.now)) }
+{
+    write_head(text, image.strings, image.headers);
+    write_export_table(text, image.exports, image.names);
+    write_import_table(text, image.imports);
+    write_relocation_table(text, image.fixups);
+}
+
+/// Adds the line of an image without a fault, whose file has this name, and without tables that its profile leaves out.
+pub(crate) fn write_plain_image<A: Allocator + Copy, W: Sink>(
     text: &mut TextWriter<W>,
     name: &[u8],
     image: Content<A>,
@@ -130,13 +150,32 @@ pub(crate) fn write_image<A: Allocator + Copy, W: Sink>(
     requires own { AreNamesOf (exports_view image.exports.now) (by_ordinal_view image.names.now) }
     ensures { Adds W.taken W.failures text.old text.new
         (image_line name.now (option_map table_of image.entry.strings) image.entry.headers.now (exports_view image.entry.exports.now)
-        (map import_view image.entry.imports.now) image.entry.fixups.now) }
+        (map import_view image.entry.imports.now) image.entry.fixups.now []) }
 {
     begin(text, name, true);
-    write_head(text, image.strings, image.headers);
-    write_export_table(text, image.exports, image.names);
-    write_import_table(text, image.imports);
-    write_relocation_table(text, image.fixups);
+    write_profile(text, image);
+    text.text(b"}");
+    text.text(b"\n");
+}
+
+/// Adds the line of an image without a fault, whose file has this name, given the findings that the laid-out image decides.
+pub(crate) fn write_image<A: Allocator + Copy, W: Sink>(
+    text: &mut TextWriter<W>,
+    name: &[u8],
+    image: Content<A>,
+    layout: &Layout,
+    findings: &[Fault],
+)
+    requires ready { IsReady W.failures text.old }
+    requires own { AreNamesOf (exports_view image.exports.now) (by_ordinal_view image.names.now) }
+    requires found { findings.now ≡ image_findings (headers_of layout.now).machine (image_of layout.now) }
+    ensures { Adds W.taken W.failures text.old text.new
+        (image_line name.now (option_map table_of image.entry.strings) image.entry.headers.now (exports_view image.entry.exports.now)
+        (map import_view image.entry.imports.now) image.entry.fixups.now (record_members (headers_of layout.now).machine (image_of layout.now))) }
+{
+    begin(text, name, true);
+    write_profile(text, image);
+    write_records(text, layout, findings);
     text.text(b"}");
     text.text(b"\n");
 }

@@ -19,11 +19,15 @@
 
 mod auxiliary;
 mod beginning;
+mod bound_imports;
+mod debug;
 mod directories;
 mod engine;
 mod exports;
 mod fault;
+mod findings;
 mod flags;
+mod functions;
 mod headers;
 mod image;
 pub mod laws;
@@ -31,11 +35,16 @@ mod object;
 mod object_sections;
 mod optional_header;
 mod parts;
+mod pdb;
+mod records;
 mod refused;
 mod sections;
 mod string;
+mod structure;
+mod structure_keys;
 mod symbols;
 mod tables;
+mod tls;
 
 pub use engine::{json, json_sized};
 pub use parts::json_parts;

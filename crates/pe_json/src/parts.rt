@@ -11,7 +11,8 @@ ghost use Rattle.pe_tables.specs.ExportsView.{exports_view, by_ordinal_view};
 ghost use Rattle.pe_tables.specs.ImportView.{import_view};
 ghost use Rattle.pe_text.specs.Engine.{Puts};
 
-use crate::image::{Content, write_image};
+use crate::image::{Content, write_plain_image};
+use crate::records::has_records;
 use coff_read::ImageStrings;
 use pe_parts::read_packed;
 use pe_reach::{PartSource, Parts, read_names, read_parts};
@@ -20,7 +21,7 @@ use pe_text::{Outcome, Sink, TextWriter, ToolError};
 use pe_view::View;
 use std::alloc::Allocator;
 
-/// Writes the line of an image without a fault to a sink.
+/// Writes the line of an image without a fault, and without tables that its profile leaves out, to a sink.
 fn print_content<A: Allocator + Copy, W: Sink>(
     writer: &mut W,
     name: &[u8],
@@ -34,7 +35,7 @@ fn print_content<A: Allocator + Copy, W: Sink>(
         (W.taken writer.old) (W.taken writer.new) (W.failures writer.old) (W.failures writer.new) result }
 {
     let mut text = TextWriter::new(writer);
-    write_image(&mut text, name, content);
+    write_plain_image(&mut text, name, content);
     match text.finish() {
         Ok(()) => Ok(Outcome::Done),
         Err(_) => Err(ToolError::Write),
@@ -57,6 +58,9 @@ fn print_parts<A: Allocator + Copy, W: Sink>(
         packed,
         bytes,
     } = parts;
+    if has_records(&headers) {
+        return Ok(None);
+    }
     let strings = ImageStrings::new(View::new(&bytes), &packed);
     match read_packed(alloc, &bytes, packed, 0) {
         Ok(Some(tables)) => {
@@ -83,8 +87,8 @@ fn print_parts<A: Allocator + Copy, W: Sink>(
 
 /// [`json`](crate::json) for an image's file of `len` bytes, of which the headers are read, the sections in which its tables begin, and
 /// the string table if a name of a section may be in it. The line and the outcome, which is `Done`, are those of each file of `len`
-/// bytes that has these parts. `Ok(None)` means that they do not decide it, or that the image may have a fault: nothing was written, and
-/// [`json_sized`](crate::json_sized) is for this file.
+/// bytes that has these parts. `Ok(None)` means that they do not decide it, that the image may have a fault, or that it has a table which its profile
+/// leaves out and the line shows: nothing was written, and [`json_sized`](crate::json_sized) is for this file.
 ///
 /// On the errors `Read` and `Memory` nothing was written, on `Write` the beginning of the line. Condition: each device has counted fewer than
 /// 2^64 - 1 failures so far.

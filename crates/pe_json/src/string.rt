@@ -6,7 +6,7 @@ ghost use Rattle.std.specs.Str.{is_utf8};
 ghost use Rattle.json.specs.Print.{escape_letter, escape_byte, escape, quoted};
 ghost use Rattle.pe_text.specs.Text.{hex, hex_at_least};
 ghost use Rattle.pe_text.specs.TextWriter.{IsReady, Adds};
-ghost use Rattle.pe_json.specs.Strings.{is_plain, name_value, value_if};
+ghost use Rattle.pe_json.specs.Strings.{is_plain, name_value, value_if, number_value_if, wide_value_if};
 
 use pe_text::{Sink, TextWriter};
 use std::str;
@@ -189,4 +189,26 @@ pub(crate) fn write_text_if<W: Sink>(text: &mut TextWriter<W>, key: &[u8], name:
     };
     text.text(key);
     write_quoted(text, name.as_bytes());
+}
+
+/// Adds a number after its key, if there is one.
+pub(crate) fn write_number_if<W: Sink>(text: &mut TextWriter<W>, key: &[u8], number: Option<u64>)
+    requires { IsReady W.failures text.old }
+    ensures { Adds W.taken W.failures text.old text.new (number_value_if key.now number) }
+{
+    let Some(number) = number else {
+        return;
+    };
+    write_number(text, key, number);
+}
+
+/// Adds a number of 64 bits after its key, as [`write_wide`] does, if there is one.
+pub(crate) fn write_wide_if<W: Sink>(text: &mut TextWriter<W>, key: &[u8], number: Option<u64>)
+    requires { IsReady W.failures text.old }
+    ensures { Adds W.taken W.failures text.old text.new (wide_value_if key.now number) }
+{
+    let Some(number) = number else {
+        return;
+    };
+    write_wide(text, key, number);
 }

@@ -1,6 +1,6 @@
 //! The lists of an image's imports and base relocations, and the member that a key is.
 
-ghost use Rattle.std.specs.Prelude.{◌≡◌, ◌++◌, codes, flat_map, map};
+ghost use Rattle.std.specs.Prelude.{◌≡◌, ◌++◌, codes, decimal, flat_map, map};
 ghost use Rattle.pe_tables.specs.Key.{key_view};
 ghost use Rattle.pe_tables.specs.ImportView.{import_view};
 ghost use Rattle.pe_text.specs.TextWriter.{IsReady, Adds};
@@ -77,16 +77,27 @@ pub(crate) fn write_imports<W: Sink>(text: &mut TextWriter<W>, imports: &[Import
     text.text(b"]");
 }
 
-/// The member that says how many bits of an address a field has, or which half of one.
-fn kind_member(kind: FixupKind) -> &'static [u8]
-    ensures { result.now ≡ kind_member kind }
+/// The member that says how many bits of an address a field has, or which half of one, after a comma, and the end of its row.
+fn kind_end(kind: FixupKind) -> &'static [u8]
+    ensures { result.now ≡ codes "," ++ kind_member kind ++ codes "}" }
 {
     match kind {
-        FixupKind::Bits32 => b"\"bits\":32",
-        FixupKind::Bits64 => b"\"bits\":64",
-        FixupKind::High => b"\"kind\":\"high\"",
-        FixupKind::Low => b"\"kind\":\"low\"",
+        FixupKind::Bits32 => b",\"bits\":32}",
+        FixupKind::Bits64 => b",\"bits\":64}",
+        FixupKind::High => b",\"kind\":\"high\"}",
+        FixupKind::Low => b",\"kind\":\"low\"}",
     }
+}
+
+/// Adds a base relocation behind what its row begins with.
+#[inline]
+fn write_fields<W: Sink>(text: &mut TextWriter<W>, beginning: &[u8], fixup: &Fixup)
+    requires { IsReady W.failures text.old }
+    ensures { Adds W.taken W.failures text.old text.new (beginning.now ++ (decimal fixup.now.field ++ (codes "," ++ kind_member fixup.now.kind ++ codes "}"))) }
+{
+    text.text(beginning);
+    text.decimal(fixup.field as u64);
+    text.text(kind_end(fixup.kind));
 }
 
 /// Adds a base relocation.
@@ -94,11 +105,7 @@ fn write_fixup<W: Sink>(text: &mut TextWriter<W>, fixup: &Fixup)
     requires { IsReady W.failures text.old }
     ensures { Adds W.taken W.failures text.old text.new (fixup_row fixup.now) }
 {
-    text.text(b"{\"rva\":");
-    text.decimal(fixup.field as u64);
-    text.text(b",");
-    text.text(kind_member(fixup.kind));
-    text.text(b"}");
+    write_fields(text, b"{\"rva\":", fixup);
 }
 
 /// Adds a base relocation after a comma.
@@ -106,8 +113,7 @@ fn write_next_fixup<W: Sink>(text: &mut TextWriter<W>, fixup: &Fixup)
     requires { IsReady W.failures text.old }
     ensures { Adds W.taken W.failures text.old text.new (codes "," ++ fixup_row fixup.now) }
 {
-    text.text(b",");
-    write_fixup(text, fixup);
+    write_fields(text, b",{\"rva\":", fixup);
 }
 
 /// Adds base relocations, each after a comma.

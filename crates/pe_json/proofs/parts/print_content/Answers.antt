@@ -13,11 +13,11 @@ returns-in-Ok g c =
     let content = c.args.content in
     Puts-whole g.W.Sink.taken g.W.Sink.failures
     (IsImageLine c.args.name.now (option_map table_of content.strings) content.headers.now (exports_view content.exports.now) (map import_view content.imports.now) content.fixups.now)
-    _ _ c.finish.new.self _ _ Done c.new-text.ensures.fresh (_, (refl, refl), c.write_image.ensures) c.in-Ok.ensures.written (search rules)
+    _ _ c.finish.new.self _ _ Done c.new-text.ensures.fresh (_, (refl, refl), c.write_plain_image.ensures) c.in-Ok.ensures.written (search rules)
 
 pub returns-in-Err : goal.returns-in-Err
 returns-in-Err g c =
     let content = c.args.content in
     Puts-failed g.W.Sink.taken g.W.Sink.failures
     (IsImageLine c.args.name.now (option_map table_of content.strings) content.headers.now (exports_view content.exports.now) (map import_view content.imports.now) content.fixups.now)
-    _ _ c.finish.new.self _ _ Done c.new-text.ensures.fresh (_, (refl, refl), c.write_image.ensures) c.in-Err.ensures.written (search rules)
+    _ _ c.finish.new.self _ _ Done c.new-text.ensures.fresh (_, (refl, refl), c.write_plain_image.ensures) c.in-Err.ensures.written (search rules)

@@ -3,7 +3,7 @@ use Rattle.std.specs.Fmt.{digits}
 use Rattle.json.specs.Print.{escape_byte}
 use Rattle.pe_json.specs.JsonText.{member}
 use Rattle.pe_json.specs.TableRows.{kind_member}
-use Rattle.pe_json.proofs.tables.kind_member.Goals as goal
+use Rattle.pe_json.proofs.tables.kind_end.Goals as goal
 
 pub returns-in-Bits32 : goal.returns-in-Bits32
 unfolding kind_member member escape_byte digits

@@ -1,0 +1,143 @@
+"""The tables beyond the profile in lines of JSON: the members of each by a file of its own, written out, and the findings."""
+
+import json
+import os
+import pathlib
+import struct
+import tempfile
+import unittest
+
+from .cases import run
+from .files import numbers
+from .test_findings import AMD64, ARM64, BASE, CALLBACKS, FOUND, NB10, RSDS, SOUND, TLS, clr, debug, entry, image, load
+
+PROGRAM = os.environ.get("PETOOL_PROGRAM")
+
+#: The findings of debug data at a file offset, which no line tells.
+BY_OFFSET = (103, 105)
+ENTRY = ("characteristics", "time_date_stamp", "major_version", "minor_version", "type", "size_of_data", "address_of_raw_data", "pointer_to_raw_data")
+CLR_PAIRS = ("resources", "strong_name_signature", "code_manager_table", "vtable_fixups", "export_address_table_jumps", "managed_native_header")
+
+#: Files, and the members of their lines after `fixups`, without findings.
+MEMBERS = [
+    (image(6, 0, b""), {"debug": []}),
+    (image(6, 28, struct.pack("<IIHHIIII", 1, 2, 3, 4, 13, 5, 6, 7)), {"debug": [{
+        "characteristics": 1, "time_date_stamp": 2, "major_version": 3, "minor_version": 4, "type": 13, "type_name": "POGO", "size_of_data": 5,
+        "address_of_raw_data": 6, "pointer_to_raw_data": 7,
+    }]}),
+    (image(6, 56, entry(18) + entry(0xFFFFFFFF)), {"debug": [
+        dict(zip(ENTRY, (0, 0, 0, 0, 18, 0, 0, 0))), dict(zip(ENTRY, (0, 0, 0, 0, 0xFFFFFFFF, 0, 0, 0))),
+    ]}),
+    (debug(RSDS + b"C:\\a\"\xff.pdb\0"), {
+        "debug": [dict(zip(ENTRY[:5], (0, 0, 0, 0, 2))) | {"type_name": "CODEVIEW", "size_of_data": 35, "address_of_raw_data": 0x101C,
+                                                            "pointer_to_raw_data": 0x21C}],
+        "pdb": {"guid_hex": "a0a1a2a3a4a5a6a7a8a9aaabacadaeaf", "age": 26, "path_hex": "433a5c6122ff2e706462"},
+    }),
+    (image(3, 24, numbers(0x1000, 0x1001, 0x1000, 0x1001, 0x1002, 0x1000), machine=AMD64), {"function_count": 2}),
+    (image(3, 20, bytes(20), machine=ARM64), {"function_count": 2}),
+    # a machine whose table has another form
+    (image(3, 24, bytes(24)), {}),
+    (image(9, 24, TLS + CALLBACKS), {"tls": {
+        "rva": 0x1000, "start_address_of_raw_data": "0x0", "end_address_of_raw_data": "0x0", "address_of_index": "0x10001000",
+        "address_of_callbacks": "0x10001018", "size_of_zero_fill": 0, "characteristics": 0, "callbacks": ["0x10001000", "0x10001004"],
+    }}),
+    (image(9, 24, numbers(0, 0, 0, BASE + 0x1018, 7, 0x300000, 0)), {"tls": {
+        "rva": 0x1000, "start_address_of_raw_data": "0x0", "end_address_of_raw_data": "0x0", "address_of_index": "0x0",
+        "address_of_callbacks": "0x10001018", "size_of_zero_fill": 7, "characteristics": 0x300000, "callbacks": [],
+    }}),
+    (image(9, 24, bytes(7)), {"tls": {"rva": 0x1000, "start_address_of_raw_data": "0x0"}}),
+    (image(9, 24, b"\1\2\3"), {"tls": {"rva": 0x1000}}),
+    # in PE32 ProcessHeapFlags is before ProcessAffinityMask, which ends after the 48 bytes
+    (image(10, 64, load(48, (4, 0x12345678), (8, 0x00050004), (32, 0xFFFFFFFF), (44, 0x99))), {"load_configuration": {
+        "rva": 0x1000, "size": 48, "time_date_stamp": 0x12345678, "major_version": 4, "minor_version": 5, "global_flags_clear": 0,
+        "global_flags_set": 0, "critical_section_default_timeout": 0, "de_commit_free_block_threshold": "0x0",
+        "de_commit_total_free_threshold": "0x0", "lock_prefix_table": "0xffffffff", "maximum_allocation_size": "0x0",
+        "virtual_memory_threshold": "0x0", "process_heap_flags": 0x99,
+    }}),
+    (image(10, 64, b"\1\2\3"), {"load_configuration": {"rva": 0x1000}}),
+    (image(11, 24, numbers(1, 0x00020003, 0, 4) + bytes(8)), {"bound_imports": [
+        {"time_date_stamp": 1, "offset_module_name": 3, "number_of_module_forwarder_refs": 2},
+        {"time_date_stamp": 0, "offset_module_name": 4, "number_of_module_forwarder_refs": 0},
+    ]}),
+    (image(11, 8, bytes(8)), {"bound_imports": []}),
+    (image(14, 72, clr(72, 0x1001, 2)), {"clr": {
+        "rva": 0x1000, "cb": 72, "major_runtime_version": 2, "minor_runtime_version": 5, "meta_data_rva": 0x1001, "meta_data_size": 2, "flags": 0,
+        "entry_point_token": 0,
+        **{f"{name}_{part}": 0 for name in CLR_PAIRS for part in ("rva", "size")},
+    }}),
+    (image(14, 72, clr(72, 0, 0)[:7]), {"clr": {"rva": 0x1000, "cb": 72, "major_runtime_version": 2}}),
+]
+
+
+@unittest.skipUnless(PROGRAM, "left out without program: PETOOL_PROGRAM names none")
+class TableMembers(unittest.TestCase):
+    maxDiff = None
+
+    def setUp(self):
+        folder = tempfile.TemporaryDirectory()
+        self.addCleanup(folder.cleanup)
+        self.folder = pathlib.Path(folder.name)
+
+    def line(self, file):
+        """The line of a file, and its members after `fixups` without findings, in order."""
+        (self.folder / "a").write_bytes(file)
+        done = run([PROGRAM, "json", "a"], cwd=self.folder)
+        self.assertEqual(done.returncode, 0)
+        line = json.loads(done.stdout)
+        names = list(line)
+        return line, {name: line[name] for name in names[names.index("fixups") + 1 :] if name != "findings"}
+
+    def test_members(self):
+        for number, (file, wanted) in enumerate(MEMBERS):
+            with self.subTest(number):
+                _, members = self.line(file)
+                self.assertEqual(json.dumps(members), json.dumps(wanted))
+
+    def test_no_member_of_a_table_that_is_not_there(self):
+        line, members = self.line(image(15, 0, b"", rva=0))
+        self.assertEqual((members, line["fixups"]), ({}, []))
+
+    def test_findings(self):
+        for number, file, rva in FOUND:
+            with self.subTest(number):
+                line, _ = self.line(file)
+                found = [(it["number"], it["image"], it["place"]) for it in line.get("findings", [])]
+                self.assertEqual(found, [] if number in BY_OFFSET else [(number, 0, {"rva": rva})])
+                self.assertEqual("findings" in line, number not in BY_OFFSET)
+
+    def test_a_finding_has_its_words(self):
+        line, _ = self.line(image(3, 13, numbers(0x1000, 0x1001, 0x1000) + b"\0", machine=AMD64))
+        self.assertEqual(line["findings"], [{
+            "number": 112, "image": 0, "place": {"rva": 0x1000}, "subject": "exception table", "rule": "its Size is not a multiple of the length of a record",
+        }])
+        self.assertEqual(list(line)[-1], "findings")
+
+    def test_findings_of_several_tables_and_records(self):
+        file = image(3, 25, numbers(0x1001, 0x1000, 0x3000, 0x1000, 0x3001, 0x1000), machine=AMD64)
+        line, _ = self.line(file)
+        self.assertEqual([it["number"] for it in line["findings"]], [111, 112, 113, 115, 114, 116])
+
+    def test_files_without_a_finding(self):
+        for number, file in enumerate(SOUND):
+            with self.subTest(number):
+                self.assertNotIn("findings", self.line(file)[0])
+
+    def test_a_pdb_file_of_an_old_debugger(self):
+        _, members = self.line(debug(NB10 + b"old.pdb\0"))
+        self.assertEqual(members["pdb"], {"time_date_stamp": 0x3C0B6FD1, "age": 3, "path": "old.pdb"})
+
+    def test_no_path_where_none_ends(self):
+        _, members = self.line(debug(RSDS + b"a.pdb"))
+        self.assertEqual(list(members["pdb"]), ["guid_hex", "age"])
+
+    def test_debug_data_after_the_sections(self):
+        """The line is the same where the data after the sections is read, from a pipe, as where it is not."""
+        file = image(6, 28, entry(2, len(RSDS) + 6, 0, 0x2000)).ljust(0x2000, b"\0") + RSDS + b"a.pdb\0"
+        line, members = self.line(file)
+        self.assertEqual(list(members), ["debug"])
+        piped = json.loads(run([PROGRAM, "json", "-"], input=file).stdout)
+        self.assertEqual({**piped, "file": "a"}, line)
+
+
+if __name__ == "__main__":
+    unittest.main()

@@ -1,0 +1,218 @@
+-- What a line says of tables that the profile leaves out is JSON.
+use Rattle.std.proofs.Common.{◌≡◌, ℕ, suc, Bool, true, false, List, [], ◌∷◌, codes, refl, flat_map, Option, None, Some, option_map, length}
+use Rattle.std.specs.Prelude.{⊤, ◌==◌, cond, find, option_and_then, slice_get, if◌then◌else◌}
+use Rattle.std.specs.List.{range_with_len}
+use Rattle.std.proofs.lemmas.Bool.{and_parts}
+use Rattle.pe_head.specs.Names.{Names, name_in}
+use Rattle.pe_head.specs.declared.directory.Directory.{Directory}
+use Rattle.pe_layout.specs.Image.{LaidOut}
+use Rattle.pe_records.specs.Callbacks.{CallbackTable, addresses, callbacks_of}
+use Rattle.pe_records.specs.CodeView.{CodeView, SevenZero, TwoZero, Other, code_view_of}
+use Rattle.pe_records.specs.Records.{table_bytes}
+use Rattle.pe_records.specs.Structure.{field_in}
+use Rattle.pe_records.specs.TableNames.{debug_type_names}
+use Rattle.pe_records.specs.TlsFields.{tls_at}
+use Rattle.pe_records.specs.declared.bound_imports.BoundImport.{BoundImport}
+use Rattle.pe_records.specs.declared.debug.DebugEntry.{DebugEntry}
+use Rattle.pe_records.specs.declared.structure.Field.{Field}
+use Rattle.pe_records.specs.declared.structure.Width.{Width}
+use Rattle.pe_records.specs.declared.structure.Width.TheVariants.{Two, Four, Address}
+use Rattle.pe_records.specs.declared.tls_directory.TlsDirectory.{TlsDirectory}
+use Rattle.pe_view.specs.declared.fault.Fault.{Fault}
+use Rattle.pe_json.specs.BoundRows.{bound_row, bound_records, bound_members_at, bound_members}
+use Rattle.pe_json.specs.DebugRows.{type_numbers, data_numbers, debug_row, debug_entries, debug_members_at, debug_members}
+use Rattle.pe_json.specs.FindingRows.{image_findings, finding_items, findings_in, findings_members}
+use Rattle.pe_json.specs.FunctionRows.{function_count_in, count_member, function_members_at, function_members}
+use Rattle.pe_json.specs.ImageRecords.{record_members}
+use Rattle.pe_json.specs.JsonText.{number_if, wide_if, wide_string}
+use Rattle.pe_json.specs.PdbRows.{is_code_view, data_at, path_if, code_view_members, pdb_in, pdb_members}
+use Rattle.pe_json.specs.Refused.{fault_object}
+use Rattle.pe_json.specs.StructureKeys.{load_keys, clr_keys}
+use Rattle.pe_json.specs.StructureRows.{structure_key, held_of, fields_of, keys_of, field_value, value_members, keyed_members, member_at, fields_if, structure_members_at, structure_members}
+use Rattle.pe_json.specs.TlsRows.{tls_addresses, tls_fields, callback_members, tls_members_at, tls_members}
+use Rattle.pe_json.specs.declared.structure.StructureKind.{StructureKind}
+use Rattle.pe_json.specs.declared.structure.StructureKind.TheVariants.{LoadConfiguration, ClrHeader}
+use Rattle.pe_json.proofs.Printed.{IsValue, AreValues, AreMembers, is_number, items_value, members_value}
+use Rattle.pe_json.proofs.JsonMembers.{IsAsciiText, is_member, number_member, name_member, wide_member, wide_value, hex_value, members_then, flat_values, flat_members, text_members, row_values}
+use Rattle.pe_json.proofs.FaultValues.{fault_value}
+use Rattle.pe_json.proofs.ImageValues.{are_ascii_names, named}
+
+-- ---- the debug directory
+types_ascii : are_ascii_names debug_type_names ≡ true
+unfolding debug_type_names
+types_ascii = refl
+
+are_type_numbers : (limit : ℕ) (e : DebugEntry) → AreMembers limit (type_numbers e)
+unfolding type_numbers
+are_type_numbers limit e = search number_member
+
+are_data_numbers : (limit : ℕ) (e : DebugEntry) → AreMembers limit (data_numbers e)
+unfolding data_numbers
+are_data_numbers limit e = search number_member
+
+entry_value : (limit : ℕ) (e : DebugEntry) → IsValue (suc limit) (debug_row e)
+entry_value limit e =
+    members_value limit _ (
+      number_member _ _ _ refl,
+      members_then _ (type_numbers e) _ (are_type_numbers _ e)
+          (members_then _ _ (data_numbers e) (text_members limit _ (name_in debug_type_names e.kind) refl (named debug_type_names e.kind types_ascii)) (are_data_numbers _ e)),
+    )
+
+are_debug_members : (limit : ℕ) (i : LaidOut) (d : Option Directory) → AreMembers (suc (suc limit)) (debug_members_at i d)
+unfolding debug_members_at
+are_debug_members limit i None = tt
+are_debug_members limit i (Some d) = (is_member _ _ _ refl (items_value (suc limit) _ (row_values (suc limit) debug_row (debug_entries i) (entry_value limit))), tt)
+
+-- ---- the PDB file
+are_paths : (limit : ℕ) (path : Option (List ℕ)) → AreMembers limit (path_if path)
+are_paths limit None = tt
+are_paths limit (Some path) = (name_member _ _ _ refl refl, tt)
+
+are_code_view : (limit : ℕ) (view : CodeView) → AreMembers (suc limit) (code_view_members view)
+unfolding code_view_members
+are_code_view limit (SevenZero r) =
+    (is_member _ _ _ refl (members_value limit _ (is_member _ _ _ refl (hex_value _ r.guid), (number_member _ _ _ refl, are_paths limit r.path))), tt)
+are_code_view limit (TwoZero r) =
+    (is_member _ _ _ refl (members_value limit _ (number_member _ _ _ refl, (number_member _ _ _ refl, are_paths limit r.path))), tt)
+are_code_view limit Other = tt
+
+are_pdb_members : (limit : ℕ) (bytes : Option (List ℕ)) → AreMembers (suc limit) (pdb_in bytes)
+are_pdb_members limit None = tt
+are_pdb_members limit (Some bytes) = are_code_view limit (code_view_of bytes)
+
+-- ---- functions
+are_counts : (limit : ℕ) (count : Option ℕ) → AreMembers limit (count_member count)
+are_counts limit None = tt
+are_counts limit (Some count) = (number_member _ _ _ refl, tt)
+
+are_function_members : (limit machine : ℕ) (i : LaidOut) (d : Option Directory) → AreMembers limit (function_members_at machine i d)
+unfolding function_members_at
+are_function_members limit machine i None = tt
+are_function_members limit machine i (Some d) = are_counts limit (function_count_in machine (table_bytes i (i.directory 3)))
+
+-- ---- the TLS directory
+are_numbers : (limit : ℕ) (key : List ℕ) (n : Option ℕ) → IsAsciiText key → AreMembers limit (number_if key n)
+unfolding number_if
+are_numbers limit key None key_ascii = tt
+are_numbers limit key (Some n) key_ascii = (number_member _ _ _ key_ascii, tt)
+
+are_wide : (limit : ℕ) (key : List ℕ) (n : Option ℕ) → IsAsciiText key → AreMembers limit (wide_if key n)
+unfolding wide_if
+are_wide limit key None key_ascii = tt
+are_wide limit key (Some n) key_ascii = (wide_member _ _ _ key_ascii, tt)
+
+are_addresses : (limit : ℕ) (t : TlsDirectory) → AreMembers limit (tls_addresses t)
+unfolding tls_addresses
+are_addresses limit t =
+    members_then _ _ _ (are_wide _ (codes "start_address_of_raw_data") t.start_address_of_raw_data refl)
+    (members_then _ _ _ (are_wide _ (codes "end_address_of_raw_data") t.end_address_of_raw_data refl)
+    (members_then _ _ _ (are_wide _ (codes "address_of_index") t.address_of_index refl) (are_wide _ (codes "address_of_callbacks") t.address_of_callbacks refl)))
+
+are_tls_fields : (limit : ℕ) (t : TlsDirectory) → AreMembers limit (tls_fields t)
+are_tls_fields limit t =
+    members_then _ (tls_addresses t) _ (are_addresses _ t)
+    (members_then _ _ _ (are_numbers _ (codes "size_of_zero_fill") t.size_of_zero_fill refl) (are_numbers _ (codes "characteristics") t.characteristics refl))
+
+are_callbacks : (limit : ℕ) (t : Option CallbackTable) → AreMembers (suc limit) (callback_members t)
+unfolding callback_members
+are_callbacks limit None = tt
+are_callbacks limit (Some t) = (is_member _ _ _ refl (items_value limit _ (row_values limit wide_string (addresses t) (wide_value limit))), tt)
+
+are_tls_members : (limit : ℕ) (i : LaidOut) (d : Option Directory) → AreMembers (suc (suc limit)) (tls_members_at i d)
+unfolding tls_members_at
+are_tls_members limit i None = tt
+are_tls_members limit i (Some d) = (
+  is_member _ _ _ refl (members_value (suc limit) _ (
+    number_member _ _ _ refl,
+    members_then _ (tls_fields (tls_at i d.rva)) _ (are_tls_fields _ (tls_at i d.rva)) (are_callbacks limit (callbacks_of i)),
+  )),
+  tt,
+)
+
+-- ---- structures
+-- a key is ASCII, if there is one
+abbrev IsKey : Option (List ℕ) → Type 0
+IsKey None = ⊤
+IsKey (Some key) = IsAsciiText key
+
+is_key : (names : Names) (value : ℕ) → are_ascii_names names ≡ true → IsKey (name_in names value)
+is_key [] value h = tt
+is_key (row ∷ rows) value h = by (row.0 == value) (is_key rows value (and_parts _ _ h).1)
+  where
+    by : (b : Bool) → IsKey (name_in rows value) → IsKey (option_map (λ (row : ℕ × List ℕ). row.1) (cond b (Some row) (find (λ (row : ℕ × List ℕ). row.0 == value) rows)))
+    by true others = (and_parts _ _ h).0
+    by false others = others
+
+keys_ascii : (kind : StructureKind) → are_ascii_names (keys_of kind) ≡ true
+unfolding load_keys clr_keys
+keys_ascii LoadConfiguration = refl
+keys_ascii ClrHeader = refl
+
+structure_ascii : (kind : StructureKind) → IsAsciiText (structure_key kind)
+structure_ascii LoadConfiguration = refl
+structure_ascii ClrHeader = refl
+
+field_is_value : (limit : ℕ) (width : Width) (n : ℕ) → IsValue limit (field_value width n)
+field_is_value limit Two n = is_number limit n
+field_is_value limit Four n = is_number limit n
+field_is_value limit Address n = wide_value limit n
+
+are_value_members : (limit : ℕ) (key : List ℕ) (width : Width) (n : Option ℕ) → IsAsciiText key → AreMembers limit (value_members key width n)
+unfolding value_members
+are_value_members limit key width None key_ascii = tt
+are_value_members limit key width (Some n) key_ascii = (is_member _ _ _ key_ascii (field_is_value limit width n), tt)
+
+are_keyed : (limit address : ℕ) (bytes : List ℕ) (key : Option (List ℕ)) (f : Option Field) → IsKey key → AreMembers limit (keyed_members address bytes key f)
+are_keyed limit address bytes None f is = tt
+are_keyed limit address bytes (Some key) None is = tt
+are_keyed limit address bytes (Some key) (Some f) is = are_value_members limit key f.2 (field_in address bytes f) is
+
+are_fields : (limit : ℕ) (kind : StructureKind) (address : ℕ) (bytes : Option (List ℕ)) → AreMembers limit (fields_if kind address bytes)
+are_fields limit kind address None = tt
+are_fields limit kind address (Some bytes) =
+    flat_members limit (member_at kind address bytes) (range_with_len 0 (length (fields_of kind)))
+    (λ k. are_keyed limit address bytes (name_in (keys_of kind) k) (slice_get (fields_of kind) k) (is_key (keys_of kind) k (keys_ascii kind)))
+
+are_structure_members : (limit : ℕ) (kind : StructureKind) (i : LaidOut) (d : Option Directory) → AreMembers (suc limit) (structure_members_at kind i d)
+unfolding structure_members_at
+are_structure_members limit kind i None = tt
+are_structure_members limit kind i (Some d) =
+    (is_member _ (structure_key kind) _ (structure_ascii kind) (members_value limit _ (number_member _ _ _ refl, are_fields limit kind i.slot_width (held_of kind i))), tt)
+
+-- ---- bound imports
+bound_value : (limit : ℕ) (b : BoundImport) → IsValue (suc limit) (bound_row b)
+unfolding bound_row
+bound_value limit b = members_value limit _ (number_member _ _ _ refl, (number_member _ _ _ refl, (number_member _ _ _ refl, tt)))
+
+are_bound_members : (limit : ℕ) (i : LaidOut) (d : Option Directory) → AreMembers (suc (suc limit)) (bound_members_at i d)
+unfolding bound_members_at
+are_bound_members limit i None = tt
+are_bound_members limit i (Some d) = (is_member _ _ _ refl (items_value (suc limit) _ (row_values (suc limit) bound_row (bound_records i) (bound_value limit))), tt)
+
+-- ---- findings
+are_finding_items : (limit : ℕ) (f : Fault) → AreValues (suc (suc limit)) (finding_items f)
+are_finding_items limit f = by (f.number == 103)
+  where
+    by : (b : Bool) → AreValues (suc (suc limit)) (if b then [] else fault_object f None ∷ [])
+    by true = tt
+    by false = (fault_value limit f None, tt)
+
+are_findings_in : (limit : ℕ) (items : List (List ℕ)) → AreValues limit items → AreMembers (suc limit) (findings_in items)
+are_findings_in limit [] h = tt
+are_findings_in limit (item ∷ items) h = (is_member _ _ _ refl (items_value limit (item ∷ items) h), tt)
+
+are_findings_members : (limit machine : ℕ) (i : LaidOut) → AreMembers (suc (suc (suc limit))) (findings_members machine i)
+are_findings_members limit machine i =
+    are_findings_in _ (flat_map finding_items (image_findings machine i)) (flat_values _ finding_items (image_findings machine i) (are_finding_items limit))
+
+-- ---- all of them
+pub are_record_members : (limit machine : ℕ) (i : LaidOut) → AreMembers (suc (suc (suc limit))) (record_members machine i)
+are_record_members limit machine i =
+    members_then _ (debug_members i) _ (are_debug_members _ i (i.directory 6))
+    (members_then _ (pdb_members i) _ (are_pdb_members _ (option_and_then (data_at i) (find is_code_view (debug_entries i))))
+    (members_then _ (function_members machine i) _ (are_function_members _ machine i (i.directory 3))
+    (members_then _ (tls_members i) _ (are_tls_members _ i (i.directory 9))
+    (members_then _ (structure_members LoadConfiguration i) _ (are_structure_members _ LoadConfiguration i (i.directory 10))
+    (members_then _ (bound_members i) _ (are_bound_members _ i (i.directory 11))
+    (members_then _ (structure_members ClrHeader i) (findings_members machine i) (are_structure_members _ ClrHeader i (i.directory 14))
+    (are_findings_members limit machine i)))))))

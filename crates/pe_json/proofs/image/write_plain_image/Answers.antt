@@ -1,0 +1,10 @@
+use Rattle.std.proofs.Common.{codes, true}
+use Rattle.pe_json.specs.JsonText.{number}
+use Rattle.pe_json.specs.Line.{first_members}
+use Rattle.pe_json.proofs.Objects.{also_none, whole_line}
+use Rattle.pe_json.proofs.image.write_plain_image.Goals as goal
+
+pub returns : goal.returns
+returns g c =
+    whole_line (number (codes "schema") 1) (first_members c.args.name.now true) _ c.begin.ensures (also_none _ c.write_profile.ensures)
+    c.text.ensures c.text-2.ensures
