@@ -64,7 +64,11 @@ def shown(description: Description) -> List[str]:
     """The records that the crate petool shows as petool-sys has them, with their names there."""
     found = sorted((it.camel(), it.rust_shown) for it in description.records.values() if it.rust_shown)
     names = [name if name == new else f"{name} as {new}" for name, new in found]
-    return ["#[doc(inline)]", f"pub use petool_sys::{{{', '.join(names)}}};"]
+    line = f"pub use petool_sys::{{{', '.join(names)}}};"
+    if len(line) <= WIDTH:
+        return ["#[doc(inline)]", line]
+    rows = wrapped([f"{name}," for name in names], WIDTH - 5, "")
+    return ["#[doc(inline)]", "pub use petool_sys::{", *(f"    {row}" for row in rows), "};"]
 
 
 def values(description: Description) -> List[str]:
@@ -107,7 +111,8 @@ def _blank(description: Description, it: Field) -> str:
     """The value of a field before a call sets it."""
     if it.type in description.records:
         return f"{description.records[it.type].camel()}::NONE"
-    return "false" if it.type == "bool" else "0"
+    blank = "false" if it.type == "bool" else "0"
+    return f"[{blank}; {it.count()}]" if "[" in it.type else blank
 
 
 def _none(description: Description, record: Record) -> List[str]:

@@ -98,7 +98,7 @@ enum {
 
 /* from describe/records.txt: fault */
 typedef struct petool_fault {
-    uint16_t number; /* as in docs/FAULTS.md, from 1 to 85 */
+    uint16_t number; /* as in docs/FAULTS.md: of a fault from 1 to 85, of a finding from 101 on */
     uint16_t place;  /* what `at` counts: a PETOOL_PLACE */
     uint32_t image;  /* the index of the entry in a set; otherwise 0 */
     uint64_t at;
@@ -164,8 +164,16 @@ enum {
 };
 /* end of describe/records.txt */
 
+/* from describe/records.txt: table_names */
+enum {
+    PETOOL_NAME_DEBUG_TYPE = 6, /* a type of debug data */
+    PETOOL_NAME_LOAD_FIELD = 7  /* a field of the load configuration, by its index */
+};
+/* end of describe/records.txt */
+
 /* The name that "PE Format" has for a value of this kind, a PETOOL_NAME: "AMD64", "WINDOWS_GUI", "DLL", "NX_COMPAT", "MEM_READ",
- * "export". A flag is one bit. OK; or ABSENT. The string is this library's. *name must be initialized before. */
+ * "export", "CODEVIEW", "SecurityCookie". A flag is one bit. OK; or ABSENT. The string is this library's. *name must be initialized
+ * before. */
 PETOOL_WARN_UNUSED uint32_t petool_name(uint32_t kind, uint32_t value, petool_text *name);
 
 /* ---- an image: its headers and its bytes ---- */
@@ -324,6 +332,132 @@ PETOOL_WARN_UNUSED uint32_t petool_export_by_ordinal(const uint8_t *file, size_t
  * name or the ordinal that lead nowhere. As petool_imports, but with ABSENT instead of SMALL. *found must be initialized before. */
 PETOOL_WARN_UNUSED uint32_t petool_import_at(const uint8_t *file, size_t len, uint32_t slot, petool_import *found,
                                              petool_fault *fault);
+
+/* ---- an image: tables beyond the profile ---- */
+
+/* No rule of these tables refuses an image: one that is broken is a finding, with a number from 101 on (docs/FAULTS.md), and what the
+ * file holds of the table is read. A table ends where its Size does, or, before that, the bytes that the file holds from its RVA on in
+ * one run: what is in zero fill has no rows. */
+
+/* All findings, by table in the order of their numbers, and of each table those of its directory before those of its records; of image
+ * 0. OK; SMALL; FAULT, with one of 1 to 15; or MEMORY, but only if there is a finding. */
+PETOOL_WARN_UNUSED uint32_t petool_findings(const uint8_t *file, size_t len, petool_fault *rows, size_t room, size_t *count,
+                                            petool_fault *fault);
+
+/* from describe/records.txt: debug_entry */
+typedef struct petool_debug_entry {
+    uint32_t characteristics, time_date_stamp; /* when the data was made, or a hash */
+    uint16_t major_version, minor_version;
+    uint32_t kind;                             /* the type of the data: 2 CODEVIEW */
+    uint32_t size_of_data, address_of_raw_data, pointer_to_raw_data;
+} petool_debug_entry;
+/* end of describe/records.txt */
+
+/* The entries of the debug directory, in table order. OK; SMALL; or FAULT, with one of 1 to 15. Like the calls below, it allocates
+ * nothing. */
+PETOOL_WARN_UNUSED uint32_t petool_debug(const uint8_t *file, size_t len, petool_debug_entry *rows, size_t room, size_t *count,
+                                         petool_fault *fault);
+
+/* from describe/records.txt: pdb_kinds */
+enum {
+    PETOOL_PDB_SEVEN = 0, /* one of PDB 7.0, which a GUID tells from others of its name */
+    PETOOL_PDB_TWO = 1    /* one of PDB 2.0, which a time stamp tells from others of its name */
+};
+/* end of describe/records.txt */
+
+/* from describe/records.txt: pdb_file */
+typedef struct petool_pdb_file {
+    petool_text path;         /* its path where it was made; empty if no zero byte ends it */
+    uint32_t kind;
+    uint32_t age;             /* how often the file was written */
+    uint8_t guid[16];         /* of PETOOL_PDB_SEVEN, in the order of the image's bytes; otherwise zeros */
+    uint32_t time_date_stamp; /* of PETOOL_PDB_TWO, in seconds since 1970; otherwise 0 */
+    uint32_t offset;          /* where the debug data begins in a file of PETOOL_PDB_TWO, mostly 0 */
+} petool_pdb_file;
+/* end of describe/records.txt */
+
+static inline void petool_pdb_init(petool_pdb_file *pdb)
+{
+    petool_pdb_file none = {PETOOL_NONE, 0, 0, {0}, 0, 0};
+    *pdb = none;
+}
+
+/* The PDB file that the first entry of the debug directory names that names one. OK; FAULT, with one of 1 to 15; or ABSENT. *pdb must
+ * be initialized before. */
+PETOOL_WARN_UNUSED uint32_t petool_pdb(const uint8_t *file, size_t len, petool_pdb_file *pdb, petool_fault *fault);
+
+/* from describe/records.txt: function_kinds */
+enum {
+    PETOOL_FUNCTION_AMD64 = 0, /* that of AMD64 */
+    PETOOL_FUNCTION_ARM = 1    /* that of ARM64 and ARMNT */
+};
+/* end of describe/records.txt */
+
+/* from describe/records.txt: function */
+typedef struct petool_function {
+    uint32_t begin;  /* the RVA of its first byte; on ARMNT with 1 added, as for all Thumb code */
+    uint32_t end;    /* the RVA after its last byte; 0 on ARM64 and ARMNT, whose tables do not have it */
+    uint32_t unwind; /* the RVA of its unwind information; on ARM of its record if the low two bits are 0, otherwise the record */
+    uint32_t kind;
+} petool_function;
+/* end of describe/records.txt */
+
+/* The functions of the exception table, in table order. The table of a machine other than AMD64, ARM64 and ARMNT has another form, and
+ * no rows. OK; SMALL; or FAULT, with one of 1 to 15. */
+PETOOL_WARN_UNUSED uint32_t petool_functions(const uint8_t *file, size_t len, petool_function *rows, size_t room, size_t *count,
+                                             petool_fault *fault);
+
+/* from describe/records.txt: tls_directory, callback */
+typedef struct petool_tls_directory {
+    uint64_t start_address_of_raw_data, end_address_of_raw_data; /* the template for the data of a thread */
+    uint64_t address_of_index;                                   /* the address of the index that the loader assigns */
+    uint64_t address_of_callbacks;                               /* that of the callbacks, which petool_tls_callbacks reads */
+    uint64_t size_of_zero_fill;                                  /* how many zero bytes follow the template */
+    uint64_t characteristics;                                    /* the alignment, as in the flags of a section */
+    bool is_whole;                                               /* whether the file holds all fields */
+} petool_tls_directory;
+
+typedef struct petool_callback {
+    uint64_t address; /* its address at ImageBase */
+} petool_callback;
+/* end of describe/records.txt */
+
+/* The TLS directory. OK; FAULT, with one of 1 to 15; or ABSENT. */
+PETOOL_WARN_UNUSED uint32_t petool_tls(const uint8_t *file, size_t len, petool_tls_directory *tls, petool_fault *fault);
+
+/* Its callbacks, up to the first address that is 0. OK; SMALL; or FAULT, with one of 1 to 15. */
+PETOOL_WARN_UNUSED uint32_t petool_tls_callbacks(const uint8_t *file, size_t len, petool_callback *rows, size_t room, size_t *count,
+                                                 petool_fault *fault);
+
+/* from describe/records.txt: field */
+typedef struct petool_field {
+    uint64_t value;  /* its number; 0 if the structure ends before the field does */
+    bool is_present; /* whether the structure has the field */
+} petool_field;
+/* end of describe/records.txt */
+
+/* The fields of the load configuration, in the order of "PE Format", whose names petool_name has: 52, or 0 if the image has no load
+ * configuration. Field 17 is SecurityCookie. OK; SMALL; or FAULT, with one of 1 to 15. */
+PETOOL_WARN_UNUSED uint32_t petool_load_configuration(const uint8_t *file, size_t len, petool_field *rows, size_t room,
+                                                      size_t *count, petool_fault *fault);
+
+/* from describe/records.txt: bound_import */
+typedef struct petool_bound_import {
+    uint32_t time_date_stamp;                 /* the time stamp of the module when it was bound */
+    uint16_t offset_module_name;              /* where the module's name is, from the beginning of the table */
+    uint16_t number_of_module_forwarder_refs; /* how many records after this one are of modules that it forwards to; reserved in a record of those */
+} petool_bound_import;
+/* end of describe/records.txt */
+
+/* The records of the bound import table before the first that is all zeros, in table order. OK; SMALL; or FAULT, with one of 1 to 15. */
+PETOOL_WARN_UNUSED uint32_t petool_bound_imports(const uint8_t *file, size_t len, petool_bound_import *rows, size_t room,
+                                                 size_t *count, petool_fault *fault);
+
+/* The fields of the CLR header: 19, or 0 if the image has none. They are cb; MajorRuntimeVersion, MinorRuntimeVersion; the RVA and the
+ * size of MetaData; Flags; EntryPointToken; and the RVAs and the sizes of Resources, StrongNameSignature, CodeManagerTable,
+ * VTableFixups, ExportAddressTableJumps and ManagedNativeHeader. OK; SMALL; or FAULT, with one of 1 to 15. */
+PETOOL_WARN_UNUSED uint32_t petool_clr(const uint8_t *file, size_t len, petool_field *rows, size_t room, size_t *count,
+                                       petool_fault *fault);
 
 /* ---- an image that is kept open between calls ---- */
 
@@ -736,6 +870,103 @@ PETOOL_WARN_UNUSED static inline uint32_t petool_nullable_export_by_ordinal(cons
 }
 #define petool_export_by_ordinal petool_nullable_export_by_ordinal
 
+PETOOL_WARN_UNUSED static inline uint32_t petool_nullable_findings(const uint8_t *file, size_t len, petool_fault *rows, size_t room,
+                                                                   size_t *count, petool_fault *fault)
+{
+    if (PETOOL_IS_LOST(file, len))
+        return PETOOL_ARGUMENT;
+    if (PETOOL_IS_LOST(rows, room))
+        return PETOOL_ARGUMENT;
+    return petool_findings((const uint8_t *)petool_some(file), len, (petool_fault *)petool_room(rows), room, count, fault);
+}
+#define petool_findings petool_nullable_findings
+
+PETOOL_WARN_UNUSED static inline uint32_t petool_nullable_debug(const uint8_t *file, size_t len, petool_debug_entry *rows,
+                                                                size_t room, size_t *count, petool_fault *fault)
+{
+    if (PETOOL_IS_LOST(file, len))
+        return PETOOL_ARGUMENT;
+    if (PETOOL_IS_LOST(rows, room))
+        return PETOOL_ARGUMENT;
+    return petool_debug((const uint8_t *)petool_some(file), len, (petool_debug_entry *)petool_room(rows), room, count, fault);
+}
+#define petool_debug petool_nullable_debug
+
+PETOOL_WARN_UNUSED static inline uint32_t petool_nullable_pdb(const uint8_t *file, size_t len, petool_pdb_file *pdb,
+                                                              petool_fault *fault)
+{
+    if (PETOOL_IS_LOST(file, len))
+        return PETOOL_ARGUMENT;
+    return petool_pdb((const uint8_t *)petool_some(file), len, pdb, fault);
+}
+#define petool_pdb petool_nullable_pdb
+
+PETOOL_WARN_UNUSED static inline uint32_t petool_nullable_functions(const uint8_t *file, size_t len, petool_function *rows,
+                                                                    size_t room, size_t *count, petool_fault *fault)
+{
+    if (PETOOL_IS_LOST(file, len))
+        return PETOOL_ARGUMENT;
+    if (PETOOL_IS_LOST(rows, room))
+        return PETOOL_ARGUMENT;
+    return petool_functions((const uint8_t *)petool_some(file), len, (petool_function *)petool_room(rows), room, count, fault);
+}
+#define petool_functions petool_nullable_functions
+
+PETOOL_WARN_UNUSED static inline uint32_t petool_nullable_tls(const uint8_t *file, size_t len, petool_tls_directory *tls,
+                                                              petool_fault *fault)
+{
+    if (PETOOL_IS_LOST(file, len))
+        return PETOOL_ARGUMENT;
+    return petool_tls((const uint8_t *)petool_some(file), len, tls, fault);
+}
+#define petool_tls petool_nullable_tls
+
+PETOOL_WARN_UNUSED static inline uint32_t petool_nullable_tls_callbacks(const uint8_t *file, size_t len, petool_callback *rows,
+                                                                        size_t room, size_t *count, petool_fault *fault)
+{
+    if (PETOOL_IS_LOST(file, len))
+        return PETOOL_ARGUMENT;
+    if (PETOOL_IS_LOST(rows, room))
+        return PETOOL_ARGUMENT;
+    return petool_tls_callbacks((const uint8_t *)petool_some(file), len, (petool_callback *)petool_room(rows), room, count, fault);
+}
+#define petool_tls_callbacks petool_nullable_tls_callbacks
+
+PETOOL_WARN_UNUSED static inline uint32_t petool_nullable_load_configuration(const uint8_t *file, size_t len, petool_field *rows,
+                                                                             size_t room, size_t *count, petool_fault *fault)
+{
+    if (PETOOL_IS_LOST(file, len))
+        return PETOOL_ARGUMENT;
+    if (PETOOL_IS_LOST(rows, room))
+        return PETOOL_ARGUMENT;
+    return petool_load_configuration((const uint8_t *)petool_some(file), len, (petool_field *)petool_room(rows), room, count,
+                                     fault);
+}
+#define petool_load_configuration petool_nullable_load_configuration
+
+PETOOL_WARN_UNUSED static inline uint32_t petool_nullable_bound_imports(const uint8_t *file, size_t len, petool_bound_import *rows,
+                                                                        size_t room, size_t *count, petool_fault *fault)
+{
+    if (PETOOL_IS_LOST(file, len))
+        return PETOOL_ARGUMENT;
+    if (PETOOL_IS_LOST(rows, room))
+        return PETOOL_ARGUMENT;
+    return petool_bound_imports((const uint8_t *)petool_some(file), len, (petool_bound_import *)petool_room(rows), room, count,
+                                fault);
+}
+#define petool_bound_imports petool_nullable_bound_imports
+
+PETOOL_WARN_UNUSED static inline uint32_t petool_nullable_clr(const uint8_t *file, size_t len, petool_field *rows, size_t room,
+                                                              size_t *count, petool_fault *fault)
+{
+    if (PETOOL_IS_LOST(file, len))
+        return PETOOL_ARGUMENT;
+    if (PETOOL_IS_LOST(rows, room))
+        return PETOOL_ARGUMENT;
+    return petool_clr((const uint8_t *)petool_some(file), len, (petool_field *)petool_room(rows), room, count, fault);
+}
+#define petool_clr petool_nullable_clr
+
 PETOOL_WARN_UNUSED static inline uint32_t petool_nullable_image_open(petool_image *image, const uint8_t *file, size_t len,
                                                                      petool_fault *fault)
 {
@@ -1060,6 +1291,44 @@ PETOOL_AT(petool_counts, exports, 0);
 PETOOL_AT(petool_counts, names, 8);
 PETOOL_AT(petool_counts, imports, 16);
 PETOOL_AT(petool_counts, fixups, 24);
+PETOOL_SIZE(petool_debug_entry, 28);
+PETOOL_AT(petool_debug_entry, characteristics, 0);
+PETOOL_AT(petool_debug_entry, time_date_stamp, 4);
+PETOOL_AT(petool_debug_entry, major_version, 8);
+PETOOL_AT(petool_debug_entry, minor_version, 10);
+PETOOL_AT(petool_debug_entry, kind, 12);
+PETOOL_AT(petool_debug_entry, size_of_data, 16);
+PETOOL_AT(petool_debug_entry, address_of_raw_data, 20);
+PETOOL_AT(petool_debug_entry, pointer_to_raw_data, 24);
+PETOOL_SIZE(petool_pdb_file, 48);
+PETOOL_AT(petool_pdb_file, path, 0);
+PETOOL_AT(petool_pdb_file, kind, 16);
+PETOOL_AT(petool_pdb_file, age, 20);
+PETOOL_AT(petool_pdb_file, guid, 24);
+PETOOL_AT(petool_pdb_file, time_date_stamp, 40);
+PETOOL_AT(petool_pdb_file, offset, 44);
+PETOOL_SIZE(petool_function, 16);
+PETOOL_AT(petool_function, begin, 0);
+PETOOL_AT(petool_function, end, 4);
+PETOOL_AT(petool_function, unwind, 8);
+PETOOL_AT(petool_function, kind, 12);
+PETOOL_SIZE(petool_tls_directory, 56);
+PETOOL_AT(petool_tls_directory, start_address_of_raw_data, 0);
+PETOOL_AT(petool_tls_directory, end_address_of_raw_data, 8);
+PETOOL_AT(petool_tls_directory, address_of_index, 16);
+PETOOL_AT(petool_tls_directory, address_of_callbacks, 24);
+PETOOL_AT(petool_tls_directory, size_of_zero_fill, 32);
+PETOOL_AT(petool_tls_directory, characteristics, 40);
+PETOOL_AT(petool_tls_directory, is_whole, 48);
+PETOOL_SIZE(petool_callback, 8);
+PETOOL_AT(petool_callback, address, 0);
+PETOOL_SIZE(petool_field, 16);
+PETOOL_AT(petool_field, value, 0);
+PETOOL_AT(petool_field, is_present, 8);
+PETOOL_SIZE(petool_bound_import, 8);
+PETOOL_AT(petool_bound_import, time_date_stamp, 0);
+PETOOL_AT(petool_bound_import, offset_module_name, 4);
+PETOOL_AT(petool_bound_import, number_of_module_forwarder_refs, 6);
 PETOOL_SIZE(petool_image, 16);
 PETOOL_AT(petool_image, state, 0);
 PETOOL_AT(petool_image, is_open, 8);

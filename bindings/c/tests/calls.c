@@ -433,7 +433,11 @@ static void check_names(void)
     CHECK(is_named(PETOOL_NAME_SECTION_FLAG, 0x40000000, "MEM_READ") && is_named(PETOOL_NAME_SECTION_FLAG, 0x20, "CNT_CODE"));
     CHECK(has_no_name(PETOOL_NAME_SECTION_FLAG, 0x100000));
     CHECK(is_named(PETOOL_NAME_DIRECTORY, 0, "export") && is_named(PETOOL_NAME_DIRECTORY, 5, "base relocation"));
-    CHECK(has_no_name(PETOOL_NAME_DIRECTORY, 16) && has_no_name(6, 0) && has_no_name(0xffffffff, 0x8664));
+    CHECK(has_no_name(PETOOL_NAME_DIRECTORY, 16) && has_no_name(8, 0) && has_no_name(0xffffffff, 0x8664));
+    CHECK(is_named(PETOOL_NAME_DEBUG_TYPE, 2, "CODEVIEW") && is_named(PETOOL_NAME_DEBUG_TYPE, 20, "EX_DLLCHARACTERISTICS"));
+    CHECK(has_no_name(PETOOL_NAME_DEBUG_TYPE, 18) && has_no_name(PETOOL_NAME_DEBUG_TYPE, 0x10002));
+    CHECK(is_named(PETOOL_NAME_LOAD_FIELD, 0, "Size") && is_named(PETOOL_NAME_LOAD_FIELD, 17, "SecurityCookie"));
+    CHECK(is_named(PETOOL_NAME_LOAD_FIELD, 51, "GuardMemcpyFunctionPointer") && has_no_name(PETOOL_NAME_LOAD_FIELD, 52));
 }
 
 /* NULL with length or room 0 is allowed for bytes, texts and rows; with another it is refused, and nothing is done. */

@@ -72,6 +72,41 @@ static void ask_tables(const uint8_t *file, size_t len, uint32_t judged, const p
     CHECK(right);
 }
 
+static void ask_beyond(const uint8_t *file, size_t len, uint32_t judged, const petool_fault *first)
+{
+    petool_debug_entry entries[ROWS];
+    petool_function functions[ROWS];
+    petool_callback callbacks[ROWS];
+    petool_field fields[ROWS];
+    petool_bound_import imports[ROWS];
+    petool_tls_directory tls;
+    petool_pdb_file pdb;
+    petool_fault found[ROWS], fault = {0, 0, 0, 0};
+    size_t count = 0;
+    uint32_t status;
+    int right;
+    petool_pdb_init(&pdb);
+    status = petool_debug(file, len, entries, ROWS, &count, &fault);
+    right = agrees(status, &fault, judged, first);
+    status = petool_functions(file, len, functions, ROWS, &count, &fault);
+    right = right && agrees(status, &fault, judged, first);
+    status = petool_tls_callbacks(file, len, callbacks, ROWS, &count, &fault);
+    right = right && agrees(status, &fault, judged, first);
+    status = petool_load_configuration(file, len, fields, ROWS, &count, &fault);
+    right = right && agrees(status, &fault, judged, first);
+    status = petool_clr(file, len, fields, ROWS, &count, &fault);
+    right = right && agrees(status, &fault, judged, first);
+    status = petool_bound_imports(file, len, imports, ROWS, &count, &fault);
+    right = right && agrees(status, &fault, judged, first);
+    status = petool_findings(file, len, found, ROWS, &count, &fault);
+    right = right && agrees(status, &fault, judged, first);
+    status = petool_tls(file, len, &tls, &fault);
+    right = right && agrees(status, &fault, judged, first);
+    status = petool_pdb(file, len, &pdb, &fault);
+    right = right && agrees(status, &fault, judged, first);
+    CHECK(right);
+}
+
 /* An image is open if and only if the file has no fault, and its look-ups return what the calls over the file do. */
 static void ask_opened(const uint8_t *file, size_t len, uint32_t judged, const petool_fault *first)
 {
@@ -133,6 +168,7 @@ static void ask(const uint8_t *file, size_t len)
     CHECK(is_answer(judged, &first, 38));
     ask_headers(file, len, judged, &first);
     ask_tables(file, len, judged, &first);
+    ask_beyond(file, len, judged, &first);
     ask_opened(file, len, judged, &first);
     ask_spaces(file, len);
     status = petool_rebase(file, len, 0x20000000, out, len, &fault);

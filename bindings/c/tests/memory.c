@@ -46,7 +46,7 @@ void __wrap_free(void *at)
     __real_free(at);
 }
 
-static bytes va, vb, vc, vr, v2;
+static bytes v1, va, vb, vc, vr, v2;
 static petool_entry abc[3];
 static petool_fault fault;
 static petool_image image;
@@ -105,6 +105,14 @@ static uint32_t find_ordinal(void)
     petool_target target;
     petool_target_init(&target);
     return petool_export_by_ordinal(vr.at, vr.len, 65537, &target, &fault);
+}
+
+/* v1.dll with a debug directory of 29 bytes, of which the file holds 16: findings 101 and 102. */
+static uint32_t find_rules(void)
+{
+    petool_fault rows[2];
+    memset(rows, 0, sizeof rows);
+    return petool_findings(v1.at, v1.len, rows, 2, &count, &fault);
 }
 
 static uint32_t open_file(void)
@@ -255,6 +263,8 @@ int main(int argc, char **argv)
     vc = file_in(argv[1], "vc.dll");
     vr = file_in(argv[1], "vr.dll");
     v2 = file_in(argv[1], "v2.dll");
+    v1 = file_in(argv[1], "v1.dll");
+    v1.at[0xe9] = 0x10, v1.at[0xec] = 29;
     set_abc(abc, va, vb, vc);
     refuse_each("petool_check", judge_file, 0);
     refuse_each("petool_exports", read_exports, SORTING);
@@ -264,6 +274,7 @@ int main(int argc, char **argv)
     refuse_each("petool_fixups", read_fixups, 0);
     refuse_each("petool_export_by_name", find_name, SORTING);
     refuse_each("petool_export_by_ordinal", find_ordinal, SORTING);
+    refuse_each("petool_findings", find_rules, 0);
     refuse_each("petool_image_open", open_file, 0);
     refuse_each("petool_image_open over an open image", open_over, 0);
     refuse_each("petool_image_share", share_image, 0);
@@ -273,6 +284,6 @@ int main(int argc, char **argv)
     refuse_each("petool_space_map_within", map_within, 0);
     refuse_each("petool_space_map over an open space", map_over, 0);
     check_opened();
-    free(va.at), free(vb.at), free(vc.at), free(vr.at), free(v2.at);
+    free(v1.at), free(va.at), free(vb.at), free(vc.at), free(vr.at), free(v2.at);
     return told();
 }

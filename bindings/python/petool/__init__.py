@@ -23,6 +23,9 @@ What is raised:
 
 ``Image.text`` and ``Image.locate`` return None if there is no such string or byte.
 
+Debug data, functions, TLS, the load configuration, bound imports and the CLR header refuse no image: ``Image.findings`` has each of
+their rules that is broken.
+
 Data is any object with the buffer protocol: bytes, bytearray, memoryview, mmap. It is not copied, and nobody may change it while a
 call runs. Calls do not hold the interpreter's lock. Make no call in a forked child of a process with threads.
 """
@@ -61,6 +64,7 @@ from ._object import (
     SectionHeader,
 )
 from ._space import Binding, Moved, Space, Standing, judge
+from ._tables import BoundImport, ClrHeader, DebugEntry, Finding, Function, LoadConfiguration, Pdb, Tls
 
 
 def version() -> str:
@@ -77,13 +81,19 @@ __all__ = [
     "Section",
     # end of describe/records.txt
     "Binding",
+    "BoundImport",
     "Buffer",
+    "ClrHeader",
+    "DebugEntry",
     "Export",
     "Exports",
+    "Finding",
     "FormatFault",
     "Forward",
+    "Function",
     "Image",
     "Import",
+    "LoadConfiguration",
     "Moved",
     "Named",
     "Object",
@@ -91,6 +101,7 @@ __all__ = [
     "ObjectRelocation",
     "ObjectSection",
     "ObjectSymbol",
+    "Pdb",
     "Place",
     "Rva",
     "SECTION_ABSOLUTE",
@@ -100,6 +111,7 @@ __all__ = [
     "Space",
     "Standing",
     "Target",
+    "Tls",
     "check",
     "judge",
     "name_of",

@@ -35,7 +35,7 @@ _MOST_VALUES = 3
 _LINE = 257
 
 
-def _words(number: int) -> Tuple[str, str]:
+def words_of(number: int) -> Tuple[str, str]:
     """What is at the place of a fault, and which rule it breaks."""
     subject, rule = _library.no_text(), _library.no_text()
     if library.petool_fault_words(number, ctypes.byref(subject), ctypes.byref(rule)) != _library.OK:
@@ -57,9 +57,8 @@ def values_of(address: int, length: int, fault: FormatFault) -> Dict[str, int]:
     return {ctypes.string_at(it.name.at, it.name.len).decode(): it.number for it in rows[: count.value] if it.kind != _VALUE_NOTHING}
 
 
-def _line(fault: FormatFault) -> str:
+def line_of(record: _records.Fault) -> str:
     """A fault as one line, without its number."""
-    record = _record_of(fault)
     room = ctypes.create_string_buffer(_LINE)
     library.petool_fault_line(ctypes.byref(record), room, _LINE)
     return room.value.decode()
@@ -86,13 +85,13 @@ class FormatFault(ValueError):
     def __init__(self, number: int, image: int, place: int, at: int, cycle: Optional[int] = None) -> None:
         super().__init__(number, image, place, at, cycle)
         self.number, self.image, self.place, self.at = number, image, Place(place), at
-        self.subject, self.rule = _words(number)
+        self.subject, self.rule = words_of(number)
         self.cycle = cycle
         self.file = self.module = self.key = None
         self.values = {}
 
     def __str__(self) -> str:
-        return f"fault {self.number}: {_line(self)}"
+        return f"fault {self.number}: {line_of(_record_of(self))}"
 
 
 def raise_for(status: int) -> None:

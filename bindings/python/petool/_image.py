@@ -13,12 +13,13 @@ from ctypes import byref
 from dataclasses import dataclass, fields
 from typing import Any, Callable, Dict, Iterator, NamedTuple, Optional, Sequence, Tuple, Union
 
-from . import _library, _records, _section_names
+from . import _library, _records, _section_names, _tables
 from ._bytes import LAYOUTS, Buffer, FileBytes, RowLayout, Rows, address_of, read_rows, unsigned, view_of
 from ._fault import FormatFault, ask, raise_for
 from ._file import OfFile
 from ._joined import HEADS, Joined
 from ._library import library
+from ._tables import BoundImport, ClrHeader, DebugEntry, Finding, Function, LoadConfiguration, Pdb, Tls
 
 
 @dataclass(frozen=True)
@@ -191,6 +192,9 @@ _TARGET_ORDINAL = 1  #: an ordinal of another module
 _TARGET_NAME = 2  #: a name of another module
 # end of describe/records.txt
 
+
+#: The data directory of the bound import table.
+_BOUND_IMPORT = 11
 
 #: Room for this many rows, before they are counted.
 _GUESS = 64
@@ -377,6 +381,9 @@ class Image(OfFile):
         self._exports: Optional[Exports] = None
         self._imports: Optional[Rows[Import]] = None
         self._fixup_rows: Optional[memoryview] = None
+        self._debug: Optional[Rows[DebugEntry]] = None
+        self._functions: Optional[Rows[Function]] = None
+        self._findings: Optional[Tuple[Finding, ...]] = None
         try:
             if check:
                 self._held(self._open)
@@ -476,6 +483,63 @@ class Image(OfFile):
         ``numpy.frombuffer(array, "u4").reshape(-1, 3)`` is a table of them. It may be kept after the image is closed.
         """
         return self._fixups().cast("I")
+
+    def _beyond(self, name: str, layout: RowLayout) -> memoryview:
+        """The rows of a table beyond the profile, which is read from the file."""
+        return read_rows(layout, _GUESS, lambda *rows: self._ask(getattr(library, "petool_" + name), *rows))
+
+    @property
+    def debug(self) -> Sequence[DebugEntry]:
+        """The entries of the debug directory, in table order, read when first needed."""
+        if self._debug is None:
+            layout = LAYOUTS["debug_entry"]
+            self._debug = Rows(self._beyond("debug", layout), layout, DebugEntry, _tables.entries_of)
+        return self._debug
+
+    @property
+    def pdb(self) -> Optional[Pdb]:
+        """The PDB file that the first entry of the debug directory names that names one; None if none does."""
+        return _tables.pdb_by(lambda pdb: self._ask(library.petool_pdb, pdb), self._file.text)
+
+    @property
+    def functions(self) -> Sequence[Function]:
+        """The functions of the exception table, in table order, read when first needed. A machine other than AMD64, ARM64 and
+        ARMNT has none."""
+        if self._functions is None:
+            layout = LAYOUTS["function"]
+            self._functions = Rows(self._beyond("functions", layout), layout, Function, _tables.functions_of)
+        return self._functions
+
+    @property
+    def tls(self) -> Optional[Tls]:
+        """The TLS directory with its callbacks; None if there is none."""
+        return _tables.tls_by(lambda tls: self._ask(library.petool_tls, tls), lambda: self._beyond("tls_callbacks", LAYOUTS["callback"]))
+
+    @property
+    def load_configuration(self) -> Optional[LoadConfiguration]:
+        """The load configuration; None if there is none, or the file does not hold its field Size."""
+        values = tuple(_tables.values_of(LAYOUTS["field"], self._beyond("load_configuration", LAYOUTS["field"])))
+        return LoadConfiguration._make(values) if values else None
+
+    @property
+    def clr(self) -> Optional[ClrHeader]:
+        """The CLR header; None if there is none, or the file does not hold its field cb."""
+        values = tuple(_tables.values_of(LAYOUTS["field"], self._beyond("clr", LAYOUTS["field"])))
+        return ClrHeader._make(values) if values else None
+
+    @property
+    def bound_imports(self) -> Tuple[BoundImport, ...]:
+        """The records of the bound import table before the first that is all zeros, in table order."""
+        layout, start = LAYOUTS["bound_import"], self.headers.directories[_BOUND_IMPORT].rva
+        rows = layout.struct.iter_unpack(self._beyond("bound_imports", layout))
+        return tuple(BoundImport(stamp, offset, count, self.text(start + offset)) for stamp, offset, count in rows)
+
+    @property
+    def findings(self) -> Tuple[Finding, ...]:
+        """The rules of the tables beyond the profile that are broken, in the order of docs/FAULTS.md by table."""
+        if self._findings is None:
+            self._findings = _tables.findings_by(lambda *rows: self._ask(library.petool_findings, *rows))
+        return self._findings
 
     def read(self, rva: int, count: int) -> bytes:
         """The bytes of the laid-out image from an RVA on. IndexError if they do not all lie in the image."""

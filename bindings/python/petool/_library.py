@@ -31,6 +31,11 @@ NAME_SECTION_FLAG = 4  #: a flag of a section
 NAME_DIRECTORY = 5  #: the table of a data directory, by its index
 # end of describe/records.txt
 
+# from describe/records.txt: table_names
+NAME_DEBUG_TYPE = 6  #: a type of debug data
+NAME_LOAD_FIELD = 7  #: a field of the load configuration, by its index
+# end of describe/records.txt
+
 #: No image has more sections.
 MOST_SECTIONS = 96
 

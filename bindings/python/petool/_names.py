@@ -19,6 +19,8 @@ class Named(enum.IntEnum):
     DLL_FLAG = _library.NAME_DLL_FLAG
     SECTION_FLAG = _library.NAME_SECTION_FLAG
     DIRECTORY = _library.NAME_DIRECTORY
+    DEBUG_TYPE = _library.NAME_DEBUG_TYPE
+    LOAD_FIELD = _library.NAME_LOAD_FIELD
 
 
 def name_of(kind: Named, value: int) -> Optional[str]:

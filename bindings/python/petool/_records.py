@@ -85,6 +85,29 @@ class Counts(Structure):
     _fields_ = [("exports", c_size_t), ("names", c_size_t), ("imports", c_size_t), ("fixups", c_size_t)]
 
 
+class PdbFile(Structure):
+    _fields_ = [
+        ("path", Text),
+        ("kind", c_uint32),
+        ("age", c_uint32),
+        ("guid", c_uint8 * 16),
+        ("time_date_stamp", c_uint32),
+        ("offset", c_uint32),
+    ]
+
+
+class TlsDirectory(Structure):
+    _fields_ = [
+        ("start_address_of_raw_data", c_uint64),
+        ("end_address_of_raw_data", c_uint64),
+        ("address_of_index", c_uint64),
+        ("address_of_callbacks", c_uint64),
+        ("size_of_zero_fill", c_uint64),
+        ("characteristics", c_uint64),
+        ("is_whole", c_bool),
+    ]
+
+
 class Image(Structure):
     _fields_ = [("state", c_void_p), ("is_open", c_bool)]
 
@@ -133,6 +156,11 @@ FORMS = {
     "export": "QPNIIQPNPN",
     "import": "PNPNQI?xxx",
     "fixup": "III",
+    "debug_entry": "IIHHIIII",
+    "function": "IIII",
+    "callback": "Q",
+    "field": "Q?xxxxxxx",
+    "bound_import": "IHH",
     "binding": "IIII",
     "object_section": "PNPNIIIIIxxxx",
     "object_relocation": "III",
@@ -173,6 +201,18 @@ CALLS: Dict[str, Tuple[Any, List[Any]]] = {
     "petool_import_at": (c_uint32, [c_void_p, c_size_t, c_uint32, c_void_p, POINTER(Fault)]),
     "petool_export_by_name": (c_uint32, [c_void_p, c_size_t, c_void_p, c_size_t, POINTER(Target), POINTER(Fault)]),
     "petool_export_by_ordinal": (c_uint32, [c_void_p, c_size_t, c_uint64, POINTER(Target), POINTER(Fault)]),
+    "petool_findings": (c_uint32, [c_void_p, c_size_t, POINTER(Fault), c_size_t, POINTER(c_size_t), POINTER(Fault)]),
+    "petool_debug": (c_uint32, [c_void_p, c_size_t, c_void_p, c_size_t, POINTER(c_size_t), POINTER(Fault)]),
+    "petool_pdb": (c_uint32, [c_void_p, c_size_t, POINTER(PdbFile), POINTER(Fault)]),
+    "petool_functions": (c_uint32, [c_void_p, c_size_t, c_void_p, c_size_t, POINTER(c_size_t), POINTER(Fault)]),
+    "petool_tls": (c_uint32, [c_void_p, c_size_t, POINTER(TlsDirectory), POINTER(Fault)]),
+    "petool_tls_callbacks": (c_uint32, [c_void_p, c_size_t, c_void_p, c_size_t, POINTER(c_size_t), POINTER(Fault)]),
+    "petool_load_configuration": (
+        c_uint32,
+        [c_void_p, c_size_t, c_void_p, c_size_t, POINTER(c_size_t), POINTER(Fault)],
+    ),
+    "petool_bound_imports": (c_uint32, [c_void_p, c_size_t, c_void_p, c_size_t, POINTER(c_size_t), POINTER(Fault)]),
+    "petool_clr": (c_uint32, [c_void_p, c_size_t, c_void_p, c_size_t, POINTER(c_size_t), POINTER(Fault)]),
     "petool_image_open": (c_uint32, [POINTER(Image), c_void_p, c_size_t, POINTER(Fault)]),
     "petool_image_share": (c_uint32, [POINTER(Image), POINTER(Image)]),
     "petool_image_read": (c_uint32, [POINTER(Image), c_uint32, c_void_p, c_size_t]),

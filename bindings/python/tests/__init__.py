@@ -40,7 +40,7 @@ TABLES = [name for name, it in vars(petool.Image).items() if isinstance(it, prop
 
 
 def rows_of(table: Any) -> List[Any]:
-    """All rows of a table of an image: those of the exports by name, by ordinal, and what each key exports."""
+    """All rows of a table of an image: those of the exports by name, by ordinal, and what each key exports. What is absent has none."""
     if isinstance(table, petool.Exports):
         return [*table.names(), *table.ordinals(), *table.values()]
-    return list(table)
+    return list(table or ())

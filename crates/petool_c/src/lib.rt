@@ -11,8 +11,13 @@
 #![tactic(auto)]
 
 // from describe/records.txt: modules
+mod bound_import;
+mod debug;
 mod export;
+mod field;
+mod finding;
 mod fixup;
+mod function;
 mod headers;
 mod image;
 mod import;
@@ -29,5 +34,6 @@ mod symbol;
 mod tables;
 #[cfg(test)]
 mod tests;
+mod tls;
 mod words;
 // end of describe/records.txt

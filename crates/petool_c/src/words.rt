@@ -6,15 +6,15 @@ ghost use Rattle.pe_records_c.specs.Faults.{fault_of};
 ghost use Rattle.pe_records_c.specs.Images.{IsText};
 ghost use Rattle.pe_records_c.specs.Lines.{line_of};
 ghost use Rattle.pe_records_c.specs.Rows.{TellsTable};
-ghost use Rattle.pe_records_c.specs.ValueNames.{value_name};
 ghost use Rattle.pe_records_c.specs.ValueRows.{value_text, value_of, fault_values};
+ghost use Rattle.pe_tables_c.specs.TableNames.{table_name};
 ghost use Rattle.pe_text.specs.FaultWords.{rules, words_in, sentence};
 
 use pe_records_c::fault::{FaultRecord, fault_of};
-use pe_records_c::name::name_of;
 use pe_records_c::status;
 use pe_records_c::text::{TextRecord, put_line};
 use pe_records_c::value::{ValueRow, tell_values};
+use pe_tables_c::name::name_of;
 use pe_text::{fault_sentence, fault_words};
 
 /// The version of this library: its first part times 65,536, plus its second part. A program that was built for another first
@@ -74,12 +74,13 @@ pub extern "C" fn petool_fault_detail(
 }
 
 /// The name that "PE Format" has for a value: for `kind` 0 of a machine, 1 of a subsystem, 2 of a flag of Characteristics in a COFF
-/// file header, 3 of a flag of DllCharacteristics, 4 of a flag of a section, or 5 of the table of a directory, by its index.
+/// file header, 3 of a flag of DllCharacteristics, 4 of a flag of a section, 5 of the table of a directory, by its index, 6 of a type
+/// of debug data, or 7 of a field of the load configuration, by its index.
 ///
 /// The status is 0, or 3 if the value has no name, or there is no such kind, which leaves the name unchanged.
 #[unsafe(no_mangle)]
 pub extern "C" fn petool_name(kind: u32, value: u32, name: &mut TextRecord<'static>) -> u32
-    ensures { IsText (value_name kind value) name.old name.new result }
+    ensures { IsText (table_name kind value) name.old name.new result }
 {
     match name_of(kind, value) {
         Some(found) => {

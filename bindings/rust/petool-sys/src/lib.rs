@@ -63,12 +63,27 @@ pub const PETOOL_NAME_SECTION_FLAG: u32 = 4;
 /// What has a name is the table of a data directory, by its index.
 pub const PETOOL_NAME_DIRECTORY: u32 = 5;
 
+/// What has a name is a type of debug data.
+pub const PETOOL_NAME_DEBUG_TYPE: u32 = 6;
+/// What has a name is a field of the load configuration, by its index.
+pub const PETOOL_NAME_LOAD_FIELD: u32 = 7;
+
 /// An export's target is an RVA of the image.
 pub const PETOOL_TARGET_RVA: u32 = 0;
 /// An export's target is an ordinal of another module.
 pub const PETOOL_TARGET_ORDINAL: u32 = 1;
 /// An export's target is a name of another module.
 pub const PETOOL_TARGET_NAME: u32 = 2;
+
+/// A PDB file is one of PDB 7.0, which a GUID tells from others of its name.
+pub const PETOOL_PDB_SEVEN: u32 = 0;
+/// A PDB file is one of PDB 2.0, which a time stamp tells from others of its name.
+pub const PETOOL_PDB_TWO: u32 = 1;
+
+/// The form of a function's entry is that of AMD64.
+pub const PETOOL_FUNCTION_AMD64: u32 = 0;
+/// The form of a function's entry is that of ARM64 and ARMNT.
+pub const PETOOL_FUNCTION_ARM: u32 = 1;
 
 /// The section number of a symbol that is defined in another object.
 pub const PETOOL_SECTION_UNDEFINED: u16 = 0;
@@ -105,7 +120,7 @@ pub struct Text {
 #[repr(C)]
 #[derive(Clone, Copy, Debug, Default, PartialEq, Eq, Hash)]
 pub struct Fault {
-    /// As in docs/FAULTS.md, from 1 to 85.
+    /// As in docs/FAULTS.md: of a fault from 1 to 85, of a finding from 101 on.
     pub number: u16,
     /// What `at` counts: a `PETOOL_PLACE`.
     pub place: u16,
@@ -354,6 +369,122 @@ pub struct Counts {
     pub imports: usize,
     /// Base relocations.
     pub fixups: usize,
+}
+
+/// An entry of the debug directory.
+#[repr(C)]
+#[derive(Clone, Copy, Debug, Default, PartialEq, Eq, Hash)]
+pub struct DebugEntry {
+    /// Reserved.
+    pub characteristics: u32,
+    /// When the data was made, in seconds since 1970, or a hash.
+    pub time_date_stamp: u32,
+    /// The major version of the data's format.
+    pub major_version: u16,
+    /// The minor version of the data's format.
+    pub minor_version: u16,
+    /// The type of the data: 2 a CodeView record, which names the PDB file.
+    pub kind: u32,
+    /// The size of the data.
+    pub size_of_data: u32,
+    /// The RVA of the data; 0 if it is not laid out.
+    pub address_of_raw_data: u32,
+    /// The file offset of the data; 0 if the file does not hold it.
+    pub pointer_to_raw_data: u32,
+}
+
+/// Which PDB file belongs to an image.
+#[repr(C)]
+#[derive(Clone, Copy, Debug)]
+pub struct PdbFile {
+    /// Its path where it was made; empty if no zero byte ends it.
+    pub path: Text,
+    /// A `PETOOL_PDB`.
+    pub kind: u32,
+    /// How often the file was written.
+    pub age: u32,
+    /// The GUID of a PDB 7.0 file, in the order of the image's bytes; otherwise zeros.
+    pub guid: [u8; 16],
+    /// When a PDB 2.0 file was made, in seconds since 1970; otherwise 0.
+    pub time_date_stamp: u32,
+    /// Where the debug data of a PDB 2.0 file begins in it, mostly 0; otherwise 0.
+    pub offset: u32,
+}
+
+impl PdbFile {
+    /// Its value before a call sets it.
+    pub const NONE: PdbFile = PdbFile {
+        path: Text::NONE,
+        kind: 0,
+        age: 0,
+        guid: [0; 16],
+        time_date_stamp: 0,
+        offset: 0,
+    };
+}
+
+/// A function of the exception table.
+#[repr(C)]
+#[derive(Clone, Copy, Debug, Default, PartialEq, Eq, Hash)]
+pub struct Function {
+    /// The RVA of its first byte; on ARMNT with 1 added, as for all Thumb code.
+    pub begin: u32,
+    /// The RVA after its last byte; 0 on ARM64 and ARMNT, whose tables do not have it.
+    pub end: u32,
+    /// On AMD64 the RVA of its unwind information; on ARM64 and ARMNT the RVA of its unwind record if the low two bits are 0, otherwise that record, packed.
+    pub unwind: u32,
+    /// A `PETOOL_FUNCTION`.
+    pub kind: u32,
+}
+
+/// The TLS directory. Addresses are those at ImageBase, and 0 where there is none. A field that the file does not hold is 0.
+#[repr(C)]
+#[derive(Clone, Copy, Debug, Default, PartialEq, Eq, Hash)]
+pub struct TlsDirectory {
+    /// The address of the first byte of the template for the data of a thread.
+    pub start_address_of_raw_data: u64,
+    /// The address after the last byte of the template.
+    pub end_address_of_raw_data: u64,
+    /// The address of the index that the loader assigns.
+    pub address_of_index: u64,
+    /// The address of the callbacks.
+    pub address_of_callbacks: u64,
+    /// How many zero bytes follow the template.
+    pub size_of_zero_fill: u64,
+    /// The alignment, as in the flags of a section.
+    pub characteristics: u64,
+    /// Whether the file holds all fields.
+    pub is_whole: bool,
+}
+
+/// A callback of the TLS directory.
+#[repr(C)]
+#[derive(Clone, Copy, Debug, Default, PartialEq, Eq, Hash)]
+pub struct Callback {
+    /// Its address at ImageBase.
+    pub address: u64,
+}
+
+/// A field of the load configuration or of the CLR header.
+#[repr(C)]
+#[derive(Clone, Copy, Debug, Default, PartialEq, Eq, Hash)]
+pub struct Field {
+    /// Its number; 0 if the structure ends before the field does.
+    pub value: u64,
+    /// Whether the structure has the field.
+    pub is_present: bool,
+}
+
+/// A record of the bound import table: of a module, or of a module that it forwards to.
+#[repr(C)]
+#[derive(Clone, Copy, Debug, Default, PartialEq, Eq, Hash)]
+pub struct BoundImport {
+    /// The time stamp of the module when it was bound.
+    pub time_date_stamp: u32,
+    /// Where the module's name is, from the beginning of the table.
+    pub offset_module_name: u16,
+    /// How many records after this one are of modules that it forwards to; reserved in a record of those.
+    pub number_of_module_forwarder_refs: u16,
 }
 
 /// An image that is kept open between calls. Set to [`Image::CLOSED`] before the first call, and never copied.
@@ -647,6 +778,65 @@ extern "C" {
         len: usize,
         ordinal: u64,
         target: *mut Target,
+        fault: *mut Fault,
+    ) -> u32;
+
+    pub fn petool_findings(
+        file: *const u8,
+        len: usize,
+        rows: *mut Fault,
+        room: usize,
+        count: *mut usize,
+        fault: *mut Fault,
+    ) -> u32;
+    pub fn petool_debug(
+        file: *const u8,
+        len: usize,
+        rows: *mut DebugEntry,
+        room: usize,
+        count: *mut usize,
+        fault: *mut Fault,
+    ) -> u32;
+    pub fn petool_pdb(file: *const u8, len: usize, pdb: *mut PdbFile, fault: *mut Fault) -> u32;
+    pub fn petool_functions(
+        file: *const u8,
+        len: usize,
+        rows: *mut Function,
+        room: usize,
+        count: *mut usize,
+        fault: *mut Fault,
+    ) -> u32;
+    pub fn petool_tls(file: *const u8, len: usize, tls: *mut TlsDirectory, fault: *mut Fault) -> u32;
+    pub fn petool_tls_callbacks(
+        file: *const u8,
+        len: usize,
+        rows: *mut Callback,
+        room: usize,
+        count: *mut usize,
+        fault: *mut Fault,
+    ) -> u32;
+    pub fn petool_load_configuration(
+        file: *const u8,
+        len: usize,
+        rows: *mut Field,
+        room: usize,
+        count: *mut usize,
+        fault: *mut Fault,
+    ) -> u32;
+    pub fn petool_bound_imports(
+        file: *const u8,
+        len: usize,
+        rows: *mut BoundImport,
+        room: usize,
+        count: *mut usize,
+        fault: *mut Fault,
+    ) -> u32;
+    pub fn petool_clr(
+        file: *const u8,
+        len: usize,
+        rows: *mut Field,
+        room: usize,
+        count: *mut usize,
         fault: *mut Fault,
     ) -> u32;
 

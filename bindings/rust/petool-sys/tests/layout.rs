@@ -54,6 +54,21 @@ fn the_records_of_tables_are_laid_out_as_in_c() {
 }
 
 #[test]
+fn the_records_of_tables_beyond_the_profile_are_laid_out_as_in_c() {
+    layout!(DebugEntry, 28, 4, characteristics 0, time_date_stamp 4, major_version 8,
+        minor_version 10, kind 12, size_of_data 16, address_of_raw_data 20, pointer_to_raw_data 24);
+    layout!(PdbFile, 48, 8, path 0, kind 16, age 20, guid 24, time_date_stamp 40, offset 44);
+    layout!(Function, 16, 4, begin 0, end 4, unwind 8, kind 12);
+    layout!(TlsDirectory, 56, 8, start_address_of_raw_data 0, end_address_of_raw_data 8,
+        address_of_index 16, address_of_callbacks 24, size_of_zero_fill 32, characteristics 40,
+        is_whole 48);
+    layout!(Callback, 8, 8, address 0);
+    layout!(Field, 16, 8, value 0, is_present 8);
+    layout!(BoundImport, 8, 4, time_date_stamp 0, offset_module_name 4,
+        number_of_module_forwarder_refs 6);
+}
+
+#[test]
 fn the_records_of_open_images_are_laid_out_as_in_c() {
     layout!(Image, 16, 8, state 0, is_open 8);
 }

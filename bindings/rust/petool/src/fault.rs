@@ -32,7 +32,7 @@ impl fmt::Display for Place {
 /// It is shown in words: `section header at 0x138: the section's raw data extends past the end of the file`.
 #[derive(Clone, Copy, Debug, PartialEq, Eq, Hash)]
 pub struct Fault {
-    /// Which rule, from 1 to 85.
+    /// Which rule: of a fault from 1 to 85, of a finding from 101 on.
     pub number: u16,
     /// The index of the entry in a set; otherwise 0.
     pub image: u32,
@@ -144,6 +144,10 @@ pub enum Named {
     SectionFlag,
     /// The table of a data directory, by its index, such as `export`.
     Directory,
+    /// A type of debug data, such as `CODEVIEW`.
+    DebugType,
+    /// A field of the load configuration, by its index, such as `SecurityCookie`.
+    LoadField,
 }
 
 /// The name that "PE Format" has for a value; a flag is one bit.
@@ -163,6 +167,8 @@ pub fn name_of(kind: Named, value: u32) -> Option<&'static str> {
         Named::DllFlag => sys::PETOOL_NAME_DLL_FLAG,
         Named::SectionFlag => sys::PETOOL_NAME_SECTION_FLAG,
         Named::Directory => sys::PETOOL_NAME_DIRECTORY,
+        Named::DebugType => sys::PETOOL_NAME_DEBUG_TYPE,
+        Named::LoadField => sys::PETOOL_NAME_LOAD_FIELD,
     };
     let mut name = sys::Text::NONE;
     // SAFETY: the text is initialized

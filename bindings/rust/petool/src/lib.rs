@@ -26,7 +26,9 @@
 //! call has no such error: never as success.
 #![deny(missing_docs, unsafe_op_in_unsafe_fn)]
 
+mod beyond;
 mod fault;
+mod fields;
 mod headers;
 mod image;
 mod object;
@@ -36,14 +38,19 @@ mod set;
 mod space;
 mod tables;
 
+pub use beyond::{BoundImport, Pdb, PdbSignature, Tls};
 pub use fault::{name_of, Error, Fault, Named, OutOfMemory, Place, SetError};
+pub use fields::{ClrField, ClrHeader, LoadConfiguration, LoadField};
 pub use headers::{Headers, Section};
 pub use image::Image;
 pub use object::{Object, ObjectSection, Symbol};
 pub use opened::OpenImage;
 // from describe/records.txt: shown records
 #[doc(inline)]
-pub use petool_sys::{Binding, Directory, Fixup, Moved, ObjectHeader, ObjectRelocation as Relocation, SectionHeader};
+pub use petool_sys::{
+    Binding, DebugEntry, Directory, Fixup, Function, Moved, ObjectHeader, ObjectRelocation as Relocation,
+    SectionHeader, TlsDirectory,
+};
 // end of describe/records.txt
 pub use set::{judge, Entry, Policy};
 pub use space::{Placed, Space};

@@ -77,10 +77,23 @@ fn ask_image(image: &Image<'_>) {
     }
     assert!(tables.imports().all(|import| import.slot < size) && tables.fixups().all(|fixup| fixup.field < size));
     assert!(image.sections().iter().all(|section| section.text().len() <= 8));
+    ask_beyond(image);
     match image.rebased(0x2000_0000) {
         Ok(rebased) => assert_eq!(rebased.len(), image.file().len()),
         Err(error) => assert!(matches!(error, Error::Fault(_)), "{error:?}"),
     }
+}
+
+/// Tables beyond the profile are read of any image.
+fn ask_beyond(image: &Image<'_>) {
+    let functions = image.functions().unwrap();
+    assert!(functions.len() <= image.file().len() / 8 && image.debug().unwrap().len() <= image.file().len() / 28);
+    assert!(image.findings().unwrap().iter().all(|finding| finding.number > 100));
+    assert!(image.pdb().map_or(true, |pdb| !pdb.path.contains(&0)));
+    assert!(image.tls().unwrap().map_or(true, |tls| !tls.callbacks.contains(&0)));
+    image.load_configuration().unwrap();
+    image.clr().unwrap();
+    image.bound_imports().unwrap();
 }
 
 fn ask_space(file: &[u8], judged: Option<Fault>) {

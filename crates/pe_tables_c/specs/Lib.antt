@@ -1,0 +1,9 @@
+pub mod BoundImportRows
+pub mod DebugRows
+pub mod FieldRows
+pub mod Findings
+pub mod FunctionRows
+pub mod PdbRows
+pub mod TableNames
+pub mod TlsRows
+pub mod Told
