@@ -24,8 +24,9 @@ PURPOSES = {
     "rebase": ("rebase_words.rt", r"const ABOUT: &str =\s+"),
     "explain": ("at_words.rt", r"const EXPLAIN_ABOUT: &str =\s+"),
 }
-#: The same for what help says of each option, except those of `show`.
+#: The same for what help says of each option, except those of `show` that add rows.
 OPTIONS = {
+    "all": ("file_words.rt", r"const ALL: &str =\s+"),
     "color": ("file_words.rt", r"const COLOR: &str =\s+"),
     "most": ("file_words.rt", r"const MOST: &str =\s+"),
     "address": ("at_words.rt", r"const ADDRESS: &str =\s+"),

@@ -89,6 +89,12 @@ class Commands:
                 return it
         raise KeyError(name)
 
+    def help_of(self, command: Item, option: str) -> str:
+        """What help says of an option of a command."""
+        if command.name() == "show" and option == "all":
+            return self.all_help
+        return next(it.rows["help"] for kind in ("option", "word") for it in self.of(kind) if it.name() == option)
+
     def usage(self, command: Item) -> List[str]:
         """The options of a command in usage."""
         of_show = [f"[--{it.name()}]" for it in self.of("option")] + ["[--all]"] if command.name() == "show" else []

@@ -184,11 +184,10 @@ class Command:
 
 def options_of(described: Commands, command: Item) -> Iterator[Option]:
     """The options of a command, in the order of its usage."""
-    helps = {it.name(): it.rows["help"] for kind in ("option", "word") for it in described.of(kind)}
     values = {it.name(): it.rows.get("values", "") for it in described.of("word")}
     for usage in described.usage(command):
         for name, value in re.findall(r"--(\w+)(?: ([A-Z]+))?", usage):
-            yield Option(name, described.all_help if name == "all" else helps[name], value or None, values.get(name, ""))
+            yield Option(name, described.help_of(command, name), value or None, values.get(name, ""))
     yield HELP
 
 

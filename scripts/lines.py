@@ -1,7 +1,7 @@
 #!/usr/bin/env python3
 """Makes the lines of `petool json` for images apart from petool, and compares them with stored ones, byte for byte.
 
-    lines.py FILE...              prints the lines of images
+    lines.py [--all] FILE...      prints the lines of images, with `--all` also with the tables that the profile leaves out
     lines.py --cases FOLDER DATA  compares the cases `json` of images in FOLDER/views, of files in DATA, with FOLDER/views.answers
 
 The files are read as scripts/pages.py reads them. A line has the members of docs/JSON.md, except `kind` and `values`, which
@@ -210,8 +210,8 @@ def fault_member(fault):
     return {"number": fault.number, "image": 0, "place": {fault.kind: fault.place}, "subject": subject, "rule": rule}
 
 
-def line_of(name, file):
-    """The line of an image."""
+def line_of(name, file, is_all):
+    """The line of an image, with the tables that the profile leaves out if they are wanted."""
     fault, row, image = None, {}, None
     try:
         headers = Headers(file)
@@ -222,7 +222,7 @@ def line_of(name, file):
         fault = refused
     if image:
         row |= table_members(image)
-    if fault is None:
+    if fault is None and is_all:
         row |= record_members(Tables(image, file))
     begin = {"schema": 1, **named("file", os.fsencode(name)), "accepted": fault is None}
     begin |= {"fault": fault_member(fault)} if fault else {}
@@ -235,17 +235,24 @@ def same(line, other):
     return re.sub(r'("rule":"[^"]*"),"values":{[^}]*}', r"\1", line) == other
 
 
+def without_all(words):
+    """Words without the option `--all` before them, and whether it is there."""
+    is_all = words[:1] == ["--all"]
+    return words[is_all:], is_all
+
+
 def compare_cases(folder, data):
     with open(os.path.join(folder, "views.answers"), encoding="utf-8", newline="") as file:
         stored = dict(block.split("\n", 1) for block in re.split(r"^== ", file.read(), flags=re.M)[1:])
     count = differing = 0
     for case, answer in stored.items():
         kind, *words = case.split(" ")
+        words, is_all = without_all(words)
         file = changed(data, words) if kind == "json" else b""
         if kind != "json" or is_object(file):
             continue
         count += 1
-        wanted, line = line_of(words[0], file), answer.split("\n")[0]
+        wanted, line = line_of(words[0], file, is_all), answer.split("\n")[0]
         if not same(line, wanted):
             differing += 1
             print(f"{case}: differs\n  petool {line}\n  script {wanted}")
@@ -256,8 +263,9 @@ def compare_cases(folder, data):
 def main(words):
     if words[:1] == ["--cases"]:
         return 1 if compare_cases(words[1], words[2]) else 0
-    for path in words:
-        print(line_of(path, read(path)))
+    paths, is_all = without_all(words)
+    for path in paths:
+        print(line_of(path, read(path), is_all))
     return 0
 
 

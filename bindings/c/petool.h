@@ -335,12 +335,12 @@ PETOOL_WARN_UNUSED uint32_t petool_import_at(const uint8_t *file, size_t len, ui
 
 /* ---- an image: tables beyond the profile ---- */
 
-/* No rule of these tables refuses an image: one that is broken is a finding, with a number from 101 on (docs/FAULTS.md), and what the
- * file holds of the table is read. A table ends where its Size does, or, before that, the bytes that the file holds from its RVA on in
- * one run: what is in zero fill has no rows. */
+/* No rule of these tables refuses an image: one that is broken is a finding, with a number from 101 on (docs/FAULTS.md), and what
+ * the file holds of the table is read. A table ends where its Size does, or, before that, the bytes that the file holds from its
+ * RVA on in one run: what is in zero fill has no rows. */
 
-/* All findings, by table in the order of their numbers, and of each table those of its directory before those of its records; of image
- * 0. OK; SMALL; FAULT, with one of 1 to 15; or MEMORY, but only if there is a finding. */
+/* All findings of these tables, by table in the order of their numbers, and of each table those of its directory before those of
+ * its records; of image 0. OK; SMALL; FAULT, with one of 1 to 15; or MEMORY, but only if there is a finding. */
 PETOOL_WARN_UNUSED uint32_t petool_findings(const uint8_t *file, size_t len, petool_fault *rows, size_t room, size_t *count,
                                             petool_fault *fault);
 
@@ -360,8 +360,8 @@ PETOOL_WARN_UNUSED uint32_t petool_debug(const uint8_t *file, size_t len, petool
 
 /* from describe/records.txt: pdb_kinds */
 enum {
-    PETOOL_PDB_SEVEN = 0, /* one of PDB 7.0, which a GUID tells from others of its name */
-    PETOOL_PDB_TWO = 1    /* one of PDB 2.0, which a time stamp tells from others of its name */
+    PETOOL_PDB_SEVEN = 0, /* of PDB 7.0, with a GUID */
+    PETOOL_PDB_TWO = 1    /* of PDB 2.0, with a time stamp */
 };
 /* end of describe/records.txt */
 
@@ -382,14 +382,14 @@ static inline void petool_pdb_init(petool_pdb_file *pdb)
     *pdb = none;
 }
 
-/* The PDB file that the first entry of the debug directory names that names one. OK; FAULT, with one of 1 to 15; or ABSENT. *pdb must
- * be initialized before. */
+/* The PDB file that the first entry of the debug directory names that names one. OK; FAULT, with one of 1 to 15; or ABSENT. *pdb
+ * must be initialized before. */
 PETOOL_WARN_UNUSED uint32_t petool_pdb(const uint8_t *file, size_t len, petool_pdb_file *pdb, petool_fault *fault);
 
 /* from describe/records.txt: function_kinds */
 enum {
-    PETOOL_FUNCTION_AMD64 = 0, /* that of AMD64 */
-    PETOOL_FUNCTION_ARM = 1    /* that of ARM64 and ARMNT */
+    PETOOL_FUNCTION_AMD64 = 0, /* a function of AMD64, with its end */
+    PETOOL_FUNCTION_ARM = 1    /* a function of ARM64 or ARMNT, without its end */
 };
 /* end of describe/records.txt */
 
@@ -402,8 +402,8 @@ typedef struct petool_function {
 } petool_function;
 /* end of describe/records.txt */
 
-/* The functions of the exception table, in table order. The table of a machine other than AMD64, ARM64 and ARMNT has another form, and
- * no rows. OK; SMALL; or FAULT, with one of 1 to 15. */
+/* The functions of the exception table, in table order. The table of a machine other than AMD64, ARM64 and ARMNT has another form,
+ * and no rows. OK; SMALL; or FAULT, with one of 1 to 15. */
 PETOOL_WARN_UNUSED uint32_t petool_functions(const uint8_t *file, size_t len, petool_function *rows, size_t room, size_t *count,
                                              petool_fault *fault);
 
@@ -445,16 +445,17 @@ PETOOL_WARN_UNUSED uint32_t petool_load_configuration(const uint8_t *file, size_
 typedef struct petool_bound_import {
     uint32_t time_date_stamp;                 /* the time stamp of the module when it was bound */
     uint16_t offset_module_name;              /* where the module's name is, from the beginning of the table */
-    uint16_t number_of_module_forwarder_refs; /* how many records after this one are of modules that it forwards to; reserved in a record of those */
+    uint16_t number_of_module_forwarder_refs; /* how many records after this one are of modules that it forwards to */
 } petool_bound_import;
 /* end of describe/records.txt */
 
-/* The records of the bound import table before the first that is all zeros, in table order. OK; SMALL; or FAULT, with one of 1 to 15. */
+/* The records of the bound import table before the first that is all zeros, in table order. OK; SMALL; or FAULT, with one of 1 to
+ * 15. */
 PETOOL_WARN_UNUSED uint32_t petool_bound_imports(const uint8_t *file, size_t len, petool_bound_import *rows, size_t room,
                                                  size_t *count, petool_fault *fault);
 
-/* The fields of the CLR header: 19, or 0 if the image has none. They are cb; MajorRuntimeVersion, MinorRuntimeVersion; the RVA and the
- * size of MetaData; Flags; EntryPointToken; and the RVAs and the sizes of Resources, StrongNameSignature, CodeManagerTable,
+/* The fields of the CLR header: 19, or 0 if the image has none. They are cb; MajorRuntimeVersion, MinorRuntimeVersion; the RVA and
+ * the size of MetaData; Flags; EntryPointToken; and the RVAs and the sizes of Resources, StrongNameSignature, CodeManagerTable,
  * VTableFixups, ExportAddressTableJumps and ManagedNativeHeader. OK; SMALL; or FAULT, with one of 1 to 15. */
 PETOOL_WARN_UNUSED uint32_t petool_clr(const uint8_t *file, size_t len, petool_field *rows, size_t room, size_t *count,
                                        petool_fault *fault);

@@ -69,6 +69,7 @@ class Bash(unittest.TestCase):
     def test_options_are_those_of_the_command(self):
         self.assert_offered(["--count", "--help", "--known", "--unbound", "--window"], ["map", "--"], ["map", "10000000=a.dll", "--"])
         self.assert_offered(["--help", "-h"], ["explain", "-"], ["check", "a.dll", "-"])
+        self.assert_offered(["--all", "--help", "--most"], ["json", "--"], ["json", "--most", "4K", "--"])
         self.assert_offered(["--imports"], ["show", "--i"])
 
     def test_where_no_file_can_stand_none_is_offered(self):
@@ -82,7 +83,7 @@ class Bash(unittest.TestCase):
     def test_a_file_is_offered_wherever_one_can_stand(self):
         self.assert_offered(["d.dll"], ["at", "d"], ["at", "--address", "d"], ["rebase", "10000000", "d"])
         self.assert_offered(["d.dll"], ["rebase", "10000000", "a.dll", "d"])
-        self.assert_offered(["d.dll"], ["json", "--most", "4K", "d"], ["json", "--most=4K", "d"])
+        self.assert_offered(["d.dll"], ["json", "--most", "4K", "d"], ["json", "--most=4K", "d"], ["json", "--all", "d"])
         self.assert_offered(["d.dll"], ["show", "a.dll", "--all", "d"], ["show", "--most", "=", "4K", "d"], ["check", "-", "d"])
 
     def test_the_words_of_a_value_are_offered(self):
@@ -114,6 +115,12 @@ class OtherShells(unittest.TestCase):
         self.assertIn(":WHEN:(auto always never)'", zsh)
         self.assertIn("__fish_seen_subcommand_from show' -l color -x -a 'auto always never' ", fish)
         self.assertIn("complete -c petool -f\ncomplete -c petool -n __petool_takes_file -F\n", fish)
+
+    def test_one_option_has_the_help_of_its_command(self):
+        zsh, fish = printed("zsh"), printed("fish")
+        for command, help in (("show", "Prints all of these"), ("json", "Adds debug data, ")):
+            self.assertRegex(zsh, rf"\n +{command}\) .*'--all\[{help}")
+            self.assertIn(f"__fish_seen_subcommand_from {command}' -l all -d '{help}", fish)
 
 
 @unittest.skipUnless(PROGRAM, "left out without program: PETOOL_PROGRAM names none")

@@ -8,7 +8,7 @@ import tempfile
 import unittest
 
 TOP = pathlib.Path(__file__).resolve().parents[2]
-CRATES = ("pe_records_c", "pe_handle", "pe_opened", "petool_c", "pe_json")
+CRATES = ("pe_records_c", "pe_tables_c", "pe_handle", "pe_opened", "petool_c", "pe_json")
 #: The crates that test faults or have a table of them.
 FAULT_CRATES = (
     "pe_text",
@@ -109,7 +109,7 @@ VALUES_WRITTEN = [
 FIELDS_WRITTEN = [
     ("bindings/python/petool/__init__.py", "    Fixup,\n", ""),
     ("bindings/python/petool/__init__.py", '    "Section",\n', ""),
-    ("bindings/rust/petool/src/lib.rs", "ObjectRelocation as Relocation, ", "ObjectRelocation, "),
+    ("bindings/rust/petool/src/lib.rs", "ObjectRelocation as Relocation,", "ObjectRelocation,"),
     ("crates/petool_c/src/lib.rt", "\nmod fixup;\n", "\n"),
     ("crates/petool_c/src/lib.rt", "#[cfg(test)]\nmod tests;\n", ""),
     ("crates/pe_records_c/src/lib.rt", "pub mod import;\n", "mod import;\n"),
@@ -178,6 +178,8 @@ COMPARED = [
     ("crates/pe_records_c/src/fixup.rt", "    pub kind: u32,\n", "    pub kind: u32,\n    pub width: u32,\n"),
     ("crates/pe_records_c/src/headers.rt", "pub directories: [DirectoryRow; 16]", "pub directories: [DirectoryRow; 8]"),
     ("crates/pe_records_c/src/text.rt", "pub bytes: &'a [u8]", "pub bytes: u64"),
+    ("crates/pe_tables_c/src/pdb.rt", "TWO: u32 = 1;", "TWO: u32 = 2;"),
+    ("crates/pe_tables_c/src/tls.rt", "pub is_whole: bool", "pub is_whole: u8"),
     ("crates/pe_handle/src/handle.rt", "pub is_open: bool", "pub is_open: u8"),
     ("crates/pe_opened/src/handle.rt", "pub is_open: bool", "pub is_open: u8"),
     ("crates/petool_c/src/fixup.rt", "rows: &mut [FixupRow]", "rows: &mut [ImportRow]"),
@@ -321,6 +323,8 @@ COMMANDS_WRITTEN = [
     ("crates/pe_words/src/map_words.rt", "Prints the bytes from this address on", "Prints the bytes here"),
     ("crates/pe_words/src/at_words.rt", '"Each ADDRESS is a file offset"', '"Each ADDRESS is an offset"'),
     (FILE_WORDS, "Prints at most so many bytes of each file's text", "Prints so many bytes"),
+    (FILE_WORDS, '    "Adds debug data, the PDB file', '    "Adds debug data'),
+    (FILE_WORDS, '    ("all", "Prints all of these"),\n', ""),
     ("crates/pe_words/src/rebase_words.rt", "Writes an image's file for another base", "Moves an image"),
     ("crates/pe_words/src/commands.rt", "  3  reading or writing failed", "  4  reading or writing failed"),
     ("crates/pe_text/src/show_options.rt", "    pub imports: bool,", "    pub import: bool,"),
@@ -341,6 +345,7 @@ COMMANDS_DESCRIBED = [
     ("  readme     what fault N means\n", "", "command explain [N] has no row readme"),
     ("command object FILE", "command objects FILE", "crates/pe_words/src/file_words.rt"),
     ("word count N\n", "word counts N\n", "has the option count N, which no word describes"),
+    ("word all\n", "word each\n", "has the option all, which no word describes"),
     ("[--unbound] [--window HEX]", "[--unbound] [--window N]", "has the option window N, which no word describes"),
     ("word known\n", "word known\n  help  It is not used\n\nword unknown\n", "crates/pe_words/src/map_words.rt"),
     ("status 4 OUT_OF_MEMORY", "statuses 4 OUT_OF_MEMORY", "line "),

@@ -81,6 +81,7 @@ PORTED = [
 ]
 WORDS = [
     (GUIDE, "petool show [--exports] ", "petool show ", f"{GUIDE}: petool show has --exports, which is not named"),
+    (GUIDE, "petool json [--all] ", "petool json ", f"{GUIDE}: petool json has --all, which is not named"),
     (GUIDE, "[--count N]", "[--length N]", f"{GUIDE}: petool map has no --length N"),
     (GUIDE, "`petool rebase HEX IN OUT`", "`petool rebase HEX OUT IN`", f"{GUIDE}: petool rebase takes HEX IN OUT"),
     (GUIDE, "`petool check FILE...`", "`petool judge FILE...`", f"{GUIDE}: there is no command judge"),

@@ -1,6 +1,6 @@
 /*
- * The calls for tables beyond the profile. The files are v1.dll with another section, written byte by byte from the format: it is at
- * RVA 0x1000 and at 0x200 of the file, ImageBase is 0x10000000, and SizeOfImage 0x3000.
+ * The calls for tables beyond the profile. The files are v1.dll with another section, written byte by byte from the format: it is
+ * at RVA 0x1000 and at 0x200 of the file, ImageBase is 0x10000000, and SizeOfImage 0x3000.
  */
 #include "check.h"
 
@@ -293,8 +293,8 @@ static void check_bound_imports(void)
 
 static void check_findings(void)
 {
-    /* a directory of 25 bytes, of which the file has 24; the first function ends before it begins, and its unwind information is past
-     * the image; the second passes the image, and begins before the first */
+    /* a directory of 25 bytes, of which the file has 24; the first function ends before it begins, and its unwind information is
+     * past the image; the second passes the image, and begins before the first */
     static const uint8_t TABLE[24] = {
         0x01, 0x10, 0, 0, 0x00, 0x10, 0, 0, 0x00, 0x30, 0, 0, 0x00, 0x10, 0, 0, 0x01, 0x30, 0, 0, 0x00, 0x10, 0, 0,
     };

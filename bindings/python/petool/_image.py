@@ -513,7 +513,8 @@ class Image(OfFile):
     @property
     def tls(self) -> Optional[Tls]:
         """The TLS directory with its callbacks; None if there is none."""
-        return _tables.tls_by(lambda tls: self._ask(library.petool_tls, tls), lambda: self._beyond("tls_callbacks", LAYOUTS["callback"]))
+        layout = LAYOUTS["callback"]
+        return _tables.tls_by(lambda tls: self._ask(library.petool_tls, tls), lambda: self._beyond("tls_callbacks", layout))
 
     @property
     def load_configuration(self) -> Optional[LoadConfiguration]:

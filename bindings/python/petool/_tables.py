@@ -11,13 +11,13 @@ from ._bytes import RowLayout
 from ._fault import Place, line_of, words_of
 
 # from describe/records.txt: pdb_kinds
-_PDB_SEVEN = 0  #: one of PDB 7.0, which a GUID tells from others of its name
-_PDB_TWO = 1  #: one of PDB 2.0, which a time stamp tells from others of its name
+_PDB_SEVEN = 0  #: of PDB 7.0, with a GUID
+_PDB_TWO = 1  #: of PDB 2.0, with a time stamp
 # end of describe/records.txt
 
 # from describe/records.txt: function_kinds
-_FUNCTION_AMD64 = 0  #: that of AMD64
-_FUNCTION_ARM = 1  #: that of ARM64 and ARMNT
+_FUNCTION_AMD64 = 0  #: a function of AMD64, with its end
+_FUNCTION_ARM = 1  #: a function of ARM64 or ARMNT, without its end
 # end of describe/records.txt
 
 
@@ -63,7 +63,7 @@ class Function(NamedTuple):
     # from describe/records.txt: function
     begin: int  #: the RVA of its first byte; on ARMNT with 1 added, as for all Thumb code
     end: int  #: the RVA after its last byte; 0 on ARM64 and ARMNT, whose tables do not have it
-    unwind: int  #: on AMD64 the RVA of its unwind information; on ARM64 and ARMNT the RVA of its unwind record if the low two bits are 0, otherwise that record, packed
+    unwind: int  #: the RVA of its unwind information, or if ``is_packed`` its unwind record
     kind: int  #: a PETOOL_FUNCTION
     # end of describe/records.txt
 

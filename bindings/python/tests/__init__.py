@@ -40,7 +40,9 @@ TABLES = [name for name, it in vars(petool.Image).items() if isinstance(it, prop
 
 
 def rows_of(table: Any) -> List[Any]:
-    """All rows of a table of an image: those of the exports by name, by ordinal, and what each key exports. What is absent has none."""
+    """All rows of a table of an image: those of the exports by name, by ordinal, and what each key exports; one for what is no list."""
     if isinstance(table, petool.Exports):
         return [*table.names(), *table.ordinals(), *table.values()]
+    if hasattr(table, "_fields"):
+        return [table]
     return list(table or ())

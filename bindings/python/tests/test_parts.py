@@ -1,6 +1,6 @@
 """Which parts of an image's file the program reads: of a regular file of 64 KB or more `check`, `dump` and `json` read the headers and
 the sections in which tables begin, and `json` the string table for long names of sections, if these decide the output, and otherwise
-all that the headers name. A file that comes by a pipe is read whole, so the two ways are compared; and an image has a section of
+all that the headers name; so does `json --all` of each image. A file that comes by a pipe is read whole, so the two ways are compared; and an image has a section of
 256 MB, for which there is no memory, so that the parts are all that can be read."""
 
 import json
@@ -22,8 +22,8 @@ TABLES, OTHER, MANY = 0x1000, 0x3000, 0x5000
 #: The bytes of the section with many, and the memory that a run may have where it must not read them.
 SIZE, MEMORY = 1 << 28, 1 << 27
 
-#: Where the headers have PointerToSymbolTable and NumberOfSymbols, and the name of the first section.
-SYMBOLS, NAME = 64 + 12, 64 + 24 + 224
+#: Where the headers have PointerToSymbolTable and NumberOfSymbols, the directory of debug data, and the name of the first section.
+SYMBOLS, DEBUG, NAME = 64 + 12, 64 + 24 + 96 + 6 * 8, 64 + 24 + 224
 
 #: What the tables read, each at an offset in a section that holds it.
 PIECES = {
@@ -113,11 +113,11 @@ class Parts(unittest.TestCase):
         return done.returncode, done.stdout.replace(name, b"standard input"), done.stderr.replace(name, b"standard input")
 
     def by_path(self, command: str, memory: int = 0) -> tuple[int, bytes, bytes]:
-        return self.run_over([command, str(self.path)], subprocess.DEVNULL, memory)
+        return self.run_over([*command.split(" "), str(self.path)], subprocess.DEVNULL, memory)
 
     def by_pipe(self, command: str) -> tuple[int, bytes, bytes]:
         with subprocess.Popen(["cat", str(self.path)], stdout=subprocess.PIPE) as source:
-            return self.run_over([command, "-"], source.stdout)
+            return self.run_over([*command.split(" "), "-"], source.stdout)
 
     def assert_alike(self, file: bytes, size: int) -> None:
         """The outputs by path and by pipe are the same."""
@@ -147,6 +147,22 @@ class Parts(unittest.TestCase):
         self.assertEqual([row["slot"] for row in read["imports"]], [0x1700, 0x1704])
         self.assertEqual(read["fixups"], [{"rva": 0x1800, "bits": 32}])
         self.assertEqual(read["sections"][2]["pointer_to_raw_data"], 0x2400)
+
+    def test_tables_beyond_the_profile_are_read_with_the_rest_and_only_if_wanted(self):
+        # a debug directory of one entry, in the section without a table
+        for many, status in ((SIZE, 4), (0x10000, 0)):
+            file = bytearray(with_tables(many=many))
+            file[DEBUG : DEBUG + 8] = numbers(OTHER, 28)
+            self.write(bytes(file), len(file) + many)
+            with self.subTest(many=many):
+                done, line, _ = self.by_path("json", MEMORY)
+                self.assertEqual((done, list(json.loads(line))[-1]), (0, "fixups"))
+                whole = self.by_path("json --all", MEMORY)
+                self.assertEqual(whole[0], status)
+                if status == 0:
+                    self.assertEqual(whole, self.by_pipe("json --all"))
+                    [entry] = json.loads(whole[1])["debug"]
+                    self.assertEqual(set(entry.values()) - {entry.get("type_name")}, {0})
 
     def test_long_names_are_read_behind_the_rest(self):
         # the string table is behind two symbols behind all raw data

@@ -39,16 +39,16 @@ FIRST = 4096
 
 
 #: The commands that read no more than they need.
-COMMANDS = ("check", "dump", "map", "show", "json", "at")
+COMMANDS = ("check", "dump", "map", "show", "json", "json with all", "at")
 
 #: Those whose output does not have the file's size.
-SIZELESS = ("check", "dump", "map", "json", "at")
+SIZELESS = ("check", "dump", "map", "json", "json with all", "at")
 
 #: The options of `show` for which no more is read than without them: all but `--trust`.
 ROWS = ("--exports", "--imports", "--relocations", "--symbols", "--debug", "--functions", "--tls", "--load")
 
 #: The words of a command, if these are not the command and the path.
-WORDS = {"map": ("map", "10000000={}"), "show": ("show", *ROWS, "{}"), "at": ("at", "{}", "1000")}
+WORDS = {"map": ("map", "10000000={}"), "show": ("show", *ROWS, "{}"), "json with all": ("json", "--all", "{}"), "at": ("at", "{}", "1000")}
 
 
 def words_of(command, path):

@@ -1,4 +1,4 @@
-"""The tables beyond the profile in lines of JSON: the members of each by a file of its own, written out, and the findings."""
+"""The tables beyond the profile in lines of `json --all`: the members of each by a file of its own, written out, and the findings."""
 
 import json
 import os
@@ -8,7 +8,7 @@ import tempfile
 import unittest
 
 from .cases import run
-from .files import numbers
+from .files import numbers, put
 from .test_findings import AMD64, ARM64, BASE, CALLBACKS, FOUND, NB10, RSDS, SOUND, TLS, clr, debug, entry, image, load
 
 PROGRAM = os.environ.get("PETOOL_PROGRAM")
@@ -78,12 +78,16 @@ class TableMembers(unittest.TestCase):
         self.addCleanup(folder.cleanup)
         self.folder = pathlib.Path(folder.name)
 
-    def line(self, file):
-        """The line of a file, and its members after `fixups` without findings, in order."""
+    def printed(self, file, *options, status=0):
+        """The line of a file."""
         (self.folder / "a").write_bytes(file)
-        done = run([PROGRAM, "json", "a"], cwd=self.folder)
-        self.assertEqual(done.returncode, 0)
-        line = json.loads(done.stdout)
+        done = run([PROGRAM, "json", *options, "a"], cwd=self.folder)
+        self.assertEqual(done.returncode, status)
+        return json.loads(done.stdout)
+
+    def line(self, file):
+        """The line of a file with all tables, and its members after `fixups` without findings, in order."""
+        line = self.printed(file, "--all")
         names = list(line)
         return line, {name: line[name] for name in names[names.index("fixups") + 1 :] if name != "findings"}
 
@@ -92,6 +96,16 @@ class TableMembers(unittest.TestCase):
             with self.subTest(number):
                 _, members = self.line(file)
                 self.assertEqual(json.dumps(members), json.dumps(wanted))
+
+    def test_no_member_without_the_option(self):
+        for number, file in enumerate([*(file for file, _ in MEMBERS), *(file for _, file, _ in FOUND)]):
+            with self.subTest(number):
+                self.assertEqual(list(self.printed(file))[-1], "fixups")
+
+    def test_no_member_of_a_refused_image(self):
+        # its export table is outside the image
+        line = self.printed(bytes(put(bytearray(debug(RSDS + b"a.pdb\0")), (0xB8, numbers(0x3000, 40)))), "--all", status=1)
+        self.assertEqual((line["fault"]["number"], list(line)[-1]), (16, "fixups"))
 
     def test_no_member_of_a_table_that_is_not_there(self):
         line, members = self.line(image(15, 0, b"", rva=0))
@@ -135,7 +149,7 @@ class TableMembers(unittest.TestCase):
         file = image(6, 28, entry(2, len(RSDS) + 6, 0, 0x2000)).ljust(0x2000, b"\0") + RSDS + b"a.pdb\0"
         line, members = self.line(file)
         self.assertEqual(list(members), ["debug"])
-        piped = json.loads(run([PROGRAM, "json", "-"], input=file).stdout)
+        piped = json.loads(run([PROGRAM, "json", "--all", "-"], input=file).stdout)
         self.assertEqual({**piped, "file": "a"}, line)
 
 

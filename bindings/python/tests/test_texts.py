@@ -2,7 +2,7 @@
 headers and look up exports. The first word of a case says what is run:
 
 `check`, `dump` and `object` print that command's text of a file, which further words change; `tables` the lines of a dump's
-exports, imports and base relocations; `begins` the first line of an object's; `show`, with `--all` or without, `json`, and `at`
+exports, imports and base relocations; `begins` the first line of an object's; `show` and `json`, with `--all` or without, and `at`
 with places before the file, that command's; `refusal` the line of a page that shows the fault. `map` and words of a set print the
 set's report, with a window if there is one. `rebase` and a base print its line and the length of the new file, `rebased` also what
 differs in it. All of them print the status. `head` and `layout` print the first fault of a file's headers, and of its section table
@@ -38,7 +38,7 @@ for _name in ("texts", "views"):
 COUNTS = {
     "head": 93, "layout": 34, "find": 28, "tables": 172, "check": 33, "dump": 49, "object": 102, "begins": 81,
     "rebase": 43, "rebased": 8, "map": 14, "faults": 1, "kind": 31, "names": 1,
-    "show": 68, "json": 57, "refusal": 51, "at": 98,
+    "show": 68, "json": 59, "refusal": 51, "at": 98,
 }  # fmt: skip
 
 PLACES = {
@@ -222,12 +222,17 @@ class Program(Cases):
     def test_heads_of_objects(self):
         self.each("begins", self.of_file("object", kept=lambda number, _: number == 0))
 
-    def show(self, words):
-        options, words = split_options(words)
-        return self.of_file("show", *options)(words)
+    def with_options(self, command):
+        """What a command prints for the file that words after its options name and change."""
+
+        def answer(words):
+            options, words = split_options(words)
+            return self.of_file(command, *options)(words)
+
+        return answer
 
     def test_pages(self):
-        self.each("show", self.show)
+        self.each("show", self.with_options("show"))
 
     def test_each_count_on_a_page_has_commas(self):
         for number, (file, ends) in enumerate(COUNTED):
@@ -240,7 +245,7 @@ class Program(Cases):
         self.each("refusal", self.of_file("show", kept=lambda _, line: line.startswith("Fault ")))
 
     def test_lines_of_json(self):
-        self.each("json", self.of_file("json"))
+        self.each("json", self.with_options("json"))
 
     def at(self, words):
         options, words = split_options(words)

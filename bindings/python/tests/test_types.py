@@ -7,6 +7,19 @@ import unittest
 import petool
 
 from . import TABLES, data, rows_of
+from .files import numbers
+from .test_findings import AMD64, CALLBACKS, NB10, RSDS, TLS, clr, debug, image, load
+
+#: Images with one of the tables beyond the profile each.
+BEYOND = [
+    debug(RSDS + b"a.pdb\0"),
+    debug(NB10 + b"a.pdb\0"),
+    image(3, 12, numbers(0x1001, 0x1000, 0x1000), machine=AMD64),
+    image(9, 24, TLS + CALLBACKS),
+    image(10, 64, load(64)),
+    image(11, 24, numbers(1, 0x20010, 1, 0x1FFFF) + bytes(8)),
+    image(14, 72, clr(72, 0, 0)),
+]
 
 
 def holds(value, kind):
@@ -22,12 +35,12 @@ def holds(value, kind):
 
 
 def rows_of_images():
-    """The headers and all rows of an image with forwarders, and of one with imports and base relocations."""
-    for name in ("va.dll", "vr.dll"):
-        with petool.Image(data(name)) as image:
-            yield from (image.headers, *image.headers.directories)
+    """The headers and all rows of an image with forwarders, of one with imports and base relocations, and of those above."""
+    for file in (data("va.dll"), data("vr.dll"), *BEYOND):
+        with petool.Image(file) as it:
+            yield from (it.headers, *it.headers.directories)
             for table in TABLES:
-                yield from rows_of(getattr(image, table))
+                yield from rows_of(getattr(it, table))
 
 
 def rows_of_objects():
@@ -46,7 +59,8 @@ class Types(unittest.TestCase):
         self.assertEqual(met, classes)
 
     def test_an_image(self):
-        kinds = {it for it in vars(petool).values() if isinstance(it, type) and it.__module__ == petool.Headers.__module__}
+        modules = (petool.Headers.__module__, petool.Finding.__module__)
+        kinds = {it for it in vars(petool).values() if isinstance(it, type) and it.__module__ in modules}
         self.assertIn(petool.Fixup, kinds)
         self.assert_held(rows_of_images(), kinds - {petool.Image, petool.Exports})
 

@@ -14,7 +14,7 @@ use Rattle.pe_reach.specs.Reach.{SameAnswers}
 use Rattle.pe_reach.specs.Views.{LookAlike, IsSeen, IsViewed, RefuseView}
 use Rattle.pe_reach.specs.Sized.{IsKnown}
 use Rattle.pe_json.specs.FileLine.{accepted_line, file_line}
-use Rattle.pe_json.specs.JsonReport.{file_tests, IsLine, IsLineOf, IsViewLine, IsTold, RanSized}
+use Rattle.pe_json.specs.JsonReport.{file_tests, IsLine, IsLineOf, IsUnreadLine, IsTold, RanSized}
 use Rattle.pe_json.proofs.SameLines.{alike_lines}
 
 -- what was written, by the result
@@ -32,12 +32,12 @@ on_judged (Err Write) P p = p
 on_judged (Err Memory) P p = tt
 
 -- an engine that read its file whole
-pub ran_whole : (name given given' taken taken' : List ℕ) (ended : Bool) (count count' told : ℕ) (result : Result Outcome ToolError) (bytes input : List ℕ) → bytes ≡ input → told ≡ length input
-    → given' ≡ given ++ input → IsWhole ended input → length input ≤ 2 ^ 32 + 1 → Puts (IsLine name told bytes) taken taken' count count' result → (IsErrOf result Memory → 0 < length bytes)
-    → Ran (IsLineOf name) given given' taken taken' ended result
-ran_whole name given given' taken taken' ended count count' told result bytes input same size reads whole limit puts memory =
-    let put : Puts (IsLineOf name input) taken taken' count count' result = rw (same, size) at puts in
-    let written = written_by (IsLineOf name input) taken taken' count count' result put in
+pub ran_whole : (all : Bool) (name given given' taken taken' : List ℕ) (ended : Bool) (count count' told : ℕ) (result : Result Outcome ToolError) (bytes input : List ℕ) → bytes ≡ input → told ≡ length input
+    → given' ≡ given ++ input → IsWhole ended input → length input ≤ 2 ^ 32 + 1 → Puts (IsLine all name told bytes) taken taken' count count' result → (IsErrOf result Memory → 0 < length bytes)
+    → Ran (IsLineOf all name) given given' taken taken' ended result
+ran_whole all name given given' taken taken' ended count count' told result bytes input same size reads whole limit puts memory =
+    let put : Puts (IsLineOf all name input) taken taken' count count' result = rw (same, size) at puts in
+    let written = written_by (IsLineOf all name input) taken taken' count count' result put in
     record {
       input = input;
       written = written.0;
@@ -50,13 +50,13 @@ ran_whole name given given' taken taken' ended count count' told result bytes in
     }
 
 -- one whose reading failed
-pub unread : (name : List ℕ) (len : ℕ) (given given' taken : List ℕ) (ended : Bool) (count count' : ℕ) (error : ToolError) (result : Result Outcome ToolError) → IsErrAnd result (λ e. e ≡ error)
-    → (input : List ℕ) × (given' ≡ given ++ input) × FailsAfter input count count' error × (length input ≤ 2 ^ 32 + 1) → RanSized name len given given' taken taken ended result
-unread name len given given' taken ended count count' error (Ok outcome) is read = absurd is
-unread name len given given' taken ended count count' Read (Err e) is read =
+pub unread : (all : Bool) (name : List ℕ) (len : ℕ) (given given' taken : List ℕ) (ended : Bool) (count count' : ℕ) (error : ToolError) (result : Result Outcome ToolError) → IsErrAnd result (λ e. e ≡ error)
+    → (input : List ℕ) × (given' ≡ given ++ input) × FailsAfter input count count' error × (length input ≤ 2 ^ 32 + 1) → RanSized all name len given given' taken taken ended result
+unread all name len given given' taken ended count count' error (Ok outcome) is read = absurd is
+unread all name len given given' taken ended count count' Read (Err e) is read =
     rw is (record { input = read.0; told = 0; refused = None; written = []; reads = read.1; writes = sym (append-nil taken); text = refl; known = tt; seen = tt; limit = read.3; memory = λ is. cc })
-unread name len given given' taken ended count count' Write (Err e) is read = absurd read.2
-unread name len given given' taken ended count count' Memory (Err e) is read =
+unread all name len given given' taken ended count count' Write (Err e) is read = absurd read.2
+unread all name len given given' taken ended count count' Memory (Err e) is read =
     rw is (record { input = read.0; told = 0; refused = None; written = []; reads = read.1; writes = sym (append-nil taken); text = refl; known = tt; seen = tt; limit = read.3; memory = λ is. read.2.0 })
 
 -- what was read, by the fault of its first bytes
@@ -67,10 +67,10 @@ pub refused_view : (ended : Bool) (len told : ℕ) (input : List ℕ) (refused :
 refused_view ended len told input refused fault viewed is = subst (λ (fault : Option Fault). IsViewed ended len input told fault) is viewed
 
 -- one that refused a file by its first bytes
-refused_by : (name : List ℕ) (len told : ℕ) (given given' taken taken' : List ℕ) (ended : Bool) (count count' : ℕ) (result : Result Outcome ToolError) (input : List ℕ) (fault : Fault)
-    → given' ≡ given ++ input → RefuseView len input fault × (told ≡ len) → length input ≤ 2 ^ 32 + 1 → Puts (IsViewLine name told input (Some fault)) taken taken' count count' result → (IsErrOf result Memory → ⊥)
-    → RanSized name len given given' taken taken' ended result
-refused_by name len told given given' taken taken' ended count count' (Ok outcome) input fault reads seen limit puts never = record {
+refused_by : (all : Bool) (name : List ℕ) (len told : ℕ) (given given' taken taken' : List ℕ) (ended : Bool) (count count' : ℕ) (result : Result Outcome ToolError) (input : List ℕ) (fault : Fault)
+    → given' ≡ given ++ input → RefuseView len input fault × (told ≡ len) → length input ≤ 2 ^ 32 + 1 → Puts (IsUnreadLine name told input fault) taken taken' count count' result → (IsErrOf result Memory → ⊥)
+    → RanSized all name len given given' taken taken' ended result
+refused_by all name len told given given' taken taken' ended count count' (Ok outcome) input fault reads seen limit puts never = record {
   input = input;
   told = told;
   refused = Some fault;
@@ -83,8 +83,8 @@ refused_by name len told given given' taken taken' ended count count' (Ok outcom
   limit = limit;
   memory = λ is. absurd (never is);
 }
-refused_by name len told given given' taken taken' ended count count' (Err Read) input fault reads seen limit puts never = absurd puts.2
-refused_by name len told given given' taken taken' ended count count' (Err Write) input fault reads seen limit puts never = record {
+refused_by all name len told given given' taken taken' ended count count' (Err Read) input fault reads seen limit puts never = absurd puts.2
+refused_by all name len told given given' taken taken' ended count count' (Err Write) input fault reads seen limit puts never = record {
   input = input;
   told = told;
   refused = Some fault;
@@ -97,13 +97,13 @@ refused_by name len told given given' taken taken' ended count count' (Err Write
   limit = limit;
   memory = λ is. absurd (never is);
 }
-refused_by name len told given given' taken taken' ended count count' (Err Memory) input fault reads seen limit puts never = absurd (never refl)
+refused_by all name len told given given' taken taken' ended count count' (Err Memory) input fault reads seen limit puts never = absurd (never refl)
 
-pub ran_refused : (name : List ℕ) (len told : ℕ) (given given' taken taken' : List ℕ) (ended : Bool) (count count' : ℕ) (result : Result Outcome ToolError) (bytes input : List ℕ) (size : ℕ) (fault : Fault)
-    → bytes ≡ input → size ≡ told → given' ≡ given ++ input → RefuseView len input fault × (told ≡ len) → length input ≤ 2 ^ 32 + 1 → Puts (IsViewLine name size bytes (Some fault)) taken taken' count count' result
-    → (IsErrOf result Memory → ⊥) → RanSized name len given given' taken taken' ended result
-ran_refused name len told given given' taken taken' ended count count' result bytes input size fault same is reads seen limit puts never =
-    refused_by name len told given given' taken taken' ended count count' result input fault reads seen limit (rw (same, is) at puts) never
+pub ran_refused : (all : Bool) (name : List ℕ) (len told : ℕ) (given given' taken taken' : List ℕ) (ended : Bool) (count count' : ℕ) (result : Result Outcome ToolError) (bytes input : List ℕ) (size : ℕ) (fault : Fault)
+    → bytes ≡ input → size ≡ told → given' ≡ given ++ input → RefuseView len input fault × (told ≡ len) → length input ≤ 2 ^ 32 + 1 → Puts (IsUnreadLine name size bytes fault) taken taken' count count' result
+    → (IsErrOf result Memory → ⊥) → RanSized all name len given given' taken taken' ended result
+ran_refused all name len told given given' taken taken' ended count count' result bytes input size fault same is reads seen limit puts never =
+    refused_by all name len told given given' taken taken' ended count count' result input fault reads seen limit (rw (same, is) at puts) never
 
 module _ (first : (number : ℕ) (f g : List ℕ) → SameAnswers f g → first_standing (image_tests number f) ≡ first_standing (image_tests number g)) where
   -- a file that begins with `MZ` is tested as an image
@@ -111,28 +111,28 @@ module _ (first : (number : ℕ) (f g : List ℕ) → SameAnswers f g → first_
   same_tests f g look = rw (look.kind_f, look.kind_g) (first 0 f g look.answers)
 
   -- what is told of the bytes that were read is told of the file
-  told_whole : (name : List ℕ) (told : ℕ) (file : List ℕ) (outcome : Outcome) (text : List ℕ) → IsLine name told file outcome text → IsTold name outcome text file
-  told_whole name told file Done text is = (is.0, is.1 ∙ told_done name told file)
+  told_whole : (all : Bool) (name : List ℕ) (told : ℕ) (file : List ℕ) (outcome : Outcome) (text : List ℕ) → IsLine all name told file outcome text → IsTold all name outcome text file
+  told_whole all name told file Done text is = (is.0, is.1 ∙ told_done all name told file)
     where
-      told_done : (name : List ℕ) (told : ℕ) (file : List ℕ) → file_line name told file Done ≡ accepted_line name file
-      told_done name told file = refl
-  told_whole name told file (Refused fault) text is = is.0
+      told_done : (all : Bool) (name : List ℕ) (told : ℕ) (file : List ℕ) → file_line all name told file Done ≡ accepted_line all name file
+      told_done all name told file = refl
+  told_whole all name told file (Refused fault) text is = is.0
 
   -- and of each file that looks like them
-  told_alike : (name f g : List ℕ) → LookAlike f g → (outcome : Outcome) (text : List ℕ) → IsTold name outcome text g → IsTold name outcome text f
-  told_alike name f g look Done text is = (same_tests f g look ∙ is.0, is.1 ∙ sym (alike_lines name f g look))
-  told_alike name f g look (Refused fault) text is = same_tests f g look ∙ is
+  told_alike : (all : Bool) (name f g : List ℕ) → LookAlike f g → (outcome : Outcome) (text : List ℕ) → IsTold all name outcome text g → IsTold all name outcome text f
+  told_alike all name f g look Done text is = (same_tests f g look ∙ is.0, is.1 ∙ sym (alike_lines all name f g look))
+  told_alike all name f g look (Refused fault) text is = same_tests f g look ∙ is
 
-  known : (name : List ℕ) (ended : Bool) (len told : ℕ) (input : List ℕ) (outcome : Outcome) (text : List ℕ) → IsSeen ended len input told → IsLine name told input outcome text
-      → IsKnown ended len input (IsTold name outcome text)
-  known name ended len told input outcome text (inl whole) is = inl (whole.0, told_whole name told input outcome text is)
-  known name ended len told input outcome text (inr shown) is = inr (λ file b. told_alike name file input (shown.0 file b) outcome text (told_whole name told input outcome text is))
+  known : (all : Bool) (name : List ℕ) (ended : Bool) (len told : ℕ) (input : List ℕ) (outcome : Outcome) (text : List ℕ) → IsSeen ended len input told → IsLine all name told input outcome text
+      → IsKnown ended len input (IsTold all name outcome text)
+  known all name ended len told input outcome text (inl whole) is = inl (whole.0, told_whole all name told input outcome text is)
+  known all name ended len told input outcome text (inr shown) is = inr (λ file b. told_alike all name file input (shown.0 file b) outcome text (told_whole all name told input outcome text is))
 
   -- an engine that read what a view shows of its file
-  ran_seen : (name : List ℕ) (len told : ℕ) (given given' taken taken' : List ℕ) (ended : Bool) (count count' : ℕ) (result : Result Outcome ToolError) (input : List ℕ)
-      → given' ≡ given ++ input → IsSeen ended len input told → length input ≤ 2 ^ 32 + 1 → Puts (IsLine name told input) taken taken' count count' result → (IsErrOf result Memory → 0 < length input)
-      → RanSized name len given given' taken taken' ended result
-  ran_seen name len told given given' taken taken' ended count count' (Ok outcome) input reads seen limit puts memory = record {
+  ran_seen : (all : Bool) (name : List ℕ) (len told : ℕ) (given given' taken taken' : List ℕ) (ended : Bool) (count count' : ℕ) (result : Result Outcome ToolError) (input : List ℕ)
+      → given' ≡ given ++ input → IsSeen ended len input told → length input ≤ 2 ^ 32 + 1 → Puts (IsLine all name told input) taken taken' count count' result → (IsErrOf result Memory → 0 < length input)
+      → RanSized all name len given given' taken taken' ended result
+  ran_seen all name len told given given' taken taken' ended count count' (Ok outcome) input reads seen limit puts memory = record {
     input = input;
     told = told;
     refused = None;
@@ -140,13 +140,13 @@ module _ (first : (number : ℕ) (f g : List ℕ) → SameAnswers f g → first_
     reads = reads;
     writes = puts.1;
     text = puts.2.0;
-    known = known name ended len told input outcome puts.0 seen puts.2.0;
+    known = known all name ended len told input outcome puts.0 seen puts.2.0;
     seen = seen;
     limit = limit;
     memory = memory;
   }
-  ran_seen name len told given given' taken taken' ended count count' (Err Read) input reads seen limit puts memory = absurd puts.2
-  ran_seen name len told given given' taken taken' ended count count' (Err Write) input reads seen limit puts memory = record {
+  ran_seen all name len told given given' taken taken' ended count count' (Err Read) input reads seen limit puts memory = absurd puts.2
+  ran_seen all name len told given given' taken taken' ended count count' (Err Write) input reads seen limit puts memory = record {
     input = input;
     told = told;
     refused = None;
@@ -159,7 +159,7 @@ module _ (first : (number : ℕ) (f g : List ℕ) → SameAnswers f g → first_
     limit = limit;
     memory = memory;
   }
-  ran_seen name len told given given' taken taken' ended count count' (Err Memory) input reads seen limit puts memory = record {
+  ran_seen all name len told given given' taken taken' ended count count' (Err Memory) input reads seen limit puts memory = record {
     input = input;
     told = told;
     refused = None;
@@ -173,9 +173,9 @@ module _ (first : (number : ℕ) (f g : List ℕ) → SameAnswers f g → first_
     memory = memory;
   }
 
-  pub ran : (name : List ℕ) (len told : ℕ) (given given' taken taken' : List ℕ) (ended : Bool) (count count' : ℕ) (result : Result Outcome ToolError) (bytes input : List ℕ) (size : ℕ)
-      → bytes ≡ input → size ≡ told → given' ≡ given ++ input → IsSeen ended len input told → length input ≤ 2 ^ 32 + 1 → Puts (IsLine name size bytes) taken taken' count count' result
-      → (IsErrOf result Memory → 0 < length bytes) → RanSized name len given given' taken taken' ended result
-  ran name len told given given' taken taken' ended count count' result bytes input size same is reads seen limit puts memory =
-      ran_seen name len told given given' taken taken' ended count count' result input reads seen limit (rw (same, is) at puts)
+  pub ran : (all : Bool) (name : List ℕ) (len told : ℕ) (given given' taken taken' : List ℕ) (ended : Bool) (count count' : ℕ) (result : Result Outcome ToolError) (bytes input : List ℕ) (size : ℕ)
+      → bytes ≡ input → size ≡ told → given' ≡ given ++ input → IsSeen ended len input told → length input ≤ 2 ^ 32 + 1 → Puts (IsLine all name size bytes) taken taken' count count' result
+      → (IsErrOf result Memory → 0 < length bytes) → RanSized all name len given given' taken taken' ended result
+  ran all name len told given given' taken taken' ended count count' result bytes input size same is reads seen limit puts memory =
+      ran_seen all name len told given given' taken taken' ended count count' result input reads seen limit (rw (same, is) at puts)
       (subst (λ (xs : List ℕ). IsErrOf result Memory → 0 < length xs) same memory)

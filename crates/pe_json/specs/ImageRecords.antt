@@ -1,7 +1,5 @@
 -- The tables of an image that its profile leaves out, in a line of JSON.
-use Rattle.std.specs.Prelude.{ℕ, false, not, ◌==◌, ◌||◌, Bool, List, ◌++◌, Option, None, Some, slice_get}
-use Rattle.pe_head.specs.declared.directory.Directory.{Directory}
-use Rattle.pe_head.specs.declared.headers.Headers.{Headers}
+use Rattle.std.specs.Prelude.{ℕ, List, ◌++◌}
 use Rattle.pe_layout.specs.Image.{LaidOut}
 use Rattle.pe_json.specs.BoundRows.{bound_members}
 use Rattle.pe_json.specs.DebugRows.{debug_members}
@@ -20,17 +18,3 @@ record_members machine i =
     ++ (function_members machine i
     ++ (tls_members i
     ++ (structure_members LoadConfiguration i ++ (bound_members i ++ (structure_members ClrHeader i ++ findings_members machine i))))))
-
--- a directory is present
-abbrev pub is_present : Option Directory → Bool
-is_present None = false
-is_present (Some d) = not (d.rva == 0)
-
-abbrev pub has_directory : Headers → ℕ → Bool
-has_directory h index = is_present (slice_get h.directories.items index)
-
--- headers have a directory of such a table: debug, exception, TLS, load configuration, bound import, CLR
-abbrev pub has_records : Headers → Bool
-has_records h =
-    has_directory h 6
-    || (has_directory h 3 || (has_directory h 9 || (has_directory h 10 || (has_directory h 11 || has_directory h 14))))

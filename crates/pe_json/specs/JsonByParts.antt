@@ -1,5 +1,5 @@
 -- What `json` returns for an image of whose file parts are read, and what it writes.
-use Rattle.std.specs.Prelude.{ℕ, ◌≡◌, List, [], Option, None, Some, Result, Ok, Err, map}
+use Rattle.std.specs.Prelude.{ℕ, ◌≡◌, false, List, [], Option, None, Some, Result, Ok, Err, map}
 use Rattle.pe_head.specs.Head.{head_of}
 use Rattle.pe_head.specs.declared.headers.Headers.{Headers}
 use Rattle.pe_tables.specs.Exports.{Exports}
@@ -21,7 +21,7 @@ IsImageLine name strings h exports imports fixups outcome text = (outcome ≡ Do
 
 -- the outcome and the line of each file with these parts, in which its sections have their names
 abbrev pub IsLineOfParts : {A : Type 0} → List ℕ → Parts A → Outcome → List ℕ → Type 0
-IsLineOfParts name parts outcome text = (file : List ℕ) → AreOf parts file → names_in parts ≡ names_under file (head_of file) → IsLineOf name file outcome text
+IsLineOfParts name parts outcome text = (file : List ℕ) → AreOf parts file → names_in parts ≡ names_under file (head_of file) → IsLineOf false name file outcome text
 
 -- what was written after the sink's earlier bytes: the line, or nothing if the parts do not decide it
 abbrev pub PutsParts : {A : Type 0} → List ℕ → Parts A → List ℕ → List ℕ → ℕ → ℕ → Result (Option Outcome) ToolError → Type 0

@@ -6,7 +6,7 @@ ghost use Rattle.pe_image.specs.ImageOf.{IsImageOf};
 ghost use Rattle.pe_image.specs.ImageTests.{image_tests};
 ghost use Rattle.pe_json.specs.ExportRows.{AreNamesOf};
 ghost use Rattle.pe_json.specs.FileLine.{image_members, image_file_line, object_file_line, file_line};
-ghost use Rattle.pe_json.specs.JsonReport.{file_tests, IsLine, IsLineOf, IsViewLine, RanSized};
+ghost use Rattle.pe_json.specs.JsonReport.{file_tests, IsLine, IsLineOf, IsUnreadLine, RanSized};
 ghost use Rattle.pe_json.specs.Refused.{refused_line};
 ghost use Rattle.pe_layout.specs.Layout.{IsLayoutOf};
 ghost use Rattle.pe_layout.specs.SectionFaults.{layout_tests};
@@ -17,7 +17,7 @@ ghost use Rattle.pe_text.specs.Outcome.{IsOutcomeOf};
 ghost use Rattle.pe_text.specs.TextWriter.{IsReady, Adds};
 ghost use Rattle.pe_view.specs.Faults.{first_standing};
 
-use crate::image::{Content, write_image};
+use crate::image::{Content, write_image, write_plain_image};
 use crate::object::write_object;
 use crate::refused::{refuse, refuse_laid_out, refuse_unlaid};
 use coff_read::ObjectFile;
@@ -113,24 +113,25 @@ fn write_refused<A: Allocator + Copy, W: Sink>(
     }
 }
 
-/// Adds the line of an image without a fault. All memory is taken before its first byte. Of the findings those are told that the
-/// laid-out image decides: the data that an entry of the debug directory names by a file offset may not have been read.
+/// Adds the line of an image without a fault, with the tables that its profile leaves out if all are asked for. All memory is taken
+/// before its first byte. Of the findings those are told that the laid-out image decides: the data that an entry of the debug
+/// directory names by a file offset may not have been read.
 fn write_accepted<A: Allocator + Copy, W: Sink>(
     alloc: A,
     text: &mut TextWriter<W>,
     name: &[u8],
+    all: bool,
     file: ViewFile,
     image: &Image<A>,
 ) -> Result<(), AllocError>
     requires ready { IsReady W.failures text.old }
     requires image { IsImageOf 0 (seen_of file) image.now }
     ensures adds { IfOk result (λ _. Adds W.taken W.failures text.old text.new
-        (image_file_line name.now (told_of file.entry) (seen_of file.entry) Outcome.Done)) }
+        (image_file_line all name.now (told_of file.entry) (seen_of file.entry) Outcome.Done)) }
     ensures same { text.new.writer.ghost_name ≡ text.old.writer.ghost_name }
     ensures unwritten { OnErr result (text.new.writer.now ≡ text.old.writer.now) }
 {
     let names = NamesByOrdinal::new(alloc, &image.exports)?;
-    let found = findings(alloc, &image.layout, View::new(&[]))?;
     let headers = image.layout.headers();
     let content = Content {
         headers,
@@ -140,6 +141,11 @@ fn write_accepted<A: Allocator + Copy, W: Sink>(
         imports: &image.imports,
         fixups: &image.fixups,
     };
+    if !all {
+        write_plain_image(text, name, content);
+        return Ok(());
+    }
+    let found = findings(alloc, &image.layout, View::new(&[]))?;
     write_image(text, name, content, &image.layout, &found);
     Ok(())
 }
@@ -149,19 +155,20 @@ fn write_image_line<A: Allocator + Copy, W: Sink>(
     alloc: A,
     text: &mut TextWriter<W>,
     name: &[u8],
+    all: bool,
     file: ViewFile,
 ) -> Result<Outcome, AllocError>
     requires { IsReady W.failures text.old }
     ensures verdict { IfOk result (IsOutcomeOf (image_tests 0 (seen_of file.entry))) }
     ensures adds { IfOk result (λ outcome. Adds W.taken W.failures text.old text.new
-        (image_file_line name.now (told_of file.entry) (seen_of file.entry) outcome)) }
+        (image_file_line all name.now (told_of file.entry) (seen_of file.entry) outcome)) }
     ensures same { text.new.writer.ghost_name ≡ text.old.writer.ghost_name }
     ensures unwritten { OnErr result (text.new.writer.now ≡ text.old.writer.now) }
     ensures memory { OnErr result (0 < length (seen_of file.entry)) }
 {
     match file.read_image(alloc) {
         Ok(image) => {
-            write_accepted(alloc, text, name, file, &image)?;
+            write_accepted(alloc, text, name, all, file, &image)?;
             Ok(Outcome::Done)
         }
         Err(TableError::Fault(fault)) => {
@@ -177,19 +184,20 @@ fn write_line<A: Allocator + Copy, W: Sink>(
     alloc: A,
     text: &mut TextWriter<W>,
     name: &[u8],
+    all: bool,
     file: ViewFile,
 ) -> Result<Outcome, AllocError>
     requires { IsReady W.failures text.old }
     ensures verdict { IfOk result (IsOutcomeOf (file_tests (seen_of file.entry))) }
     ensures adds { IfOk result (λ outcome. Adds W.taken W.failures text.old text.new
-        (file_line name.now (told_of file.entry) (seen_of file.entry) outcome)) }
+        (file_line all name.now (told_of file.entry) (seen_of file.entry) outcome)) }
     ensures same { text.new.writer.ghost_name ≡ text.old.writer.ghost_name }
     ensures unwritten { OnErr result (text.new.writer.now ≡ text.old.writer.now) }
     ensures memory { OnErr result (0 < length (seen_of file.entry)) }
 {
     match file.object() {
         Some(object) => Ok(write_object_line(text, name, object)),
-        None => write_image_line(alloc, text, name, file),
+        None => write_image_line(alloc, text, name, all, file),
     }
 }
 
@@ -198,15 +206,16 @@ fn print_line<A: Allocator + Copy, W: Sink>(
     alloc: A,
     writer: &mut W,
     name: &[u8],
+    all: bool,
     file: ViewFile,
 ) -> Result<Outcome, ToolError>
     requires { W.failures writer.old < 2 ^ 64 - 1 }
-    ensures puts { Puts (IsLine name.now (told_of file.entry) (seen_of file.entry)) (W.taken writer.old) (W.taken writer.new)
+    ensures puts { Puts (IsLine all name.now (told_of file.entry) (seen_of file.entry)) (W.taken writer.old) (W.taken writer.new)
         (W.failures writer.old) (W.failures writer.new) result }
     ensures memory { IsErrOf result ToolError.Memory → 0 < length (seen_of file.entry) }
 {
     let mut text = TextWriter::new(writer);
-    let Ok(outcome) = write_line(alloc, &mut text, name, file) else {
+    let Ok(outcome) = write_line(alloc, &mut text, name, all, file) else {
         return Err(ToolError::Memory);
     };
     match text.finish() {
@@ -223,7 +232,7 @@ fn print_refused<W: Sink>(
     fault: Fault,
 ) -> Result<Outcome, ToolError>
     requires { W.failures writer.old < 2 ^ 64 - 1 }
-    ensures puts { Puts (IsViewLine name.now (told_of file.entry) (seen_of file.entry) (Some fault)) (W.taken writer.old) (W.taken writer.new)
+    ensures puts { Puts (IsUnreadLine name.now (told_of file.entry) (seen_of file.entry) fault) (W.taken writer.old) (W.taken writer.new)
         (W.failures writer.old) (W.failures writer.new) result }
     ensures memory { IsErrOf result ToolError.Memory → ⊥ }
 {
@@ -236,7 +245,8 @@ fn print_refused<W: Sink>(
 }
 
 /// Writes one JSON object and a line feed for the image or object whose file comes from the reader: its content; or its first
-/// fault, and of an image what has no fault, as [`crate`] says. `name` is that of the file in the line.
+/// fault, and of an image what has no fault, as [`crate`] says. `name` is that of the file in the line. With `all` the line of an image
+/// without a fault has the tables that its profile leaves out too, and what was found in them.
 ///
 /// A file that begins like a COFF object is tested for the object faults of docs/FAULTS.md, and any other for the image faults.
 /// `Done` means that it has none of these, and `Refused` has the first that it has.
@@ -248,18 +258,19 @@ fn print_refused<W: Sink>(
 pub fn json<A: Allocator + Copy, R: Source, W: Sink>(
     alloc: A,
     name: &[u8],
+    all: bool,
     reader: &mut R,
     writer: &mut W,
 ) -> Result<Outcome, ToolError>
     requires reads { R.failures reader.old < 2 ^ 64 - 1 }
     requires writes { W.failures writer.old < 2 ^ 64 - 1 }
-    ensures ran { Ran (IsLineOf name.now) (R.given reader.old) (R.given reader.new)
+    ensures ran { Ran (IsLineOf all name.now) (R.given reader.old) (R.given reader.new)
         (W.taken writer.old) (W.taken writer.new) (R.ended reader.new) result }
     ensures read { IsErrOf result ToolError.Read ↔ (R.failures reader.old < R.failures reader.new) }
     ensures write { IsErrOf result ToolError.Write ↔ (W.failures writer.old < W.failures writer.new) }
 {
     let file = read_whole(alloc, reader)?;
-    print_line(alloc, writer, name, ViewFile::whole(&file))
+    print_line(alloc, writer, name, all, ViewFile::whole(&file))
 }
 
 /// [`json`] for a file of `len` bytes. Of an image no more is read than the bytes before the end that its headers name, and those
@@ -272,13 +283,14 @@ pub fn json<A: Allocator + Copy, R: Source, W: Sink>(
 pub fn json_sized<A: Allocator + Copy, R: Source, W: Sink>(
     alloc: A,
     name: &[u8],
+    all: bool,
     reader: &mut R,
     len: u64,
     writer: &mut W,
 ) -> Result<Outcome, ToolError>
     requires reads { R.failures reader.old < 2 ^ 64 - 1 }
     requires writes { W.failures writer.old < 2 ^ 64 - 1 }
-    ensures ran { RanSized name.now len (R.given reader.old) (R.given reader.new)
+    ensures ran { RanSized all name.now len (R.given reader.old) (R.given reader.new)
         (W.taken writer.old) (W.taken writer.new) (R.ended reader.new) result }
     ensures read { IsErrOf result ToolError.Read ↔ (R.failures reader.old < R.failures reader.new) }
     ensures write { IsErrOf result ToolError.Write ↔ (W.failures writer.old < W.failures writer.new) }
@@ -287,6 +299,6 @@ pub fn json_sized<A: Allocator + Copy, R: Source, W: Sink>(
     faults_agree();
     match seen.refused() {
         Some(fault) => print_refused(writer, name, seen.file(), fault),
-        None => print_line(alloc, writer, name, seen.file()),
+        None => print_line(alloc, writer, name, all, seen.file()),
     }
 }

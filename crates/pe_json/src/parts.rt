@@ -1,7 +1,7 @@
 //! `json_parts`: `json` for an image's file of a known size, of which only the headers, the sections with tables and the string table
 //! are read.
 
-ghost use Rattle.std.specs.Prelude.{map, option_map, ◌-◌, ◌^◌, ◌<◌, ◌↔◌, IsErrOf};
+ghost use Rattle.std.specs.Prelude.{false, map, option_map, ◌-◌, ◌^◌, ◌<◌, ◌↔◌, IsErrOf};
 ghost use Rattle.coff_read.specs.ImageNames.{table_of};
 ghost use Rattle.pe_json.specs.ExportRows.{AreNamesOf};
 ghost use Rattle.pe_json.specs.JsonByParts.{IsImageLine, PutsParts};
@@ -12,7 +12,6 @@ ghost use Rattle.pe_tables.specs.ImportView.{import_view};
 ghost use Rattle.pe_text.specs.Engine.{Puts};
 
 use crate::image::{Content, write_plain_image};
-use crate::records::has_records;
 use coff_read::ImageStrings;
 use pe_parts::read_packed;
 use pe_reach::{PartSource, Parts, read_names, read_parts};
@@ -21,7 +20,7 @@ use pe_text::{Outcome, Sink, TextWriter, ToolError};
 use pe_view::View;
 use std::alloc::Allocator;
 
-/// Writes the line of an image without a fault, and without tables that its profile leaves out, to a sink.
+/// Writes the line of an image without a fault to a sink.
 fn print_content<A: Allocator + Copy, W: Sink>(
     writer: &mut W,
     name: &[u8],
@@ -58,9 +57,6 @@ fn print_parts<A: Allocator + Copy, W: Sink>(
         packed,
         bytes,
     } = parts;
-    if has_records(&headers) {
-        return Ok(None);
-    }
     let strings = ImageStrings::new(View::new(&bytes), &packed);
     match read_packed(alloc, &bytes, packed, 0) {
         Ok(Some(tables)) => {
@@ -87,8 +83,8 @@ fn print_parts<A: Allocator + Copy, W: Sink>(
 
 /// [`json`](crate::json) for an image's file of `len` bytes, of which the headers are read, the sections in which its tables begin, and
 /// the string table if a name of a section may be in it. The line and the outcome, which is `Done`, are those of each file of `len`
-/// bytes that has these parts. `Ok(None)` means that they do not decide it, that the image may have a fault, or that it has a table which its profile
-/// leaves out and the line shows: nothing was written, and [`json_sized`](crate::json_sized) is for this file.
+/// bytes that has these parts, without the tables that the profile leaves out. `Ok(None)` means that they do not decide it, or that the
+/// image may have a fault: nothing was written, and [`json_sized`](crate::json_sized) is for this file.
 ///
 /// On the errors `Read` and `Memory` nothing was written, on `Write` the beginning of the line. Condition: each device has counted fewer than
 /// 2^64 - 1 failures so far.
@@ -101,7 +97,7 @@ pub fn json_parts<A: Allocator + Copy, R: PartSource, W: Sink>(
 ) -> Result<Option<Outcome>, ToolError>
     requires reads { R.failures reader.old < 2 ^ 64 - 1 }
     requires writes { W.failures writer.old < 2 ^ 64 - 1 }
-    ensures ran { RanByParts (IsLineOf name.now) len (R.parts reader.old) (R.parts reader.new) (W.taken writer.old) (W.taken writer.new) result }
+    ensures ran { RanByParts (IsLineOf false name.now) len (R.parts reader.old) (R.parts reader.new) (W.taken writer.old) (W.taken writer.new) result }
     ensures read { IsErrOf result ToolError.Read ↔ (R.failures reader.old < R.failures reader.new) }
     ensures write { IsErrOf result ToolError.Write ↔ (W.failures writer.old < W.failures writer.new) }
 {

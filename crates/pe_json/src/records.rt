@@ -1,10 +1,10 @@
 //! The tables of an image that its profile leaves out.
 
-ghost use Rattle.std.specs.Prelude.{◌≡◌, ◌≤◌, ℕ, length, slice_get};
+ghost use Rattle.std.specs.Prelude.{◌≡◌};
 ghost use Rattle.pe_layout.specs.Layout.{headers_of, image_of};
 ghost use Rattle.pe_text.specs.TextWriter.{IsReady, Adds};
 ghost use Rattle.pe_json.specs.FindingRows.{image_findings};
-ghost use Rattle.pe_json.specs.ImageRecords.{record_members, has_directory, has_records};
+ghost use Rattle.pe_json.specs.ImageRecords.{record_members};
 ghost use Rattle.pe_json.specs.Listed.{more};
 
 use crate::bound_imports::write_bound_imports;
@@ -14,7 +14,6 @@ use crate::functions::write_functions;
 use crate::pdb::write_pdb;
 use crate::structure::{StructureKind, write_structure};
 use crate::tls::write_tls;
-use pe_head::{Headers, directory_index};
 use pe_layout::Layout;
 use pe_text::{Sink, TextWriter};
 use pe_view::Fault;
@@ -33,27 +32,4 @@ pub(crate) fn write_records<W: Sink>(text: &mut TextWriter<W>, layout: &Layout, 
     write_bound_imports(text, layout);
     write_structure(text, StructureKind::ClrHeader, layout);
     write_findings(text, findings);
-}
-
-/// Whether headers have the directory of an index.
-fn has_directory(headers: &Headers, index: usize) -> bool
-    ensures { result ≡ has_directory headers.now index }
-{
-    match headers.directories.as_slice().get(index) {
-        None => false,
-        Some(directory) => directory.rva != 0,
-    }
-}
-
-/// Whether headers have a directory of such a table.
-pub(crate) fn has_records(headers: &Headers) -> bool
-    ensures { result ≡ has_records headers.now }
-{
-    let debug = has_directory(headers, directory_index::DEBUG);
-    let exception = has_directory(headers, directory_index::EXCEPTION);
-    let tls = has_directory(headers, directory_index::TLS);
-    let load_configuration = has_directory(headers, directory_index::LOAD_CONFIGURATION);
-    let bound_import = has_directory(headers, directory_index::BOUND_IMPORT);
-    let clr = has_directory(headers, directory_index::CLR);
-    debug || exception || tls || load_configuration || bound_import || clr
 }

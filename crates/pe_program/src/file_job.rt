@@ -37,7 +37,7 @@ where
 
 /// Whether the engine's own output has faults in words.
 fn tells_faults(engine: Engine) -> bool {
-    matches!(engine, Engine::Show { .. } | Engine::Json)
+    matches!(engine, Engine::Show { .. } | Engine::Json { .. })
 }
 
 /// Runs an engine over a file, with at most `most` bytes of output, and returns the exit status; it is an `Err` if standard output

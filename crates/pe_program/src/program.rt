@@ -96,7 +96,7 @@ pub fn run<R: Files + Input + Env + Print + Eprint + AllocGlobal>(rt: &R, is_ter
             most,
             &files,
         ),
-        Ok(Job::Json { most, files }) => run_files(rt, Engine::Json, most, &files),
+        Ok(Job::Json { all, most, files }) => run_files(rt, Engine::Json { all }, most, &files),
         Ok(Job::Sum { files }) => run_files(rt, Engine::Sum, None, &files),
         Ok(Job::At { file, places }) => run_at(rt, file.as_str(), &places),
         Ok(Job::Explain { number }) => run_explain(rt, number),

@@ -35,7 +35,10 @@ pub enum Engine<'e> {
         width: usize,
     },
     /// `pe_tool::json`
-    Json,
+    Json {
+        /// Whether lines have the tables beyond the profile.
+        all: bool,
+    },
     /// `pe_tool::sum`
     Sum,
     /// `pe_tool::at_each`
@@ -195,7 +198,7 @@ fn write_whole<A: Allocator + Copy, R: Source, W: Sink>(
             };
             (show_page(alloc, &page, reader, writer), None)
         }
-        Engine::Json => (json(alloc, name, reader, writer), None),
+        Engine::Json { all } => (json(alloc, name, all, reader, writer), None),
         Engine::Sum => write_lines(alloc, Lines::Sum, reader, writer),
         Engine::At(spots) => write_lines(alloc, Lines::At(spots), reader, writer),
     }
@@ -233,7 +236,7 @@ fn write_sized<A: Allocator + Copy, R: Source, W: Sink>(
             };
             (show_page_sized(alloc, &page, reader, size, writer), None)
         }
-        Engine::Json => (json_sized(alloc, name, reader, size, writer), None),
+        Engine::Json { all } => (json_sized(alloc, name, all, reader, size, writer), None),
         Engine::Sum if is_too_large(size) => (sum_sized(alloc, reader, size, writer), None),
         Engine::Sum => write_lines(alloc, Lines::Sum, reader, writer),
         Engine::At(spots) => (at_each_sized(alloc, spots, reader, size, writer), None),
@@ -257,7 +260,7 @@ fn write_parts<A: Allocator + Copy, R: PartSource, W: Sink>(
     match engine {
         Engine::Check => check_parts(alloc, reader, size, writer),
         Engine::Dump => dump_parts(alloc, reader, size, writer),
-        Engine::Json => json_parts(alloc, name, reader, size, writer),
+        Engine::Json { all: false } => json_parts(alloc, name, reader, size, writer),
         _ => Ok(None),
     }
 }

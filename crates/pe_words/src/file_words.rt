@@ -20,6 +20,8 @@ pub(crate) struct FileCommand {
     file: &'static str,
     /// Whether it takes several files.
     takes_several: bool,
+    /// Whether it has the option `--all` for tables beyond the profile.
+    has_all: bool,
     /// Whether it has the option `--most`.
     has_most: bool,
 }
@@ -30,16 +32,18 @@ pub(crate) const SHOW: FileCommand = FileCommand {
     about: "Prints a page on each image or object: what it is, its sections and its tables, or its first fault",
     file: "Images or objects, or - for standard input",
     takes_several: true,
+    has_all: false,
     has_most: true,
 };
 
-/// The file commands that have no options but `--most`.
+/// The file commands that have no options but `--all` and `--most`.
 pub(crate) const FILE_COMMANDS: [FileCommand; 5] = [
     FileCommand {
         name: "check",
         about: "Prints one line for each image: accepted, with its format and number of sections, or its first fault",
         file: "Images, or - for standard input",
         takes_several: true,
+        has_all: false,
         has_most: false,
     },
     FileCommand {
@@ -47,6 +51,7 @@ pub(crate) const FILE_COMMANDS: [FileCommand; 5] = [
         about: "Prints an image's header fields, directories, sections, exports, imports and base relocations, one per line, or its first fault",
         file: "An image, or - for standard input",
         takes_several: false,
+        has_all: false,
         has_most: true,
     },
     FileCommand {
@@ -54,6 +59,7 @@ pub(crate) const FILE_COMMANDS: [FileCommand; 5] = [
         about: "Prints a COFF object's sections, relocations, symbols and auxiliary records, one per line, or its first fault",
         file: "An object, or - for standard input",
         takes_several: false,
+        has_all: false,
         has_most: true,
     },
     FileCommand {
@@ -61,6 +67,7 @@ pub(crate) const FILE_COMMANDS: [FileCommand; 5] = [
         about: "Prints each image or object, and its first fault if it is refused, as one line of JSON",
         file: "Images or objects, or - for standard input",
         takes_several: true,
+        has_all: true,
         has_most: true,
     },
     FileCommand {
@@ -68,9 +75,14 @@ pub(crate) const FILE_COMMANDS: [FileCommand; 5] = [
         about: "Prints one line for each image: its CheckSum field, and what it is to hold, or the first fault of its headers",
         file: "Images, or - for standard input",
         takes_several: true,
+        has_all: false,
         has_most: false,
     },
 ];
+
+/// The help on `--all` of `json`.
+const ALL: &str =
+    "Adds debug data, the PDB file, the number of functions, TLS, the load configuration, bound imports, the CLR header, and the findings in these";
 
 /// The help on `--most`.
 const MOST: &str =
@@ -117,10 +129,20 @@ fn most_option<'a>(alloc: Global) -> Arg<'a> {
         .value_name("BYTES")
 }
 
-/// A file command.
-pub(crate) fn file_command<'a>(alloc: Global, row: FileCommand) -> Result<Command<'a>, AllocError> {
+/// The file command without the option `--most`.
+fn unlimited_command<'a>(alloc: Global, row: FileCommand) -> Result<Command<'a>, AllocError> {
     let command = Ok(new_command(alloc, row.name, row.about));
     let command = with_argument(command, file_argument(alloc, row));
+    if row.has_all {
+        with_argument(command, flag(alloc, "all", ALL))
+    } else {
+        command
+    }
+}
+
+/// A file command.
+pub(crate) fn file_command<'a>(alloc: Global, row: FileCommand) -> Result<Command<'a>, AllocError> {
+    let command = unlimited_command(alloc, row);
     if row.has_most {
         with_argument(command, most_option(alloc))
     } else {
@@ -290,6 +312,7 @@ fn limited_job<'a, P>(
     let job = match name {
         "show" => show_job(alloc, found, most)?,
         "json" => Job::Json {
+            all: found.get_flag("all"),
             most,
             files: files_of(alloc, found)?,
         },

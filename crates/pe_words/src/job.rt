@@ -54,8 +54,10 @@ pub enum Job<P> {
         most: Option<u64>,
         files: Vec<String>,
     },
-    /// `json FILE...`: write the content of each image or object as a line of JSON, with at most this many bytes.
+    /// `json FILE...`: write the content of each image or object as a line of JSON, with at most this many bytes. `all` adds the
+    /// tables beyond the profile, and what was found in them.
     Json {
+        all: bool,
         most: Option<u64>,
         files: Vec<String>,
     },

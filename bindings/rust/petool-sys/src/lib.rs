@@ -75,14 +75,14 @@ pub const PETOOL_TARGET_ORDINAL: u32 = 1;
 /// An export's target is a name of another module.
 pub const PETOOL_TARGET_NAME: u32 = 2;
 
-/// A PDB file is one of PDB 7.0, which a GUID tells from others of its name.
+/// A PDB file is of PDB 7.0, with a GUID.
 pub const PETOOL_PDB_SEVEN: u32 = 0;
-/// A PDB file is one of PDB 2.0, which a time stamp tells from others of its name.
+/// A PDB file is of PDB 2.0, with a time stamp.
 pub const PETOOL_PDB_TWO: u32 = 1;
 
-/// The form of a function's entry is that of AMD64.
+/// An entry of the exception table is a function of AMD64, with its end.
 pub const PETOOL_FUNCTION_AMD64: u32 = 0;
-/// The form of a function's entry is that of ARM64 and ARMNT.
+/// An entry of the exception table is a function of ARM64 or ARMNT, without its end.
 pub const PETOOL_FUNCTION_ARM: u32 = 1;
 
 /// The section number of a symbol that is defined in another object.

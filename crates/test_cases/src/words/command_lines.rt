@@ -71,8 +71,11 @@ fn print_show<R: Print>(
     print_files(rt, "show", files)
 }
 
-/// Prints the limit of the output and the files of `json`.
-fn print_json<R: Print>(rt: &R, most: Option<u64>, files: &[String]) -> Option<()> {
+/// Prints whether `json` has the tables beyond the profile, the limit of its output, and its files.
+fn print_json<R: Print>(rt: &R, all: bool, most: Option<u64>, files: &[String]) -> Option<()> {
+    if all {
+        println!(rt; "all").ok()?;
+    }
     print_most(rt, most)?;
     print_files(rt, "json", files)
 }
@@ -112,7 +115,7 @@ fn print_job<R: Print>(rt: &R, job: &Job) -> Option<()> {
             most,
             files,
         } => print_show(rt, *options, *colours, *most, files),
-        Job::Json { most, files } => print_json(rt, *most, files),
+        Job::Json { all, most, files } => print_json(rt, *all, *most, files),
         Job::Sum { files } => print_files(rt, "sum", files),
         Job::At { file, places } => print_at(rt, file, places),
         Job::Explain { number } => println!(rt; "explain {number:?}").ok(),

@@ -11,7 +11,7 @@ returns-in-Ok-print_content g c =
     let strings = c.new-strings.ensures ∙ ap (λ (bytes : List ℕ). image_strings bytes parts.packed) (c.new.ensures ∙ c.deref.ensures.value) in
     let contents = rw c.in-Ok-Some.field-0-is at c.in-Ok-Some.ensures.contents in
     puts_follow _ (IsLineOfParts c.args.name.now parts) (line_of_parts c.args.name.now parts _ c.deref-2.result.now c.in-Ok-Some.tables _ _ c.deref-2.ensures.value
-    (ap (map import_view) c.deref-in-Ok-Some.ensures.value) c.deref-in-Ok-Some-2.ensures.value strings (sym c.has_records.ensures ∙ c.if-has_records.false) contents)
+    (ap (map import_view) c.deref-in-Ok-Some.ensures.value) c.deref-in-Ok-Some-2.ensures.value strings contents)
     _ _ _ _ (Ok c.in-Ok-print_content.outcome) (rw c.in-Ok-print_content.is at c.print_content.ensures)
 
 pub returns-in-Ok-Some : goal.returns-in-Ok-Some
@@ -20,5 +20,5 @@ returns-in-Ok-Some g c =
     let strings = c.new-strings.ensures ∙ ap (λ (bytes : List ℕ). image_strings bytes parts.packed) (c.new.ensures ∙ c.deref.ensures.value) in
     let contents = rw c.in-Ok-Some.field-0-is at c.in-Ok-Some.ensures.contents in
     puts_follow _ (IsLineOfParts c.args.name.now parts) (line_of_parts c.args.name.now parts _ c.deref-2.result.now c.in-Ok-Some.tables _ _ c.deref-2.ensures.value
-    (ap (map import_view) c.deref-in-Ok-Some.ensures.value) c.deref-in-Ok-Some-2.ensures.value strings (sym c.has_records.ensures ∙ c.if-has_records.false) contents)
+    (ap (map import_view) c.deref-in-Ok-Some.ensures.value) c.deref-in-Ok-Some-2.ensures.value strings contents)
     _ _ _ _ (Err c.in-Err-print_content.error) (rw c.in-Err-print_content.is at c.print_content.ensures)
